@@ -6,8 +6,8 @@ import unittest
 from pathlib import Path
 from typing import Optional
 
+from pops_companions.report.reader import Item, read_report
 from pops_companions.review.matching import pairs_of
-from pops_companions.texts.report import Item, read_report
 from tests import run_here, support, test_soundness
 
 MATE = "1.Ra1-a8#\n"

@@ -11,7 +11,7 @@ import unittest
 import xml.etree.ElementTree as ElementTree
 from pathlib import Path
 
-from pops_companions.texts.latex import authors
+from pops_companions.show.latex import authors
 from tests import support
 from tests.test_pages import NAMES
 

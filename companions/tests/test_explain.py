@@ -15,7 +15,7 @@ from pops_companions.explain.sentences import DATA
 from pops_companions.explain.showing import marked
 from pops_companions.explain.vocabulary import foreign
 from pops_companions.import_.language import LANGUAGES, Twinning, foreign_words, meaning
-from pops_companions.texts.report import read_report
+from pops_companions.report.reader import read_report
 from tests import made_inputs, support
 
 BASE = ["BeginProblem", "Pieces White Kg6 Ra1 Black Kg8", "Stipulation #1", "EndProblem"]

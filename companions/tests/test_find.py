@@ -7,10 +7,10 @@ import unittest
 from pathlib import Path
 from typing import Optional
 
+from pops_companions.chess.men import Man, Square
 from pops_companions.find.boards import board_of, differences, men_of, variants
 from pops_companions.find.collection import Collection, CollectionError
 from pops_companions.find.entries import Entry, men_in, mirrored_play, plays_of
-from pops_companions.texts.chess import Man, Square
 from tests import run_here, support
 
 MORPHY = "White Kc8 Ra1 Pb6 Black Ka8 Bb8 Pa7b7"

@@ -154,7 +154,7 @@ class Inputs(unittest.TestCase):
 
 def stored_schema() -> dict[str, Any]:
     """The schema of pops2json's objects."""
-    path = support.PACKAGE / "texts" / "item.schema.json"
+    path = support.PACKAGE / "show" / "item.schema.json"
     stored: dict[str, Any] = json.loads(path.read_text("utf-8"))
     return stored
 

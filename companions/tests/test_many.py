@@ -10,7 +10,7 @@ import tempfile
 import unittest
 from pathlib import Path
 
-from pops_companions.many.cutting import Rest, cut, rest_of
+from pops_companions.input.pieces import Rest, cut, rest_of
 from pops_companions.many.progress import Progress, duration
 from tests import made_inputs, support
 from tests.six_problems import SIX, SixProblems

@@ -6,7 +6,7 @@ from pathlib import Path
 
 from pops_companions.explain.mending import further_faults, mend
 from pops_companions.explain.notices import notices
-from pops_companions.many.cutting import cut
+from pops_companions.input.pieces import cut
 from tests import run_here, support
 from tests.test_explain import slips
 

@@ -4,8 +4,9 @@ import io
 import unittest
 from typing import Union
 
-from pops_companions.texts.chess import Colour, Kind, Man, Square
-from pops_companions.texts.report import (
+from pops_companions.chess.men import Colour, Kind, Man, Square
+from pops_companions.chess.stipulation import Condition, Goal, Play, Stipulation
+from pops_companions.report.reader import (
     Castling,
     FaultyItem,
     HelpLine,
@@ -18,7 +19,6 @@ from pops_companions.texts.report import (
     named_items,
     read_report,
 )
-from pops_companions.texts.stipulation import Condition, Goal, Play, Stipulation
 from tests import support
 
 

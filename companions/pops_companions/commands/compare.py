@@ -4,13 +4,13 @@ import argparse
 from collections.abc import Iterator
 from typing import NoReturn, Optional
 
+from pops_companions import command
+from pops_companions.command import Status
+from pops_companions.report.reader import Item
 from pops_companions.review.differences import Counts, differences_of, heading
 from pops_companions.review.matching import Pair, pairs_of
 from pops_companions.review.naming import counted
 from pops_companions.review.reading import reviewed_report
-from pops_companions.texts import command
-from pops_companions.texts.command import Status
-from pops_companions.texts.report import Item
 
 NAME = "pops-compare"
 

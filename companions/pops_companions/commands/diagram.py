@@ -11,15 +11,15 @@ from functools import partial
 from pathlib import Path
 from typing import NoReturn, Optional
 
-from pops_companions.texts import command
-from pops_companions.texts.command import CommandError, Status
-from pops_companions.texts.diagram import diagram_file
-from pops_companions.texts.given_source import read_given
-from pops_companions.texts.latex import latex
-from pops_companions.texts.report import Board, Item, SoundItem, named_items
-from pops_companions.texts.report_source import opened_report
-from pops_companions.texts.titles import shown
-from pops_companions.texts.twins import Group, groups
+from pops_companions import command
+from pops_companions.command import CommandError, Status
+from pops_companions.input.given_source import read_given
+from pops_companions.report.reader import Board, Item, SoundItem, named_items
+from pops_companions.report.source import opened_report
+from pops_companions.show.diagram import diagram_file
+from pops_companions.show.latex import latex
+from pops_companions.show.titles import shown
+from pops_companions.show.twins import Group, groups
 
 NAME = "pops-diagram"
 # The pixels of a PNG's side where none are asked for.

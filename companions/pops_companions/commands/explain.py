@@ -8,14 +8,14 @@ from collections.abc import Iterator
 from pathlib import Path
 from typing import BinaryIO, NoReturn, Optional
 
+from pops_companions import command
+from pops_companions.command import CommandError, Status
 from pops_companions.explain.explaining import ExplainedFault, OtherText, explain
 from pops_companions.explain.mending import further_faults, mend
 from pops_companions.explain.notices import notices
 from pops_companions.explain.showing import Shower
 from pops_companions.many.program import LOOKED_FOR, MissingError, find
-from pops_companions.texts import command
-from pops_companions.texts.command import CommandError, Status
-from pops_companions.texts.report import Item, ReportError, read_report
+from pops_companions.report.reader import Item, ReportError, read_report
 
 NAME = "pops-explain"
 STANDARD_INPUT = "-"

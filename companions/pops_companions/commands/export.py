@@ -4,15 +4,15 @@ import argparse
 import sys
 from typing import NoReturn, Optional
 
+from pops_companions import command
+from pops_companions.command import CommandError, Status
 from pops_companions.export.problems import Exported, joined, read_problems
 from pops_companions.export.yaml_form import yaml_of
 from pops_companions.import_.words import Unreadable
-from pops_companions.texts import command
-from pops_companions.texts.command import CommandError, Status
-from pops_companions.texts.problem_text import text_of_problems
-from pops_companions.texts.report import SoundItem
-from pops_companions.texts.report_source import opened_report
-from pops_companions.texts.titles import is_text, shown
+from pops_companions.input.writing import text_of_problems
+from pops_companions.report.reader import SoundItem
+from pops_companions.report.source import opened_report
+from pops_companions.show.titles import is_text, shown
 
 NAME = "pops-export"
 

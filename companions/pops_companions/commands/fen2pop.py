@@ -7,11 +7,11 @@ from collections.abc import Iterator
 from dataclasses import replace
 from typing import NamedTuple, NoReturn, Optional
 
-from pops_companions.texts import command
-from pops_companions.texts.command import Status
-from pops_companions.texts.fen import FenError, Position, read_position
-from pops_companions.texts.problem_text import Wishes, is_turned, problem_lines, text_of_problems
-from pops_companions.texts.stipulation import Condition, Stipulation
+from pops_companions import command
+from pops_companions.chess.fen import FenError, Position, read_position
+from pops_companions.chess.stipulation import Condition, Stipulation
+from pops_companions.command import Status
+from pops_companions.input.writing import Wishes, is_turned, problem_lines, text_of_problems
 
 NAME = "fen2pop"
 # So many positions whose colours are turned round are named.

@@ -6,12 +6,12 @@ import sys
 from pathlib import Path
 from typing import NoReturn, Optional
 
+from pops_companions import command
+from pops_companions.command import CommandError, Status
 from pops_companions.find.collection import Collection, CollectionError, Found, Wanted
 from pops_companions.find.entries import EntriesError, Entry, entries_of, men_in, plays_of
 from pops_companions.find.showing import Answer, as_page, as_text
 from pops_companions.review.naming import counted
-from pops_companions.texts import command
-from pops_companions.texts.command import CommandError, Status
 
 NAME = "pops-find"
 MOST = 50

@@ -5,14 +5,14 @@ import sys
 from collections.abc import Iterable, Sequence
 from typing import NoReturn, Optional
 
+from pops_companions import command
+from pops_companions.command import Status
 from pops_companions.import_.draft import Draft
 from pops_companions.import_.posing import posed
 from pops_companions.import_.sources import read_drafts
 from pops_companions.import_.words import Told, Unreadable
-from pops_companions.texts import command
-from pops_companions.texts.command import Status
-from pops_companions.texts.problem_text import text_of_problems
-from pops_companions.texts.titles import is_text, shown
+from pops_companions.input.writing import text_of_problems
+from pops_companions.show.titles import is_text, shown
 
 NAME = "pops-import"
 

@@ -5,17 +5,17 @@ import sys
 from pathlib import Path
 from typing import NoReturn, Optional
 
+from pops_companions import command
+from pops_companions.command import CommandError, Status
+from pops_companions.input.given import given_problems
 from pops_companions.many.program import LOOKED_FOR, MissingError, find
+from pops_companions.report.source import is_input
 from pops_companions.review.beside import Beside
 from pops_companions.review.judged_groups import judged_groups
 from pops_companions.review.judgement_text import MOST_LINES, Tally, as_text
 from pops_companions.review.judging_run import TRIES_LOOKED_FOR, Runs, Work, find_tries
 from pops_companions.review.reading import reviewed_unfinished_report
 from pops_companions.review.sheet import Evidence, sheet
-from pops_companions.texts import command
-from pops_companions.texts.command import CommandError, Status
-from pops_companions.texts.given import given_problems
-from pops_companions.texts.report_source import is_input
 
 NAME = "pops-judge"
 SECONDS = 60.0

@@ -10,20 +10,20 @@ from collections.abc import Sequence
 from pathlib import Path
 from typing import BinaryIO, NoReturn, Optional
 
-from pops_companions.many.cutting import rest_of
+from pops_companions import command
+from pops_companions.command import CommandError, Status
+from pops_companions.input.pieces import rest_of
 from pops_companions.many.joining import Joined, Report, path_of_report, write_index
 from pops_companions.many.journal import Journal, JournalError, fingerprint
 from pops_companions.many.machines import Machines, MachinesError
 from pops_companions.many.parallel import Parallel, ParallelError
 from pops_companions.many.part_program import PartProgram
-from pops_companions.many.parts_there import PartsThere
 from pops_companions.many.program import LOOKED_FOR, MissingError, Program, find, find_part_program
 from pops_companions.many.progress import Progress
+from pops_companions.many.remote_parts import RemoteParts
 from pops_companions.many.running import Elsewhere, PartPrograms, Programs, Run
 from pops_companions.many.targets import Target
 from pops_companions.many.tasks import Source, Task, tasks_of
-from pops_companions.texts import command
-from pops_companions.texts.command import CommandError, Status
 
 NAME = "pops-many"
 _FILES_TOLD = 3
@@ -348,7 +348,7 @@ def elsewhere_of(
         )
         if programs.parts is None:
             return Elsewhere(machines, None)
-        there = PartsThere(machines, parallel, pops_part, programs.parts.parts, say)
+        there = RemoteParts(machines, parallel, pops_part, programs.parts.parts, say)
     except (MachinesError, ParallelError) as error:
         raise CommandError(Status.DEVICE, str(error)) from None
     return Elsewhere(machines, there)

@@ -5,12 +5,12 @@ import sys
 from collections.abc import Iterator
 from typing import NoReturn, Optional
 
-from pops_companions.texts import command
-from pops_companions.texts.command import Status
-from pops_companions.texts.given_source import read_given
-from pops_companions.texts.page import Page
-from pops_companions.texts.report import CUT, AnyItem, FaultyItem
-from pops_companions.texts.report_source import opened_unfinished_report
+from pops_companions import command
+from pops_companions.command import Status
+from pops_companions.input.given_source import read_given
+from pops_companions.report.reader import CUT, AnyItem, FaultyItem
+from pops_companions.report.source import opened_unfinished_report
+from pops_companions.show.page import Page
 
 NAME = "pops-page"
 

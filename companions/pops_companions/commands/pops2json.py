@@ -5,13 +5,13 @@ import json
 from collections.abc import Iterator, Sequence
 from typing import NoReturn, Optional
 
-from pops_companions.texts import command
-from pops_companions.texts.as_json import Json, item_object, schema
-from pops_companions.texts.command import Status
-from pops_companions.texts.given import GivenProblem
-from pops_companions.texts.given_source import read_given
-from pops_companions.texts.report import Item
-from pops_companions.texts.report_source import opened_report
+from pops_companions import command
+from pops_companions.command import Status
+from pops_companions.input.given import GivenProblem
+from pops_companions.input.given_source import read_given
+from pops_companions.report.reader import Item
+from pops_companions.report.source import opened_report
+from pops_companions.show.as_json import Json, item_object, schema
 
 NAME = "pops2json"
 

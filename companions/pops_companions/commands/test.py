@@ -4,6 +4,10 @@ import argparse
 from collections.abc import Iterator
 from typing import NoReturn, Optional
 
+from pops_companions import command
+from pops_companions.command import CommandError, Status
+from pops_companions.input.given_source import read_given
+from pops_companions.input.writing import text_of_problems
 from pops_companions.review.beside import Beside
 from pops_companions.review.judged_groups import JudgedGroup, judged_groups
 from pops_companions.review.judgement_page import page
@@ -17,10 +21,6 @@ from pops_companions.review.judgement_text import (
 )
 from pops_companions.review.posing import posed_problems
 from pops_companions.review.reading import reviewed_unfinished_report
-from pops_companions.texts import command
-from pops_companions.texts.command import CommandError, Status
-from pops_companions.texts.given_source import read_given
-from pops_companions.texts.problem_text import text_of_problems
 
 NAME = "pops-test"
 

@@ -6,8 +6,8 @@ from dataclasses import dataclass, replace
 from typing import Optional
 
 from pops_companions.explain.characters import decoded, shown
-from pops_companions.explain.reading import COMMANDS, CONDITIONS, OPTIONS, Reading, Section, step
-from pops_companions.explain.words import TEXT_WORDS, Span, TextLine, Word, named
+from pops_companions.input.reading import COMMANDS, CONDITIONS, OPTIONS, Reading, Section, step
+from pops_companions.input.words import TEXT_WORDS, Span, TextLine, Word, named
 
 _LONGEST_QUOTED = 48
 # The word before is looked for in so many bytes.

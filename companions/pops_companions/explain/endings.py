@@ -6,9 +6,9 @@ from typing import Optional
 from pops_companions.explain import wordings
 from pops_companions.explain.case import Case, Explanation, at, first_of, quoted
 from pops_companions.explain.characters import shown
-from pops_companions.explain.reading import Awaited, Reading, Section
 from pops_companions.explain.sentences import sentence
-from pops_companions.explain.words import Span, TextLine, Word, named
+from pops_companions.input.reading import Awaited, Reading, Section
+from pops_companions.input.words import Span, TextLine, Word, named
 
 
 def stipulation_missing(case: Case) -> Explanation:

@@ -6,10 +6,10 @@ from typing import Optional
 
 from pops_companions.explain import endings, men, misplaced, options, stipulations
 from pops_companions.explain.case import Case, Explanation
-from pops_companions.explain.reading import FaultKind, Reading, Section, read_problem
-from pops_companions.explain.words import tokens_of
-from pops_companions.many.cutting import cut
-from pops_companions.texts.report import Fault, FaultyItem, Item
+from pops_companions.input.pieces import cut
+from pops_companions.input.reading import FaultKind, Reading, Section, read_piece
+from pops_companions.input.words import TextWord
+from pops_companions.report.reader import Fault, FaultyItem, Item
 
 
 class OtherText(ValueError):
@@ -46,7 +46,7 @@ def explain(text: bytes, items: Iterable[Item]) -> Iterator[ExplainedFault]:
         if number > len(pieces):
             raise OtherText(f"it has problem {number}, and the text has {len(pieces)}")
         piece = pieces[number - 1]
-        reading = read_problem(tokens_of(text, piece), number == 1, piece.closed)
+        reading = read_piece(text, piece)
         _compare(text, number, fault, reading)
         yield ExplainedFault(number, _title(reading), fault, explanation(text, reading))
 
@@ -82,7 +82,7 @@ def _compare(text: bytes, number: int, fault: Fault, reading: Reading) -> None:
 
 
 def _title(reading: Reading) -> Optional[bytes]:
-    titles = [line.text.strip() for line in reading.text_lines if line.name == "Title"]
+    titles = [line.text.strip() for line in reading.text_lines if line.kind is TextWord.TITLE]
     return titles[-1] if titles and titles[-1] else None
 
 

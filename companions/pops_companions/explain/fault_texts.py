@@ -1,7 +1,7 @@
 """The texts of faults, as pops reports them."""
 
 
-from pops_companions.explain.reading import FaultKind
+from pops_companions.input.reading import FaultKind
 
 FAULT_TEXTS: dict[FaultKind, str] = {
     FaultKind.BEGIN_MISSING: "BeginProblem expected",

@@ -4,11 +4,14 @@ import re
 from collections.abc import Iterator
 from typing import Optional
 
+from pops_companions.chess.men import Colour, Kind, Square
+from pops_companions.chess.stipulation import Condition, Play
 from pops_companions.explain import wordings
 from pops_companions.explain.case import Case, Explanation, at, first_of, listed, quoted
 from pops_companions.explain.characters import decoded, shown
 from pops_companions.explain.other_men import man_by_name, two_letters
-from pops_companions.explain.reading import (
+from pops_companions.explain.sentences import sentence
+from pops_companions.input.reading import (
     COLOURS,
     COMMANDS,
     Placed,
@@ -19,10 +22,7 @@ from pops_companions.explain.reading import (
     king_of,
     to_be_mated,
 )
-from pops_companions.explain.sentences import sentence
-from pops_companions.explain.words import TEXT_WORDS, Span, named
-from pops_companions.texts.chess import Colour, Kind, Square
-from pops_companions.texts.stipulation import Condition, Play
+from pops_companions.input.words import TEXT_WORDS, Span, named
 
 _DIGITS_FIRST = re.compile(r"([KQRBSPGN])((?:[1-8][a-h])+)", re.IGNORECASE)
 

@@ -12,10 +12,10 @@ from typing import NamedTuple, Optional
 from pops_companions.explain.case import Explanation
 from pops_companions.explain.explaining import ExplainedFault, explanation
 from pops_companions.explain.fault_texts import FAULT_TEXTS
-from pops_companions.explain.reading import FaultKind, Reading, read_problem, squares_of
-from pops_companions.explain.words import Span, tokens_of
-from pops_companions.many.cutting import cut, rest_of, short_forms
-from pops_companions.texts.report import Fault
+from pops_companions.input.pieces import cut, rest_of
+from pops_companions.input.reading import FaultKind, Reading, read_piece, squares_of
+from pops_companions.input.words import Span, short_forms
+from pops_companions.report.reader import Fault
 
 _QUOTED = "`([^`]+)`"
 _BEFORE = re.compile(rf"(?:[Ww]rite {_QUOTED} before |^{_QUOTED} is missing before )")
@@ -38,7 +38,7 @@ _STIPULATION_IN_WORDS = re.compile("A stipulation is one word")
 # A command without the word that was left out.
 _BARE = re.compile(rb"(?i)^[ \t]*(?:sti|con)[a-z]*[ \t]+$")
 _BYTE_ORDER_MARK = "\ufeff".encode("utf-8")
-_END_AND_BEGIN = re.compile(rb"(?i)\S+\s+(?:" + short_forms("beginproblem") + rb")(?!\S)")
+_END_AND_BEGIN = re.compile(rb"(?i)\S+\s+(?:" + short_forms("BeginProblem") + rb")(?!\S)")
 _MOST_FAULTS = 50
 # What may only be missing because a word before was passed over.
 _AT_THE_END = (
@@ -121,8 +121,7 @@ def read_number(text: bytes, number: int) -> Optional[Reading]:
     pieces = cut(text)
     if number > len(pieces):
         return None
-    piece = pieces[number - 1]
-    return read_problem(tokens_of(text, piece), number == 1, piece.closed)
+    return read_piece(text, pieces[number - 1])
 
 
 def edit_for(text: bytes, number: int, reading: Reading) -> Optional[Edit]:

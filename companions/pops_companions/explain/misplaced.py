@@ -9,7 +9,10 @@ from pops_companions.explain import wordings
 from pops_companions.explain.case import Case, Explanation, at, first_of, listed, quoted
 from pops_companions.explain.characters import decoded
 from pops_companions.explain.other_men import foreign_letter, man_by_name, two_letters
-from pops_companions.explain.reading import (
+from pops_companions.explain.sentences import DATA, sentence
+from pops_companions.explain.stipulations import looks_like_stipulation, solution_numbers
+from pops_companions.explain.vocabulary import unread
+from pops_companions.input.reading import (
     COLOURS,
     COMMANDS,
     CONDITIONS,
@@ -20,10 +23,7 @@ from pops_companions.explain.reading import (
     is_number,
     squares_of,
 )
-from pops_companions.explain.sentences import DATA, sentence
-from pops_companions.explain.stipulations import looks_like_stipulation, solution_numbers
-from pops_companions.explain.vocabulary import unread
-from pops_companions.explain.words import LONGEST_WORD, Span, named
+from pops_companions.input.words import LONGEST_WORD, Span, named
 
 _FILES = tuple((head.encode("latin-1"), what) for head, what in DATA["files"])
 

@@ -3,14 +3,14 @@
 from collections.abc import Iterator
 from typing import NamedTuple, Optional
 
-from pops_companions.explain.reading import Reading, read_problem
-from pops_companions.explain.words import TextLine, tokens_of
-from pops_companions.many.cutting import Piece, cut, rest_of
-from pops_companions.texts.chess import Kind
-from pops_companions.texts.titles import is_text
+from pops_companions.chess.men import Kind
+from pops_companions.input.pieces import Piece, cut, rest_of
+from pops_companions.input.reading import Reading, read_piece
+from pops_companions.input.words import TextLine, TextWord
+from pops_companions.show.titles import is_text
 
 _NIGHTRIDERS = "`N` is a nightrider, and there is no knight: knights are `S`"
-_NAMES = ("Title", "Author")
+_NAMES = (TextWord.TITLE, TextWord.AUTHOR)
 
 
 class Notice(NamedTuple):
@@ -36,13 +36,12 @@ def notices(text: bytes) -> Iterator[Notice]:
 
 
 def _of_problem(text: bytes, piece: Piece) -> Iterator[Notice]:
-    tokens = tokens_of(text, piece)
-    for token in tokens:
-        if isinstance(token, TextLine) and token.name in _NAMES:
+    for token in piece.tokens(text):
+        if isinstance(token, TextLine) and token.kind in _NAMES:
             if not is_text(token.text, "utf-8"):
                 said = f"`{token.name}` isn't UTF-8: the companions read it as Latin-1"
                 yield Notice(token.word.line, piece.number, said)
-    line = _line_of_nightrider(read_problem(tokens, piece.number == 1, piece.closed))
+    line = _line_of_nightrider(read_piece(text, piece))
     if line is not None:
         yield Notice(line, piece.number, _NIGHTRIDERS)
 

@@ -4,10 +4,13 @@ import re
 from collections.abc import Iterator
 from typing import Optional
 
+from pops_companions.chess.men import Colour
 from pops_companions.explain import wordings
 from pops_companions.explain.case import Case, Explanation, at, first_of, listed, quoted
 from pops_companions.explain.men import span_of
-from pops_companions.explain.reading import (
+from pops_companions.explain.sentences import sentence
+from pops_companions.explain.vocabulary import unread
+from pops_companions.input.reading import (
     CASTLING_SQUARES,
     COMMANDS,
     MOST_SOLUTIONS,
@@ -18,10 +21,7 @@ from pops_companions.explain.reading import (
     is_number,
     squares_of,
 )
-from pops_companions.explain.sentences import sentence
-from pops_companions.explain.vocabulary import unread
-from pops_companions.explain.words import Word, named
-from pops_companions.texts.chess import Colour
+from pops_companions.input.words import Word, named
 
 _SIDES = re.compile(r"white|black|w|b|[kq]{1,4}|0-0(-0)?|o-o(-o)?|-|both|yes|no", re.IGNORECASE)
 

@@ -3,13 +3,13 @@
 import re
 from typing import Optional
 
+from pops_companions.chess.men import Kind
 from pops_companions.explain.case import Case, Explanation, listed
 from pops_companions.explain.characters import decoded
-from pops_companions.explain.reading import Section, squares_of
 from pops_companions.explain.sentences import DATA, sentence
 from pops_companions.explain.vocabulary import Alphabet, alphabets_of, alphabets_with
-from pops_companions.explain.words import Word, named
-from pops_companions.texts.chess import Kind
+from pops_companions.input.reading import Section, squares_of
+from pops_companions.input.words import Word, named
 
 _NAMES = {kind.word: kind for kind in Kind}
 _CYRILLIC_MEN: str = DATA["characters"]["cyrillicMen"]

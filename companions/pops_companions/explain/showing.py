@@ -6,7 +6,7 @@ from itertools import accumulate
 
 from pops_companions.explain.characters import shown, width
 from pops_companions.explain.explaining import ExplainedFault
-from pops_companions.explain.words import Span
+from pops_companions.input.words import Span
 
 _WIDEST = 96
 _WIDTH = 88

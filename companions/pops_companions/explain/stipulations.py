@@ -7,7 +7,8 @@ from typing import Any, Optional
 from pops_companions.explain import wordings
 from pops_companions.explain.case import Case, Explanation, first_of, quoted
 from pops_companions.explain.characters import decoded
-from pops_companions.explain.reading import (
+from pops_companions.explain.sentences import DATA, sentence
+from pops_companions.input.reading import (
     COLOURS,
     CONDITIONS,
     MOST_MOVES,
@@ -16,8 +17,7 @@ from pops_companions.explain.reading import (
     is_man,
     is_number,
 )
-from pops_companions.explain.sentences import DATA, sentence
-from pops_companions.explain.words import Word, named
+from pops_companions.input.words import Word, named
 
 _FORMS = sentence("forms")
 _STIPULATION = re.compile(r"(?:[a-z]{0,5}-)?[a-z]{0,2}(?:#|==?)[0-9]+(?:\.5)?", re.IGNORECASE)

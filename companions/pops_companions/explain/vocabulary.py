@@ -3,9 +3,9 @@
 from collections.abc import Mapping
 from typing import Any, NamedTuple, Optional
 
+from pops_companions.chess.men import Kind
 from pops_companions.explain.sentences import DATA, sentence
 from pops_companions.import_.language import ForeignWord, folded
-from pops_companions.texts.chess import Kind
 
 _KNOWN: dict[str, Any] = DATA["popeye"]
 _COLOURS = ("white", "black")

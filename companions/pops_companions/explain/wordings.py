@@ -8,7 +8,7 @@ from pops_companions.explain import characters
 from pops_companions.explain.case import NAMES, Case, Explanation
 from pops_companions.explain.sentences import DATA, sentence
 from pops_companions.explain.vocabulary import foreign, unread
-from pops_companions.explain.words import TEXT_WORDS, named
+from pops_companions.input.words import TEXT_WORDS, named
 
 _SIGNS: dict[str, str] = DATA["signs"]
 _SIGN = "[" + re.escape("".join(_SIGNS)) + "]"

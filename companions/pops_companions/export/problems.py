@@ -7,8 +7,8 @@ from typing import NamedTuple, Optional
 
 from pops_companions.import_.posing import posed
 from pops_companions.import_.sources import read_drafts
-from pops_companions.texts.problem_text import text_of_problems
-from pops_companions.texts.twins import label_and_title
+from pops_companions.input.writing import text_of_problems
+from pops_companions.show.twins import label_and_title
 
 _FIRST_LABEL = "a)"
 

@@ -9,7 +9,7 @@ from collections.abc import Callable, Iterator
 from functools import lru_cache
 from typing import NamedTuple
 
-from pops_companions.texts.chess import Colour, Man, Square
+from pops_companions.chess.men import Colour, Man, Square
 
 EMPTY = "."
 _LETTERS = "KQRBSPGNkqrbspgn"

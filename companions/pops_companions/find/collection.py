@@ -10,9 +10,9 @@ from contextlib import closing
 from dataclasses import astuple, dataclass, field, fields
 from typing import NamedTuple, Optional
 
+from pops_companions.chess.men import Colour, Man, Square
 from pops_companions.find.boards import Variant, differences, hashes, men_of, variants
 from pops_companions.find.entries import Entry, mirrored_play
-from pops_companions.texts.chess import Colour, Man, Square
 
 # The mark that the file is a collection of this form.
 _FORM = 0x706F7031

@@ -6,11 +6,11 @@ from collections.abc import Iterable, Iterator, Sequence
 from dataclasses import dataclass, replace
 from typing import Optional
 
+from pops_companions.chess.men import Colour, Kind, Man, Square
 from pops_companions.export.problems import Problem, read_problems
 from pops_companions.find.boards import board_of
 from pops_companions.import_.words import Unreadable
-from pops_companions.texts.chess import Colour, Kind, Man, Square
-from pops_companions.texts.report import (
+from pops_companions.report.reader import (
     HelpLine,
     Mark,
     Node,
@@ -19,7 +19,7 @@ from pops_companions.texts.report import (
     SoundItem,
     read_report,
 )
-from pops_companions.texts.titles import is_text, shown
+from pops_companions.show.titles import is_text, shown
 
 _REPORT = re.compile(rb"problem [1-9][0-9]*\r?\n")
 _MAN = re.compile("([KQRBSPGNkqrbspgn])((?:[a-h][1-8])+)")

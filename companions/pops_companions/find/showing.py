@@ -7,11 +7,11 @@ from typing import NamedTuple, Optional
 from pops_companions.find.boards import men_of
 from pops_companions.find.collection import Found
 from pops_companions.find.entries import Entry
+from pops_companions.input.writing import pieces_line
+from pops_companions.report.reader import Board
 from pops_companions.review.naming import counted
-from pops_companions.texts import diagram
-from pops_companions.texts.problem_text import pieces_line
-from pops_companions.texts.report import Board
-from pops_companions.texts.titles import printable
+from pops_companions.show import diagram
+from pops_companions.show.titles import printable
 
 _STYLE = """
 body { font: 11pt/1.35 serif; margin: 1.5em auto; max-width: 60em; padding: 0 1em;

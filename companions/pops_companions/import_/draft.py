@@ -5,9 +5,9 @@ from collections.abc import Callable
 from dataclasses import dataclass, field
 from typing import NamedTuple, Optional, Union
 
+from pops_companions.chess.men import Man, Square
 from pops_companions.import_.language import Command
 from pops_companions.import_.words import TextLine, Told, Words
-from pops_companions.texts.chess import Man, Square
 
 # A man, or the name of one that pops doesn't know.
 Placed = Union[Man, str]

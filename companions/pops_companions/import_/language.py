@@ -6,7 +6,7 @@ from dataclasses import dataclass
 from enum import Enum
 from typing import AbstractSet, NamedTuple, Optional, TypeVar
 
-from pops_companions.texts.chess import Kind
+from pops_companions.chess.men import Kind
 
 Meaning = TypeVar("Meaning")
 

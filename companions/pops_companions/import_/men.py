@@ -4,10 +4,10 @@ import re
 from collections.abc import Mapping
 from typing import NamedTuple
 
+from pops_companions.chess.men import Colour, Kind, Man, Square
 from pops_companions.import_.draft import Placed
 from pops_companions.import_.language import is_attribute, meaning
 from pops_companions.import_.words import Unreadable, Word, Words
-from pops_companions.texts.chess import Colour, Kind, Man, Square
 
 _SQUARES = re.compile("(?:[a-h][1-8])+")
 _MAN = re.compile("([a-z0-9]{1,2})((?:[a-h][1-8])+)")

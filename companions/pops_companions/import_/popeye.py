@@ -4,6 +4,8 @@ import re
 from collections.abc import Iterable
 from typing import Optional
 
+from pops_companions.chess.fen import read_position
+from pops_companions.chess.men import Kind, Man
 from pops_companions.import_.draft import Draft, Twin
 from pops_companions.import_.language import (
     LANGUAGES,
@@ -18,8 +20,6 @@ from pops_companions.import_.options import read_options
 from pops_companions.import_.sections import take_conditions, take_stipulation, take_wanted
 from pops_companions.import_.twins import read_twin
 from pops_companions.import_.words import Told, Unreadable, Word, Words
-from pops_companions.texts.chess import Kind, Man
-from pops_companions.texts.fen import read_position
 
 _FIRST_WORD = re.compile(r"^[^\w\n]*([^\W\d_]+)", re.MULTILINE)
 _LEAST_LETTERS = 3

@@ -5,13 +5,13 @@ from collections.abc import Iterator
 from dataclasses import dataclass, field, replace
 from typing import NamedTuple, Optional
 
+from pops_companions.chess.men import Colour, Kind, Man, Square
+from pops_companions.chess.stipulation import Condition, Goal, Play, Stipulation
 from pops_companions.import_.draft import Draft, Impossible, Options, Setting
 from pops_companions.import_.language import Command
 from pops_companions.import_.twins import with_other_colour
 from pops_companions.import_.words import Told
-from pops_companions.texts.chess import Colour, Kind, Man, Square
-from pops_companions.texts.problem_text import pieces_line
-from pops_companions.texts.stipulation import Condition, Goal, Play, Stipulation
+from pops_companions.input.writing import pieces_line
 
 LONGEST_TEXT = 200
 _MOST_MOVES = 16

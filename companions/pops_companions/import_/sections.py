@@ -4,9 +4,9 @@ import math
 import re
 from typing import Optional
 
+from pops_companions.chess.stipulation import Condition
 from pops_companions.import_.language import meaning, table_of
 from pops_companions.import_.words import Unreadable, Word, Words
-from pops_companions.texts.stipulation import Condition
 
 _LEAST_LETTERS = 3
 _CONDITIONS = table_of((condition.value, condition.value) for condition in Condition)

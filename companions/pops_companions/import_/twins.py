@@ -4,12 +4,12 @@ import re
 from collections.abc import Callable
 from dataclasses import replace
 
+from pops_companions.chess.men import Colour, Kind, Man, Square
 from pops_companions.import_.draft import Change, Impossible, Placed, Setting, Twin
 from pops_companions.import_.language import Twinning, meaning
 from pops_companions.import_.men import PlacedMan, read_men, take_pair, take_squares
 from pops_companions.import_.sections import take_conditions, take_stipulation
 from pops_companions.import_.words import Unreadable, Words
-from pops_companions.texts.chess import Colour, Kind, Man, Square
 
 Moved = Callable[[int, int], tuple[int, int]]
 

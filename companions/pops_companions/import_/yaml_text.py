@@ -10,7 +10,7 @@ import re
 from collections.abc import Iterator
 from typing import Any, Union
 
-from pops_companions.texts.command import CommandError, Status
+from pops_companions.command import CommandError, Status
 
 Node = Union[None, "Scalar", "list[Node]", "dict[str, Node]"]
 

@@ -16,7 +16,7 @@ from pathlib import Path
 from typing import NamedTuple, Optional
 
 from pops_companions.many import sessions
-from pops_companions.many.leash import Leashed
+from pops_companions.many.child_process import ChildProcess
 
 _SECONDS_BETWEEN_LOOKS = 0.3
 _SECONDS_TO_END = 3.0
@@ -111,16 +111,16 @@ class Parallel:
             environment["PARALLEL_SHELL"] = "/bin/sh"
             with open(room / "errors", "wb") as errors:
                 words = self._command(room, script)
-                leashed = Leashed(words, subprocess.DEVNULL, errors, environment)
-            self._room, self._session = room, leashed.run.pid
+                child = ChildProcess(words, subprocess.DEVNULL, errors, environment)
+            self._room, self._session = room, child.run.pid
             with sessions.watched(self._session, name):
-                looks = threading.Thread(target=_look, args=(leashed, room, logins, look))
+                looks = threading.Thread(target=_look, args=(child, room, logins, look))
                 looks.start()
                 try:
-                    _take_all(leashed, take)
+                    _take_all(child, take)
                 finally:
                     looks.join()
-                    leashed.let_go()
+                    child.let_go()
                     self._said = self.last_error
                     self._room = None
 
@@ -168,22 +168,22 @@ def _write_logins(room: Path, logins: Sequence[str]) -> None:
     os.replace(room / "machines.new", room / "machines")
 
 
-def _take_all(leashed: Leashed, take: Callable[[bytes], None]) -> None:
+def _take_all(child: ChildProcess, take: Callable[[bytes], None]) -> None:
     """Hands each line on; also those that came before the run was ended."""
-    assert leashed.run.stdout is not None
+    assert child.run.stdout is not None
     try:
-        for line in leashed.run.stdout:
+        for line in child.run.stdout:
             take(line)
-        leashed.run.wait()
+        child.run.wait()
     except BaseException:
-        _end(leashed)
-        for line in leashed.run.stdout:
+        _end(child)
+        for line in child.run.stdout:
             take(line)
         raise
 
 
 def _look(
-    leashed: Leashed,
+    child: ChildProcess,
     room: Path,
     logins: list[str],
     look: Callable[[list[Ended]], bool],
@@ -191,9 +191,9 @@ def _look(
     log = _Log(room / "log")
     before = len(logins)
     while True:
-        ended = leashed.run.poll() is not None
+        ended = child.run.poll() is not None
         if not look(log.news()):
-            sessions.end(leashed.run.pid)
+            sessions.end(child.run.pid)
             return
         if len(logins) < before:
             before = len(logins)
@@ -201,19 +201,19 @@ def _look(
         if ended:
             return
         try:
-            leashed.run.wait(_SECONDS_BETWEEN_LOOKS)
+            child.run.wait(_SECONDS_BETWEEN_LOOKS)
         except subprocess.TimeoutExpired:
             pass
 
 
-def _end(leashed: Leashed) -> None:
+def _end(child: ChildProcess) -> None:
     """Ends GNU parallel; at its second signal it ends its jobs too."""
     for _ in range(2):
-        if leashed.run.poll() is None:
-            leashed.send(signal.SIGTERM)
+        if child.run.poll() is None:
+            child.send(signal.SIGTERM)
             try:
-                leashed.run.wait(_SECONDS_TO_END)
+                child.run.wait(_SECONDS_TO_END)
             except subprocess.TimeoutExpired:
                 pass
-    sessions.end(leashed.run.pid)
-    leashed.run.wait()
+    sessions.end(child.run.pid)
+    child.run.wait()

@@ -6,8 +6,8 @@ import tempfile
 from collections.abc import Callable, Generator, Iterator, Sequence
 from contextlib import closing
 
-from pops_companions.many.leash import Leashed
-from pops_companions.many.lots import Lot, numbers_of
+from pops_companions.many.batches import Batch, numbers_of
+from pops_companions.many.child_process import ChildProcess
 from pops_companions.many.parts import (
     Key,
     Part,
@@ -32,8 +32,8 @@ def _whole(texts: Sequence[bytes]) -> bytes:
     return report
 
 
-def _pauses(lot: Lot, asked: Sequence[Part]) -> Callable[[], int]:
-    """How long a run on a lot may go on unread, in milliseconds, before each piece that it writes.
+def _pauses(batch: Batch, asked: Sequence[Part]) -> Callable[[], int]:
+    """How long a run on a batch may go on unread, in milliseconds, before each piece that it writes.
 
     Where the last parts were taken from it, it isn't to go on for long behind those that are left.
     """
@@ -41,22 +41,22 @@ def _pauses(lot: Lot, asked: Sequence[Part]) -> Callable[[], int]:
 
     def pause() -> int:
         nonlocal before
-        left = len(lot)
+        left = len(batch)
         came, before = before - left, left
-        return _SHORT_PAUSE if left <= max(came, 1) and lot.last is not asked[-1] else PAUSE
+        return _SHORT_PAUSE if left <= max(came, 1) and batch.last is not asked[-1] else PAUSE
 
     return pause
 
 
 class PartProgram(Runs):
-    """pops-part, which lists the parts of a problem and solves lots of them."""
+    """pops-part, which lists the parts of a problem and solves batches of them."""
 
     def __init__(self, path: str, depth: int):
         super().__init__("pops-part", [path])
         self.depth = depth
         # What parts had written that came to no end, as where they were stopped.
         self.begun: dict[Key, bytes] = {}
-        self._at_work: dict[Key, Leashed] = {}
+        self._at_work: dict[Key, ChildProcess] = {}
         self._dropped: set[Key] = set()
 
     def phases(self, text: bytes) -> list[Phase]:
@@ -68,61 +68,61 @@ class PartProgram(Runs):
 
     def _answer(self, words: Sequence[str], text: bytes) -> tuple[int, bytes, bytes]:
         """Status, output and message of a run."""
-        leashed = self._started(words, subprocess.PIPE, subprocess.PIPE)
-        _, output, error = self._ended(leashed, text, None)
-        return leashed.run.returncode, output, error
+        child = self._started(words, subprocess.PIPE, subprocess.PIPE)
+        _, output, error = self._ended(child, text, None)
+        return child.run.returncode, output, error
 
     def report(self, part: Part) -> bytes:
         """The report of a part. RunError where it didn't come to its end."""
-        return next(self.reports(Lot([part])))[1]
+        return next(self.reports(Batch([part])))[1]
 
-    def reports(self, lot: Lot) -> Iterator[tuple[Part, bytes]]:
-        """The parts that are left of a lot, each with its report as it comes, all from one run.
+    def reports(self, batch: Batch) -> Iterator[tuple[Part, bytes]]:
+        """The parts that are left of a batch, each with its report as it comes, all from one run.
 
         RunError at the first part that didn't come to its end.
         """
-        asked = lot.left
+        asked = batch.left
         words = ["--item", "1", "--phase", asked[0].phase, "--part", numbers_of(asked)]
         words += ["--depth", str(asked[0].depth)]
         written: list[bytes] = []
         try:
-            with closing(self._pieces(words, asked[0], _pauses(lot, asked))) as pieces:
+            with closing(self._pieces(words, asked[0], _pauses(batch, asked))) as pieces:
                 for text, is_total in up_to_totals(pieces):
                     written.append(text)
                     # (the last part asked for is whole once the run has ended well)
-                    if is_total and lot.first is not asked[-1]:
+                    if is_total and batch.first is not asked[-1]:
                         report, written = _whole(written), []
-                        yield lot.pass_first(), report
-                        if not lot:
+                        yield batch.pass_first(), report
+                        if not batch:
                             return
-            if lot.first is not asked[-1]:
+            if batch.first is not asked[-1]:
                 raise RunError(self._reason(SOUND, b""))
             report = _whole(written)
-            yield lot.pass_first(), report
+            yield batch.pass_first(), report
         except RunError:
             if written:
-                self.begun[lot.first.key] = whole_lines(b"".join(written))
+                self.begun[batch.first.key] = whole_lines(b"".join(written))
             raise
 
     def _pieces(
         self, words: Sequence[str], first: Part, pause: Callable[[], int]
     ) -> Generator[bytes, None, None]:
-        """What a run on a lot writes, piece by piece after pauses; it may be dropped meanwhile.
+        """What a run on a batch writes, piece by piece after pauses; it may be dropped meanwhile.
 
         RunError where it doesn't end well.
         """
         with tempfile.TemporaryFile() as errors:
-            leashed = self._started(words, subprocess.PIPE, errors)
+            child = self._started(words, subprocess.PIPE, errors)
             with self._lock:
-                self._at_work[first.key] = leashed
+                self._at_work[first.key] = child
                 if first.key in self._dropped:
-                    leashed.send(signal.SIGKILL)
+                    child.send(signal.SIGKILL)
             try:
-                yield from self._written(leashed, first.text, pause)
+                yield from self._written(child, first.text, pause)
             finally:
                 with self._lock:
                     del self._at_work[first.key]
-            status = leashed.run.returncode
+            status = child.run.returncode
             if status != SOUND:
                 errors.seek(0)
                 raise RunError(self._reason(status, errors.read()))

@@ -6,9 +6,9 @@ and solves each; in their order they make the phase.
 
 import re
 from collections.abc import Iterable, Iterator
-from typing import NamedTuple, Optional, Pattern
+from typing import NamedTuple, Optional
 
-from pops_companions.many.cutting import BLANKS, TEXT_LINES, short_forms
+from pops_companions.input.words import is_short_for, words_of
 from pops_companions.many.tasks import Task
 
 # A phase of more parts than that is cut too small.
@@ -19,8 +19,6 @@ _LIST = re.compile(rb"1: (?:set (?:(?P<set>\d+)|(?P<barred>not possible)), )?pla
 _TOTAL = re.compile(rb"solutions: (\d+)(?:, stopped)?\n")
 # How a line begins that may be a total.
 _NUMBER_OF_SOLUTIONS = b"solutions: "
-_TEXT_LINE = re.compile(rb"(?<![^" + BLANKS + rb"])" + TEXT_LINES, re.IGNORECASE)
-_LIMIT = re.compile(short_forms("maxsolutions"), re.IGNORECASE)
 
 
 class PartsError(Exception):
@@ -88,17 +86,13 @@ def limit_of(text: bytes) -> Optional[int]:
     Its number is the next word; text lines may stand before it.
     """
     limit = None
-    for after in _behind(_LIMIT, text):
-        if not after.isdigit():
-            raise PartsError("no number behind MaxSolutions")
-        limit = int(after)
+    words = words_of(text)
+    for word, number in zip(words, words[1:]):
+        if is_short_for(word, "MaxSolutions"):
+            if not number.isdigit():
+                raise PartsError("no number after MaxSolutions")
+            limit = int(number)
     return limit
-
-
-def _behind(word: Pattern[bytes], text: bytes) -> list[bytes]:
-    """The words behind each such word of a text; text lines may stand before it."""
-    words = _TEXT_LINE.sub(b"", text).split()
-    return [after for before, after in zip(words, words[1:]) if word.fullmatch(before)]
 
 
 def head_of(checked: bytes) -> bytes:

@@ -10,7 +10,7 @@ from collections.abc import Callable, Generator, Sequence
 from pathlib import Path
 from typing import Optional
 
-from pops_companions.many.leash import Leashed, Stream
+from pops_companions.many.child_process import ChildProcess, Stream
 from pops_companions.many.tasks import UNFINISHED, Result, Task, is_whole, whole_lines
 from pops_companions.places import COMPANIONS
 
@@ -121,46 +121,46 @@ class Runs:
     def __init__(self, name: str, words: Sequence[str]):
         self._name = name
         self._words = list(words)
-        self._running: set[Leashed] = set()
+        self._running: set[ChildProcess] = set()
         self._lock = threading.Lock()
         self._stopped = False
 
-    def _started(self, words: Sequence[str], source: Stream, errors: Stream) -> Leashed:
+    def _started(self, words: Sequence[str], source: Stream, errors: Stream) -> ChildProcess:
         """Starts it with more words."""
         with self._lock:
             if self._stopped:
                 raise RunError("stopped")
             try:
-                leashed = Leashed([*self._words, *words], source, errors)
+                child = ChildProcess([*self._words, *words], source, errors)
             except OSError as error:
                 raise RunError(f"{self._name} can't be run: {error.strerror}") from None
-            self._running.add(leashed)
-            return leashed
+            self._running.add(child)
+            return child
 
     def _ended(
-        self, leashed: Leashed, text: Optional[bytes], seconds: Optional[float]
+        self, child: ChildProcess, text: Optional[bytes], seconds: Optional[float]
     ) -> tuple[bool, bytes, bytes]:
         """Whether a run ended in its time, what it wrote and what it said."""
         try:
             in_time = True
             try:
-                report, error = leashed.run.communicate(text, seconds)
+                report, error = child.run.communicate(text, seconds)
             except subprocess.TimeoutExpired:
                 in_time = False
-                leashed.send(signal.SIGKILL)
-                report, error = leashed.run.communicate()
+                child.send(signal.SIGKILL)
+                report, error = child.run.communicate()
             return in_time, report, error or b""
         finally:
             with self._lock:
-                self._running.discard(leashed)
-            leashed.let_go()
+                self._running.discard(child)
+            child.let_go()
 
     def _written(
-        self, leashed: Leashed, text: bytes, pause: Callable[[], int]
+        self, child: ChildProcess, text: bytes, pause: Callable[[], int]
     ) -> Generator[bytes, None, None]:
         """What a run writes, piece by piece, after such pauses in milliseconds. It is stopped where
         it isn't read on."""
-        run, is_read = leashed.run, False
+        run, is_read = child.run, False
         assert run.stdin is not None and run.stdout is not None
         output = run.stdout.fileno()
         # (without an event of its own it tells of the end alone)
@@ -182,12 +182,12 @@ class Runs:
             is_read = True
         finally:
             if not is_read:
-                leashed.send(signal.SIGKILL)
+                child.send(signal.SIGKILL)
             run.stdout.close()
             run.wait()
             with self._lock:
-                self._running.discard(leashed)
-            leashed.let_go()
+                self._running.discard(child)
+            child.let_go()
 
     def _reason(self, status: int, error: bytes) -> str:
         """Why a run came to no end."""
@@ -200,8 +200,8 @@ class Runs:
         """Ends all runs at hand; later ones are refused."""
         with self._lock:
             self._stopped = True
-            for leashed in self._running:
-                leashed.send(signal.SIGKILL)
+            for child in self._running:
+                child.send(signal.SIGKILL)
 
 
 class Program(Runs):
@@ -234,9 +234,9 @@ class Program(Runs):
 
     def _one(self, text: bytes) -> tuple[int, bytes]:
         """Status and report of a run on one problem; UNFINISHED where its time was over."""
-        leashed = self._started([], subprocess.PIPE, subprocess.PIPE)
-        in_time, report, error = self._ended(leashed, text, self.seconds)
-        status = leashed.run.returncode
+        child = self._started([], subprocess.PIPE, subprocess.PIPE)
+        in_time, report, error = self._ended(child, text, self.seconds)
+        status = child.run.returncode
         if status in (SOUND, FAULTY) and is_whole(report):
             return status, report
         if not in_time:
@@ -251,8 +251,8 @@ class Program(Runs):
         name, text = task.source.name, task.source.text
         source = subprocess.PIPE if name is None else None
         errors = subprocess.DEVNULL if text is None else None
-        leashed = self._started([] if name is None else [name], source, errors)
-        _, report, _ = self._ended(leashed, text if name is None else None, None)
-        if leashed.run.returncode < 0:
-            raise RunError(self._reason(leashed.run.returncode, b""))
-        return Result(task, leashed.run.returncode, report)
+        child = self._started([] if name is None else [name], source, errors)
+        _, report, _ = self._ended(child, text if name is None else None, None)
+        if child.run.returncode < 0:
+            raise RunError(self._reason(child.run.returncode, b""))
+        return Result(task, child.run.returncode, report)

@@ -3,14 +3,14 @@
 from collections.abc import Sequence
 from typing import NamedTuple, Optional
 
-from pops_companions.many.here import run_here
 from pops_companions.many.joining import Joined
 from pops_companions.many.journal import Journal
+from pops_companions.many.local import run_locally
 from pops_companions.many.machines import Machines
 from pops_companions.many.part_program import PartProgram
-from pops_companions.many.parts_there import PartsThere
 from pops_companions.many.program import Program
 from pops_companions.many.progress import Progress
+from pops_companions.many.remote_parts import RemoteParts
 from pops_companions.many.splitting import Splitting
 from pops_companions.many.tasks import Result, Task
 
@@ -36,7 +36,7 @@ class Elsewhere(NamedTuple):
     """The programs on other machines."""
 
     machines: Machines
-    parts: Optional[PartsThere]
+    parts: Optional[RemoteParts]
 
 
 class Run:
@@ -98,7 +98,7 @@ class Run:
             here = [task for task in self._left if not Machines.takes(task)]
             there = [task for task in self._left if Machines.takes(task)]
             failed.extend(elsewhere.machines.run(there, self._keep))
-        failed.extend(run_here(self._program, here, jobs, self._keep, self._progress.wait_on))
+        failed.extend(run_locally(self._program, here, jobs, self._keep, self._progress.wait_on))
         if self._splitting is not None:
             self._splitting.cut(sorted(self._long, key=lambda task: task.place))
             self._splitting.run(elsewhere.parts if elsewhere else None, jobs)

@@ -5,15 +5,15 @@ from concurrent.futures import Future, ThreadPoolExecutor
 from queue import SimpleQueue
 from typing import NamedTuple, Optional, Union
 
-from pops_companions.many.in_parts import ProblemInParts, Tally
+from pops_companions.many.batches import Batch, Batches
 from pops_companions.many.journal import Journal
-from pops_companions.many.lots import Lot, Lots
 from pops_companions.many.machines import Machines, MachinesError
 from pops_companions.many.part_program import PartProgram
 from pops_companions.many.parts import Part, PartsError, head_of, limit_of
-from pops_companions.many.parts_there import PartsThere
 from pops_companions.many.program import SOUND, Program, RunError
 from pops_companions.many.progress import Progress
+from pops_companions.many.remote_parts import RemoteParts
+from pops_companions.many.split_problem import SplitProblem, Tally
 from pops_companions.many.tasks import Result, Task
 
 # A part that came to no end is tried so many times in all on this machine.
@@ -44,7 +44,7 @@ class Splitting:
         self._journal = journal
         self._progress = progress
         self._finish = finish
-        self._problems: dict[int, ProblemInParts] = {}
+        self._problems: dict[int, SplitProblem] = {}
         self._failed: dict[int, tuple[Task, str]] = {}
 
     @property
@@ -69,14 +69,14 @@ class Splitting:
             return
         text = task.text_without_line_ends
         head, phases = head_of(checked.report), self._program.phases(text)
-        problem = ProblemInParts(task, head, phases, limit_of(text), self._program.depth)
+        problem = SplitProblem(task, head, phases, limit_of(text), self._program.depth)
         self._problems[task.place] = problem
         for part in problem.parts():
             if part.key in self._journal.parts:
                 problem.keep(part, self._journal.part(part))
         self._join(problem)
 
-    def run(self, there: Optional[PartsThere], jobs: int) -> None:
+    def run(self, there: Optional[RemoteParts], jobs: int) -> None:
         """Solves the parts, so many at a time on this machine, where no others take them."""
         self._tell()
         barred: list[Part] = []
@@ -110,7 +110,7 @@ class Splitting:
                 self._progress.part(*self._how_far(problem))
                 return
 
-    def _how_far(self, problem: ProblemInParts) -> tuple[str, Tally, int, int]:
+    def _how_far(self, problem: SplitProblem) -> tuple[str, Tally, int, int]:
         return problem.task.shown, problem.tally, problem.found, self._parts_left()
 
     def _parts_left(self) -> int:
@@ -135,7 +135,7 @@ class Splitting:
         self._join(problem)
         return fewer
 
-    def _join(self, problem: ProblemInParts) -> None:
+    def _join(self, problem: SplitProblem) -> None:
         """Hands on the report of a problem whose parts are done."""
         task = problem.task
         if not problem.is_done:
@@ -150,12 +150,12 @@ class Splitting:
         self._finish(Result(task, SOUND, report))
 
     def _run_here(self, parts: Sequence[Part], jobs: int) -> None:
-        lots = Lots(parts, lambda part: self._problems[part.task.place].is_limited)
+        batches = Batches(parts, lambda part: self._problems[part.task.place].is_limited)
         came: "SimpleQueue[Union[Came, Future[None]]]" = SimpleQueue()
         try:
             with ThreadPoolExecutor(jobs) as pool:
                 try:
-                    self._hand_out(lots, jobs, pool, came)
+                    self._hand_out(batches, jobs, pool, came)
                 except BaseException:
                     self._program.stop()
                     raise
@@ -168,30 +168,30 @@ class Splitting:
 
     def _hand_out(
         self,
-        lots: Lots,
+        batches: Batches,
         jobs: int,
         pool: ThreadPoolExecutor,
         came: "SimpleQueue[Union[Came, Future[None]]]",
     ) -> None:
-        """Hands lots out to so many runs at a time, and takes what comes of them."""
-        running: "dict[Future[None], Lot]" = {}
+        """Hands batches out to so many runs at a time, and takes what comes of them."""
+        running: "dict[Future[None], Batch]" = {}
         while True:
             while len(running) < jobs:
-                lot = lots.next(self._is_needless)
-                if lot is None:
+                batch = batches.next(self._is_needless)
+                if batch is None:
                     break
-                future = pool.submit(self._go_through, lot, came.put)
-                running[future] = lot
+                future = pool.submit(self._go_through, batch, came.put)
+                running[future] = batch
                 future.add_done_callback(came.put)
             if not running:
                 return
             last = came.get()
             if not isinstance(last, Came):
-                lots.end(running.pop(last))
+                batches.end(running.pop(last))
                 last.result()
             elif self._take(last):
-                for lot in running.values():
-                    left = lot.left
+                for batch in running.values():
+                    left = batch.left
                     if left and all(map(self._is_needless, left)):
                         self._program.drop(left[0])
 
@@ -202,24 +202,24 @@ class Splitting:
         self._fail([came.part], came.error)
         return False
 
-    def _go_through(self, lot: Lot, hand_on: Callable[["Came"], None]) -> None:
-        """Hands on what comes of the parts of a lot.
+    def _go_through(self, batch: Batch, hand_on: Callable[["Came"], None]) -> None:
+        """Hands on what comes of the parts of a batch.
 
         One that came to no end is tried once more with those behind it, and then passed over.
         """
         tried = 0
-        while lot:
+        while batch:
             try:
-                for part, report in self._program.reports(lot):
+                for part, report in self._program.reports(batch):
                     hand_on(Came(part, report, ""))
                     tried = 0
             except RunError as error:
                 tried += 1
-                is_over = self._program.is_over(lot.first)
+                is_over = self._program.is_over(batch.first)
                 if tried < _TRIES and not is_over:
-                    self._progress.say(f"{lot.first.shown}: {error}; tried once more")
+                    self._progress.say(f"{batch.first.shown}: {error}; tried once more")
                     continue
-                hand_on(Came(lot.pass_first(), None, str(error)))
+                hand_on(Came(batch.pass_first(), None, str(error)))
                 tried = 0
                 if is_over:
                     return

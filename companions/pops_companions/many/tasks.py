@@ -4,8 +4,8 @@ import re
 from collections.abc import Sequence
 from typing import NamedTuple, Optional
 
-from pops_companions.many.cutting import LONGEST_INPUT, Piece, cut
-from pops_companions.texts.command import Status
+from pops_companions.command import Status
+from pops_companions.input.pieces import LONGEST_INPUT, Piece, cut
 
 # As many line ends are put before a problem at once. Of a problem further down, the first run goes
 # without them, and only a faulty one is run again with them: sound reports tell no lines.

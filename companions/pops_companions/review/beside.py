@@ -4,14 +4,14 @@ from collections.abc import Iterator
 from dataclasses import replace
 from typing import NoReturn, Optional
 
+from pops_companions.chess.stipulation import Play
+from pops_companions.command import CommandError, Status
+from pops_companions.input.given import GivenProblem
+from pops_companions.input.given_source import read_given
+from pops_companions.report.reader import AnyItem, SoundItem
 from pops_companions.review.judging import Judgement, judged, missing
 from pops_companions.review.posing import AnswersError, ShortAnswers
 from pops_companions.review.reading import reviewed_unfinished_report
-from pops_companions.texts.command import CommandError, Status
-from pops_companions.texts.given import GivenProblem
-from pops_companions.texts.given_source import read_given
-from pops_companions.texts.report import AnyItem, SoundItem
-from pops_companions.texts.stipulation import Play
 
 
 class Beside:

@@ -4,11 +4,8 @@ from collections.abc import Sequence
 from dataclasses import dataclass, field, fields
 from typing import Optional
 
-from pops_companions.review.duals import line_text
-from pops_companions.review.matching import Pair
-from pops_companions.review.naming import described, shown
-from pops_companions.texts.chess import Colour, Man, Square
-from pops_companions.texts.report import (
+from pops_companions.chess.men import Colour, Man, Square
+from pops_companions.report.reader import (
     Board,
     FaultyItem,
     HelpLine,
@@ -19,6 +16,9 @@ from pops_companions.texts.report import (
     PlayedMove,
     SoundItem,
 )
+from pops_companions.review.duals import line_text
+from pops_companions.review.matching import Pair
+from pops_companions.review.naming import described, shown
 
 
 @dataclass

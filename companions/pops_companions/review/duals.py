@@ -4,7 +4,7 @@ from collections.abc import Iterable, Iterator, Sequence
 from dataclasses import dataclass
 from enum import Enum
 
-from pops_companions.texts.report import HelpLine, Node, PlayedMove, prefix
+from pops_companions.report.reader import HelpLine, Node, PlayedMove, prefix
 
 
 class Place(Enum):

@@ -4,10 +4,10 @@ from collections import deque
 from collections.abc import Iterable, Iterator, Sequence
 from dataclasses import dataclass
 
+from pops_companions.input.given import GivenProblem
+from pops_companions.report.reader import AnyItem, HeadlessItem
 from pops_companions.review.judging import Judgement, Verdict
-from pops_companions.texts.given import GivenProblem
-from pops_companions.texts.report import AnyItem, HeadlessItem
-from pops_companions.texts.twins import Group, groups
+from pops_companions.show.twins import Group, groups
 
 _VERDICTS = list(Verdict)
 

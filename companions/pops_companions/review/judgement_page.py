@@ -4,12 +4,12 @@ import html
 from collections.abc import Iterable
 from typing import Optional
 
+from pops_companions.report.reader import SoundItem
 from pops_companions.review.judged_groups import JudgedGroup
 from pops_companions.review.judgement_text import Tally, lines_of, name_of
 from pops_companions.review.judging import Finding
-from pops_companions.texts import diagram
-from pops_companions.texts.report import SoundItem
-from pops_companions.texts.titles import printable
+from pops_companions.show import diagram
+from pops_companions.show.titles import printable
 
 STYLE = """
 body { font: 11pt/1.35 serif; margin: 1.5em auto; max-width: 60em; padding: 0 1em;

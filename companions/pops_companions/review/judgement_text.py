@@ -6,11 +6,11 @@ from collections import Counter
 from collections.abc import Iterable, Iterator
 from typing import Optional
 
+from pops_companions.report.reader import SoundItem
 from pops_companions.review.judged_groups import JudgedGroup
 from pops_companions.review.judging import Finding, Judgement, Verdict
 from pops_companions.review.naming import counted, described, shown
-from pops_companions.texts.report import SoundItem
-from pops_companions.texts.titles import printable
+from pops_companions.show.titles import printable
 
 # So many moves of a finding are shown where not all are asked for.
 MOST_LINES = 10

@@ -5,11 +5,10 @@ from dataclasses import dataclass, field
 from enum import Enum
 from typing import Optional
 
-from pops_companions.review.duals import Dual, Place, last_half, late_partings, tree_duals
-from pops_companions.review.naming import counted
-from pops_companions.texts.chess import Kind
-from pops_companions.texts.given import GivenProblem
-from pops_companions.texts.report import (
+from pops_companions.chess.men import Kind
+from pops_companions.chess.stipulation import Play, Stipulation
+from pops_companions.input.given import GivenProblem
+from pops_companions.report.reader import (
     AnyItem,
     FaultyItem,
     HeadlessItem,
@@ -21,7 +20,8 @@ from pops_companions.texts.report import (
     PlayedMove,
     SoundItem,
 )
-from pops_companions.texts.stipulation import Play, Stipulation
+from pops_companions.review.duals import Dual, Place, last_half, late_partings, tree_duals
+from pops_companions.review.naming import counted
 
 
 class Verdict(Enum):

@@ -15,13 +15,13 @@ from pathlib import Path
 from typing import NoReturn, Optional
 
 from pops_companions import places
-from pops_companions.many.cutting import cut
+from pops_companions.chess.stipulation import Play
+from pops_companions.command import CommandError, Status
+from pops_companions.input.given import GivenProblem
+from pops_companions.input.pieces import cut
+from pops_companions.input.writing import text_of_problems
+from pops_companions.report.source import UNFINISHED
 from pops_companions.review.posing import posed_problems
-from pops_companions.texts.command import CommandError, Status
-from pops_companions.texts.given import GivenProblem
-from pops_companions.texts.problem_text import text_of_problems
-from pops_companions.texts.report_source import UNFINISHED
-from pops_companions.texts.stipulation import Play
 
 TRIES_LOOKED_FOR = (
     "the program pops-tries (default: $POPS_TRIES, the one next to pops, the one on the PATH)"

@@ -2,10 +2,10 @@
 
 from typing import Optional
 
-from pops_companions.texts import titles
-from pops_companions.texts.given import GivenProblem
-from pops_companions.texts.report import AnyItem, SoundItem
-from pops_companions.texts.titles import printable
+from pops_companions.input.given import GivenProblem
+from pops_companions.report.reader import AnyItem, SoundItem
+from pops_companions.show import titles
+from pops_companions.show.titles import printable
 
 
 def shown(text: Optional[bytes], encoding: str) -> str:

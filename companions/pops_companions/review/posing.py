@@ -5,9 +5,10 @@ from collections.abc import Iterable, Iterator
 from dataclasses import dataclass, replace
 from typing import Optional
 
-from pops_companions.texts.given import GivenProblem, is_form_of
-from pops_companions.texts.report import AnyItem, Board, HelpLine, PhaseKind, SoundItem
-from pops_companions.texts.stipulation import Condition, Play, Stipulation
+from pops_companions.chess.stipulation import Condition, Play, Stipulation
+from pops_companions.input.given import GivenProblem
+from pops_companions.input.words import is_short_for
+from pops_companions.report.reader import AnyItem, Board, HelpLine, PhaseKind, SoundItem
 
 _SECTIONS = ("pieces", "stipulation", "condition", "option")
 _OPTIONS_LEFT_OUT = ("setplay", "variation")
@@ -48,12 +49,12 @@ def posed_problems(problems: Iterable[GivenProblem]) -> Iterator[list[str]]:
 def _sections(words: Iterable[bytes], stipulation: Stipulation) -> list[str]:
     sections: list[list[str]] = []
     for word in words:
-        if any(is_form_of(word, option) for option in _OPTIONS_LEFT_OUT):
+        if any(is_short_for(word, option) for option in _OPTIONS_LEFT_OUT):
             continue
         text = word.decode("utf-8", "surrogateescape")
-        if any(is_form_of(word, section) for section in _SECTIONS) or not sections:
+        if any(is_short_for(word, section) for section in _SECTIONS) or not sections:
             sections.append([text])
-        elif is_form_of(sections[-1][0].encode("utf-8", "surrogateescape"), "stipulation"):
+        elif is_short_for(sections[-1][0].encode("utf-8", "surrogateescape"), "stipulation"):
             sections[-1].append(stipulation.text)
         else:
             sections[-1].append(text)

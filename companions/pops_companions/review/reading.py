@@ -4,9 +4,9 @@ from collections.abc import Iterator
 from contextlib import contextmanager
 from typing import Optional
 
-from pops_companions.texts.command import CommandError, Status
-from pops_companions.texts.report import AnyItem, Item
-from pops_companions.texts.report_source import opened_report, opened_unfinished_report
+from pops_companions.command import CommandError, Status
+from pops_companions.report.reader import AnyItem, Item
+from pops_companions.report.source import opened_report, opened_unfinished_report
 
 
 @contextmanager

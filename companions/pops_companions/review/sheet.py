@@ -4,13 +4,13 @@ import html
 from collections.abc import Iterable, Mapping, Sequence
 from typing import NamedTuple, Optional
 
+from pops_companions.report.reader import SoundItem
 from pops_companions.review.judged_groups import JudgedGroup
 from pops_companions.review.judgement_page import STYLE, finding_text
 from pops_companions.review.judgement_text import Tally, name_of
 from pops_companions.review.judging import Judgement
-from pops_companions.texts import diagram
-from pops_companions.texts.report import SoundItem
-from pops_companions.texts.titles import printable, shown
+from pops_companions.show import diagram
+from pops_companions.show.titles import printable, shown
 
 _STYLE = """
 .name { width: auto; }

@@ -8,10 +8,10 @@ from collections.abc import Iterable, Iterator, Sequence
 from dataclasses import dataclass
 from typing import Optional
 
-from pops_companions.texts.chess import Colour, Man, Square
-from pops_companions.texts.given import GivenProblem
-from pops_companions.texts.report import AnyItem, Board, SoundItem
-from pops_companions.texts.titles import shown
+from pops_companions.chess.men import Colour, Man, Square
+from pops_companions.input.given import GivenProblem
+from pops_companions.report.reader import AnyItem, Board, SoundItem
+from pops_companions.show.titles import shown
 
 _LABEL = re.compile(r"(?:(.*) )??(?:([a-z]|[0-9]{2,3})\)( duplex)?|(duplex))", re.DOTALL)
 # A twin with more changed squares is shown by a diagram of its own.

@@ -1,35 +1,19 @@
 """What an input of pops says of its problems: the words that pops reads, and the text lines."""
 
 import re
-from collections.abc import Iterator
 from dataclasses import dataclass
-from enum import Enum
 from typing import Optional
 
-from pops_companions.many.cutting import Piece, cut
-from pops_companions.texts.stipulation import Stipulation
+from pops_companions.chess.stipulation import Stipulation
+from pops_companions.input.pieces import Piece, cut
+from pops_companions.input.words import TextLine, TextWord, Word, is_short_for
 
-_WORD = re.compile(rb"[^\t\n\x0b\x0c\r ]+")
 # The most bytes of a title or an author in a report, and what is cut off at both ends.
 LONGEST_TEXT = 200
 _BLANKS = b" \t\v\f\r"
 _WANTED = re.compile(
     rb"\s*(?:solutions?\s*:?\s*([0-9]{1,9})|([0-9]{1,9})\s+solutions?)\s*\.?\s*", re.IGNORECASE
 )
-
-
-def is_form_of(word: bytes, command: str) -> bool:
-    """Whether a word is the command or a short form of it: its first three letters or more."""
-    return len(word) >= 3 and command.encode("ascii").startswith(word.lower())
-
-
-class TextWord(Enum):
-    """A word that begins a text line; its value is the word in small letters."""
-
-    TITLE = "title"
-    AUTHOR = "author"
-    ORIGIN = "origin"
-    REMARK = "remark"
 
 
 @dataclass(frozen=True)
@@ -42,11 +26,11 @@ class GivenProblem:
     number: int
     line: int
     words: tuple[bytes, ...]
-    texts: tuple[tuple[TextWord, bytes], ...]
+    texts: tuple[TextLine, ...]
 
     def lines_of(self, word: TextWord) -> list[bytes]:
         """The text lines of a word, without the blanks at both ends, empty ones left out."""
-        texts = (text.strip(_BLANKS) for kind, text in self.texts if kind is word)
+        texts = (line.text.strip(_BLANKS) for line in self.texts if line.kind is word)
         return [text for text in texts if text]
 
     @property
@@ -72,7 +56,7 @@ class GivenProblem:
     def stipulation(self) -> Optional[Stipulation]:
         """Its stipulation; None where pops would find a fault in it."""
         for word, following in zip(self.words, self.words[1:]):
-            if is_form_of(word, "stipulation"):
+            if is_short_for(word, "Stipulation"):
                 try:
                     return Stipulation.of_text(following.decode("latin-1").lower())
                 except ValueError:
@@ -100,40 +84,14 @@ def given_problems(text: bytes) -> list[GivenProblem]:
 
 
 def _given(text: bytes, piece: Piece) -> GivenProblem:
-    words: list[bytes] = []
-    texts: list[tuple[TextWord, bytes]] = []
-    for word, line_rest in _words(text[piece.start : piece.stop]):
-        kind = _text_word(word)
-        if kind is None:
-            if piece.number == 1 and not words:
-                # Text lines before BeginProblem have no effect.
-                texts.clear()
-            words.append(word)
-        else:
-            texts.append((kind, line_rest))
+    tokens = piece.tokens(text)
     framed = piece.closed
     if piece.number == 1:
-        framed = framed and words[:1] != [] and is_form_of(words[0], "beginproblem")
-        words = words[1:]
-    return GivenProblem(piece.number, piece.line, tuple(words) if framed else (), tuple(texts))
-
-
-def _text_word(word: bytes) -> Optional[TextWord]:
-    return next((kind for kind in TextWord if is_form_of(word, kind.value)), None)
-
-
-def _words(block: bytes) -> Iterator[tuple[bytes, bytes]]:
-    """The words of a problem; that of a text line has the rest of its line beside it."""
-    place = 0
-    while True:
-        found = _WORD.search(block, place)
-        if found is None:
-            return
-        place = found.end()
-        if _text_word(found[0]) is not None:
-            line_end = block.find(b"\n", place)
-            stop = len(block) if line_end < 0 else line_end
-            yield found[0], block[place:stop]
-            place = stop
-        else:
-            yield found[0], b""
+        # Text lines before BeginProblem have no effect.
+        begin = next((place for place, it in enumerate(tokens) if isinstance(it, Word)), None)
+        tokens = tokens if begin is None else tokens[begin:]
+        first = tokens.pop(0) if begin is not None else None
+        framed = framed and isinstance(first, Word) and is_short_for(first.bytes, "BeginProblem")
+    words = tuple(token.bytes for token in tokens if isinstance(token, Word))
+    texts = tuple(token for token in tokens if isinstance(token, TextLine))
+    return GivenProblem(piece.number, piece.line, words if framed else (), texts)

@@ -11,9 +11,9 @@ from functools import lru_cache
 from pathlib import Path
 from xml.sax.saxutils import escape, quoteattr
 
-from pops_companions.texts.chess import Colour, Kind, Square
-from pops_companions.texts.report import Board
-from pops_companions.texts.titles import printable
+from pops_companions.chess.men import Colour, Kind, Square
+from pops_companions.report.reader import Board
+from pops_companions.show.titles import printable
 
 # The side of a square, in the units of the shapes.
 SIDE = 45

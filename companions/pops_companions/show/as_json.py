@@ -3,8 +3,9 @@
 from pathlib import Path
 from typing import Any, Optional, Union
 
-from pops_companions.texts.given import GivenProblem
-from pops_companions.texts.report import (
+from pops_companions.chess.stipulation import Stipulation
+from pops_companions.input.given import GivenProblem
+from pops_companions.report.reader import (
     Board,
     FaultyItem,
     HelpLine,
@@ -14,8 +15,7 @@ from pops_companions.texts.report import (
     PlayedMove,
     SoundItem,
 )
-from pops_companions.texts.stipulation import Stipulation
-from pops_companions.texts.titles import shown
+from pops_companions.show.titles import shown
 
 Json = dict[str, Any]
 

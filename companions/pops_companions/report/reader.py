@@ -13,8 +13,8 @@ from dataclasses import dataclass, field, replace
 from enum import Enum
 from typing import Optional, TypeVar, Union
 
-from pops_companions.texts.chess import Colour, Kind, Man, Square
-from pops_companions.texts.stipulation import Condition, Play, Stipulation
+from pops_companions.chess.men import Colour, Kind, Man, Square
+from pops_companions.chess.stipulation import Condition, Play, Stipulation
 
 
 class ReportError(ValueError):

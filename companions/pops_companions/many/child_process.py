@@ -17,7 +17,7 @@ from typing import IO, Optional, Union
 Stream = Union[None, int, IO[bytes]]
 
 
-class Leashed:
+class ChildProcess:
     """A program in a session of its own, on its leash until `let_go`."""
 
     def __init__(

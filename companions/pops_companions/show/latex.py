@@ -2,11 +2,11 @@
 
 import re
 
-from pops_companions.texts.chess import Colour, Kind
-from pops_companions.texts.diagram import UPSIDE_DOWN, numbers_of_men
-from pops_companions.texts.report import Board, FaultyItem, Phase, SoundItem
-from pops_companions.texts.titles import printable, shown
-from pops_companions.texts.twins import Group, Twin
+from pops_companions.chess.men import Colour, Kind
+from pops_companions.report.reader import Board, FaultyItem, Phase, SoundItem
+from pops_companions.show.diagram import UPSIDE_DOWN, numbers_of_men
+from pops_companions.show.titles import printable, shown
+from pops_companions.show.twins import Group, Twin
 
 _COLOURS = {Colour.WHITE: "w", Colour.BLACK: "s"}
 _KINDS = {

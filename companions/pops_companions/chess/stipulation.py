@@ -4,7 +4,7 @@ import re
 from dataclasses import dataclass
 from enum import Enum
 
-from pops_companions.texts.chess import Colour
+from pops_companions.chess.men import Colour
 
 
 class Play(Enum):

@@ -3,7 +3,7 @@
 from collections.abc import Iterable, Iterator
 from typing import Optional
 
-from pops_companions.texts.chess import Colour, Kind, Man, Square
+from pops_companions.chess.men import Colour, Kind, Man, Square
 
 Step = tuple[int, int]
 Men = dict[Square, Man]

@@ -22,7 +22,7 @@ def _solved(program: Program, task: Task) -> Result:
     raise AssertionError("a task is tried at least once")
 
 
-def run_here(
+def run_locally(
     program: Program,
     tasks: Iterable[Task],
     jobs: int,

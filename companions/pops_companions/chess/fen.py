@@ -7,7 +7,7 @@ import re
 from dataclasses import dataclass, field
 from typing import Optional
 
-from pops_companions.texts.chess import Colour, Kind, Man, Square
+from pops_companions.chess.men import Colour, Kind, Man, Square
 
 
 class FenError(ValueError):

@@ -90,7 +90,7 @@ class _PhaseInParts:
         return [number for number, _ in self._counts]
 
 
-class ProblemInParts:
+class SplitProblem:
     """A problem that is cut into parts, of which it knows how many solutions they have."""
 
     def __init__(

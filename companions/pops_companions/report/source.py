@@ -6,10 +6,10 @@ from collections.abc import Callable, Iterable, Iterator
 from contextlib import contextmanager
 from typing import BinaryIO, Optional, TypeVar
 
-from pops_companions.texts import command
-from pops_companions.texts.command import CommandError, Status
-from pops_companions.texts.given import is_form_of
-from pops_companions.texts.report import (
+from pops_companions import command
+from pops_companions.command import CommandError, Status
+from pops_companions.input.words import is_short_for
+from pops_companions.report.reader import (
     AnyItem,
     Item,
     ReportError,
@@ -17,7 +17,7 @@ from pops_companions.texts.report import (
     read_report,
     read_unfinished_report,
 )
-from pops_companions.texts.titles import is_text
+from pops_companions.show.titles import is_text
 
 # What the name of the file ends in that pops-many writes for unfinished problems.
 UNFINISHED = ".unfinished"
@@ -82,7 +82,7 @@ def _merged(
 def is_input(line: bytes) -> bool:
     """Whether a text's first line shows that it is an input of pops."""
     words = line.split(None, 1)
-    return bool(words) and is_form_of(words[0], "beginproblem")
+    return bool(words) and is_short_for(words[0], "BeginProblem")
 
 
 class _FirstLine:

@@ -4,9 +4,9 @@ from collections.abc import Iterable
 from dataclasses import dataclass, field
 from typing import Optional
 
-from pops_companions.texts.chess import Colour, Kind, Man, Square
-from pops_companions.texts.fen import Position
-from pops_companions.texts.stipulation import Condition, Stipulation
+from pops_companions.chess.fen import Position
+from pops_companions.chess.men import Colour, Kind, Man, Square
+from pops_companions.chess.stipulation import Condition, Stipulation
 
 
 @dataclass(frozen=True)

@@ -10,7 +10,7 @@ import re
 from collections.abc import Callable, Iterable, Sequence
 from typing import NamedTuple, Optional
 
-from pops_companions.many.cutting import cut
+from pops_companions.input.pieces import cut
 from pops_companions.many.machines import (
     PROBE,
     ROUNDS_WITHOUT_REPORT,
@@ -152,7 +152,7 @@ class _Round:
         return {self._parts[number].key: b"".join(lines) for number, lines in written}
 
 
-class PartsThere:
+class RemoteParts:
     """The program pops-part on other machines."""
 
     def __init__(

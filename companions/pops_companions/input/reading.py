@@ -4,15 +4,15 @@ What pops says of a problem decides; this reading finds the word of which it say
 """
 
 import re
-from collections.abc import Sequence
 from dataclasses import dataclass, field
 from enum import Enum, IntEnum
 from typing import Optional
 
-from pops_companions.explain.attacks import attackers
-from pops_companions.explain.words import LONGEST_WORD, TextLine, Token, Word, named
-from pops_companions.texts.chess import Colour, Kind, Man, Square
-from pops_companions.texts.stipulation import Condition, Play, Stipulation
+from pops_companions.chess.attacks import attackers
+from pops_companions.chess.men import Colour, Kind, Man, Square
+from pops_companions.chess.stipulation import Condition, Play, Stipulation
+from pops_companions.input.pieces import Piece
+from pops_companions.input.words import LONGEST_WORD, TextLine, Token, Word, named
 
 COLOURS = tuple(colour.name.title() for colour in Colour)
 CONDITIONS = tuple(condition.value for condition in Condition)
@@ -185,10 +185,11 @@ class Reading:
         return words[place] if 0 <= place < len(words) else None
 
 
-def read_problem(tokens: Sequence[Token], first: bool, closed: bool) -> Reading:
-    """A problem's words read up to its fault; `first` is said of the first of its text."""
-    reading = Reading(list(tokens), first)
-    begun = not first
+def read_piece(text: bytes, piece: Piece) -> Reading:
+    """Reads a problem of an input up to its fault."""
+    is_first, closed = piece.number == 1, piece.closed
+    reading = Reading(piece.tokens_to_end(text), is_first)
+    begun = not is_first
     for place, token in enumerate(reading.tokens):
         if isinstance(token, TextLine):
             continue

@@ -5,9 +5,8 @@ import re
 from collections.abc import Iterable, Iterator, Sequence
 from dataclasses import dataclass
 
-from pops_companions.texts import diagram
-from pops_companions.texts.given import GivenProblem
-from pops_companions.texts.report import (
+from pops_companions.input.given import GivenProblem
+from pops_companions.report.reader import (
     AnyItem,
     FaultyItem,
     Node,
@@ -16,8 +15,9 @@ from pops_companions.texts.report import (
     SoundItem,
     named_items,
 )
-from pops_companions.texts.titles import printable, shown
-from pops_companions.texts.twins import Group, Twin, groups
+from pops_companions.show import diagram
+from pops_companions.show.titles import printable, shown
+from pops_companions.show.twins import Group, Twin, groups
 
 STYLE = """
 body { font: 11pt/1.35 serif; margin: 1.5em auto; max-width: 60em; padding: 0 1em;

@@ -1,6 +1,6 @@
-"""Lots: parts of a phase that stand one behind another, which one run of pops-part goes through.
+"""Batches: parts of a phase that stand one behind another, which one run of pops-part goes through.
 
-A run that is free takes over half of what is left of the longest lot. So each run goes through many
+A run that is free takes over half of what is left of the longest batch. So each run goes through many
 parts, which costs few processes, and in battle play each part's search goes on with the moves that
 decided the tests of the part before it; and all runs end together.
 """
@@ -13,7 +13,7 @@ from typing import Optional
 from pops_companions.many.parts import Part
 
 
-class Lot:
+class Batch:
     """The parts that a run still goes through; those behind the first may be taken from it."""
 
     def __init__(self, parts: Sequence[Part]):
@@ -56,39 +56,39 @@ def numbers_of(parts: Sequence[Part]) -> str:
     return str(first) if first == last else f"{first}..{last}"
 
 
-class Lots:
-    """Parts that are handed out in lots."""
+class Batches:
+    """Parts that are handed out in batches."""
 
     def __init__(self, parts: Sequence[Part], is_alone: Callable[[Part], bool]):
-        """Some parts are lots of their own."""
-        self._waiting: deque[Lot] = deque()
-        self._running: list[Lot] = []
-        lot: list[Part] = []
+        """Some parts are batches of their own."""
+        self._waiting: deque[Batch] = deque()
+        self._running: list[Batch] = []
+        batch: list[Part] = []
         for part in parts:
-            if lot and (is_alone(part) or not _is_behind(lot[-1], part)):
-                self._waiting.append(Lot(lot))
-                lot = []
-            lot.append(part)
-        if lot:
-            self._waiting.append(Lot(lot))
+            if batch and (is_alone(part) or not _follows(batch[-1], part)):
+                self._waiting.append(Batch(batch))
+                batch = []
+            batch.append(part)
+        if batch:
+            self._waiting.append(Batch(batch))
 
-    def next(self, is_needless: Callable[[Part], bool]) -> Optional[Lot]:
-        """The next lot that matters still, or half of one that runs; None where there is none."""
+    def next(self, is_needless: Callable[[Part], bool]) -> Optional[Batch]:
+        """The next batch that matters still, or half of one that runs; None where there is none."""
         while self._waiting:
-            lot = self._waiting.popleft()
-            if not is_needless(lot.first):
-                self._running.append(lot)
-                return lot
+            batch = self._waiting.popleft()
+            if not is_needless(batch.first):
+                self._running.append(batch)
+                return batch
         half = max(self._running, key=len).half() if self._running else []
         if not half:
             return None
-        self._running.append(Lot(half))
+        self._running.append(Batch(half))
         return self._running[-1]
 
-    def end(self, lot: Lot) -> None:
-        """Takes note that the run of a lot ended."""
-        self._running.remove(lot)
+    def end(self, batch: Batch) -> None:
+        """Takes note that the run of a batch ended."""
+        self._running.remove(batch)
 
 
-def _is_behind(before: Part, part: Part) -> bool:
+def _follows(before: Part, part: Part) -> bool:
     return part.key == before.key._replace(number=before.number + 1)

@@ -3,9 +3,9 @@
 import sys
 from typing import Optional
 
-from pops_companions.many.cutting import rest_of
-from pops_companions.texts import command
-from pops_companions.texts.given import GivenProblem, given_problems
+from pops_companions import command
+from pops_companions.input.given import GivenProblem, given_problems
+from pops_companions.input.pieces import rest_of
 
 
 def read_given(companion: str, file: Optional[str]) -> list[GivenProblem]:

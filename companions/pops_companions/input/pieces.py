@@ -1,57 +1,48 @@
-"""Cuts an input of pops into inputs of one problem each.
+"""Cuts an input into its problems.
 
 A problem ends with its NextProblem or EndProblem, whatever faults it has: these words count
-wherever they stand but in the text of Title, Author, Origin and Remark. Nothing behind EndProblem
-is read.
+everywhere but in the text of Title, Author, Origin and Remark. pops reads nothing after EndProblem.
 """
 
 import re
 from typing import NamedTuple, Optional
 
-# The most bytes that pops reads of an input; a longer one is left to one run of it.
+from pops_companions.input.words import BLANKS, TEXT_WORDS, Token, short_forms, tokens_in
+
+# The most bytes that pops reads of an input. A longer one is left to one run of pops.
 LONGEST_INPUT = 1 << 30
 
-# What parts words.
-BLANKS = rb"\t\n\x0b\x0c\r "
-_TEXT_WORDS = ("title", "author", "origin", "remark")
-_BEGIN = "beginproblem"
-_NEXT = "nextproblem"
-_END = "endproblem"
-
-
-def short_forms(word: str) -> bytes:
-    """A pattern of the word and its short forms, of three letters or more; longer ones first."""
-    forms = (word[:length] for length in range(len(word), 2, -1))
-    return "|".join(forms).encode("ascii")
-
-
-# A pattern of a word behind which the rest of the line is text, with that rest.
-TEXT_LINES = rb"(?:" + b"|".join(map(short_forms, _TEXT_WORDS)) + rb")(?![^" + BLANKS + rb"])[^\n]*"
+_WORD_BEGINS = rb"(?<![^" + BLANKS + rb"])"
+_WORD_ENDS = rb"(?![^" + BLANKS + rb"])"
 _MARKS = re.compile(
-    rb"(?<![^"
-    + BLANKS
-    + rb"])(?:"
-    + TEXT_LINES
-    + rb"|(?P<next>"
-    + short_forms(_NEXT)
-    + rb")(?![^"
-    + BLANKS
-    + rb"])"
-    rb"|(?P<end>" + short_forms(_END) + rb")(?![^" + BLANKS + rb"]))",
+    _WORD_BEGINS
+    + rb"(?:(?:"
+    + b"|".join(map(short_forms, TEXT_WORDS))
+    + rb")"
+    + _WORD_ENDS
+    + rb"[^\n]*|(?P<next>"
+    + short_forms("NextProblem")
+    + rb")"
+    + _WORD_ENDS
+    + rb"|(?P<end>"
+    + short_forms("EndProblem")
+    + rb")"
+    + _WORD_ENDS
+    + rb")",
     re.IGNORECASE,
 )
 _NO_BLANK = re.compile(rb"[^" + BLANKS + rb"]")
 # A BeginProblem that begins a line.
 _BLOCK = re.compile(
-    rb"^[\t\x0b\x0c\r ]*(?:" + short_forms(_BEGIN) + rb")(?![^" + BLANKS + rb"])",
+    rb"^[\t\x0b\x0c\r ]*(?:" + short_forms("BeginProblem") + rb")" + _WORD_ENDS,
     re.IGNORECASE | re.MULTILINE,
 )
 
 
 class Piece(NamedTuple):
-    """A problem of an input: the bytes of its block, with the line ends that stand before them.
+    """A problem of an input: the bytes of its block, and how many line ends are before it.
 
-    The block of a later problem begins behind NextProblem. It is closed where NextProblem or
+    The block of a later problem begins after NextProblem. It is closed where NextProblem or
     EndProblem ends it, and open where the input does.
     """
 
@@ -67,10 +58,10 @@ class Piece(NamedTuple):
         return self.line_ends + 1
 
     def alone(self, text: bytes, with_line_ends: bool) -> bytes:
-        """The problem as an input of its own.
+        """Returns the problem as an input of its own, with the same fault or none.
 
-        It has the same fault or none, and with the line ends before it the fault has the same line.
-        The short words leave it no longer than the part of the input that pops would read for it.
+        With the line ends before it the fault also has the same line. Short words keep the input
+        no longer than the part of the whole input that pops would read for the problem.
         """
         parts = []
         if self.number > 1:
@@ -82,9 +73,21 @@ class Piece(NamedTuple):
             parts.append(b"End")
         return b"".join(parts)
 
+    def tokens(self, text: bytes) -> list[Token]:
+        """Returns the words and text lines of the block."""
+        return list(tokens_in(text, self.start, self.stop, self.line))
+
+    def tokens_to_end(self, text: bytes) -> list[Token]:
+        """Returns the words and text lines of the block with the word that closes it."""
+        tokens = self.tokens(text)
+        if self.closed:
+            line = self.line + text.count(b"\n", self.start, self.stop)
+            tokens.append(next(tokens_in(text, self.stop, len(text), line)))
+        return tokens
+
 
 def cut(text: bytes) -> list[Piece]:
-    """The problems of an input, as pops numbers them. An empty input has one, which is faulty."""
+    """Returns the problems of an input by their numbers. An empty input has one, a faulty one."""
     pieces: list[Piece] = []
     start = 0
     line_ends = 0
@@ -101,7 +104,7 @@ def cut(text: bytes) -> list[Piece]:
 
 
 class Rest(NamedTuple):
-    """What follows the EndProblem of an input: `pops` doesn't read it.
+    """What follows the EndProblem of an input, which `pops` doesn't read.
 
     `line` is the line of its first word, from 1, `problems` how many problems it holds.
     """
@@ -124,7 +127,7 @@ class Rest(NamedTuple):
 
 
 def rest_of(text: bytes) -> Optional[Rest]:
-    """What follows the EndProblem of an input; None where nothing but blanks does."""
+    """Returns what follows the EndProblem of an input; None where only blanks do."""
     last = cut(text)[-1]
     if not last.closed:
         return None
