@@ -6,7 +6,8 @@ import unittest
 from pathlib import Path
 from typing import Optional
 
-from pops_companions.report.reader import Item, read_report
+from pops_companions.report.items import Item
+from pops_companions.report.reader import read_report
 from pops_companions.review.matching import pairs_of
 from tests import run_here, support, test_soundness
 

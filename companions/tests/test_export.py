@@ -12,7 +12,8 @@ from pops_companions.export.problems import Problem, joined, options_of, read_pr
 from pops_companions.export.yaml_form import solution_lines
 from pops_companions.import_.words import Unreadable
 from pops_companions.import_.yaml_text import documents
-from pops_companions.report.reader import SoundItem, read_report
+from pops_companions.report.items import SoundItem
+from pops_companions.report.reader import read_report
 from tests import run_here, support
 
 IMPORTED = sorted((Path(__file__).resolve().parent / "data" / "import").glob("*.pop"))

@@ -6,19 +6,17 @@ from typing import Union
 
 from pops_companions.chess.men import Colour, Kind, Man, Square
 from pops_companions.chess.stipulation import Condition, Goal, Play, Stipulation
-from pops_companions.report.reader import (
-    Castling,
+from pops_companions.report.items import (
     FaultyItem,
     HelpLine,
     Item,
-    Mark,
     Node,
     PhaseKind,
-    ReportError,
     SoundItem,
     named_items,
-    read_report,
 )
+from pops_companions.report.moves import Castling, Mark
+from pops_companions.report.reader import ReportError, read_report
 from tests import support
 
 

@@ -11,7 +11,8 @@ from typing import Optional, Union
 from pops_companions.chess.stipulation import Stipulation
 from pops_companions.input.given import given_problems
 from pops_companions.input.writing import text_of_problems
-from pops_companions.report.reader import HelpLine, Item, Node, SoundItem, read_report
+from pops_companions.report.items import HelpLine, Item, Node, SoundItem
+from pops_companions.report.reader import read_report
 from pops_companions.review.duals import Place, late_partings, tree_duals
 from pops_companions.review.judging import Judgement, Verdict, judged
 from pops_companions.review.posing import AnswersError, ShortAnswers, posed_problems, shorter

@@ -25,7 +25,7 @@ from pops_companions.many.parts import (
 )
 from pops_companions.many.program import PAUSE, Program
 from pops_companions.many.progress import Progress
-from pops_companions.many.split_problem import SplitProblem, Reader
+from pops_companions.many.split_problem import Reader, SplitProblem
 from pops_companions.many.tasks import UNFINISHED, Source, Task, tasks_of
 from tests import made_inputs, parts_told, problems_in_parts, support
 

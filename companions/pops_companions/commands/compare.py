@@ -6,7 +6,7 @@ from typing import NoReturn, Optional
 
 from pops_companions import command
 from pops_companions.command import Status
-from pops_companions.report.reader import Item
+from pops_companions.report.items import Item
 from pops_companions.review.differences import Counts, differences_of, heading
 from pops_companions.review.matching import Pair, pairs_of
 from pops_companions.review.naming import counted

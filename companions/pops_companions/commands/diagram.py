@@ -14,7 +14,7 @@ from typing import NoReturn, Optional
 from pops_companions import command
 from pops_companions.command import CommandError, Status
 from pops_companions.input.given_source import read_given
-from pops_companions.report.reader import Board, Item, SoundItem, named_items
+from pops_companions.report.items import Board, Item, SoundItem, named_items
 from pops_companions.report.source import opened_report
 from pops_companions.show.diagram import diagram_file
 from pops_companions.show.latex import latex

@@ -15,7 +15,8 @@ from pops_companions.explain.mending import further_faults, mend
 from pops_companions.explain.notices import notices
 from pops_companions.explain.showing import Shower
 from pops_companions.many.program import LOOKED_FOR, MissingError, find
-from pops_companions.report.reader import Item, ReportError, read_report
+from pops_companions.report.items import Item
+from pops_companions.report.reader import ReportError, read_report
 
 NAME = "pops-explain"
 STANDARD_INPUT = "-"

@@ -10,7 +10,7 @@ from pops_companions.export.problems import Exported, joined, read_problems
 from pops_companions.export.yaml_form import yaml_of
 from pops_companions.import_.words import Unreadable
 from pops_companions.input.writing import text_of_problems
-from pops_companions.report.reader import SoundItem
+from pops_companions.report.items import SoundItem
 from pops_companions.report.source import opened_report
 from pops_companions.show.titles import is_text, shown
 

@@ -8,7 +8,8 @@ from typing import NoReturn, Optional
 from pops_companions import command
 from pops_companions.command import Status
 from pops_companions.input.given_source import read_given
-from pops_companions.report.reader import CUT, AnyItem, FaultyItem
+from pops_companions.report.items import AnyItem, FaultyItem
+from pops_companions.report.reader import CUT
 from pops_companions.report.source import opened_unfinished_report
 from pops_companions.show.page import Page
 

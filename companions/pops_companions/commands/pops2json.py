@@ -9,7 +9,7 @@ from pops_companions import command
 from pops_companions.command import Status
 from pops_companions.input.given import GivenProblem
 from pops_companions.input.given_source import read_given
-from pops_companions.report.reader import Item
+from pops_companions.report.items import Item
 from pops_companions.report.source import opened_report
 from pops_companions.show.as_json import Json, item_object, schema
 

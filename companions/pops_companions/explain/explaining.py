@@ -9,7 +9,7 @@ from pops_companions.explain.case import Case, Explanation
 from pops_companions.input.pieces import cut
 from pops_companions.input.reading import FaultKind, Reading, Section, read_piece
 from pops_companions.input.words import TextWord
-from pops_companions.report.reader import Fault, FaultyItem, Item
+from pops_companions.report.items import Fault, FaultyItem, Item
 
 
 class OtherText(ValueError):

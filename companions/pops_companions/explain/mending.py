@@ -15,7 +15,7 @@ from pops_companions.explain.fault_texts import FAULT_TEXTS
 from pops_companions.input.pieces import cut, rest_of
 from pops_companions.input.reading import FaultKind, Reading, read_piece, squares_of
 from pops_companions.input.words import Span, short_forms
-from pops_companions.report.reader import Fault
+from pops_companions.report.items import Fault
 
 _QUOTED = "`([^`]+)`"
 _BEFORE = re.compile(rf"(?:[Ww]rite {_QUOTED} before |^{_QUOTED} is missing before )")

@@ -9,7 +9,7 @@ from collections.abc import Iterable, Iterator, Mapping, Sequence
 from typing import Optional
 
 from pops_companions.export.problems import Exported, Problem
-from pops_companions.report.reader import SoundItem
+from pops_companions.report.items import SoundItem
 
 _WANTED = re.compile("solutions ([1-9][0-9]{0,8})")
 _MAN = re.compile("([KQRBSPGN])((?:[a-h][1-8])+)")

@@ -10,15 +10,9 @@ from pops_companions.chess.men import Colour, Kind, Man, Square
 from pops_companions.export.problems import Problem, read_problems
 from pops_companions.find.boards import board_of
 from pops_companions.import_.words import Unreadable
-from pops_companions.report.reader import (
-    HelpLine,
-    Mark,
-    Node,
-    PhaseKind,
-    ReportError,
-    SoundItem,
-    read_report,
-)
+from pops_companions.report.items import HelpLine, Node, PhaseKind, SoundItem
+from pops_companions.report.moves import Mark
+from pops_companions.report.reader import ReportError, read_report
 from pops_companions.show.titles import is_text, shown
 
 _REPORT = re.compile(rb"problem [1-9][0-9]*\r?\n")

@@ -8,7 +8,7 @@ from pops_companions.find.boards import men_of
 from pops_companions.find.collection import Found
 from pops_companions.find.entries import Entry
 from pops_companions.input.writing import pieces_line
-from pops_companions.report.reader import Board
+from pops_companions.report.items import Board
 from pops_companions.review.naming import counted
 from pops_companions.show import diagram
 from pops_companions.show.titles import printable

@@ -7,6 +7,7 @@ from typing import BinaryIO, NamedTuple, Optional
 from pops_companions.many.journal import Journal
 from pops_companions.many.targets import Target
 from pops_companions.many.tasks import Task
+from pops_companions.report import lines
 
 _COLUMNS = ("start", "bytes", "status", "problem", "line", "file")
 
@@ -115,8 +116,8 @@ class Joined:
         if known is None:
             seconds = self._journal.kept[task.place].seconds
             known = self._journal.report(task.place), f"stopped after {seconds:g} s"
-        lines, how_far = known
-        return lines + os.fsencode(f"unfinished: {how_far} ({task.where})\n\n")
+        text, how_far = known
+        return text + lines.UNFINISHED + os.fsencode(f"{how_far} ({task.where})\n\n")
 
 
 def write_index(target: Target, tasks: Sequence[Task], journal: Journal) -> None:

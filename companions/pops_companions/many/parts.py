@@ -10,15 +10,13 @@ from typing import NamedTuple, Optional
 
 from pops_companions.input.words import is_short_for, words_of
 from pops_companions.many.tasks import Task
+from pops_companions.report import lines
 
 # A phase of more parts than that is cut too small.
 MOST_PARTS = 100_000
 
-_SOUND = b"sound\n\n"
+_SOUND = lines.SOUND + b"\n\n"
 _LIST = re.compile(rb"1: (?:set (?:(?P<set>\d+)|(?P<barred>not possible)), )?play (?P<play>\d+)\n")
-_TOTAL = re.compile(rb"solutions: (\d+)(?:, stopped)?\n")
-# How a line begins that may be a total.
-_NUMBER_OF_SOLUTIONS = b"solutions: "
 
 
 class PartsError(Exception):
@@ -102,10 +100,10 @@ def head_of(checked: bytes) -> bytes:
     return checked[: -len(_SOUND)]
 
 
-def solutions_in(lines: bytes) -> list[bytes]:
+def solutions_in(text: bytes) -> list[bytes]:
     """The solutions: each a line, with the lines below it that stand further in."""
     solutions: list[list[bytes]] = []
-    for line in lines.splitlines(keepends=True):
+    for line in text.splitlines(keepends=True):
         if line.startswith(b" ") and solutions:
             solutions[-1].append(line)
         else:
@@ -113,41 +111,37 @@ def solutions_in(lines: bytes) -> list[bytes]:
     return [b"".join(solution) for solution in solutions]
 
 
-def without_totals(lines: bytes) -> list[bytes]:
-    """The lines but those that tell how many solutions there are."""
-    return [line for line in lines.splitlines(keepends=True) if not is_total(line)]
-
-
-def is_total(line: bytes) -> bool:
-    """Whether a line tells how many solutions there are."""
-    return _TOTAL.fullmatch(line) is not None
+def without_totals(text: bytes) -> list[bytes]:
+    """Returns the lines that don't say how many solutions there are."""
+    return [line for line in text.splitlines(keepends=True) if not lines.is_total(line)]
 
 
 def up_to_totals(pieces: Iterable[bytes]) -> Iterator[tuple[bytes, bool]]:
     """The same text in pieces of its own, with whether each ends with a total; none has another."""
     rest = b""
     for piece in pieces:
-        lines, end, rest = (rest + piece).rpartition(b"\n")
-        lines, begin = lines + end, 0
-        for stop in _ends_of_totals(lines):
-            yield lines[begin:stop], True
+        whole, end, rest = (rest + piece).rpartition(b"\n")
+        whole, begin = whole + end, 0
+        for stop in _ends_of_totals(whole):
+            yield whole[begin:stop], True
             begin = stop
-        if begin < len(lines):
-            yield lines[begin:], False
+        if begin < len(whole):
+            yield whole[begin:], False
     if rest:
         yield rest, False
 
 
-def _ends_of_totals(lines: bytes) -> Iterator[int]:
+def _ends_of_totals(whole: bytes) -> Iterator[int]:
     """Where the totals among whole lines end; other lines aren't looked at one by one."""
     begin = 0
     while True:
-        if not lines.startswith(_NUMBER_OF_SOLUTIONS, begin):
-            begin = lines.find(b"\n" + _NUMBER_OF_SOLUTIONS, begin) + 1
+        if not whole.startswith(lines.SOLUTIONS, begin):
+            begin = whole.find(b"\n" + lines.SOLUTIONS, begin) + 1
             if begin == 0:
                 return
-        total = _TOTAL.match(lines, begin)
-        begin = lines.index(b"\n", begin) + 1
+        stop = whole.index(b"\n", begin)
+        total = lines.TOTAL.fullmatch(whole, begin, stop)
+        begin = stop + 1
         if total is not None:
             yield begin
 
@@ -165,7 +159,7 @@ def solutions_of(report: bytes) -> list[bytes]:
 def count_in(report: bytes) -> Optional[int]:
     """How many solutions a part has; None where its report lacks this number or another one came."""
     start = report.rfind(b"\n", 0, -1) + 1
-    total = _TOTAL.fullmatch(report, start)
-    lines = report[:start]
-    begun = lines.count(b"\n") - lines.count(b"\n ") - lines.startswith(b" ")
+    total = lines.TOTAL.fullmatch(report, start, len(report) - 1) if report.endswith(b"\n") else None
+    above = report[:start]
+    begun = above.count(b"\n") - above.count(b"\n ") - above.startswith(b" ")
     return begun if total is not None and int(total[1]) == begun else None

@@ -20,8 +20,9 @@ from pops_companions.many.parts import (
     without_totals,
 )
 from pops_companions.many.tasks import Task
+from pops_companions.report.lines import NOT_POSSIBLE, total_line
 
-_BARRED = b"not possible\n"
+_BARRED = NOT_POSSIBLE + b"\n"
 
 # Reads what is kept of a part.
 Reader = Callable[[Part], bytes]
@@ -167,11 +168,11 @@ class SplitProblem:
         reports = (read(self._part(phase, number)) for number in of_phase.with_solutions)
         if of_phase.found < self._limit:
             yield from map(lines_without_total, reports)
-            yield b"solutions: %d\n" % of_phase.found
+            yield total_line(of_phase.found, False)
             return
         solutions = [solution for report in reports for solution in solutions_of(report)]
         yield from self._up_to_limit(solutions)
-        yield b"solutions: %d, stopped\n" % self._limit
+        yield total_line(int(self._limit), True)
 
     def _known(
         self, phase: Phase, read: Reader, begun: dict[Key, bytes], first: bytes

@@ -1,11 +1,11 @@
 """What is to be run, and what came of it."""
 
-import re
 from collections.abc import Sequence
 from typing import NamedTuple, Optional
 
 from pops_companions.command import Status
 from pops_companions.input.pieces import LONGEST_INPUT, Piece, cut
+from pops_companions.report import lines
 
 # As many line ends are put before a problem at once. Of a problem further down, the first run goes
 # without them, and only a faulty one is run again with them: sound reports tell no lines.
@@ -13,8 +13,8 @@ LINE_ENDS_AT_ONCE = 4096
 # In place of an exit status of pops: the run was stopped when its time was over.
 UNFINISHED = int(Status.UNFINISHED)
 
-_HEAD = b"problem 1\n"
-_FAULT = re.compile(rb"problem 1\nline \d+: fault ")
+# A run on one problem numbers it 1.
+_HEAD = lines.problem_line(1)
 
 
 class Source(NamedTuple):
@@ -70,13 +70,14 @@ class Task(NamedTuple):
         """Whether the report of the first run is a fault told with a wrong line."""
         assert self.piece is not None
         lacking = self.piece.number > 1 and self.piece.line_ends > LINE_ENDS_AT_ONCE
-        return lacking and _FAULT.match(report) is not None
+        line = report[len(_HEAD) :].partition(b"\n")[0]
+        return lacking and lines.FAULT.fullmatch(line) is not None
 
     def numbered(self, report: bytes) -> bytes:
         """The report with the problem's number in its input."""
         if self.piece is None:
             return report
-        return b"problem %d\n" % self.piece.number + report[len(_HEAD) :]
+        return lines.problem_line(self.piece.number) + report[len(_HEAD) :]
 
 
 class Result(NamedTuple):

@@ -1,20 +1,33 @@
 """Reads reports of pops, item by item, by their grammar (docs/report.ebnf).
 
 The reading is strict: a report that departs from the grammar, or that was cut, is refused with the
-line where it does. Read as well are reports with gaps in their numbers, as pops-many leaves them
-where it stopped problems, and several reports one behind the other: a number that doesn't grow
-begins the next one. `read_unfinished_report` also takes problems that were stopped, and a report
-that ends inside a problem.
+line where it does. Numbers may have gaps, as pops-many leaves them where it stopped problems.
+Several reports may follow each other: a number that doesn't grow begins the next one.
+`read_unfinished_report` also takes problems that were stopped, and a report that ends inside a
+problem.
 """
 
-import re
 from collections.abc import Iterable, Iterator
 from dataclasses import dataclass, field, replace
-from enum import Enum
-from typing import Optional, TypeVar, Union
+from typing import Optional, Union
 
-from pops_companions.chess.men import Colour, Kind, Man, Square
 from pops_companions.chess.stipulation import Condition, Play, Stipulation
+from pops_companions.report import lines
+from pops_companions.report.items import (
+    AnyItem,
+    Board,
+    Fault,
+    FaultyItem,
+    HeadlessItem,
+    HelpLine,
+    Item,
+    Node,
+    Phase,
+    PhaseKind,
+    SoundItem,
+    Total,
+)
+from pops_companions.report.moves import PlayedMove, prefix, read_move
 
 
 class ReportError(ValueError):
@@ -25,193 +38,8 @@ class ReportError(ValueError):
         self.line = line
 
 
-class Castling(Enum):
-    """Castling by its printed text: to the h side or to the a side."""
-
-    SHORT = "0-0"
-    LONG = "0-0-0"
-
-
-class Mark(Enum):
-    """What stands behind a move; its value is the printed sign."""
-
-    CHECK = "+"
-    MATE = "#"
-    STALEMATE = "="
-
-
-class PhaseKind(Enum):
-    """A phase of the solutions; its value is the printed word."""
-
-    SET = "set"
-    PLAY = "play"
-
-
-@dataclass(frozen=True)
-class Rebirth:
-    """A man put back on the board by a capture under Circe."""
-
-    man: Man
-    square: Square
-
-
-@dataclass(frozen=True)
-class PlayedMove:
-    """A move of a solution. `text` is what the report prints, its number left out.
-
-    Of castling, man, origin and arrival are the king's.
-    """
-
-    text: str
-    half: int
-    side: Colour
-    kind: Kind
-    origin: Square
-    arrival: Square
-    capture: bool
-    en_passant: bool
-    promotion: Optional[Kind]
-    castling: Optional[Castling]
-    rebirth: Optional[Rebirth]
-    mark: Optional[Mark]
-
-
-@dataclass(frozen=True)
-class HelpLine:
-    """A solution of help play: all its moves."""
-
-    text: str
-    moves: tuple[PlayedMove, ...]
-
-
-@dataclass
-class Node:
-    """A move of battle play with what the report shows below it."""
-
-    text: str
-    move: PlayedMove
-    below: "list[Node]" = field(default_factory=list)
-
-
-@dataclass(frozen=True)
-class Total:
-    """How many solutions a phase has, and whether the limit of solutions ended it."""
-
-    count: int
-    stopped: bool
-
-
-@dataclass(frozen=True)
-class Phase:
-    """Set play or play: its solutions, help lines or nodes.
-
-    It has no total if it isn't possible, or if its problem is unfinished.
-    """
-
-    kind: PhaseKind
-    solutions: tuple[Union[HelpLine, Node], ...]
-    lines: tuple[str, ...]
-    total: Optional[Total]
-    last_line: str
-
-    @property
-    def is_possible(self) -> bool:
-        return self.last_line != _NOT_POSSIBLE
-
-
-@dataclass(frozen=True)
-class Board:
-    """A printed board: eight ranks, rank 8 first, of eight letters or points."""
-
-    ranks: tuple[str, ...]
-
-    @property
-    def men(self) -> dict[Square, Man]:
-        """The men by their squares, in the order of the diagram."""
-        letters = "".join(self.ranks)
-        return {
-            square: Man.of_letter(letter)
-            for square, letter in zip(Square.of_diagram(), letters)
-            if letter != "."
-        }
-
-
-@dataclass(frozen=True)
-class Fault:
-    """The fault of a problem, with the line of the input that it is told of."""
-
-    line: int
-    number: int
-    text: str
-
-
-@dataclass(frozen=True)
-class FaultyItem:
-    """The report of a faulty problem."""
-
-    number: int
-    fault: Fault
-
-
-@dataclass(frozen=True)
-class SoundItem:
-    """The report of a sound problem. Without phases the problem was checked and not solved.
-
-    Title and author are bytes as the problem gave them, in whatever encoding. `unfinished` says why
-    the report of the problem ends before its last total.
-    """
-
-    number: int
-    title: Optional[bytes]
-    author: Optional[bytes]
-    board: Optional[Board]
-    stipulation: Stipulation
-    condition: Optional[Condition]
-    phases: Optional[tuple[Phase, ...]]
-    unfinished: Optional[str] = None
-
-    @property
-    def asked(self) -> str:
-        """The line of stipulation and condition, as `h#2.5 Circe`."""
-        condition = f" {self.condition.value}" if self.condition is not None else ""
-        return self.stipulation.text + condition
-
-
-@dataclass(frozen=True)
-class HeadlessItem:
-    """An unfinished problem of which the report doesn't even show the stipulation."""
-
-    number: int
-    unfinished: str
-
-
-Item = Union[FaultyItem, SoundItem]
-AnyItem = Union[FaultyItem, SoundItem, HeadlessItem]
-NamedItem = TypeVar("NamedItem", FaultyItem, SoundItem, Item, AnyItem)
-
-_NOT_POSSIBLE = "not possible"
-_UNFINISHED = b"unfinished: "
 # Why a problem is unfinished if the report ends in it.
 CUT = "the report ends here"
-
-_PROBLEM = re.compile(r"problem ([1-9][0-9]*)", re.ASCII)
-_FAULT = re.compile(r"line ([1-9][0-9]*): fault ([1-9][0-9]?): (.+)", re.ASCII)
-_BOARD_RANK = re.compile(r"([1-8]) ([KQRBSPGNkqrbspgn.]{8})", re.ASCII)
-_TOTAL = re.compile(r"solutions: ([0-9]+)(, stopped)?", re.ASCII)
-_MOVE = re.compile(
-    r"(?:(?P<castling>0-0-0|0-0)"
-    r"|(?P<man>[KQRBSGN]?)(?P<origin>[a-h][1-8])(?P<step>[-*])(?P<arrival>[a-h][1-8])"
-    r"(?P<en_passant> ep\.)?(?:=(?P<promotion>[QRBSGN]))?"
-    r"(?:\[\+(?P<reborn_colour>[wb])(?P<reborn_kind>[QRBSPGN])(?P<reborn_square>[a-h][1-8])\])?)"
-    r"(?P<mark>[#+=]?)(?= |$)",
-    re.ASCII,
-)
-_FILES_LINE = "  abcdefgh"
-
-
-def prefix(half: int) -> str:
-    """The number printed before a half-move: `2.` for the odd one, `2...` for the even one."""
-    return f"{(half + 1) // 2}." if half % 2 == 1 else f"{half // 2}..."
 
 
 class _Broken(Exception):
@@ -224,8 +52,8 @@ class _Lines:
     With `may_break` an item may end early: `_Broken` says so.
     """
 
-    def __init__(self, lines: Iterable[bytes], may_break: bool):
-        self._rest = iter(lines)
+    def __init__(self, source: Iterable[bytes], may_break: bool):
+        self._rest = iter(source)
         self.may_break = may_break
         self.number = 0
         self._ahead: Optional[bytes] = None
@@ -251,8 +79,8 @@ class _Lines:
             if self.may_break:
                 raise _Broken(CUT)
             raise ReportError(self.number, "the report is cut inside a problem")
-        if self.may_break and self._ahead.startswith(_UNFINISHED):
-            reason = self._ahead[len(_UNFINISHED) :].decode("utf-8", "replace")
+        if self.may_break and self._ahead.startswith(lines.UNFINISHED):
+            reason = self._ahead[len(lines.UNFINISHED) :].decode("utf-8", "replace")
             self._step()
             raise _Broken(reason)
         return self._ahead
@@ -273,41 +101,27 @@ class _Lines:
         return ReportError(self.number, f"expected {expected}, found {shown!r}")
 
 
-def named_items(items: Iterable[NamedItem]) -> Iterator[tuple[str, NamedItem]]:
-    """Each item with a name of its own: its number, and from a second report on the report's too.
-
-    Of reports one behind the other the second has `2-1`, `2-2` and so on.
-    """
-    report = 1
-    last = 0
-    for item in items:
-        if item.number <= last:
-            report += 1
-        last = item.number
-        yield (f"{report}-{item.number}" if report > 1 else str(item.number)), item
-
-
-def read_report(lines: Iterable[bytes]) -> Iterator[Item]:
+def read_report(source: Iterable[bytes]) -> Iterator[Item]:
     """The items of a report, given by its lines with their line ends, as a binary file gives them.
 
     ReportError where the text departs from the grammar; the items before were given.
     """
-    for item in _items(_Lines(lines, may_break=False)):
+    for item in _items(_Lines(source, may_break=False)):
         assert not isinstance(item, HeadlessItem)
         yield item
 
 
-def read_unfinished_report(lines: Iterable[bytes]) -> Iterator[AnyItem]:
+def read_unfinished_report(source: Iterable[bytes]) -> Iterator[AnyItem]:
     """As `read_report`, for a report that may end inside a problem and hold stopped problems.
 
     Such problems have what the report shows of them; a line that was cut is left out.
     """
-    return _items(_Lines(lines, may_break=True))
+    return _items(_Lines(source, may_break=True))
 
 
 def _items(source: _Lines) -> Iterator[AnyItem]:
     while not source.at_end:
-        problem = _PROBLEM.fullmatch(source.text)
+        problem = lines.PROBLEM.fullmatch(source.ahead)
         if problem is None:
             raise source.refused("a line 'problem' with its number")
         source.take()
@@ -349,12 +163,13 @@ def _read_item(source: _Lines, number: int) -> AnyItem:
     unfinished = None
     is_checked = False
     try:
-        fault = _FAULT.fullmatch(source.text)
+        fault = lines.FAULT.fullmatch(source.ahead)
         if fault is not None:
             source.take()
-            return FaultyItem(number, Fault(int(fault[1]), int(fault[2]), fault[3]))
+            text = fault[3].decode("latin-1")
+            return FaultyItem(number, Fault(int(fault[1]), int(fault[2]), text))
         stipulation = _read_head(source, head)
-        is_checked = source.text == "sound"
+        is_checked = source.ahead == lines.SOUND
         if is_checked:
             source.take()
         else:
@@ -370,8 +185,8 @@ def _read_item(source: _Lines, number: int) -> AnyItem:
 
 def _read_head(source: _Lines, head: _Head) -> Stipulation:
     """Reads what stands above the solutions into `head`; returns the stipulation."""
-    head.title = _read_text(source, b"title: ")
-    head.author = _read_text(source, b"author: ")
+    head.title = _read_text(source, lines.TITLE)
+    head.author = _read_text(source, lines.AUTHOR)
     head.board = _read_board(source) if source.text.startswith("8 ") else None
     head.asked = _read_stipulation(source)
     return head.asked[0]
@@ -388,12 +203,12 @@ def _read_text(source: _Lines, label: bytes) -> Optional[bytes]:
 def _read_board(source: _Lines) -> Board:
     ranks = []
     for rank in range(8, 0, -1):
-        parts = _BOARD_RANK.fullmatch(source.text)
+        parts = lines.RANK.fullmatch(source.ahead)
         if parts is None or int(parts[1]) != rank:
             raise source.refused(f"rank {rank} of a board")
-        ranks.append(parts[2])
+        ranks.append(parts[2].decode("ascii"))
         source.take()
-    if source.text != _FILES_LINE:
+    if source.ahead != lines.FILES:
         raise source.refused("the line of files below a board")
     source.take()
     return Board(tuple(ranks))
@@ -421,35 +236,40 @@ def _read_phases(source: _Lines, stipulation: Stipulation, phases: list[Phase]) 
     _read_phase(source, stipulation, PhaseKind.PLAY, phases)
 
 
+@dataclass
+class _Found:
+    """The solutions of a phase so far, and their lines."""
+
+    solutions: list[Union[HelpLine, Node]] = field(default_factory=list)
+    lines: list[str] = field(default_factory=list)
+
+    def phase(self, kind: PhaseKind, total: Optional[Total], last_line: str) -> Phase:
+        return Phase(kind, tuple(self.solutions), tuple(self.lines), total, last_line)
+
+
 def _read_phase(
     source: _Lines, stipulation: Stipulation, kind: PhaseKind, phases: list[Phase]
 ) -> None:
     source.take()
-    solutions: list[Union[HelpLine, Node]] = []
-    lines: list[str] = []
+    found = _Found()
     try:
-        if source.text == _NOT_POSSIBLE:
-            phases.append(Phase(kind, (), (), None, source.take()))
+        if source.ahead == lines.NOT_POSSIBLE:
+            phases.append(found.phase(kind, None, source.take()))
             return
-        total = _read_solutions(source, stipulation, kind, solutions, lines)
+        total = _read_solutions(source, stipulation, kind, found)
         if total is None:
-            phases.append(Phase(kind, tuple(solutions), tuple(lines), None, "unfinished"))
+            phases.append(found.phase(kind, None, "unfinished"))
             return
     except _Broken as broken:
-        last_line = f"unfinished: {broken}"
-        phases.append(Phase(kind, tuple(solutions), tuple(lines), None, last_line))
+        phases.append(found.phase(kind, None, f"unfinished: {broken}"))
         raise
-    phases.append(Phase(kind, tuple(solutions), tuple(lines), total, source.take()))
+    phases.append(found.phase(kind, total, source.take()))
 
 
 def _read_solutions(
-    source: _Lines,
-    stipulation: Stipulation,
-    kind: PhaseKind,
-    solutions: list[Union[HelpLine, Node]],
-    lines: list[str],
+    source: _Lines, stipulation: Stipulation, kind: PhaseKind, found: _Found
 ) -> Optional[Total]:
-    """Adds a phase's solutions and its lines; returns its total, whose line is left.
+    """Adds a phase's solutions to `found`; returns its total, whose line isn't taken.
 
     None for the set play of an unfinished problem if the play follows without a total.
     """
@@ -458,23 +278,24 @@ def _read_solutions(
     while True:
         if source.may_break and kind is PhaseKind.SET and source.text == PhaseKind.PLAY.value:
             return None
-        total = _TOTAL.fullmatch(source.text)
+        total = lines.TOTAL.fullmatch(source.ahead)
         if total is not None:
             break
         if stipulation.play is Play.HELP:
-            solutions.append(_read_help_line(source, stipulation, first_half))
+            found.solutions.append(_read_help_line(source, stipulation, first_half))
         else:
             node, depth = _read_node(source, stipulation, first_half, len(path))
             del path[depth:]
             if path:
                 path[-1].below.append(node)
             else:
-                solutions.append(node)
+                found.solutions.append(node)
             path.append(node)
-        lines.append(source.take())
-    if int(total[1]) != len(solutions):
-        raise source.refused(f"'solutions: {len(solutions)}', the number of solutions above")
-    return Total(len(solutions), total[2] is not None)
+        found.lines.append(source.take())
+    count = len(found.solutions)
+    if int(total[1]) != count:
+        raise source.refused(f"'solutions: {count}', the number of solutions above")
+    return Total(count, total[2] is not None)
 
 
 def _read_help_line(source: _Lines, stipulation: Stipulation, first_half: int) -> HelpLine:
@@ -485,12 +306,14 @@ def _read_help_line(source: _Lines, stipulation: Stipulation, first_half: int) -
     for half in range(first_half, last_half + 1):
         gap = " " if moves else ""
         lead = gap + (prefix(half) if half % 2 == 1 or not moves else "")
-        parts = _MOVE.match(text, place + len(lead)) if text.startswith(lead, place) else None
-        if parts is None:
-            raise source.refused(f"a line of {last_half - first_half + 1} half-moves")
-        moves.append(_played(parts, half, stipulation.side(half)))
-        place = parts.end()
-    if place != len(text) or not moves:
+        if not text.startswith(lead, place):
+            break
+        found = read_move(text, place + len(lead), half, stipulation.side(half))
+        if found is None:
+            break
+        moves.append(found[0])
+        place = found[1]
+    if place != len(text) or not moves or len(moves) != last_half - first_half + 1:
         raise source.refused(f"a line of {last_half - first_half + 1} half-moves")
     return HelpLine(text, tuple(moves))
 
@@ -503,48 +326,7 @@ def _read_node(
     depth = indent // 2
     half = first_half + depth
     lead = " " * (2 * depth) + prefix(half)
-    parts = _MOVE.match(text, len(lead)) if text.startswith(lead) else None
-    if parts is None or parts.end() != len(text) or depth > deepest:
+    found = read_move(text, len(lead), half, stipulation.side(half))
+    if not text.startswith(lead) or found is None or found[1] != len(text) or depth > deepest:
         raise source.refused("a move, or the number of solutions")
-    return Node(text, _played(parts, half, stipulation.side(half))), depth
-
-
-def _played(parts: "re.Match[str]", half: int, side: Colour) -> PlayedMove:
-    mark = Mark(parts["mark"]) if parts["mark"] else None
-    if parts["castling"]:
-        castling = Castling(parts["castling"])
-        rank = 1 if side is Colour.WHITE else 8
-        arrival = Square(7 if castling is Castling.SHORT else 3, rank)
-        return PlayedMove(
-            parts[0],
-            half,
-            side,
-            Kind.KING,
-            Square(5, rank),
-            arrival,
-            False,
-            False,
-            None,
-            castling,
-            None,
-            mark,
-        )
-    rebirth = None
-    if parts["reborn_kind"]:
-        colour = Colour.WHITE if parts["reborn_colour"] == "w" else Colour.BLACK
-        reborn = Man(colour, Kind(parts["reborn_kind"]))
-        rebirth = Rebirth(reborn, Square.of_name(parts["reborn_square"]))
-    return PlayedMove(
-        parts[0],
-        half,
-        side,
-        Kind(parts["man"] or "P"),
-        Square.of_name(parts["origin"]),
-        Square.of_name(parts["arrival"]),
-        parts["step"] == "*",
-        parts["en_passant"] is not None,
-        Kind(parts["promotion"]) if parts["promotion"] else None,
-        None,
-        rebirth,
-        mark,
-    )
+    return Node(text, found[0]), depth

@@ -9,14 +9,8 @@ from typing import BinaryIO, Optional, TypeVar
 from pops_companions import command
 from pops_companions.command import CommandError, Status
 from pops_companions.input.words import is_short_for
-from pops_companions.report.reader import (
-    AnyItem,
-    Item,
-    ReportError,
-    SoundItem,
-    read_report,
-    read_unfinished_report,
-)
+from pops_companions.report.items import AnyItem, Item, SoundItem
+from pops_companions.report.reader import ReportError, read_report, read_unfinished_report
 from pops_companions.show.titles import is_text
 
 # What the name of the file ends in that pops-many writes for unfinished problems.

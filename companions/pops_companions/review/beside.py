@@ -8,7 +8,7 @@ from pops_companions.chess.stipulation import Play
 from pops_companions.command import CommandError, Status
 from pops_companions.input.given import GivenProblem
 from pops_companions.input.given_source import read_given
-from pops_companions.report.reader import AnyItem, SoundItem
+from pops_companions.report.items import AnyItem, SoundItem
 from pops_companions.review.judging import Judgement, judged, missing
 from pops_companions.review.posing import AnswersError, ShortAnswers
 from pops_companions.review.reading import reviewed_unfinished_report

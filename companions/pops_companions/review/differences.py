@@ -5,7 +5,7 @@ from dataclasses import dataclass, field, fields
 from typing import Optional
 
 from pops_companions.chess.men import Colour, Man, Square
-from pops_companions.report.reader import (
+from pops_companions.report.items import (
     Board,
     FaultyItem,
     HelpLine,
@@ -13,9 +13,9 @@ from pops_companions.report.reader import (
     Node,
     Phase,
     PhaseKind,
-    PlayedMove,
     SoundItem,
 )
+from pops_companions.report.moves import PlayedMove
 from pops_companions.review.duals import line_text
 from pops_companions.review.matching import Pair
 from pops_companions.review.naming import described, shown

@@ -4,7 +4,8 @@ from collections.abc import Iterable, Iterator, Sequence
 from dataclasses import dataclass
 from enum import Enum
 
-from pops_companions.report.reader import HelpLine, Node, PlayedMove, prefix
+from pops_companions.report.items import HelpLine, Node
+from pops_companions.report.moves import PlayedMove, prefix
 
 
 class Place(Enum):

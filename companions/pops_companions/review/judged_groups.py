@@ -5,7 +5,7 @@ from collections.abc import Iterable, Iterator, Sequence
 from dataclasses import dataclass
 
 from pops_companions.input.given import GivenProblem
-from pops_companions.report.reader import AnyItem, HeadlessItem
+from pops_companions.report.items import AnyItem, HeadlessItem
 from pops_companions.review.judging import Judgement, Verdict
 from pops_companions.show.twins import Group, groups
 

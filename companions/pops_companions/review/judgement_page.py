@@ -4,7 +4,7 @@ import html
 from collections.abc import Iterable
 from typing import Optional
 
-from pops_companions.report.reader import SoundItem
+from pops_companions.report.items import SoundItem
 from pops_companions.review.judged_groups import JudgedGroup
 from pops_companions.review.judgement_text import Tally, lines_of, name_of
 from pops_companions.review.judging import Finding

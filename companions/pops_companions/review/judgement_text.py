@@ -6,7 +6,7 @@ from collections import Counter
 from collections.abc import Iterable, Iterator
 from typing import Optional
 
-from pops_companions.report.reader import SoundItem
+from pops_companions.report.items import SoundItem
 from pops_companions.review.judged_groups import JudgedGroup
 from pops_companions.review.judging import Finding, Judgement, Verdict
 from pops_companions.review.naming import counted, described, shown

@@ -8,18 +8,17 @@ from typing import Optional
 from pops_companions.chess.men import Kind
 from pops_companions.chess.stipulation import Play, Stipulation
 from pops_companions.input.given import GivenProblem
-from pops_companions.report.reader import (
+from pops_companions.report.items import (
     AnyItem,
     FaultyItem,
     HeadlessItem,
     HelpLine,
-    Mark,
     Node,
     Phase,
     PhaseKind,
-    PlayedMove,
     SoundItem,
 )
+from pops_companions.report.moves import Mark, PlayedMove
 from pops_companions.review.duals import Dual, Place, last_half, late_partings, tree_duals
 from pops_companions.review.naming import counted
 

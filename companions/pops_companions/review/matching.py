@@ -4,7 +4,7 @@ from collections.abc import Callable, Hashable, Sequence
 from dataclasses import dataclass
 from typing import Optional
 
-from pops_companions.report.reader import FaultyItem, Item, SoundItem
+from pops_companions.report.items import FaultyItem, Item, SoundItem
 
 
 @dataclass(frozen=True)

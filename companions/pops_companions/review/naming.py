@@ -3,7 +3,7 @@
 from typing import Optional
 
 from pops_companions.input.given import GivenProblem
-from pops_companions.report.reader import AnyItem, SoundItem
+from pops_companions.report.items import AnyItem, SoundItem
 from pops_companions.show import titles
 from pops_companions.show.titles import printable
 

@@ -8,7 +8,7 @@ from typing import Optional
 from pops_companions.chess.stipulation import Condition, Play, Stipulation
 from pops_companions.input.given import GivenProblem
 from pops_companions.input.words import is_short_for
-from pops_companions.report.reader import AnyItem, Board, HelpLine, PhaseKind, SoundItem
+from pops_companions.report.items import AnyItem, Board, HelpLine, PhaseKind, SoundItem
 
 _SECTIONS = ("pieces", "stipulation", "condition", "option")
 _OPTIONS_LEFT_OUT = ("setplay", "variation")

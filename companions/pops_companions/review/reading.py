@@ -5,7 +5,7 @@ from contextlib import contextmanager
 from typing import Optional
 
 from pops_companions.command import CommandError, Status
-from pops_companions.report.reader import AnyItem, Item
+from pops_companions.report.items import AnyItem, Item
 from pops_companions.report.source import opened_report, opened_unfinished_report
 
 

@@ -4,7 +4,7 @@ import html
 from collections.abc import Iterable, Mapping, Sequence
 from typing import NamedTuple, Optional
 
-from pops_companions.report.reader import SoundItem
+from pops_companions.report.items import SoundItem
 from pops_companions.review.judged_groups import JudgedGroup
 from pops_companions.review.judgement_page import STYLE, finding_text
 from pops_companions.review.judgement_text import Tally, name_of

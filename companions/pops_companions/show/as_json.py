@@ -5,16 +5,8 @@ from typing import Any, Optional, Union
 
 from pops_companions.chess.stipulation import Stipulation
 from pops_companions.input.given import GivenProblem
-from pops_companions.report.reader import (
-    Board,
-    FaultyItem,
-    HelpLine,
-    Item,
-    Node,
-    Phase,
-    PlayedMove,
-    SoundItem,
-)
+from pops_companions.report.items import Board, FaultyItem, HelpLine, Item, Node, Phase, SoundItem
+from pops_companions.report.moves import PlayedMove
 from pops_companions.show.titles import shown
 
 Json = dict[str, Any]

@@ -12,7 +12,7 @@ from pathlib import Path
 from xml.sax.saxutils import escape, quoteattr
 
 from pops_companions.chess.men import Colour, Kind, Square
-from pops_companions.report.reader import Board
+from pops_companions.report.items import Board
 from pops_companions.show.titles import printable
 
 # The side of a square, in the units of the shapes.

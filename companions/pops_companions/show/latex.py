@@ -3,7 +3,7 @@
 import re
 
 from pops_companions.chess.men import Colour, Kind
-from pops_companions.report.reader import Board, FaultyItem, Phase, SoundItem
+from pops_companions.report.items import Board, FaultyItem, Phase, SoundItem
 from pops_companions.show.diagram import UPSIDE_DOWN, numbers_of_men
 from pops_companions.show.titles import printable, shown
 from pops_companions.show.twins import Group, Twin

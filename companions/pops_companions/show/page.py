@@ -6,7 +6,7 @@ from collections.abc import Iterable, Iterator, Sequence
 from dataclasses import dataclass
 
 from pops_companions.input.given import GivenProblem
-from pops_companions.report.reader import (
+from pops_companions.report.items import (
     AnyItem,
     FaultyItem,
     Node,

@@ -10,7 +10,7 @@ from typing import Optional
 
 from pops_companions.chess.men import Colour, Man, Square
 from pops_companions.input.given import GivenProblem
-from pops_companions.report.reader import AnyItem, Board, SoundItem
+from pops_companions.report.items import AnyItem, Board, SoundItem
 from pops_companions.show.titles import shown
 
 _LABEL = re.compile(r"(?:(.*) )??(?:([a-z]|[0-9]{2,3})\)( duplex)?|(duplex))", re.DOTALL)
