@@ -1,6 +1,6 @@
 # Completion of `pops` and its companions for bash.
 
-# The long options of a program.
+# Lists the long options of a program.
 _pops_options() {
   local own
   case $1 in
@@ -48,7 +48,7 @@ _pops() {
     pops-part,*)
       mapfile -t COMPREPLY < <(compgen -f -X '!*.pop' -- "$word"; compgen -d -- "$word")
       ;;
-    # Any file is offered for what an option wants, and below where a report or positions are read.
+    # Any file is offered for the value of an option, and where a report or positions are read.
     pops-*,-*) ;;
     pops,* | pops-many,* | pops-explain,* | pops-judge,* | pops-export,*)
       mapfile -t COMPREPLY < <(compgen -f -X '!*.pop' -- "$word"; compgen -d -- "$word")

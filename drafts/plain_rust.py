@@ -7,7 +7,7 @@ CRATES = [c for c in CRATES if (TREE/'crates'/c).exists()]
 EXT = ['arrayvec','memchr','itoa']
 
 def balanced(t, i, o='{', c='}'):
-    # i at an opening; returns index behind its close
+    # Returns the index after the bracket that closes the one at i
     d = 0
     while True:
         ch = t[i]

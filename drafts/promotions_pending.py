@@ -1,7 +1,7 @@
 #!/usr/bin/env python3
 """Prints made problems with pawns that may soon be promoted, all in one input: promotions_pending.py SEED COUNT
 
-For comparing the reports of two builds. Some of the problems are faulty: two builds must then report the same fault.
+Their reports by two builds can be compared. Some of the problems are faulty: both builds must then report the same fault.
 """
 import random
 import sys
@@ -14,7 +14,7 @@ FAIRY = "GN"
 
 
 def squares(draw: random.Random, ranks: str, count: int, taken: set[str]) -> list[str]:
-    """Squares on these ranks where nobody stands yet."""
+    """Chooses empty squares on these ranks."""
     free = [file + rank for file in FILES for rank in ranks if file + rank not in taken]
     found = draw.sample(free, min(count, len(free)))
     taken.update(found)
@@ -22,7 +22,7 @@ def squares(draw: random.Random, ranks: str, count: int, taken: set[str]) -> lis
 
 
 def side(draw: random.Random, taken: set[str], near: str, fairy: bool) -> str:
-    """The men of a side whose pawns stand on these ranks."""
+    """Makes the men of a side whose pawns are on these ranks."""
     men = ["K" + squares(draw, "12345678", 1, taken)[0]]
     kinds = PIECES + FAIRY if fairy else PIECES
     men += [draw.choice(kinds) + at for at in squares(draw, "12345678", draw.randrange(4), taken)]
@@ -32,7 +32,7 @@ def side(draw: random.Random, taken: set[str], near: str, fairy: bool) -> str:
 
 
 def problem(draw: random.Random) -> str:
-    """One problem."""
+    """Makes one problem."""
     taken: set[str] = set()
     fairy = draw.random() < 0.2
     lines = [f"Pieces White {side(draw, taken, '67', fairy)}", f"       Black {side(draw, taken, '23', fairy)}"]
@@ -44,7 +44,7 @@ def problem(draw: random.Random) -> str:
 
 
 def main() -> None:
-    """Prints them."""
+    """Prints the problems."""
     seed, count = int(sys.argv[1]), int(sys.argv[2])
     draw = random.Random(seed)
     made = "\nNextProblem\n".join(problem(draw) for _ in range(count))

@@ -1,10 +1,10 @@
-// Uses the page in Node, in front of a document that has just enough of a browser's: what the page does with gestures,
+// Uses the page in Node, with a stand-in for a browser's document: what the page does with gestures,
 // pasted texts and reports. Standard input: the modules, the parts of the template, and cases, each a text, a report of it
 // and steps, which are scripts. Standard output: for each case the values of its steps.
 'use strict';
 const { readFileSync } = require('fs');
 
-// An element: a box of children with words, settings and listeners.
+// An element: a box of children with text, attributes and listeners.
 class Thing {
   constructor(tag) {
     Object.assign(this, { tagName: tag.toUpperCase(), children: [], style: {}, dataset: {}, attributes: {}, value: '' });
@@ -45,7 +45,7 @@ class Thing {
   removeAttribute(name) { delete this.attributes[name]; }
   get firstElementChild() { return this.children.find(it => it instanceof Thing) ?? null; }
   contains(other) { return other === this || this.children.some(it => it instanceof Thing && it.contains(other)); }
-  // Of selectors it knows a tag's name, and finds nothing for others.
+  // The only selector that it knows is a tag's name; others find nothing.
   querySelectorAll(selector) {
     const below = this.children.filter(it => it instanceof Thing);
     return below.flatMap(it => [...(it.tagName === selector.toUpperCase() ? [it] : []), ...it.querySelectorAll(selector)]);
@@ -63,7 +63,7 @@ const known = new Map();
 const given = JSON.parse(readFileSync(0, 'utf8'));
 const kept = new Map();
 const listeners = new Map();
-// The name of the element under the pointer.
+// Names the element under the pointer.
 let under = '';
 
 function made(name) {
@@ -87,7 +87,7 @@ Object.assign(globalThis, {
 });
 Object.defineProperty(globalThis, 'navigator', { value: { hardwareConcurrency: 1 }, configurable: true });
 
-// What cases do: an event of the whole page, a drag from an element to a square, a report that has come.
+// The actions of cases: an event of the whole page, a drag from an element to a square, a report that has come.
 const send = (name, event) => (listeners.get(name) ?? []).forEach(act => act({ button: 0, target: new Thing('div'), preventDefault() {}, ...event }));
 globalThis.paste = text => send('paste', { clipboardData: { getData: () => text } });
 globalThis.drag = (thing, square) => {

@@ -1,10 +1,10 @@
-// Solves texts as the page does, in Node: the page's modules, and workers that are threads with the page's own worker and
-// engine, or made ones in front of a made engine. This one shares out what the program pops reports: a part for each beginning
-// of its solutions, and parts without any between them; or it has the program pops-part list and solve the parts.
+// Solves texts as the page does, in Node: with the page's modules, and workers that are threads with the page's own worker and
+// engine, or made workers with a made engine. The made engine divides the report of the program pops: a part for each beginning
+// of its solutions, and empty parts between them; or it uses the program pops-part to list and solve the parts.
 //
 // Standard input: a line with { worker, engine } in base64 or { program, parts }, then a line for each text with { text } in
 // base64 and { check, noBoard, least, workers, stopAfter, seconds }, for the made engine also { breaks, room }: how it breaks, and
-// for how many bytes it has room. Standard output: a line for each, how solving ended and { report }.
+// for how many bytes it has room. Standard output: a line for each text, how solving ended and { report }.
 'use strict';
 const { spawnSync } = require('child_process');
 const { readFileSync } = require('fs');
@@ -14,7 +14,7 @@ const SECONDS_A_TEXT = 60;
 const SECONDS_OF_THE_PROGRAM = 3;
 const MODULES = ['words', 'text', 'position', 'report', 'parts', 'crew', 'solving'];
 const NAMES = ['Crew', 'Solving', 'withField', 'limitOf'];
-// Letters are bytes: so any bytes are a text, and back.
+// Turns bytes into letters and back, so that any bytes are a text.
 const CODEC = {
   encode: text => new Uint8Array(Buffer.from(text, 'latin1')),
   decode: bytes => Buffer.from(bytes).toString('latin1'),
@@ -29,7 +29,7 @@ parentPort.on('message', data => globalThis.onmessage({ data }));
 const page = new Function(`${MODULES.map(name => readFileSync(`${__dirname}/../web/${name}.js`, 'utf8')).join('')}
 return { ${NAMES.join(', ')} };`)();
 
-// A worker of the page in a thread. One that is ended while it has nothing to do is taken again for the next text.
+// A worker of the page in a thread. A worker that is ended while idle is used again for the next text.
 class ThreadWorker {
   static idle = [];
 
@@ -59,7 +59,7 @@ class ThreadWorker {
   }
 }
 
-// What a program writes of a text, and its status.
+// Runs a program on a text: its output and its status.
 class Program {
   constructor(path) {
     Object.assign(this, { path, kept: new Map() });
@@ -108,7 +108,7 @@ class MadeEngine {
     return { status: 0, text: `${shown.join('')}solutions: ${shown.length}${shown.length === limit ? ', stopped' : ''}\n` };
   }
 
-  // The report of a text whose limit of solutions is taken away, unless that takes too long.
+  // Returns the report of a text without its limit of solutions, unless that takes too long.
   withoutLimit(text) {
     try {
       return this.program.run(['--no-board'], page.withField(text, 0, 'MaxSolutions', null));
@@ -117,7 +117,7 @@ class MadeEngine {
     }
   }
 
-  // The parts of the phases of a text's first problem, each a list of solutions; null where it is faulty.
+  // Returns the parts of the phases of a text's first problem, each a list of solutions; null if it is faulty.
   phases(text, depth) {
     const { status, text: report } = this.withoutLimit(text);
     if (status) return null;
@@ -131,7 +131,7 @@ class MadeEngine {
     return phases;
   }
 
-  // Solutions by their first moves, an empty part before each and behind the last.
+  // Divides solutions by their first moves, with an empty part before each and after the last.
   shared(solutions, depth) {
     if (!solutions.length) return [];
     const parts = [[]];
@@ -146,7 +146,7 @@ class MadeEngine {
   }
 }
 
-// The same with the parts of pops-part.
+// Returns the parts as pops-part makes them.
 class EngineOfPrograms extends MadeEngine {
   constructor(program, parts) {
     super(program);
@@ -168,7 +168,7 @@ function madeEngine({ program, parts }) {
   return parts ? new EngineOfPrograms(new Program(program), new Program(parts)) : new MadeEngine(new Program(program));
 }
 
-// A worker in front of the made engine, which answers after a while; one that is broken fails, one that hangs never answers.
+// A worker with the made engine, which replies after a while; a broken one fails, a hanging one never replies.
 class MadeWorker {
   constructor(engine, draw, { breaks, room = Infinity }) {
     Object.assign(this, { engine, draw, breaks, room, isEnded: false });
@@ -195,7 +195,7 @@ class MadeWorker {
   }
 }
 
-// Numbers from 0 to 1, the same in each run.
+// Makes numbers from 0 to 1, equal in each run.
 function drawn(seed) {
   let state = seed;
   return () => {
@@ -204,7 +204,7 @@ function drawn(seed) {
   };
 }
 
-// Solves one text; after so many pieces of its report it is stopped.
+// Solves one text, and stops it after `stopAfter` pieces of its report.
 async function solved(make, given) {
   const crew = new page.Crew(given.workers ?? 4, make, CODEC);
   let report = '';

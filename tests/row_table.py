@@ -15,18 +15,18 @@ LETTERS = {"r": "\r", "t": "\t"}
 
 
 class TableError(Exception):
-    """What is wrong in a file of rows, and where."""
+    """An error in a file of rows, with its place."""
 
 
 class Row(NamedTuple):
-    """An input of `pops`, how it is called, and what it has to answer."""
+    """An input of `pops`, its options, and the report and status that it must give."""
 
     name: str
     options: Tuple[str, ...]
     input: bytes
     report: bytes
     status: int
-    # The least and the most positions that its search may try, where they are known.
+    # The least and the most positions that its search may try, if known.
     opened: Optional[Tuple[int, int]]
 
 
@@ -50,13 +50,13 @@ def _unescaped(escape: "re.Match[str]") -> str:
 
 
 def _input(lines: List[str]) -> bytes:
-    """The bytes of an input: a backslash at the end of a line leaves out its line end."""
+    """Returns the bytes of an input: a backslash at the end of a line removes its line end."""
     text = "".join(line[:-1] if line.endswith("\\") else line + "\n" for line in lines)
     return ESCAPE.sub(_unescaped, text).encode("latin-1")
 
 
 def _field(head: List[str], name: str) -> Optional[str]:
-    """What the head of a row says of a field."""
+    """Returns the value of a field in the head of a row, or None."""
     found = [line[len(name) + 2 :] for line in head if line.startswith(f"{name}: ")]
     if len(found) > 1:
         raise TableError(f"{name} is given twice")
@@ -88,7 +88,7 @@ def _row(name: str, lines: List[str]) -> Row:
 
 
 def subject(path: Path) -> Subject:
-    """The rows of a file."""
+    """Reads the rows of a file."""
     about, *parts = re.split(r"^== (\w+)\n", path.read_text("ascii"), flags=re.M)
     rows = []
     for name, text in zip(parts[::2], parts[1::2]):
@@ -100,17 +100,17 @@ def subject(path: Path) -> Subject:
 
 
 def subjects() -> List[Subject]:
-    """The whole table, by subject."""
+    """Reads the whole table, by subject."""
     return [subject(path) for path in sorted(FOLDER.glob("*.txt"))]
 
 
 def rows() -> List[Row]:
-    """All rows."""
+    """Reads all rows."""
     return [row for one in subjects() for row in one.rows]
 
 
 def write_files(folder: Path) -> List[Path]:
-    """Writes the rows as files. The paths of their inputs."""
+    """Writes the rows as files. Returns the paths of their inputs."""
     paths = []
     for row in rows():
         path = folder / f"{row.name}.in"

@@ -1,4 +1,4 @@
-// The board and its men on the page, by mouse, touch and keys. What was done goes to the page as new men.
+// The board on the page, used by mouse, touch and keys. It passes each change to the page as new men.
 'use strict';
 const HAND = 'hand';
 const DRAG_PIXELS = 6;
@@ -30,7 +30,7 @@ function makeButton(label, act) {
 
 class Board {
   // PAGE has change(changer), which takes a function from the men to other men; move(from, to); note(text, holds), which
-  // shows a note while its cause holds; and check(), which takes the note away once the cause has gone.
+  // shows a note while its cause holds; and check(), which removes the note once the cause is gone.
   constructor(page) {
     this.page = page;
     this.men = new Map();
@@ -101,7 +101,7 @@ class Board {
     square.tabIndex = 0;
   }
 
-  // Shows these men; the squares of TRACE are marked.
+  // Shows these men, and marks the squares of TRACE.
   show(men, trace) {
     this.men = men;
     for (const it of element('squares').querySelectorAll('button')) {
@@ -164,7 +164,7 @@ class Board {
     if (this.men.has(square) && !this.held) this.beginDrag({ man: this.men.get(square), square }, event);
   }
 
-  // Begins to drag a man, from a square or from the palette.
+  // Starts to drag a man, from a square or from the palette.
   beginDrag({ man, square }, event) {
     if (event.button !== 0) return;
     if (event.pointerType === 'touch') event.target.releasePointerCapture?.(event.pointerId);
@@ -199,7 +199,7 @@ class Board {
     this.endDrag();
     if (!drag.ghost) return;
     const to = this.squareUnder(event);
-    // The click that ends a drag on its own square is none.
+    // (the click at the end of a drag to the same square is ignored)
     this.wasDragged = to !== null && to === drag.square;
     if (this.wasDragged) return;
     if (to && drag.square) this.move(drag.square, to);

@@ -1,10 +1,10 @@
 // @ts-check
-// The problems of the text: a list to go to, and the twins of the problem on the board.
+// The list of the text's problems, and the twins of the problem on the board.
 'use strict';
 const LONGEST_NAME = 60;
 
 /**
- * The problems of a text with their numbers and what names them.
+ * Returns the problems of a text with their numbers and names.
  * @param {string} text
  */
 function contentsOf(text) {
@@ -17,13 +17,13 @@ function contentsOf(text) {
   });
 }
 
-/** A problem as the list names it: its number, then title and stipulation, or stipulation and men. */
+/** Names a problem for the list: its number, then title and stipulation, or stipulation and men. */
 function nameOfProblem({ number, title, asked, men }) {
   const name = [title, asked, title ? '' : sidesOf(men).trim()].filter(Boolean).join(' · ');
   return `${number}. ${name.slice(0, LONGEST_NAME)}`;
 }
 
-/** The group of twins that a problem belongs to, each with what changes in it; empty if it has no twins. */
+/** Returns the group of twins that a problem belongs to, each with what changes in it; empty if it has no twins. */
 function twinsOf(text, contents, number) {
   const group = twinGroups(contents).find(twins => twins.some(twin => twin.number === number)) ?? [];
   if (group.length < 2) return [];

@@ -1,20 +1,20 @@
-// Workers side by side. Each does one call of the engine at a time; whoever has a call waits until a worker is free.
+// Parallel workers. Each does one call of the engine at a time; a call waits until a worker is free.
 'use strict';
 
 class Crew {
-  // So many workers, each made by MAKE when it is first wanted. CODEC makes bytes of a text and a text of bytes.
+  // Up to SIZE workers, each made by MAKE when it is first needed. CODEC turns texts into bytes and back.
   constructor(size, make, codec) {
     Object.assign(this, { size, make, codec, idle: [], busy: new Set(), waiting: [], isStopped: false });
   }
 
-  // Ends once a worker is free.
+  // Resolves once a worker is free.
   async free() {
     while (!this.idle.length && this.busy.size >= this.size) {
       await new Promise(wake => { this.waiting.push(wake); });
     }
   }
 
-  // Hands a call to a worker. Its answer, once it is there, has status and text.
+  // Passes a call to a worker. Resolves to status and text.
   ask(call) {
     const worker = this.idle.pop() ?? this.make();
     const task = { worker };
@@ -39,13 +39,13 @@ class Crew {
     this.wake();
   }
 
-  // What a failed worker has in its memory is unknown: no other call goes to it.
+  // The memory of a failed worker is in an unknown state: it gets no other call.
   fail(task, fault, refuse) {
     this.drop(task);
     refuse(new Error(fault));
   }
 
-  // Ends a call whose answer isn't wanted any more; the answer never comes.
+  // Ends a call whose result isn't needed any more; its promise never resolves.
   drop(task) {
     if (!this.busy.delete(task)) return;
     task.worker.terminate();
@@ -57,7 +57,7 @@ class Crew {
     for (const wake of this.waiting.splice(0)) wake();
   }
 
-  // Ends all calls and all workers; whoever waits for one waits for good.
+  // Ends all calls and all workers; pending calls never resolve.
   stop() {
     this.isStopped = true;
     for (const { worker } of this.busy) worker.terminate();

@@ -1,5 +1,4 @@
-// Diagrams in SVG and pages of them, as the companions pops-diagram and pops-page write them; the shapes of the men are
-// theirs.
+// Diagrams in SVG and pages of them, as the companions pops-diagram and pops-page write them, with the same shapes.
 'use strict';
 const SIDE = 45;
 const MARGIN = 22;
@@ -7,7 +6,7 @@ const WIDTH = MARGIN + 8 * SIDE + 1;
 const UPSIDE_DOWN = { G: 'Q', N: 'S' };
 const FILLS = { w: 'fill="#fff" color="#000"', b: 'fill="#000" color="#fff"' };
 const LINES_OF_A_COLUMN = 20;
-// Control characters but tab and line end, and characters that stand for none.
+// Control characters except tab and line end, and code points that are no characters.
 const NO_CHARACTER = /[\x00-\x08\x0b-\x1f\x7f-\x9f\ud800-\udfff\ufdd0-\ufdef\ufffe\uffff]/gu;
 const ENTITIES = { '&': '&amp;', '<': '&lt;', '>': '&gt;', '"': '&quot;', "'": '&#x27;' };
 const printable = text => text.replace(NO_CHARACTER, '\ufffd');
@@ -15,7 +14,7 @@ const safe = text => printable(text).replace(/[&<>"']/g, sign => ENTITIES[sign])
 const capital = word => word[0].toUpperCase() + word.slice(1);
 const squaresInOrder = men => [...men].sort(([one], [next]) => byRank(one, next));
 
-// The men by colour, kind and square: `White Kg6 Ra1, Black Kg8`.
+// Lists the men by colour, kind and square: `White Kg6 Ra1, Black Kg8`.
 function positionInWords(men) {
   const side = colour => {
     const said = [];
@@ -29,7 +28,7 @@ function positionInWords(men) {
 
 const frameOf = men => `viewBox="0 -1 ${WIDTH} ${WIDTH}" role="img" aria-label="${positionInWords(men)}"`;
 
-// The board with its men, white ones first.
+// Draws the board with its men, white men first.
 function drawingOf(men) {
   const side = colour => {
     const uses = [];
@@ -47,7 +46,7 @@ function drawingOf(men) {
 
 const diagramOf = men => `<svg class="diagram" ${frameOf(men)}>${drawingOf(men)}</svg>`;
 
-// The diagram as a file of its own; of the shapes it has those that it needs.
+// Makes a file with the diagram and the shapes that it needs.
 function diagramFile(men, title, shapes) {
   const kinds = new Set([...men.values()].map(man => man[1]));
   for (const kind of [...kinds]) if (kind in UPSIDE_DOWN) kinds.add(UPSIDE_DOWN[kind]);
@@ -64,7 +63,7 @@ function diagramFile(men, title, shapes) {
 
 const titleOf = item => [item.title, item.author, item.asked.line].filter(text => text !== null).join(', ');
 
-// The page of a report's items, twins as one problem; `given` is what the text says of each problem.
+// Makes the page of a report's items, twins as one problem; `given` is what the text says about each problem.
 function sheetOf(items, heading, shapes, style, given = []) {
   const named = items.map(item => ({ item, number: item.number, ...namesOf(item, given[item.number - 1]) }));
   const articles = twinGroups(named).map(group => articleOf(group));
@@ -74,7 +73,7 @@ function sheetOf(items, heading, shapes, style, given = []) {
     + `<h1>${safe(heading)}</h1>\n${articles.join('')}</body>\n</html>\n`;
 }
 
-// Title and author of an item, of a faulty one from its text; its origin and remarks.
+// Returns title, author, origin and remarks of an item; a faulty item's title and author come from its text.
 function namesOf(item, given = null) {
   const { title = null, author = null } = (item.fault ? given : item) ?? {};
   return { title, author, origin: given?.origin ?? null, remarks: given?.remarks ?? [] };
@@ -94,7 +93,7 @@ function articleOf(group) {
     + `</header>\n</div>\n<div class="solutions">\n${group.map(twin => twinOf(twin, group)).join('')}</div>\n</article>\n`;
 }
 
-// The solutions of a problem; those of twins have their label above them.
+// Writes the solutions of a problem; each twin's label comes before its solutions.
 function twinOf(twin, group) {
   const { item, label } = twin;
   if (group.length === 1) return solutionsSaid(item);
@@ -123,7 +122,7 @@ function positionOf(item) {
   return `${diagramOf(men)}\n${below} <span class="count">${count}</span></p>\n${fairy.join('')}`;
 }
 
-// What the total of the play means to a composer: no solution, or several keys.
+// Says what the total of the play means to a composer: no solution, or several keys.
 function totalInWords({ kind, count, isStopped, isPossible }, isHelp) {
   if (kind !== 'play' || !isPossible || isStopped) return '';
   if (count === 0) return ' <span>(no solution)</span>';

@@ -1,5 +1,5 @@
 // @ts-check
-// A fault as the page shows it: the lines that it is about, with their words marked, and what is wrong with them.
+// A fault as the page shows it: the lines at fault, with their words marked, and the explanation.
 'use strict';
 const LONGEST_QUOTED_LINE = 300;
 
@@ -9,14 +9,14 @@ function madeWith(tag, text) {
   return made;
 }
 
-/** A line of the text with its number, in pieces of which some are marked. */
+/** Draws a line of the text with its number, in pieces, some of them marked. */
 function drawnLine({ line, pieces }) {
   const drawn = madeWith('code', `${line} | `);
   drawn.append(...pieces.map(({ text, isMarked }) => madeWith(isMarked ? 'mark' : 'span', text)));
   return drawn;
 }
 
-/** The line of a fault by itself, where no word of it is known. */
+/** Returns the line of a fault without marks, if no word of it is known. */
 function bareLine(text, line) {
   const { from, to } = lineAt(text, line);
   const said = characters.shown(text.slice(from, Math.min(to, from + LONGEST_QUOTED_LINE)).replace(/[\t\v\f\r]/g, ' '));
@@ -24,7 +24,7 @@ function bareLine(text, line) {
 }
 
 /**
- * Draws the fault of a problem: with the explanation of its word, or else with what the manual says of the fault.
+ * Draws the fault of a problem: with the explanation of its word, or else with the manual's text about the fault.
  * @param {string} text the text of the report
  * @param {{ number: number, fault: { line: number, number: number, text: string } }} item
  * @param {string} general what the manual says

@@ -1,5 +1,5 @@
 // @ts-check
-// The line of moves that the board shows in place of the diagram: walked to in the solutions, or played on the board.
+// The line of moves after which the board is shown: chosen in the solutions, or played on the board.
 'use strict';
 
 /**
@@ -17,7 +17,7 @@ function showPlace(place) {
   element('promotion').hidden = true;
   element('reached').textContent = last ? labelOf(last) : '';
   if (men) board.show(men, [last.from, last.to]);
-  // The report of another text says nothing of the problems of this one.
+  // (the report of another text doesn't belong to these problems)
   const isOther = item && textNow() === state.solved && state.number !== item.number;
   if (isOther) state.number = item.number;
   if (isOther || !men) follow();
@@ -73,7 +73,7 @@ function choosePromotion(from, to) {
   element('promotion').firstElementChild.focus();
 }
 
-/** A move back: in the solutions, or the last one played. */
+/** Goes one move back: in the solutions, or before the last played move. */
 function goBack() {
   if (tree.current || !state.place) tree.backward();
   else if (state.place.moves.length > 1) showPlace({ ...state.place, moves: state.place.moves.slice(0, -1) });
@@ -82,12 +82,12 @@ function goBack() {
 
 const reachedNow = () => ({ men: state.walked, moves: state.place.moves });
 
-/** Makes the position shown the problem's own. */
+/** Makes the shown position the problem's diagram. */
 function makeProblem() {
   setText(withReached(textNow(), blockNow(), reachedNow()));
 }
 
-/** Puts the position shown after the problem, as one with what is left to play, and solves. */
+/** Adds the shown position as a problem with the moves left to play, and solves it. */
 function solveFromHere() {
   const block = blockNow();
   const text = withProblemAfter(textNow(), block, reachedNow());

@@ -1,5 +1,5 @@
 // @ts-check
-// What the page says below the board.
+// The notes below the board.
 'use strict';
 
 class Notes {
@@ -10,7 +10,7 @@ class Notes {
   }
 
   /**
-   * Shows a note until its cause has gone.
+   * Shows a note until its cause is gone.
    * @param {string} text
    * @param {() => boolean} holds whether the cause is still there
    */
@@ -19,7 +19,7 @@ class Notes {
     this.holds = holds;
   }
 
-  /** Takes the note away if its cause has gone. */
+  /** Removes the note if its cause is gone. */
   check() {
     if (!this.holds()) this.show('', () => true);
   }

@@ -1,4 +1,4 @@
-// The page: text, fields and board follow each other; workers solve; files and links go in and out.
+// The page: it keeps text, fields and board in agreement, solves by workers, reads and writes files and links.
 'use strict';
 const MARKED_FAULTS = 100;
 const LINE_PIXELS = 20;
@@ -6,7 +6,7 @@ const TYPING_PAUSE = 500;
 const LONG_TEXT = 100000;
 // The greatest status of a whole report.
 const WHOLE_STATUS = 1;
-// A report that grows is drawn anew once this many times as long has passed as drawing it last took.
+// A growing report is drawn again after this many times the duration of the last drawing.
 const DRAWING_SHARE = 10;
 const LEAST_PAUSE = 200;
 const FIELDS = [
@@ -15,7 +15,7 @@ const FIELDS = [
   ['MaxSolutions', 'maxSolutions'], ['EnPassant', 'enPassant'], ['NoCastling', 'noCastling'],
 ];
 const CHANGE_SIGNS = { left: '←', right: '→', up: '↑', down: '↓', mirror: '⇋', turn: '↻' };
-// What is on the page: which problem the board shows, the report of which text, and its parts as they come.
+// The state of the page: the problem on the board, the text of the report, and the report's parts as they come.
 const state = {
   number: 1, steps: null, engine: null, solving: null, clock: null, begun: 0, solved: '', report: '',
   isBeginning: false, drawing: null, pause: LEAST_PAUSE, items: [], typing: null, walked: null, place: null,
@@ -31,7 +31,7 @@ const blockNow = () => {
   return blocks[Math.min(state.number, blocks.length) - 1] ?? null;
 };
 
-// A cause that lasts while the text and the position shown stay as they are.
+// A cause that lasts while the text and the shown position don't change.
 function unchanged() {
   const [text, walked] = [textNow(), state.walked];
   return () => textNow() === text && state.walked === walked;
@@ -49,7 +49,7 @@ function kept(key) {
   }
 }
 
-// Keeps a value, or forgets it where it is null; false where the browser keeps nothing.
+// Stores a value, or removes it if it is null; returns false if the browser stores nothing.
 function keep(key, value) {
   try {
     if (value === null) localStorage.removeItem(key);
@@ -60,7 +60,7 @@ function keep(key, value) {
   }
 }
 
-// The text is another one: all else follows.
+// Updates everything after a change of the text.
 function setText(text) {
   leave();
   element('text').value = text;
@@ -85,7 +85,7 @@ function typed() {
   unmarkFaults();
 }
 
-// The problem that the cursor stands in is the one on the board.
+// Shows the problem at the cursor on the board.
 function placed() {
   const number = blockAt(textNow(), element('text').selectionStart)?.number ?? 1;
   if (number === state.number) return;
@@ -109,7 +109,7 @@ function follow() {
   notes.check();
 }
 
-// Says that the text goes on after its EndProblem.
+// Says that the text continues after its EndProblem.
 function showTail() {
   const tail = tailOf(textNow());
   element('tail').hidden = !tail;
@@ -140,7 +140,7 @@ function fieldChanged(name) {
   setText(withField(textNow(), block.from, name, value));
 }
 
-// Changes the men of the problem on the board; a solution that is stepped through is left first.
+// Changes the men of the problem on the board, after leaving a solution that is stepped through.
 function change(changer) {
   endTyping();
   leave();
@@ -172,7 +172,7 @@ function goSteps(step) {
   follow();
 }
 
-// Takes a position in FEN in place of the one on the board; false if the text is none.
+// Replaces the position on the board by a position in FEN; returns false if the text isn't FEN.
 function takeFen(text) {
   const fen = readFen(text);
   if (!fen) return false;
@@ -185,7 +185,7 @@ function takeFen(text) {
   return true;
 }
 
-// Takes a whole text, one of another program, or a position in FEN.
+// Reads a whole text, a text of another program, or a position in FEN.
 function takeText(text) {
   if (takeFen(text)) return;
   const made = text.length < LONG_TEXT ? imported(text) : null;
@@ -256,7 +256,7 @@ function drawnFault(item) {
   return faultBox(state.solved, item, general, goToLine);
 }
 
-// The men of an item's diagram: the report's, or where it shows none the text's.
+// Returns the men of an item's diagram: from the report, or from the text if the report shows no board.
 function diagramMen(item) {
   if (item.ranks.length) return menOfRanks(item.ranks);
   const block = blocksOf(state.solved)[item.number - 1];
@@ -277,7 +277,7 @@ function endDrawing() {
   state.drawing = null;
 }
 
-// Draws what came to the report, after a pause.
+// Draws the new part of the report, after a pause.
 function drawSoon() {
   state.drawing ??= setTimeout(drawGrowth, state.pause);
 }
@@ -304,7 +304,7 @@ function endSolving(said) {
   element('state').textContent = said;
 }
 
-// Takes what came to a report, or null where it begins anew.
+// Receives a new part of the report, or null if the report begins again.
 function reportGrew(text) {
   if (text === null) {
     state.report = '';
@@ -313,7 +313,7 @@ function reportGrew(text) {
   drawSoon();
 }
 
-// Takes how solving ended; what is there is kept.
+// Receives how solving ended; the report so far is kept.
 function solvingEnded({ status, failed, isStopped }) {
   const seconds = secondsPassed();
   const milliseconds = Math.round(performance.now() - state.begun);
@@ -327,7 +327,7 @@ function solvingEnded({ status, failed, isStopped }) {
   if (!failed && !isStopped) keepProblem();
 }
 
-// How solving ended, with what was found where the text has one problem.
+// Describes how solving ended; for a text of one problem also what was found.
 function sayDone(answer, milliseconds) {
   const found = state.items.length === 1 && !state.isBeginning ? sayFound(state.items[0]) : '';
   return say(found && !state.items[0].isChecked ? 'doneOne' : 'done', { answer, found, milliseconds });
@@ -397,7 +397,7 @@ function saveSvg() {
   const block = blockNow();
   const fields = block ? fieldsOf(textNow(), block) : {};
   const title = ['title', 'author', 'stipulation'].map(name => valueOf(fields, name)).filter(Boolean).join(', ');
-  // Men in the order of a report's board, rank 8 first.
+  // Sorts men in the order of a report's board, rank 8 first.
   const men = menOfRanks(ranksOf(board.men));
   save('pops.svg', 'image/svg+xml', diagramFile(men, title, element('men-shapes').textContent));
 }
@@ -418,7 +418,7 @@ const OUTS = {
   outPrint: () => print(),
 };
 
-// The objects of items, a line each.
+// Writes the objects of items, one per line.
 function jsonOf(items) {
   const given = givenOf(state.solved);
   return items.map(item => `${JSON.stringify(objectOf(item, given[item.number - 1]))}\n`).join('');
@@ -472,13 +472,13 @@ function buildButtons() {
   for (const [name, act] of Object.entries(OUTS)) addButton('outs', name, null, act);
 }
 
-// Whether a man that is moved on the board plays a move.
+// Returns whether moving a man on the board plays a move.
 function togglePlaying() {
   state.isPlaying = element('playing').getAttribute('aria-pressed') === 'false';
   element('playing').setAttribute('aria-pressed', String(state.isPlaying));
 }
 
-// The rows that fields stand in: flags in one, short values in another, and each other field by itself.
+// The rows of fields: flags in one, short values in another, and each other field by itself.
 function fieldRows() {
   return Object.fromEntries(['row', 'values'].map(name => {
     const made = document.createElement('div');

@@ -1,10 +1,10 @@
-// How a report is put together: heads as the engine reports a text that it tests alone, solutions part by part, totals as
-// it prints them. What is there at any time is a beginning of the report.
+// Puts a report together: heads as the engine prints them for a text that it only tests, solutions part by part, totals as
+// it prints them. At any time the result is a beginning of the report.
 'use strict';
 const SOUND_LINE = 'sound\n\n';
 
-// The items of a text, each as a text of its own: what stands between closing words, opened and closed anew. The last of
-// them is left open where no word closes it.
+// Divides a text into its items, each a text of its own: the words between two closing words, with new opening and closing
+// words. The last item stays open if no word closes it.
 function itemTexts(text) {
   const found = [];
   let opening = '';
@@ -19,15 +19,14 @@ function itemTexts(text) {
   return [...found, opening + text.slice(from)];
 }
 
-// The most solutions of a phase of a text's first problem.
+// Returns the most solutions of a phase of a text's first problem.
 function limitOf(text) {
   const block = blocksOf(text)[0];
   const said = block && valueOf(fieldsOf(text, block), 'MaxSolutions');
   return said ? Number(said) : Infinity;
 }
 
-// The items of a report whose texts were tested alone: the text of a faulty one; the head of a sound one, and how many
-// half-moves it has.
+// Reads the items of a report of --check: the text of a faulty item; head and number of half-moves of a sound one.
 function headsOf(report) {
   return (report.match(/[^]+?\n\n/g) ?? []).map(text => {
     if (!text.endsWith(`\n${SOUND_LINE}`)) return { text, isSound: false, halfMoves: 0 };
@@ -37,10 +36,10 @@ function headsOf(report) {
   });
 }
 
-// What stands behind the line that numbers an item.
+// Returns the lines after the line that numbers an item.
 const behindNumber = text => text.slice(text.indexOf('\n') + 1);
 
-// How many parts the list of one sound problem tells of each phase, in order; null where the phase can't stand.
+// Reads from the list of one sound problem the number of parts of each phase, in order; null if the phase isn't possible.
 function listOf(list) {
   const found = /^1: (?:set (not possible|[0-9]+), )?play ([0-9]+)\n$/.exec(list);
   if (!found) throw new Error(`no list of parts: ${list.slice(0, 80)}`);
@@ -48,10 +47,10 @@ function listOf(list) {
   return [...set, { kind: 'play', parts: Number(found[2]) }];
 }
 
-// The solutions that a text has, each with all its lines.
+// Returns the solutions in a text, each with all its lines.
 const solutionsIn = text => text.match(/^[^ \n].*\n(?: .*\n)*/gm) ?? [];
 
-// The solutions of a part. Of a text that was cut these are whole lines; the last of its solutions may go on.
+// Returns the solutions of a part. A cut text gives only complete lines; the last of its solutions may be incomplete.
 function solutionsOf(text, isCut) {
   if (isCut) return { all: solutionsIn(text.slice(0, text.lastIndexOf('\n') + 1)), isCut };
   const total = /(?:^|\n)solutions: ([0-9]+)(?:, stopped)?\n$/.exec(text.slice(-60));
@@ -61,13 +60,13 @@ function solutionsOf(text, isCut) {
   return { all, isCut: false };
 }
 
-// A piece of a report that is there at once, or once its text is set.
+// A piece of a report that is known at once, or once its text is set.
 class Piece {
   constructor(text = null) {
     Object.assign(this, { text, isWhole: false, isCut: false });
   }
 
-  // What has come behind what was given before.
+  // Returns the text that is new since the last call.
   more() {
     if (this.text === null || this.isWhole) return '';
     this.isWhole = true;
@@ -75,7 +74,7 @@ class Piece {
   }
 }
 
-// A phase whose parts come in any order; LIMIT is the most solutions of it.
+// A phase whose parts come in any order; LIMIT is its most solutions.
 class PhasePiece {
   constructor({ kind, parts }, limit) {
     Object.assign(this, { kind, limit, parts: parts ?? 0, isWhole: false, isCut: false });
@@ -91,7 +90,7 @@ class PhasePiece {
     this.last = this.lastNeeded(isCut ? Math.min(this.last, number) : this.last);
   }
 
-  // The last part that is needed: with those before it that are done it has as many solutions as the limit.
+  // Returns the last part that is needed: together with the finished parts before it, it reaches the limit.
   lastNeeded(last) {
     let count = 0;
     for (let number = 1; number <= last; number++) {
@@ -101,12 +100,12 @@ class PhasePiece {
     return last;
   }
 
-  // How many of the parts that are needed are done.
+  // Counts the needed parts that are done.
   countDone() {
     return [...this.counts.keys()].filter(number => number <= this.last).length;
   }
 
-  // What has come behind what was given before: whole solutions of parts in order, and at the end their number.
+  // Returns the text that is new since the last call: complete solutions of parts in order, and at the end their number.
   more() {
     let text = this.begun;
     this.begun = '';
@@ -122,14 +121,14 @@ class PhasePiece {
     const shown = all.slice(0, this.limit - this.found);
     this.solutions.delete(this.next);
     this.next += 1;
-    // A limit that is reached before the solution that goes on makes the phase whole.
+    // (a limit reached before an incomplete solution completes the phase)
     this.isCut = isCut && shown.length === all.length;
     this.found += shown.length;
     return shown.join('');
   }
 }
 
-// The report of a text: its items, of which the pieces come in any order.
+// The report of a text: its items, whose pieces come in any order.
 class ReportText {
   constructor(heads) {
     this.items = heads.map(({ text, isSound }) => ({ pieces: [new Piece(text)], isPlanned: !isSound, at: 0 }));
@@ -140,13 +139,13 @@ class ReportText {
     return this.at === this.items.length && !this.isCut;
   }
 
-  // Says of which pieces an item's text is made behind its head.
+  // Sets the pieces of an item's text after its head.
   plan(index, pieces) {
     this.items[index].pieces.push(...pieces);
     this.items[index].isPlanned = true;
   }
 
-  // What has come behind what was given before.
+  // Returns the text that is new since the last call.
   more() {
     let text = '';
     for (; !this.isWhole; this.at++) {

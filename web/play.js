@@ -1,12 +1,12 @@
 // @ts-check
-// Moves played on the board, and problems that go on from a position. Nothing here judges a move: the engine does.
+// Moves played on the board, and problems that continue from a position. Nothing here judges a move: the engine does.
 'use strict';
 /** @typedef {{ said: string, label: string, half: number, colour: string, kind: string, from: string, to: string, captures: boolean, enPassant: boolean, castling: string | null, promotion: string | null, rebirth: { square: string, man: string } | null, mark: null }} Move */
 const HOME_SQUARES = ['a1', 'e1', 'h1', 'a8', 'e8', 'h8'];
-// The squares of rebirth in Circe, of White and of Black: of queens; of rooks, bishops and knights on light and on dark squares.
+// The rebirth squares of Circe, for White and Black: queens; rooks, bishops and knights on light and on dark squares.
 const REBIRTHS = { Q: ['d1', 'd8'], light: { R: ['h1', 'a8'], B: ['f1', 'c8'], S: ['b1', 'g8'] }, dark: { R: ['a1', 'h8'], B: ['c1', 'f8'], S: ['g1', 'b8'] } };
 
-/** The square on which a man captured on a square is reborn in Circe; null for a king. (The manual, The rules in force) */
+/** Returns the square on which a man captured on a square is reborn in Circe; null for a king. (The manual, The rules in force) */
 function rebirthSquare([colour, kind], square) {
   const isWhite = colour === 'w';
   if (kind === 'K') return null;
@@ -17,7 +17,7 @@ function rebirthSquare([colour, kind], square) {
   return squares[isWhite ? 0 : 1];
 }
 
-/** Whether a move is one of a pawn to its last rank. */
+/** Returns whether a move takes a pawn to its last rank. */
 const promotes = (men, from, to) => men.get(from)?.[1] === 'P' && to[1] === (men.get(from)[0] === 'w' ? '8' : '1');
 
 function castlingOf(men, from, to) {
@@ -31,7 +31,7 @@ function castlingOf(men, from, to) {
 }
 
 /**
- * The move of a man from a square to another, as a report would write it.
+ * Returns the move of a man from a square to another, as a report would write it.
  * @param {Men} men
  * @param {{ from: string, to: string, promotion: string | null, half: number, isCirce: boolean }} asked
  * @returns {Move}
@@ -59,7 +59,7 @@ function saidMove({ kind, from, to, captures, enPassant, castling, promotion, re
     + (promotion ? `=${promotion}` : '') + (rebirth ? `[+${rebirth.man}${rebirth.square}]` : '');
 }
 
-/** The number of a half-move of this colour after some moves: in help play Black makes the odd ones, in battle play White. */
+/** Returns the number of a half-move of this colour after some moves: in help play Black makes the odd ones, in battle play White. */
 function halfAfter(moves, colour, { isHelp, isHalf }) {
   const last = moves.at(-1)?.half ?? (isHalf ? 1 : 0);
   const isOdd = (colour === 'w') !== isHelp;
@@ -67,8 +67,8 @@ function halfAfter(moves, colour, { isHelp, isHalf }) {
 }
 
 /**
- * What is asked of the position after a half-move of a problem: the stipulation, and whether Black's moves are asked for, as set
- * play; null if the play is over there.
+ * Returns the problem that is left after a half-move: its stipulation, and whether it is set play, with Black to move; null if the
+ * play is over.
  * @param {string} stipulation
  * @param {number} half
  */
@@ -84,13 +84,13 @@ function stipulationAfter(stipulation, half) {
   return half < last ? { word: `${form}${goal}${Number(number) - (half >> 1)}`, isSet: half % 2 === 1 } : null;
 }
 
-/** The square that a pawn has just crossed; null if the move isn't a double step. */
+/** Returns the square that a pawn has just crossed; null if the move isn't a double step. */
 function crossedBy({ kind, from, to }) {
   const isDouble = kind === 'P' && from[0] === to[0] && Math.abs(Number(from[1]) - Number(to[1])) === 2;
   return isDouble ? from[0] + (Number(from[1]) + Number(to[1])) / 2 : null;
 }
 
-/** The squares that NoCastling has to name after some moves: men at home that have moved. A man reborn there may castle. */
+/** Returns the squares for NoCastling after some moves: the home squares of men that have moved. A man reborn there may castle. */
 function barredAfter(men, moves, barred) {
   const touched = new Set(barred);
   for (const { from, to, castling, rebirth } of moves) {
@@ -105,7 +105,7 @@ function barredAfter(men, moves, barred) {
 const movesSaid = moves => moves.map(labelOf).join(' ');
 
 /**
- * The text with the position after some moves in place of the problem's own; its stipulation stays.
+ * Replaces a problem's position by the position after some moves; its stipulation stays.
  * @param {string} text
  * @param {{ from: number }} block
  * @param {{ men: Men, moves: Move[] }} reached
@@ -118,7 +118,7 @@ function withReached(text, block, { men, moves }) {
 }
 
 /**
- * The text with a problem more after this one: the position after some moves, and what is left to play; null if that is nothing.
+ * Adds a problem after this one: the position after some moves, with the moves left to play; returns null if none are left.
  * @param {string} text
  * @param {{ end: number }} block
  * @param {{ men: Men, moves: Move[] }} reached

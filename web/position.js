@@ -1,10 +1,10 @@
 // @ts-check
-// Positions: men by square, as 'wK' or 'bS' by 'e4'. Changes of a whole board, FEN, and positions after moves.
+// Positions are maps from squares to men, as 'e4' to 'wK'. Changes of a whole board, FEN, and positions after moves.
 'use strict';
 /** @typedef {Map<string, string>} Men */
 /** @typedef {{ men: Men, turn: string, noCastling: string[], crossed: string | null }} Fen */
 const FILES = 'abcdefgh';
-// The letters of FEN for our kinds; a letter in brackets is Popeye's, and so are all where S stands for the knight.
+// The letters of FEN for our kinds. A letter in brackets is Popeye's; so are all letters if S is the knight.
 const FEN_LETTERS = { K: 'K', Q: 'Q', R: 'R', B: 'B', S: 'N', P: 'P', G: 'G', N: '(N)' };
 const FEN_KINDS = { K: 'K', Q: 'Q', R: 'R', B: 'B', N: 'S', P: 'P', G: 'G' };
 const FEN_SQUARES = /\(([kqrbspgn])\)|[kqrbspgn]|[1-8]/gi;
@@ -21,7 +21,7 @@ const CHANGES = {
   turn: (file, rank) => [rank, 7 - file],
 };
 
-// The men moved all alike, or null where one would leave the board.
+// Moves all men by one change, or returns null if a man would leave the board.
 function changed(men, name) {
   const result = new Map();
   for (const [square, man] of men) {
@@ -32,7 +32,7 @@ function changed(men, name) {
   return result;
 }
 
-// White's men as Black's and Black's as White's, rank 1 as rank 8.
+// Exchanges the colours of all men, and rank 1 with rank 8.
 function exchanged(men) {
   const turned = ([square, man]) => [square[0] + (9 - square[1]), other(man[0]) + man[1]];
   return new Map([...men].map(turned));
@@ -40,7 +40,7 @@ function exchanged(men) {
 
 const countOf = (men, colour) => [...men.values()].filter(man => man[0] === colour).length;
 
-// The eight ranks of a board as a report prints them, rank 8 first.
+// Writes the eight ranks of a board as a report prints them, rank 8 first.
 function ranksOf(men) {
   const letter = man => (man ? (man[0] === 'w' ? man[1] : man[1].toLowerCase()) : '.');
   const rank = number => [...FILES].map(file => letter(men.get(file + number))).join('');
@@ -99,7 +99,7 @@ function readFen(text) {
 }
 
 /**
- * The men of the first field of a FEN; null if it isn't one.
+ * Returns the men of the first field of a FEN; null if it isn't one.
  * @param {string} placement
  * @returns {Men | null}
  */
@@ -119,7 +119,7 @@ function menOfPlacement(placement) {
 }
 
 /**
- * The corners whose rook may not castle though king and rook stand at home.
+ * Returns the corners whose rook may not castle although king and rook are at home.
  * @type {(men: Men, rights: string | null) => string[]}
  */
 function barredCorners(men, rights) {
@@ -127,7 +127,7 @@ function barredCorners(men, rights) {
   return Object.keys(CORNERS).filter(right => standAtHome(men, right) && !rights.includes(right)).map(right => CORNERS[right]);
 }
 
-// The position after a move of a report: the words of the move say all that it takes, puts and lets be reborn.
+// Returns the position after a move of a report: the move's text names every capture, arrival and rebirth.
 function after(men, move) {
   const result = new Map(men);
   const man = result.get(move.from) ?? move.colour + move.kind;

@@ -1,5 +1,5 @@
 // @ts-check
-// What is printed: the problem on the board with its solutions, twins under one diagram.
+// The printed sheet: the problem on the board with its solutions, twins under one diagram.
 'use strict';
 const MANY_LINES = 70;
 const MOST_LINES = 300;

@@ -1,5 +1,4 @@
-// A report read: items, phases, trees of moves; its items as the companion pops2json writes them. Of a beginning of a
-// report it reads what is there.
+// Reads a report or a beginning of one: items, phases, trees of moves; writes items as the companion pops2json does.
 'use strict';
 const MAN_NAMES = {
   K: 'king', Q: 'queen', R: 'rook', B: 'bishop', S: 'knight', P: 'pawn', G: 'grasshopper', N: 'nightrider',
@@ -11,7 +10,7 @@ const MOVE = new RegExp('^(?:(0-0-0|0-0)|([KQRBSGN])?([a-h][1-8])([-*])([a-h][1-
 const HALF = /(?:([1-9][0-9]*)(\.\.\.|\.))?((?:[^ ]+)(?: ep\.[^ ]*)?)/g;
 const ASKED = /^([sh]?)([#=])([0-9]+)(\.5)?(?: (Circe|Madrasi))?$/;
 
-// The move that these words say, as half-move so and so of a play.
+// Reads a move with its number among the half-moves of a play.
 function moveOf(said, half, isHelp) {
   const found = MOVE.exec(said);
   if (!found) return null;
@@ -26,7 +25,7 @@ function moveOf(said, half, isHelp) {
   };
 }
 
-// The moves of a line of a report, each with its number where one stands before it; null where it is no line of moves.
+// Reads the moves of a line of a report, each with its printed number, if any; returns null for another line.
 function movesOf(line, isHelp) {
   const moves = [];
   let half = 0;
@@ -40,7 +39,7 @@ function movesOf(line, isHelp) {
   return moves.length ? moves : null;
 }
 
-// What is stipulated, as a report's line says it.
+// Reads the stipulation from a report's line.
 function askedOf(line) {
   const found = ASKED.exec(line);
   if (!found) return null;
@@ -53,7 +52,7 @@ function askedOf(line) {
     condition: condition ?? null };
 }
 
-// Takes a line of a phase.
+// Reads a line of a phase.
 function readSolution(line, phase, item) {
   const total = /^solutions: ([0-9]+)(, stopped)?$/.exec(line);
   if (total) Object.assign(phase, { count: Number(total[1]), isStopped: Boolean(total[2]), total: line });
@@ -67,7 +66,7 @@ function readSolution(line, phase, item) {
   return true;
 }
 
-// Takes a line of an item behind its number; false where it has no place there.
+// Reads a line of an item after its number; returns false if it doesn't belong there.
 function readLine(line, item) {
   const phase = item.phases.at(-1);
   const fault = /^line ([0-9]+): fault ([0-9]+): (.*)$/.exec(line);
@@ -82,7 +81,7 @@ function readLine(line, item) {
   return Boolean(item.asked || item.fault || item.ranks.length);
 }
 
-// The items of a report, or of a beginning of one. A line that has no place in it ends the reading.
+// Reads the items of a report, or of a beginning of one. A line that doesn't belong there ends the reading.
 function itemsOf(report) {
   const items = [];
   let item = null;
@@ -104,8 +103,8 @@ function itemsOf(report) {
 
 const labelOf = move => move.label.replace(/^([0-9]+\.+)?/, (Math.floor((move.half + 1) / 2)) + (move.half % 2 ? '.' : '...'));
 
-// A phase as rows that fold: each row has its moves and the rows below it. Lines of help play that begin alike share the
-// rows of their beginning.
+// Makes rows of a phase: each row has its moves and the rows below it. Lines of help play with the same beginning share
+// its rows.
 function rowsOf(phase, isHelp) {
   return isHelp ? sharedRows(phase.solutions.map(it => it.moves), []) : nestedRows(phase.solutions);
 }
@@ -123,7 +122,7 @@ function nestedRows(solutions) {
   return root.below;
 }
 
-// How many moves all these lines have alike, from a place on.
+// Counts the moves that all these lines share, from a place on.
 function commonLength(lines, start) {
   let end = start;
   while (end < lines[0].length && lines.every(line => line[end]?.said === lines[0][end].said)) end++;
@@ -147,8 +146,8 @@ function sharedRows(lines, path) {
 }
 
 /**
- * What was found in the play of a problem, as the name and the value of a word of the page: keys, or lines of help play.
- * Null while the play goes on, and for a faulty problem.
+ * Returns what was found in the play of a problem, as the name and the value of a text of the page: keys, or lines of help play.
+ * Null while the play continues, and for a faulty problem.
  */
 function foundIn(item) {
   if (item.isChecked) return { name: 'foundNone', count: 0, isStopped: false };
@@ -159,7 +158,7 @@ function foundIn(item) {
   return { name: count > 1 ? `${one}s` : count ? one : 'found0', count, isStopped };
 }
 
-// The objects that pops2json writes of a report; with what the text says of the problem also its origin.
+// Makes the objects that pops2json writes for a report; the problem's text adds its origin.
 function objectOf(item, given = null) {
   const names = ({ title, author }) => ({ title, author, ...(given && { origin: given.origin }) });
   if (item.fault) return { number: item.number, sound: false, ...(given && names(given)), fault: item.fault };

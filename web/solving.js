@@ -1,5 +1,5 @@
-// Solves a text with a crew of workers: problem by problem, each phase by parts, several of which are solved at a time. A
-// problem with few half-moves is solved whole, and so is a text that the page can't cut into its problems.
+// Solves a text by several workers: problem by problem, each phase by parts, several parts at a time. A problem with few
+// half-moves is solved whole; so is a text that the page can't divide into its problems.
 'use strict';
 const LEAST_HALF_MOVES = 4;
 const PARTS_A_WORKER = 16;
@@ -8,19 +8,19 @@ const MOST_DEPTH = 4;
 const MOST_REPORT = 1 << 24;
 const CUT_STATUS = 3;
 
-// The text and the report of the engine don't tell of the same problems.
+// The error that the text and the engine's report don't agree on the problems.
 class CutWrong extends Error {}
 
 class Solving {
-  // CHECK and NOBOARD are the settings; LEAST is how many half-moves a problem has that is solved by parts. SAID takes what
-  // came to the report; it is told null where the report begins anew.
+  // CHECK and NOBOARD are the settings; a problem with LEAST half-moves or more is solved by parts. SAID receives each new
+  // part of the report, and null if the report begins again.
   constructor(text, { check = false, noBoard = false, least = LEAST_HALF_MOVES }, crew, said) {
     Object.assign(this, { text, check, noBoard, least, crew, said });
     Object.assign(this, { report: null, tasks: new Set(), phases: [], length: 0, status: 0, found: 0, whole: 0, wholeDone: 0 });
     Object.assign(this, { isOver: false, isByOneCall: false });
   }
 
-  // Ends with { status }, the program's, with { failed } or, after stop(), with { isStopped }.
+  // Resolves to { status }, the program's, to { failed } or, after stop(), to { isStopped }.
   solve() {
     return new Promise(ended => {
       this.ended = ended;
@@ -45,7 +45,7 @@ class Solving {
     else if (!this.isByOneCall) this.solveWhole().catch(other => this.fault(other));
   }
 
-  // How many parts are done, of how many that are known to be needed; a problem that is solved whole is one.
+  // Counts the finished parts and the parts known to be needed; a problem that is solved whole is one part.
   get progress() {
     const parts = this.phases.map(it => it.last).reduce((sum, last) => sum + last, this.whole);
     const done = this.phases.map(it => it.countDone()).reduce((sum, count) => sum + count, this.wholeDone);
@@ -75,13 +75,13 @@ class Solving {
     return !this.isOver && !this.isByOneCall;
   }
 
-  // What the engine answers to a call.
+  // Returns the engine's result of a call.
   async ask(call, text) {
     await this.crew.free();
     return this.crew.ask({ ...call, text }).answer;
   }
 
-  // The whole text by one call.
+  // Solves the whole text by one call.
   async solveWhole() {
     for (const task of this.tasks) this.crew.drop(task);
     this.tasks.clear();
@@ -99,7 +99,7 @@ class Solving {
     this.said(text);
   }
 
-  // Shows what has come, and ends where it is all.
+  // Shows what is new, and resolves once the report is complete.
   show() {
     if (this.isOver || this.isByOneCall) return;
     this.give(this.report.more());
@@ -107,7 +107,7 @@ class Solving {
     else if (this.report.isCut || this.length > MOST_REPORT) this.end({ status: CUT_STATUS });
   }
 
-  // Has a worker do a call whose answer is taken when it comes.
+  // Starts a call; its result is received when it comes.
   hand(call, text, take) {
     const task = this.crew.ask({ ...call, text });
     this.tasks.add(task);
@@ -136,8 +136,8 @@ class Solving {
     for (const phase of phases) await this.beginParts(phase, text, plan.depth);
   }
 
-  // The phases of a problem with the numbers of their parts, and how many moves tell these apart: so many that all
-  // workers have some to do. Null where there is nothing to share out.
+  // Returns the phases of a problem with the numbers of their parts, and the number of moves that divide them, large enough
+  // for all workers; null if there is nothing to divide.
   async planned(item, text) {
     const alone = await this.ask({ call: 'report', check: true, noBoard: this.noBoard }, text);
     if (alone.text !== `problem 1\n${behindNumber(item.text)}${SOUND_LINE}`) throw new CutWrong();
@@ -166,7 +166,7 @@ class Solving {
     });
   }
 
-  // Hands out the parts of a phase, in order, up to the last that is needed.
+  // Starts the parts of a phase, in order, up to the last one that is needed.
   async beginParts(phase, text, depth) {
     const running = new Map();
     for (let number = 1; number <= phase.last && this.goesOn; number++) {

@@ -1,4 +1,4 @@
-// Links that carry a text, texts that are kept, files as texts, steps back and forth.
+// Links that contain a text, stored texts, files as texts, undo and redo.
 'use strict';
 const MOST_KEPT = 20;
 const MOST_KEPT_LETTERS = 100000;
@@ -6,22 +6,22 @@ const MOST_LINKED_LETTERS = 30000;
 const MOST_STEPS = 200;
 const MOST_FILE_BYTES = 1 << 23;
 
-// The fragment of a link that carries a text, or null where it would be too long for a link.
+// Returns the fragment of a link with this text, or null if it would be too long.
 function fragmentOf(text) {
   const fragment = `#${new URLSearchParams({ text })}`;
   return fragment.length > MOST_LINKED_LETTERS ? null : fragment;
 }
 
-// The text that a link's fragment carries, or null.
+// Returns the text in a link's fragment, or null.
 const textOfFragment = fragment => new URLSearchParams(fragment.slice(1)).get('text');
 
-// The list of texts that are kept, with this one first; it and its equals stand there once.
+// Returns the list of stored texts with this one first, and no text twice.
 function withKept(kept, text, time) {
   if (text.length > MOST_KEPT_LETTERS || !text.trim()) return kept;
   return [{ text, time }, ...kept.filter(it => it.text !== text)].slice(0, MOST_KEPT);
 }
 
-// The list that was written, as far as it is one.
+// Reads a stored list; what isn't a list of texts is dropped.
 function keptOf(written) {
   try {
     const list = JSON.parse(written);
@@ -31,7 +31,7 @@ function keptOf(written) {
   }
 }
 
-// A name of a text for a list: its title, else what is stipulated.
+// Returns a name of a text for a list: its title, else its stipulation.
 function nameOfText(text) {
   const block = blockAt(text, 0);
   if (!block) return text.trim().slice(0, 40);
@@ -40,7 +40,7 @@ function nameOfText(text) {
   return said.trim().slice(0, 60);
 }
 
-// The text of a file's bytes, and whether they were UTF-8; others are read letter by letter.
+// Decodes a file's bytes, and says whether they were UTF-8; others are read as Windows-1252.
 function textOfBytes(bytes) {
   try {
     return { text: new TextDecoder('utf-8', { fatal: true }).decode(bytes), isUtf8: true };
@@ -49,7 +49,7 @@ function textOfBytes(bytes) {
   }
 }
 
-// Steps back and forth through the texts.
+// Undo and redo of texts.
 class Steps {
   constructor(text) {
     this.texts = [text];
@@ -63,7 +63,7 @@ class Steps {
     this.place = this.texts.length - 1;
   }
 
-  // The text one step further, or null at the end.
+  // Returns the text one step further, or null at the end.
   go(step) {
     const text = this.texts[this.place + step];
     if (text === undefined) return null;

@@ -1,5 +1,5 @@
-// A text of problems: the men and fields of one of them, and the text with others in their place. What is not replaced
-// stays byte for byte. It judges nothing; the engine judges.
+// A text of problems: reads and replaces the men and fields of one problem. The rest of the text stays byte for byte.
+// Nothing here judges a problem: the engine does.
 'use strict';
 // Text lines that are fields of the page.
 const TEXT_FIELDS = ['title', 'author', 'origin'];
@@ -14,7 +14,7 @@ const NEW_PROBLEM = 'BeginProblem\nStipulation #2\nEndProblem\n';
 const isShort = (word, full) => word.length >= 3 && full.toLowerCase().startsWith(word.toLowerCase());
 const commandOf = word => COMMANDS.find(command => isShort(word, command));
 
-// A function that keeps its last result: the page reads the same text many times.
+// Makes a function that keeps its last result: the page reads one text many times.
 function remembered(make) {
   let last = null;
   return text => {
@@ -23,7 +23,7 @@ function remembered(make) {
   };
 }
 
-// The words of a text with their places; what stands behind a text command in its line is no word.
+// Reads the words of a text with their places; the rest of a text command's line is no word.
 const wordsOf = remembered(text => {
   const words = [];
   const pattern = /[^ \t\n\v\f\r]+/g;
@@ -39,7 +39,7 @@ const wordsOf = remembered(text => {
   return words;
 });
 
-// The problems of a text: the words of each, from behind its opening word up to its closing one.
+// Returns the problems of a text: the words of each, between its opening and its closing word.
 const blocksOf = remembered(text => {
   const blocks = [];
   let open = null;
@@ -56,14 +56,14 @@ const blocksOf = remembered(text => {
   return blocks;
 });
 
-// The problem that a place of the text stands in or behind.
+// Returns the problem at a place of the text, or the last one before it.
 function blockAt(text, place) {
   const blocks = blocksOf(text);
   return blocks.findLast(block => block.from <= place) ?? blocks[0] ?? null;
 }
 
-// The men of a problem by square, as 'wK' or 'bS', the parts of the text that say them, and the words of these that
-// a board can't say.
+// Reads the men of a problem by square, as 'wK' or 'bS', the parts of the text with men, and the words that a board can't
+// show.
 function menOf(block) {
   const found = { men: new Map(), parts: [], unknown: [] };
   let colour = null;
@@ -85,7 +85,7 @@ function menOf(block) {
   return found;
 }
 
-// Takes one word behind Pieces, and answers the colour of the men that follow.
+// Reads one word after Pieces, and returns the colour of the men that follow.
 function readMen(word, colour, found) {
   const letters = word.toLowerCase();
   if ('white'.startsWith(letters)) return 'w';
@@ -99,7 +99,7 @@ function readMen(word, colour, found) {
 
 const byRank = (one, next) => (one[1] + one[0] < next[1] + next[0] ? -1 : 1);
 
-// The men in words, as behind Pieces.
+// Writes the men as after Pieces.
 function sidesOf(men) {
   const side = (colour, name) => {
     const words = [];
@@ -112,7 +112,7 @@ function sidesOf(men) {
   return side('w', 'White') + side('b', 'Black');
 }
 
-// A text with some of its parts replaced: places and what stands there, in any order, none over another.
+// Replaces some parts of a text: places and their new contents, in any order, without overlaps.
 function replaced(text, parts) {
   let result = text;
   for (const { from, to, said } of [...parts].sort((one, other) => other.from - one.from)) {
@@ -121,7 +121,7 @@ function replaced(text, parts) {
   return result;
 }
 
-// A part of a text with the blanks that parted it from what stands around, its line too where nothing else is in it.
+// Extends a part of a text over the blanks around it, and over its line if nothing else is in it.
 function withBlanks(text, { from, to }) {
   let first = from;
   let last = to;
@@ -132,14 +132,14 @@ function withBlanks(text, { from, to }) {
   return { from: first, to, said: '' };
 }
 
-// A text with a line more at the end of a problem.
+// Adds a line at the end of a problem.
 function withLine(text, block, line) {
   const at = block.end;
   const start = at === 0 || text[at - 1] === '\n' ? '' : '\n';
   return text.slice(0, at) + start + line + '\n' + text.slice(at);
 }
 
-// The text without some of its parts; parts with nothing but blanks between go as one.
+// Removes some parts of a text; parts with only blanks between them are removed as one.
 function without(text, parts) {
   const joined = [];
   for (const part of [...parts].sort((one, next) => one.from - next.from)) {
@@ -150,7 +150,7 @@ function without(text, parts) {
   return replaced(text, joined.map(part => withBlanks(text, part)));
 }
 
-// The text with these men in place of the problem's own.
+// Replaces the men of a problem.
 function withMen(text, place, men) {
   const block = blockAt(text, place);
   const { parts } = menOf(block);
@@ -162,7 +162,7 @@ function withMen(text, place, men) {
   return replaced(others, [{ ...parts[0], said }]);
 }
 
-// What the fields show of a problem, each with the parts of the text that say it, its own name first.
+// Reads the fields of a problem, each with its parts of the text, its own name first.
 function fieldsOf(text, block) {
   const fields = {};
   const state = { section: null, awaited: null, last: null };
@@ -177,7 +177,7 @@ function fieldsOf(text, block) {
   return fields;
 }
 
-// Takes one word behind a command.
+// Reads one word after a command.
 function readField(word, fields, state) {
   const { section, awaited, last } = state;
   const part = { from: word.from, to: word.to };
@@ -199,7 +199,7 @@ function readField(word, fields, state) {
   }
 }
 
-// What stands in a field, or null: the last word counts, and squares without castling add up.
+// Returns the value of a field, or null: the last word counts, and squares of NoCastling add up.
 function valueOf(fields, name) {
   const found = fields[name];
   if (!found) return null;
@@ -211,7 +211,7 @@ function valueOf(fields, name) {
 const oneLine = value => value.replace(/[\r\n]+/g, ' ').trim();
 const behindOpening = (text, block, line) => `${text.slice(0, block.behind)}\n${line}${text.slice(block.behind)}`;
 
-// The text with a title or an author; the last one is the one that counts.
+// Sets a title or an author; the last one counts.
 function withTextLine(text, block, name, value) {
   const field = fieldsOf(text, block)[name.toLowerCase()];
   const said = oneLine(value);
@@ -220,7 +220,7 @@ function withTextLine(text, block, name, value) {
   return said ? behindOpening(text, block, `${name} ${said}`) : text;
 }
 
-// The text with another word behind a command: the stipulation or the condition.
+// Sets another word after a command: the stipulation or the condition.
 function withWord(text, block, name, value) {
   const field = fieldsOf(text, block)[name.toLowerCase()];
   const said = oneLine(value);
@@ -231,7 +231,7 @@ function withWord(text, block, name, value) {
   return said ? withLine(text, block, `${name} ${said}`) : text;
 }
 
-// Whether nothing else stands behind the command that a field stands behind.
+// Returns whether a field's command has no other words.
 function isAlone(block, { section, parts }) {
   const behind = block.words.slice(block.words.indexOf(section) + 1);
   const next = behind.findIndex(word => word.command && !TEXT_LINES.includes(word.command));
@@ -239,7 +239,7 @@ function isAlone(block, { section, parts }) {
   return own.every(word => word.command || parts.some(part => part.from === word.from));
 }
 
-// The text with an option, its value behind it; without it where the value is null.
+// Sets an option and its value; removes it if the value is null.
 function withOption(text, block, name, value) {
   const found = fieldsOf(text, block)[name];
   if (!found) return value === null ? text : withNewOption(text, block, `${name} ${oneLine(value)}`.trim());
@@ -255,7 +255,7 @@ function withOption(text, block, name, value) {
   return without(replaced(rest, [told]), gone.filter(part => part.from < own.from));
 }
 
-// The text with one option more, behind the others of the problem where their line ends in no value.
+// Adds an option, after the problem's other options unless their line ends in a value.
 function withNewOption(text, block, said) {
   const section = block.words.findLast(word => word.command === 'option');
   const behind = section ? block.words.slice(block.words.indexOf(section) + 1) : [];
@@ -264,7 +264,7 @@ function withNewOption(text, block, said) {
   return isFull ? withLine(text, block, `Option ${said}`) : replaced(text, [{ from: at, to: at, said: ` ${said}` }]);
 }
 
-// The text with another value of the field of this name.
+// Sets the value of the field with this name.
 function withField(text, place, name, value) {
   const block = blockAt(text, place);
   if (TEXT_FIELDS.includes(name.toLowerCase())) return withTextLine(text, block, name, value ?? '');
@@ -273,7 +273,7 @@ function withField(text, place, name, value) {
 }
 
 /**
- * The text with the position of a FEN in place of a problem's own.
+ * Replaces a problem's position by the position of a FEN.
  * @param {string} text
  * @param {number} place a place in the problem
  * @param {Fen} fen
@@ -283,19 +283,19 @@ function withFen(text, place, fen) {
   return withField(placed, place, 'NoCastling', fen.noCastling.join('') || null);
 }
 
-/** The side that moves first in a problem: Black in help play, unless it begins with White's half-move. */
+/** Returns the side that moves first in a problem: Black in help play, unless it begins with White's half-move. */
 const turnOf = fields => (/^h[#=]\d+$/i.test(valueOf(fields, 'stipulation') ?? '') ? 'b' : 'w');
-/** The squares that NoCastling names. */
+/** Returns the squares that NoCastling names. */
 const barredIn = fields => (valueOf(fields, 'NoCastling') ?? '').toLowerCase().match(/[a-h][1-8]/g) ?? [];
 
-/** The position of a problem as FEN: its men, the side that moves first, NoCastling, EnPassant. */
+/** Returns the position of a problem as FEN: its men, the side that moves first, NoCastling, EnPassant. */
 function fenOfBlock(text, block) {
   const fields = fieldsOf(text, block);
   return fenOf({ men: menOf(block).men, turn: turnOf(fields), barred: barredIn(fields), crossed: valueOf(fields, 'EnPassant')?.toLowerCase() ?? null });
 }
 
 /**
- * Where a text goes on after its first EndProblem, though nothing there is read: both lines, counted from 1, and the
+ * Returns where a text continues after its first EndProblem, though nothing there is read: both lines, counted from 1, and the
  * BeginProblem that may follow; null if nothing follows.
  * @param {string} text
  */
@@ -311,16 +311,16 @@ function tailOf(text) {
   };
 }
 
-/** The text with NextProblem where a second text follows its EndProblem. */
+/** Joins a second text after EndProblem by NextProblem. */
 function withTail(text) {
   const { end, opening } = tailOf(text);
   return replaced(text, [{ from: end.from, to: end.to, said: 'NextProblem' }, withBlanks(text, opening)]);
 }
 
-/** The line of a place, counted from 1. */
+/** Returns the line of a place, counted from 1. */
 const lineOf = (text, place) => text.slice(0, place).split('\n').length;
 
-// Where a line of a text, counted from 1, begins and ends.
+// Returns where a line of a text, counted from 1, begins and ends.
 function lineAt(text, line) {
   let from = 0;
   for (let number = 1; number < line; number++) {

@@ -1,26 +1,26 @@
-// The solutions as rows that fold, and the walk through their moves. Rows are drawn when they are unfolded, so many at
-// a time. While a report grows, what is drawn stays: only its last rows change.
+// The solutions as rows that fold, and the walk through their moves. Rows are drawn when they are unfolded, a number at
+// a time. While a report grows, only its last rows change.
 'use strict';
 const ROWS_AT_ONCE = 200;
 const MOST_UNFOLDED = 2000;
 
 const pathOf = row => [...row.path, ...row.moves].map(move => move.said).join(' ');
 const isOpenRow = row => Boolean(row.list && !row.list.hidden);
-// The paths of the rows that are unfolded, from a row on.
+// Lists the paths of unfolded rows, from a row on.
 const openPaths = row => (isOpenRow(row) ? [pathOf(row), ...row.below.flatMap(openPaths)] : []);
 const topOf = row => (row.parent ? topOf(row.parent) : row);
 const movesTo = ({ row, index }) => [...row.path, ...row.moves.slice(0, index + 1)];
-// All that a row and those below it say.
+// Writes the text of a row and of the rows below it.
 const saidIn = row => `${pathOf(row)}\n${row.below.map(saidIn).join('')}`;
 
-// Marks the rows on the way to those that were unfolded, which are drawn unfolded.
+// Marks the rows on the way to rows that were unfolded; these are drawn unfolded.
 function keepOpen(row, paths) {
   const own = pathOf(row);
   row.wasOpen = paths.some(path => path === own || path.startsWith(`${own} `));
   for (const below of row.below) keepOpen(below, paths);
 }
 
-// The place that moves lead to, in a row or below it.
+// Finds the place to which moves lead, in a row or below it.
 function placeIn(row, moves) {
   const index = moves.length - row.path.length - 1;
   if (index < row.moves.length) return { row, index };
@@ -28,7 +28,7 @@ function placeIn(row, moves) {
   return placeIn(row.below.find(it => it.moves[0].said === next.said), moves);
 }
 
-// How many keys or lines were found, in words; empty where that isn't known.
+// Says how many keys or lines were found; empty if that isn't known.
 function sayFound(item) {
   const found = foundIn(item);
   if (!found) return '';
@@ -37,7 +37,7 @@ function sayFound(item) {
 }
 
 class Tree {
-  // SHOW gets the place walked to, or null: the men of the diagram, the moves from there, and the item.
+  // SHOW receives the chosen place or null: the men of the diagram, the moves from there, and the item.
   constructor(show) {
     this.showPlace = show;
     this.groups = [];
@@ -51,7 +51,7 @@ class Tree {
     element('tree').replaceChildren();
   }
 
-  // Draws the items of a report; START answers the men of an item's diagram, FAULT draws a faulty item.
+  // Draws the items of a report; START returns the men of an item's diagram, FAULT draws a faulty item.
   draw(items, start, fault) {
     this.clear();
     this.start = start;
@@ -60,7 +60,7 @@ class Tree {
     this.fill(this.list, [...items], item => this.drawnItem(item, fault));
   }
 
-  // Draws what came to the report behind what is drawn: the last item goes on, others follow it.
+  // Draws the new part of a report: the last item continues, others follow it.
   grow(items) {
     const { things, drawn } = this.list.filling;
     const last = things.length - 1;
@@ -70,13 +70,13 @@ class Tree {
     this.refill(this.list);
   }
 
-  // Puts so many things of a list into a box, and a button for the others.
+  // Puts a number of a list's elements into a box, and a button for the others.
   fill(box, things, draw) {
     box.filling = { things, draw, drawn: 0, most: ROWS_AT_ONCE, more: null };
     this.refill(box);
   }
 
-  // Draws the things that aren't yet drawn, as far as was asked for.
+  // Draws the elements that aren't drawn yet, up to the requested number.
   refill(box) {
     const { filling } = box;
     const { things, drawn, draw } = filling;
@@ -144,7 +144,7 @@ class Tree {
     return say('unfinished', { count: phase.solutions.filter(it => it.level === 0).length });
   }
 
-  // Draws what came to a phase: the last row may go on, others follow it.
+  // Draws the new part of a phase: the last row may continue, others follow it.
   growPhase(group, phase, item) {
     group.item = item;
     group.total.textContent = this.totalOf(phase);
@@ -159,7 +159,7 @@ class Tree {
     this.refill(group.list);
   }
 
-  // Puts a row in the place of one that goes on; what was unfolded stays so, and so does the place walked to.
+  // Replaces a row that continues; unfolded rows and the chosen place stay.
   replaceRow(group, index, row) {
     const old = group.rows[index];
     const isWalked = this.current && topOf(this.current.row) === old;
@@ -220,7 +220,7 @@ class Tree {
     row.turn.title = say(isOpen ? 'closeRow' : 'openRow');
   }
 
-  // Unfolds or folds all rows that are drawn, and those below, up to a number that a page can hold.
+  // Unfolds or folds all drawn rows and the rows below, up to a number that a page can show.
   foldAll(isOpen) {
     const waiting = this.groups.flatMap(group => group.rows);
     for (let done = 0; done < waiting.length && done < MOST_UNFOLDED; done++) {
@@ -230,7 +230,7 @@ class Tree {
     }
   }
 
-  // Draws a row that isn't drawn yet, and unfolds what it stands below.
+  // Draws a row that isn't drawn yet, and unfolds the rows above it.
   reveal(row) {
     if (row.parent) {
       this.reveal(row.parent);
@@ -240,7 +240,7 @@ class Tree {
     while (!row.line && list.drawMore) list.drawMore();
   }
 
-  // Walks to a move of a row.
+  // Chooses a move of a row.
   go(row, index) {
     this.reveal(row);
     this.unmark();
@@ -252,7 +252,7 @@ class Tree {
     this.showPlace({ start: row.group.men, moves, item: row.group.item });
   }
 
-  // The tree alone is scrolled for a move, and the page for the board, where a click in the tree asked for it.
+  // (a move scrolls only the tree; a click in the tree also scrolls the page to the board)
   bringToSight(button) {
     const box = element('tree');
     const lower = button.getBoundingClientRect().top - box.getBoundingClientRect().top;
@@ -268,7 +268,7 @@ class Tree {
     this.current = null;
   }
 
-  // Back to the diagram.
+  // Returns to the diagram.
   leave() {
     if (!this.current) return;
     const { row, index } = this.current;
@@ -294,7 +294,7 @@ class Tree {
     else this.leave();
   }
 
-  // The row shown below this one, or above it; also of another phase or problem.
+  // Returns the next shown row below or above, also of another phase or problem.
   neighbour(row, step) {
     if (step > 0 && row.list && !row.list.hidden) return row.below[0];
     for (let it = row; it; it = it.parent) {

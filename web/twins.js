@@ -1,15 +1,15 @@
 // @ts-check
-// Twins as one problem, as pops-page shows them: problems that follow one another, whose titles differ by their labels only.
+// Twins as one problem, as pops-page shows them: consecutive problems whose titles differ only in their labels.
 // A label is `a)`, `b)` .. or a number, with or without `duplex`, at the end of the title.
 'use strict';
 /** @typedef {{ title: string | null, author: string | null, origin: string | null, remarks: string[] }} Given */
 /** @typedef {{ text: string, number: number, isDuplex: boolean }} Label */
 const LABEL = /^(?:([^]*) )??(?:([a-z]|[0-9]{2,3})\)( duplex)?|(duplex))$/;
-// A twin with more changed squares is shown by a diagram of its own.
+// A twin with more changed squares has its own diagram.
 const MOST_CHANGES = 4;
 
 /**
- * What a text says of each of its problems, in its text lines.
+ * Returns the text lines of each problem of a text.
  * @param {string} text
  * @returns {Given[]}
  */
@@ -24,7 +24,7 @@ function givenOf(text) {
 }
 
 /**
- * A title without its label, and the label; that is empty if there is none.
+ * Returns a title without its label, and the label, which may be empty.
  * @param {string | null} title
  * @returns {{ title: string | null, label: Label }}
  */
@@ -37,7 +37,7 @@ function labelled(title) {
   return { title: own, label: { text: `${letter})${duplex}`, number, isDuplex: Boolean(duplex) } };
 }
 
-/** Whether a problem is the next twin of another. */
+/** Returns whether a problem is the next twin of another. */
 function continues(one, before) {
   const [{ label }, { label: last }] = [one, before];
   const isLater = label.number > last.number || (label.number === last.number && label.isDuplex && !last.isDuplex);
@@ -48,7 +48,7 @@ function continues(one, before) {
 }
 
 /**
- * Numbered problems in groups of twins.
+ * Divides numbered problems into groups of twins.
  * @template T
  * @param {T[]} problems each with { number, title, author }
  * @returns {(T & { label: Label })[][]}
@@ -64,7 +64,7 @@ function twinGroups(problems) {
   return groups;
 }
 
-/** What the Remark of a twin says of it, as `Move a1 b2`; empty if none does. */
+/** Returns what a twin's Remark says about it, as `Move a1 b2`; empty without a Remark. */
 function saidOfTwin(label, remarks) {
   const letter = label.text.split(' ')[0];
   const remark = letter.endsWith(')') ? remarks.find(it => it.startsWith(`${letter} `)) : undefined;
@@ -72,7 +72,7 @@ function saidOfTwin(label, remarks) {
 }
 
 /**
- * What a twin changes of the first one's men, in words.
+ * Describes how a twin's men differ from the first twin's.
  * @type {(men: Men, first: Men) => string[]}
  */
 function changesOfMen(men, first) {
@@ -91,7 +91,7 @@ function changesOfMen(men, first) {
 }
 
 /**
- * What makes a twin of the first problem of its group, and whether it needs a diagram of its own.
+ * Returns how a twin differs from the first one of its group, and whether it needs its own diagram.
  * @param {{ men: Men | null, asked: string | null, label: Label, remarks: string[] }} twin
  * @param {{ men: Men | null, asked: string | null }} first
  */

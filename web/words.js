@@ -1,10 +1,10 @@
-// Every word that the page says, in one table; for another language add a table. {name} stands for a value.
+// All texts of the page, in one table; for another language add a table. {name} is replaced by a value.
 'use strict';
 const WORDS = {
   en: {
     subtitle: 'chess problems, solved',
     position: 'position', problem: 'problem', solutions: 'solutions',
-    bench: 'board and solving', board: 'board: arrows go, letters set men (capitals White, small ones Black), Delete removes, Enter moves',
+    bench: 'board and solving', board: 'board: arrows move the cursor, letters set men (capitals White, small ones Black), Delete removes, Enter moves',
     tools: 'man to place', move: 'move men', remove: 'remove',
     white: 'white', black: 'black',
     K: 'king', Q: 'queen', R: 'rook', B: 'bishop', S: 'knight', P: 'pawn', G: 'grasshopper', N: 'nightrider',
@@ -17,7 +17,7 @@ const WORDS = {
     unknownWord: 'the board has no man for a word of Pieces, and would lose it: {word}',
     shown: 'position after {move}; Escape or “diagram” goes back',
     fen: 'FEN', badFen: 'not a FEN: eight ranks of K Q R B N P, G for grasshoppers, (N) for nightriders',
-    fenTaken: 'the position of the FEN was set', fenBlack: '; in it Black is to move: see who starts in the stipulation',
+    fenTaken: 'the position of the FEN was set', fenBlack: '; Black is to move in it: the stipulation says who starts',
     playing: 'play moves', fromHere: 'Solve from here', makeProblem: 'Make it the problem', line: 'the position shown', promotion: 'what the pawn becomes',
     over: 'the play is over here: nothing is left to solve',
     imported: 'the text became problems of pops', importedNone: 'no problem of this text can be posed',
@@ -37,9 +37,9 @@ const WORDS = {
       + 'before it, after NextProblem, and a comment after Remark.', open: 'Open a file', next: 'Next problem',
     fileTaken: '{name} was read', fileLatin: '{name} isn’t UTF-8: it was read letter by letter, as Windows-1252',
     fileLong: '{name} is longer than 8 MiB: too long for the page',
-    solve: 'Solve', stop: 'Stop', check: 'test alone', loading: 'loading', ready: 'ready',
+    solve: 'Solve', stop: 'Stop', check: 'test only', loading: 'loading', ready: 'ready',
     solving: 'solving: {seconds} s, {done} of {parts} parts, {found} solutions so far',
-    stopped: 'stopped after {seconds} s: what is there is a beginning of the report',
+    stopped: 'stopped after {seconds} s: this is a beginning of the report',
     stoppedEmpty: 'stopped after {seconds} s; there was no report yet',
     beginning: 'A beginning of the report; more may follow it.',
     done: '{answer}; {milliseconds} ms', doneOne: '{answer}: {found}; {milliseconds} ms',
@@ -70,7 +70,7 @@ const WORDS = {
 };
 let language = 'en';
 
-// The words of this name, with these values.
+// Returns the text with this name, with these values.
 function say(name, values = {}) {
   const said = WORDS[language][name] ?? WORDS.en[name];
   return said.replace(/\{(\w+)\}/g, (whole, key) => (key in values ? String(values[key]) : whole));

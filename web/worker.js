@@ -1,10 +1,10 @@
-// Runs calls of the engine, one by one. A message with the engine comes in first, then messages with a call each; out goes
-// one answer to each call: its status and its bytes, or that it failed.
+// Runs calls of the engine, one by one. The first message has the engine, each later one a call. Each call gets one reply:
+// its status and its bytes, or that it failed.
 'use strict';
-// The bytes that the engine wants room for.
+// The room for the engine's result, in bytes.
 const ROOM = 1 << 22;
 const MEMORY_PAGE = 65536;
-// What the engine is handed in each call before the places of text, room and length.
+// The arguments of each call before the addresses of text, room and length.
 const CALLS = {
   report: ({ check, noBoard }) => ['pops_report', check ? 1 : 0, noBoard ? 1 : 0],
   list: ({ depth }) => ['pops_list', BigInt(depth)],
@@ -12,7 +12,7 @@ const CALLS = {
 };
 let engine = null;
 
-// Browsers take the pages of a 64-bit memory as a BigInt, older ones as a number.
+// Browsers take the pages of a 64-bit memory as a BigInt, older browsers as a number.
 function grow(memory, pages) {
   try {
     memory.grow(BigInt(pages));
@@ -22,7 +22,7 @@ function grow(memory, pages) {
   }
 }
 
-// Behind the engine's own memory stand the length of what it writes (8 bytes of 16), the text and the room.
+// After the engine's own memory come the length of its result (8 bytes of 16), the text and the room.
 function answer(exports, given) {
   const { memory } = exports;
   const { text } = given;
@@ -34,7 +34,7 @@ function answer(exports, given) {
   new Uint8Array(memory.buffer).set(text, input);
   const [name, ...settings] = CALLS[given.call](given);
   const status = exports[name](...settings, BigInt(input), BigInt(text.length), BigInt(output), BigInt(ROOM), BigInt(length));
-  // The call may have grown the memory: a view of before would be empty.
+  // The call may have grown the memory: an older view would be empty.
   const written = Number(new DataView(memory.buffer).getBigUint64(length, true));
   return { status, bytes: new Uint8Array(memory.buffer, output, written).slice() };
 }

@@ -129,7 +129,7 @@ def grown(page: Page) -> None:
     page.holds(reached != "" and page.told("reached") == reached and marked == 1, f"walked to {reached} while the report grew")
     page.holds(" parts, " in page.told("state"), page.told("state"))
     browser.click("#stop")
-    page.holds("what is there is a beginning" in page.told("state"), page.told("state"))
+    page.holds("this is a beginning" in page.told("state"), page.told("state"))
     page.holds(not browser.run("document.getElementById('beginning').hidden"), "a beginning is marked")
     report = page.told("report")
     page.holds(report.startswith("problem 1\n") and not report.endswith("\n\n"), "the beginning is kept")

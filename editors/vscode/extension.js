@@ -1,5 +1,5 @@
 "use strict";
-// Folds each problem of a text, from BeginProblem or NextProblem to the line before the next such word.
+// Folds each problem of a text, from BeginProblem or NextProblem to the line before the next of these words or EndProblem.
 
 const BEGIN = /^\s*(?:beg|begi|begin|beginp|beginpr|beginpro|beginprob|beginprobl|beginproble|beginproblem|nex|next|nextp|nextpr|nextpro|nextprob|nextprobl|nextproble|nextproblem)(?!\S)/i;
 const END = /^\s*(?:end|endp|endpr|endpro|endprob|endprobl|endproble|endproblem)(?!\S)/i;

@@ -1,5 +1,5 @@
 // @ts-check
-// Which men attack a square: a king in check is shown with the men that check it.
+// The men that attack a square: a king in check is shown with its checkers.
 'use strict';
 
 const attacks = (() => {
@@ -15,7 +15,7 @@ const attacks = (() => {
     return isInside(file + files) && isInside(rank + ranks) ? squareOf(file + files, rank + ranks) : null;
   }
 
-  /** The squares of a line up to the first man, or to the edge. */
+  /** Returns the squares of a line up to the first man, or to the edge. */
   function ride(men, origin, step) {
     const squares = [];
     for (let square = at(origin, step); square; square = at(square, step)) {
@@ -30,7 +30,7 @@ const attacks = (() => {
     return hurdle && men.has(hurdle) ? at(hurdle, step) : null;
   }
 
-  /** The squares on which a man could capture, whether it may or not. */
+  /** Returns the squares that a man attacks, even if a capture would be illegal. */
   function reached(men, origin) {
     const [colour, kind] = men.get(origin);
     if (kind === 'P') return [-1, 1].map(file => at(origin, [file, colour === 'w' ? 1 : -1]));
@@ -45,7 +45,7 @@ const attacks = (() => {
   }
 
   /**
-   * The squares of a colour's men that attack a square, those paralysed under Madrasi not.
+   * Returns the squares of a colour's men that attack a square, without men paralysed under Madrasi.
    * @type {(men: Men, target: string, colour: string, isMadrasi: boolean) => string[]}
    */
   const attackers = (men, target, colour, isMadrasi) => [...men.keys()].filter(square => men.get(square)[0] === colour

@@ -1,9 +1,9 @@
 // @ts-check
-// A fault with all that is known of its problem, and what an explanation is made of.
+// A fault with what is known about its problem, and the parts of an explanation.
 'use strict';
 
 /**
- * An explanation with the places that it speaks of.
+ * Makes an explanation with its places in the text.
  * @param {string} text
  * @param {...Span} marks
  * @returns {Explanation}
@@ -13,13 +13,13 @@ function explained(text, ...marks) {
   return { text, marks: [...places.values()].sort((one, next) => one.from - next.from) };
 }
 
-/** A word as explanations name it; of a long one the beginning. */
+/** Quotes a word for explanations, a long word by its beginning. */
 function quoted({ word }) {
   const letters = [...characters.shown(word)];
   return `\`${letters.length > 48 ? `${letters.slice(0, 48).join('')}..` : letters.join('')}\``;
 }
 
-/** The first explanation that some causes give. */
+/** Returns the first explanation of some causes. */
 function firstOf(causes) {
   for (const it of causes) if (it) return it;
   throw new Error('no cause');
@@ -43,25 +43,25 @@ class FaultCase {
   get before() { return this.words[this.words.indexOf(this.word) - 1] ?? null; }
   get next() { return this.words[this.words.indexOf(this.word) + 1] ?? null; }
 
-  /** Where the word before the faulty one stands, also if it ends the problem before. */
+  /** Returns the place of the word before the faulty one, also if it ends the previous problem. */
   get spanBefore() {
     const start = Math.max(this.word.from - 400, 0);
     const found = /([^\t\n\v\f\r ]+)[\t\n\v\f\r ]+$/.exec(this.text.slice(start, this.word.from));
     return found && { from: start + found.index, to: start + found.index + found[1].length };
   }
 
-  /** The text line right before the faulty word. */
+  /** Returns the text line right before the faulty word. */
   get lineAbove() {
     const token = this.read.tokens[this.read.tokens.indexOf(this.word) - 1];
     return token && reading.isTextLine(token) ? token : null;
   }
 
-  /** An explanation that marks the faulty word, and these places too. */
+  /** Makes an explanation that marks the faulty word and these places. */
   says(text, ...marks) {
     return explained(text, this.word, ...marks);
   }
 
-  /** Whether these words could stand in place of the faulty one. */
+  /** Returns whether these words could replace the faulty one. */
   fits(text) {
     const { read } = this;
     const copy = { ...read, colours: [...read.colours], men: new Map(read.men), openers: [...read.openers] };
@@ -75,16 +75,16 @@ class FaultCase {
     return words.length > 0;
   }
 
-  /** The words of pops that could stand in place of the faulty one. */
+  /** Returns the words of pops that could replace the faulty one. */
   namesHere() {
     return FaultCase.NAMES.filter(name => this.fits(name));
   }
 
-  /** The commands that open sections of this kind in the problem. */
+  /** Returns the commands that open sections of this kind in the problem. */
   openersOf(section) {
     return this.read.openers.filter(it => reading.named(it.word, [section]));
   }
 }
 
-/** The text word of a text line in full. */
+/** Returns the text word of a text line in full. */
 const textNameOf = line => reading.named(line.word, reading.TEXT_NAMES);

@@ -1,5 +1,5 @@
 // @ts-check
-// Characters that don't show, or that look like others.
+// Invisible characters, and characters that look like others.
 'use strict';
 
 const characters = (() => {
@@ -18,16 +18,16 @@ const characters = (() => {
   const isHidden = letter => letter !== ' ' && (isInvisible(letter) || CONTROL.test(letter));
   const tables = [...Object.values(LIKE), FIGURINES];
 
-  /** The text, with each character that doesn't show as `<U+00A0>`. */
+  /** Writes each invisible character of a text as `<U+00A0>`. */
   const shown = text => [...text].map(letter => (isHidden(letter) ? `<U+${codeOf(letter)}>` : letter)).join('');
 
-  /** The name of a character, as `no-break space`. */
+  /** Returns the name of a character, as `no-break space`. */
   const nameOf = letter => KNOWN.names[codeOf(letter)] ?? `character U+${codeOf(letter)}`;
 
-  /** The characters that don't show, or show as a blank and are none, with their places. */
+  /** Returns the invisible characters and false blanks of a text, with their places. */
   const invisible = text => [...text].map((letter, place) => ({ letter, place })).filter(it => isInvisible(it.letter));
 
-  /** The text with a blank for each such character that takes room, and nothing for the others. */
+  /** Replaces each invisible character by a blank if it is as wide as one, else by nothing. */
   function withBlanks(text) {
     const changed = [...text].map(letter => (!isInvisible(letter) ? letter : isWideBlank(letter) ? ' ' : ''));
     return changed.join('').split(/\s+/).filter(Boolean).join(' ');
@@ -36,18 +36,18 @@ const characters = (() => {
   const plainLetter = letter => tables.find(table => table.has(letter))?.get(letter)
     ?? (WIDE.test(letter) ? letter.normalize('NFKC') : letter);
 
-  /** The text with plain letters in place of those that look like them. */
+  /** Replaces look-alike letters by plain ones. */
   const plain = text => [...text].map(plainLetter).join('');
 
-  /** The first letter that looks like one of ours; undefined if there is none. */
+  /** Returns the first letter that looks like one of ours; undefined if there is none. */
   const lookAlike = text => [...text].find(letter => plainLetter(letter) !== letter);
 
   const isFigurine = letter => FIGURINES.has(letter);
 
-  /** The script of a letter that looks like one of ours, as `a Greek`. */
+  /** Returns the script of a letter that looks like one of ours, as `a Greek`. */
   const scriptOf = letter => KNOWN.scripts[Object.keys(LIKE).find(name => LIKE[name].has(letter)) ?? 'fullwidth'];
 
-  /** The text with its letters alone, as `pieces` of `pièces`. */
+  /** Removes accents from letters, as `pieces` from `pièces`. */
   const withoutAccents = text => text.replaceAll('ß', 'ss').normalize('NFKD').replace(/\p{Mn}/gu, '');
 
   return { shown, nameOf, invisible, isWideBlank, withBlanks, plain, lookAlike, isFigurine, scriptOf, withoutAccents };

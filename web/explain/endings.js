@@ -1,5 +1,5 @@
 // @ts-check
-// Faults reported at the end of a problem or of the text: what was left out above.
+// Faults at the end of a problem or of the text: what is missing above.
 'use strict';
 
 const endingCauses = (() => {
@@ -22,7 +22,7 @@ const endingCauses = (() => {
     yield absent(it, sentence('no_men_write'), example);
   }
 
-  /** What the problem hasn't at all, with the word after which it may stand. */
+  /** Explains what is missing in the problem, with the word after which it may come. */
   function absent(it, what, example) {
     const [line, own] = [lineOf(it.text, it.before.from), lineOf(it.text, it.word.from)];
     const place = line < own ? sentence('below_line', { line }) : sentence('before_word', { word: it.quoted });
@@ -40,7 +40,7 @@ const endingCauses = (() => {
     return line ? it.says(sentence('swallowed', { opener: textNameOf(line), name }), wholeOf(line)) : null;
   }
 
-  /** Whether a text has the command with what may follow it. */
+  /** Returns whether a text has the command with possible words after it. */
   function holds(words, name) {
     return words.some((word, index) => named(word, [name]) && (word.toLowerCase() === name.toLowerCase() || words[index + 1]));
   }

@@ -1,5 +1,5 @@
 // @ts-check
-// Explains the faults of a report by the text that it is of, as pops-explain does.
+// Explains the faults of a report by its input, as pops-explain does.
 'use strict';
 
 const explaining = (() => {
@@ -19,7 +19,7 @@ const explaining = (() => {
     [FAULT.noCastlingSquare]: optionCauses.noCastlingSquare, [FAULT.kingMissing]: menCauses.kingMissing, [FAULT.inCheck]: menCauses.inCheck,
   };
 
-  /** The faults of a text as this reading finds them: problem, line, number, and what was read. */
+  /** Returns the faults of a text as read here: problem, line, number, and the problem as far as it was read. */
   function faultsOf(text) {
     return reading.problemsOf(text).flatMap((problem, index) => {
       const read = reading.readProblem(problem);
@@ -37,7 +37,7 @@ const explaining = (() => {
   }
 
   /**
-   * What is wrong with a problem of a text; null where this reading finds another fault than the report.
+   * Explains the fault of a problem of a text; returns null if this reading finds another fault than the report.
    * @param {string} text
    * @param {{ number: number, fault: { line: number, number: number } }} item
    * @returns {Explanation | null}
@@ -49,7 +49,7 @@ const explaining = (() => {
     return explanationOf(text, read);
   }
 
-  /** The lines of a text that hold marks, each in pieces: { text, isMarked }. What doesn't show is made visible. */
+  /** Returns the lines of a text with marks, each in pieces: { text, isMarked }. Invisible characters are made visible. */
   function markedLines(text, marks) {
     const lines = new Map();
     for (const mark of marks) {
@@ -59,7 +59,7 @@ const explaining = (() => {
     return [...lines].map(([line, own]) => ({ line, pieces: piecesOf(text, lineAt(text, line), own) }));
   }
 
-  /** A line in pieces; of a long one the part around its first mark. */
+  /** Divides a line into pieces, a long line only around its first mark. */
   function piecesOf(text, { from, to }, marks) {
     const start = to - from > LONGEST_LINE ? Math.max(from, marks[0].from - ROOM_BEFORE) : from;
     const stop = Math.min(to, start + LONGEST_LINE);

@@ -145,7 +145,7 @@ const menCauses = (() => {
     return it.says(text, ...[king, ...squares].map(square => squareSpan(read.men.get(square))));
   }
 
-  /** A letter that isn't English, with squares. */
+  /** Explains a letter that isn't English, with squares. */
   function foreignLetter(it) {
     const found = /^(\p{L}{1,2})((?:[a-h][1-8])+)$/iu.exec(it.plain);
     if (!found) return null;
@@ -172,7 +172,7 @@ const menCauses = (() => {
     return it.says(others.length ? sentence('other_letters', { text, others: listed(others) }) : text);
   }
 
-  /** The words of the problem's Pieces sections that have the form of a man, before and after the fault. */
+  /** Returns the words of the problem's Pieces sections that have the form of a man, before and after the fault. */
   function menWords(it) {
     const words = [];
     let isInside = false;
@@ -186,7 +186,7 @@ const menCauses = (() => {
 
   const lettersOf = men => [...new Set(men.map(word => word[0].toUpperCase()))];
 
-  /** What the letters of the other men mean, if they mean something else in English. */
+  /** Returns what the letters of the other men mean, if they mean something else in English. */
   function otherLetters(men, it, alphabet) {
     return lettersOf(men).flatMap(letter => {
       const man = vocabulary.kindIn(alphabet, letter);
@@ -195,7 +195,7 @@ const menCauses = (() => {
     });
   }
 
-  /** A man by its English name. */
+  /** Explains a man by its English name. */
   function manByName(it) {
     const word = it.plain.toLowerCase();
     const isNamed = ([letter, name]) => word.startsWith(name) && (['', 's'].includes(word.slice(name.length)) || it.fits(letter + word.slice(name.length)));
@@ -203,7 +203,7 @@ const menCauses = (() => {
     return found ? it.says(sentence('man_by_name', { letter: found[0], name: found[1] })) : null;
   }
 
-  /** A man of two letters, as Popeye has them. */
+  /** Explains a man of two letters, as Popeye has them. */
   function twoLetters(it) {
     const word = it.plain;
     if (!/^[a-z]{2}(?:[a-h][1-8])+$/i.test(word)) return null;

@@ -1,5 +1,5 @@
 // @ts-check
-// The text doesn't begin with BeginProblem, a word isn't known where it stands, a word is too long.
+// Faults of words: the text doesn't begin with BeginProblem, a word is unknown or misplaced, a word is too long.
 'use strict';
 
 const misplacedCauses = (() => {
@@ -20,7 +20,7 @@ const misplacedCauses = (() => {
     yield it.says(sentence('first_word', { word: it.quoted }));
   }
 
-  /** The explanation of a text that has no word but those of text lines. */
+  /** Explains a text without words, or with text lines only. */
   function noProblem(text, hasTextLines) {
     if (!hasTextLines) return explained(sentence('empty_text'));
     if (wordings.isOldMac(text)) return explained(sentence('old_mac'), { from: 0, to: text.length });
@@ -61,7 +61,7 @@ const misplacedCauses = (() => {
     return it.says(sentence(it.before ? 'begin_once' : 'begin_again'));
   }
 
-  /** A word of pops that belongs to another section than the one at hand. */
+  /** Explains a word of pops that belongs to another section. */
   function wrongSection(it) {
     const { plain, read: { section } } = it;
     if (section !== 'Option' && named(plain, OPTIONS)) return belongs(it, 'an_option', 'Option');

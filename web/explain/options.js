@@ -27,7 +27,7 @@ const optionCauses = (() => {
     yield it.says(sentence('number_wanted', { word: it.quoted }), option);
   }
 
-  /** No value at all: the next word is another command or option. */
+  /** Explains no value at all: the next word is another command or option. */
   function missing(it, what, example) {
     const there = vocabulary.unread(it.plain);
     if (!there && !named(it.plain, [...COMMAND_NAMES, ...OPTIONS])) return null;

@@ -1,6 +1,5 @@
 // @ts-check
-// Reads a problem as pops does, up to its fault. What pops says of a problem decides; this reading finds the word of which
-// it says it.
+// Reads a problem as pops does, up to its fault. The report of pops decides; this reading finds the word at fault.
 'use strict';
 
 const reading = (() => {
@@ -22,12 +21,12 @@ const reading = (() => {
   const isTextLine = token => token.end !== undefined;
   const bytesOf = word => new TextEncoder().encode(word).length;
 
-  /** The name of which the word is a short form. */
+  /** Returns the name of which the word is a short form. */
   function named(word, names, least = 3) {
     return word.length < least ? undefined : names.find(name => name.toLowerCase().startsWith(word.toLowerCase()));
   }
 
-  /** The squares of a word that is nothing but squares, else none. */
+  /** Returns the squares of a word that consists of squares, else none. */
   const squaresIn = word => (/^(?:[a-h][1-8])+$/i.test(word) ? word.toLowerCase().match(/../g) : []);
   const kindOf = word => (word && KINDS.includes(word[0].toUpperCase()) ? word[0].toUpperCase() : null);
   const isNumber = word => /^[0-9]+$/.test(word);
@@ -43,7 +42,7 @@ const reading = (() => {
     return { play, goal: found[2], starter: play === 'h' && !hasHalf ? 'b' : 'w', mated: play === 's' ? 'w' : 'b' };
   }
 
-  /** The problems of a text as pops numbers them: the words and text lines of each, the word that ends it included. */
+  /** Returns the problems of a text as pops numbers them: the words and text lines of each, with the word that ends it. */
   function problemsOf(text) {
     const problems = [{ tokens: [], isFirst: true, isClosed: false }];
     for (const token of wordsOf(text)) {
@@ -57,7 +56,7 @@ const reading = (() => {
     return problems;
   }
 
-  /** A problem read up to its fault. `at` is the faulty word; null if the fault is at the end of the text. */
+  /** Reads a problem up to its fault. `at` is the faulty word, or null if the fault is at the end of the text. */
   function readProblem({ tokens, isFirst, isClosed }) {
     const read = {
       tokens, isFirst, fault: null, at: null, section: null, opener: null, awaited: null, option: null, colour: null, colours: [],
@@ -83,7 +82,7 @@ const reading = (() => {
     return named(token.word, ['BeginProblem']) ? null : FAULT.beginMissing;
   }
 
-  /** Takes one more word of a problem; returns its fault, or null. */
+  /** Reads one more word of a problem; returns its fault, or null. */
   function step(read, token) {
     if (read.awaited) {
       const squares = squaresIn(token.word);
@@ -102,7 +101,7 @@ const reading = (() => {
     return read.section ? READERS[read.section](read, token) : FAULT.misplaced;
   }
 
-  /** Takes the word that an option awaits. */
+  /** Reads the word that an option requires. */
   function takeValue(read, token, squares) {
     if (read.awaited === 'squares') {
       if (!squares.length) return FAULT.squareMissing;
@@ -160,7 +159,7 @@ const reading = (() => {
     return man[1] === 'K' && kingOf(read, man[0]) ? FAULT.secondKing : null;
   }
 
-  /** The square of a side's king; undefined if it has none. */
+  /** Returns the square of a side's king; undefined if it has none. */
   const kingOf = (read, colour) => [...read.men.keys()].find(square => read.men.get(square).man === `${colour}K`);
 
   function takeStipulation(read, token) {
@@ -186,7 +185,7 @@ const reading = (() => {
 
   const READERS = { Pieces: takePiece, Stipulation: takeStipulation, Condition: takeCondition, Option: takeOption };
 
-  /** The fault at the word that ends a problem. */
+  /** Returns the fault at the word that ends a problem. */
   function endFault(read) {
     if (!read.stipulation) return FAULT.stipulationMissing;
     if (!read.men.size) return FAULT.noMen;
@@ -195,7 +194,7 @@ const reading = (() => {
     return checkers(read).length ? FAULT.inCheck : null;
   }
 
-  /** What the crossed square of a problem wants, and whether it has it. */
+  /** Returns the conditions of the problem's en passant square, and whether they hold. */
   function enPassantWants(read) {
     const { stipulation: { starter }, crossed, men } = read;
     const [rank, pawnRank, homeRank] = starter === 'w' ? ['6', '5', '7'] : ['3', '4', '2'];
@@ -206,7 +205,7 @@ const reading = (() => {
     return { rank, pawn, home, isRightRank, hasPawn, occupied, holds: isRightRank && hasPawn && !occupied.length };
   }
 
-  /** The squares of the men that give check to the side that doesn't start. */
+  /** Returns the squares of the men that give check to the side that doesn't start. */
   function checkers(read) {
     const { starter } = read.stipulation;
     const king = kingOf(read, other(starter));

@@ -1,11 +1,11 @@
 // @ts-check
-// What explanations of faults say: companions/pops_companions/explain/explanations.json, which pops-explain reads too.
+// The sentences of explanations: companions/pops_companions/explain/explanations.json, which pops-explain reads too.
 'use strict';
 /** @typedef {{ from: number, to: number }} Span */
 /** @typedef {{ text: string, marks: Span[] }} Explanation what is wrong and what to do, with the places to look at */
 
 /**
- * A sentence, with these values in its places.
+ * Returns a sentence with these values.
  * @param {string} name
  * @param {Record<string, unknown>} [values]
  */
@@ -14,7 +14,7 @@ function sentence(name, values = {}) {
 }
 
 /**
- * As `a, b and c`.
+ * Joins names as in `a, b and c`.
  * @param {string[]} names
  */
 function listed(names, last = 'and') {

@@ -11,10 +11,10 @@ const stipulationCauses = (() => {
   const OTHER_GOALS = new RegExp(`^(?:${KNOWN.goals})$`, 'i');
   const forms = sentence('forms');
 
-  /** Whether a word would be a stipulation in Popeye, or nearly so. */
+  /** Returns whether a word would be a stipulation in Popeye, or nearly so. */
   const looksLikeStipulation = word => LIKE.test(word);
 
-  /** A wanted number of solutions after a stipulation, as `2.1.1.1`. */
+  /** Explains a wanted number of solutions after a stipulation, as `2.1.1.1`. */
   function solutionNumbers(it) {
     if (it.read.section !== 'Stipulation' || !COUNTS.test(it.plain)) return null;
     return it.says(sentence('count_of_solutions', { word: it.quoted }));

@@ -1,5 +1,5 @@
 // @ts-check
-// Words of Popeye that pops doesn't read, German and French ones, and the men's letters of other languages.
+// Words of Popeye that pops doesn't read, German and French words, and the men's letters of other languages.
 'use strict';
 
 const vocabulary = (() => {
@@ -12,13 +12,13 @@ const vocabulary = (() => {
     ...rowsOf('a_kind_of_men', Object.fromEntries(popeye.kinds.map(name => [name, sentence('two_colours')]))),
   ];
 
-  /** A word as it is looked up: in small letters, without accents. */
+  /** Returns a word in small letters, without accents, for the tables. */
   const folded = word => [...word.toLowerCase().replace(/[äöüß]/g, letter => UMLAUTS[letter]).normalize('NFD')]
     .filter(letter => letter < '\u0300').join('');
   const FOREIGN = new Map(Object.entries(foreignWords).reverse().flatMap(([language, words]) =>
     Object.entries(words).map(([word, english]) => [folded(word), { language, english }])));
 
-  /** The word of Popeye of which this is a short form, of three letters or more: what it is, and what to do instead. */
+  /** Returns the word of Popeye of which this is a short form, of three letters or more: its kind, and what to do instead. */
   function unread(word) {
     const small = word.toLowerCase();
     const whole = UNREAD.find(it => it.name.toLowerCase() === small);
@@ -26,16 +26,16 @@ const vocabulary = (() => {
     return UNREAD.find(it => it.name.toLowerCase().startsWith(small)) ?? null;
   }
 
-  /** The German or French word that this is, in full; accents may stand or lack. */
+  /** Returns this German or French word in full; accents are optional. */
   const foreign = word => FOREIGN.get(folded(word)) ?? null;
 
-  /** The languages in whose letters these men may be written, the likeliest first. */
+  /** Returns the languages whose letters fit these men, the likeliest first. */
   const alphabetsOf = letters => alphabets.filter(it => [...letters.toUpperCase()].every(letter => it.letters.includes(letter)));
 
-  /** The languages that have this letter. */
+  /** Returns the languages that have this letter. */
   const alphabetsWith = letter => alphabets.filter(it => it.letters.includes(letter.toUpperCase()));
 
-  /** The kind of man that a letter means in a language, by our letter; undefined if it means none. */
+  /** Returns the kind of man that a letter means in a language, by our letter; undefined if it means none. */
   function kindIn(alphabet, letter) {
     const place = alphabet.letters.indexOf(letter.toUpperCase());
     return place < 0 ? undefined : KINDS[place];

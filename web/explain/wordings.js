@@ -1,5 +1,5 @@
 // @ts-check
-// Causes that a word of any section may have: characters, signs, blanks, comments, spelling.
+// Causes that words of every section share: characters, signs, blanks, comments, spelling.
 'use strict';
 
 const wordings = (() => {
@@ -12,10 +12,10 @@ const wordings = (() => {
   const isAlpha = word => /^\p{L}+$/u.test(word);
   const trimSigns = word => word.replace(new RegExp(`^${SIGN}+|${SIGN}+$`, 'gu'), '');
 
-  /** A text in UTF-16, two bytes a letter. */
+  /** Explains a text in UTF-16, two bytes per letter. */
   const utf16 = it => (HALVES.test(it.text) ? it.says(sentence('utf_16')) : null);
 
-  /** Characters in the word that don't show, or look like blanks. */
+  /** Explains characters in the word that don't show, or look like blanks. */
   function invisible(it) {
     const [odd] = characters.invisible(it.plain);
     if (!odd) return null;
@@ -33,7 +33,7 @@ const wordings = (() => {
     return it.says(sentence('mark', { where, word: it.quoted, cure }));
   }
 
-  /** A letter of another alphabet, or a figurine, in place of one of ours. */
+  /** Explains a letter of another alphabet, or a figurine, in place of one of ours. */
   function lookAlike(it) {
     const letter = characters.lookAlike(it.plain);
     if (!letter) return null;
@@ -44,16 +44,16 @@ const wordings = (() => {
     return it.says(sentence('look_alike', { letter, word: it.quoted, script, like: characters.plain(letter), mended }));
   }
 
-  /** A sign that begins a comment elsewhere. */
+  /** Explains a sign that begins a comment elsewhere. */
   function comment(it) {
     const found = COMMENT.exec(it.plain);
     return !found || it.fits(trimSigns(it.plain)) ? null : it.says(sentence('comment', { first: found[1] }));
   }
 
-  /** A position in FEN. */
+  /** Explains a position in FEN. */
   const position = it => (FEN_BOARD.test(it.plain) ? it.says(sentence('position', { word: it.quoted, plain: it.plain })) : null);
 
-  /** Punctuation that belongs to the word, since only blanks separate words. */
+  /** Explains punctuation that belongs to the word, since only blanks separate words. */
   function signs(it) {
     const inside = it.plain.match(new RegExp(SIGN, 'gu')) ?? [];
     const everySign = new RegExp(SIGN, 'gu');
@@ -67,7 +67,7 @@ const wordings = (() => {
     return it.says(sentence('sign_often', { kinds: kind + (kind.endsWith('sh') ? 'es' : 's'), word: it.quoted, mended }));
   }
 
-  /** A word that a blank cuts in two. */
+  /** Explains a word that a blank cuts in two. */
   function parted(it) {
     const isName = word => FaultCase.NAMES.some(name => name.toLowerCase() === word.toLowerCase());
     const withNext = it.plain + (it.next?.word ?? '');
@@ -77,7 +77,7 @@ const wordings = (() => {
     return before && isName(withBefore) ? it.says(sentence('parted', { whole: withBefore }), before) : null;
   }
 
-  /** Two words without a blank between them. */
+  /** Explains two words without a blank between them. */
   function joined(it) {
     const word = it.plain;
     if (/^endproblembeg[a-z]*$/i.test(word)) return it.says(sentence('texts_joined', { word: it.quoted }));
@@ -89,7 +89,7 @@ const wordings = (() => {
     return null;
   }
 
-  /** A word of Popeye that pops doesn't read. */
+  /** Explains a word of Popeye that pops doesn't read. */
   function ofPopeye(it) {
     const found = vocabulary.unread(it.plain.replace(/[:,;.]+$/, ''));
     if (!found) return null;
@@ -97,7 +97,7 @@ const wordings = (() => {
     return it.says(sentence(isWhole ? 'unread' : 'unread_short', { word: it.quoted, ...found }));
   }
 
-  /** A German or French word. */
+  /** Explains a German or French word. */
   function inAnotherLanguage(it) {
     const found = vocabulary.foreign(it.plain.replace(/[:,;.]+$/, ''));
     if (!found) return null;
@@ -106,13 +106,13 @@ const wordings = (() => {
     return it.says(there ? sentence('foreign_unread', { text, ...there }) : sentence('foreign_written', { text, english: found.english }));
   }
 
-  /** An accent on a letter of a word of pops. */
+  /** Explains an accent on a letter of a word of pops. */
   function accented(it) {
     const plain = characters.withoutAccents(it.plain);
     return plain === it.plain || !it.fits(plain) ? null : it.says(sentence('accented', { plain, word: it.quoted }));
   }
 
-  /** A word of pops with more letters after it. */
+  /** Explains a word of pops with more letters after it. */
   function lengthened(it) {
     const word = it.plain.toLowerCase();
     const isLonger = name => word.startsWith(name.toLowerCase()) && isAlpha(word.slice(name.length)) && it.fits(name);
@@ -120,14 +120,14 @@ const wordings = (() => {
     return name ? it.says(sentence('lengthened', { name, word: it.quoted })) : null;
   }
 
-  /** Two letters of a word of pops. */
+  /** Explains two letters of a word of pops. */
   function tooShort(it) {
     if ([...it.plain].length !== 2 || !isAlpha(it.plain)) return null;
     const name = it.namesHere().find(one => one.toLowerCase().startsWith(it.plain.toLowerCase()));
     return name ? it.says(sentence('too_short', { word: it.quoted, short: name.slice(0, 3), name })) : null;
   }
 
-  /** A word that is nearly one of pops. */
+  /** Explains a word that is nearly one of pops. */
   function misspelt(it) {
     const word = it.plain.toLowerCase();
     if (word.length < 3) return null;
@@ -140,7 +140,7 @@ const wordings = (() => {
     return least > (word.length < 6 ? 1 : 2) ? null : it.says(sentence('misspelt', { word: it.quoted, best }));
   }
 
-  /** How many letters of the word have to be changed to make it a short form of the name. */
+  /** Counts the letters of the word that must change to make it a short form of the name. */
   function nearness(word, name) {
     if ([...word].sort().join('') === [...name].sort().join('')) return 1;
     const forms = [];
@@ -150,7 +150,7 @@ const wordings = (() => {
     return Math.min(distance(word, name), ...forms);
   }
 
-  /** Letters put in, left out, changed or exchanged with a neighbour. */
+  /** Counts letters put in, left out, changed or exchanged with a neighbour. */
   function distance(one, next) {
     const rows = [Array.from({ length: next.length + 1 }, (_, index) => index)];
     for (let i = 1; i <= one.length; i++) {
@@ -165,21 +165,21 @@ const wordings = (() => {
     return rows.at(-1).at(-1);
   }
 
-  /** A line that seems to go on with the text line above it. */
+  /** Explains a line that seems to continue the text line above it. */
   function restOfAText(it) {
     const above = it.lineAbove;
     if (!above || lineOf(it.text, above.from) !== lineOf(it.text, it.word.from) - 1) return null;
     return it.says(sentence('rest_of_a_text', { name: textNameOf(above) }), wholeOf(above));
   }
 
-  /** The causes that lie in single characters. */
+  /** Lists the causes in single characters. */
   function* charactersIn(it) {
     yield utf16(it);
     yield invisible(it);
     yield lookAlike(it);
   }
 
-  /** The causes that lie in how a word of pops is written. */
+  /** Lists the causes in the spelling of a word of pops. */
   function* spelling(it) {
     yield accented(it);
     yield joined(it);
@@ -188,7 +188,7 @@ const wordings = (() => {
     yield misspelt(it);
   }
 
-  /** Whether only carriage returns end the lines of a text. */
+  /** Returns whether only carriage returns end the lines of a text. */
   const isOldMac = text => text.includes('\r') && !text.includes('\n');
 
   return {

@@ -1,6 +1,6 @@
 // @ts-check
-// Problems as other programs give them, with their twins, and the text of pops that they become. What pops can't read is
-// left out, with the reason.
+// Problems of other programs, with their twins, and their text for pops. What pops can't read is left out, with the
+// reason.
 'use strict';
 /** @typedef {{ men: Men, stipulation: string, conditions: string[] }} Setting */
 /** @typedef {{ text: string, make: (setting: Setting) => Setting }} Change */
@@ -16,7 +16,7 @@ const drafts = (() => {
   /** @returns {Draft} */
   const empty = () => ({ texts: [], setting: { men: new Map(), stipulation: '', conditions: [] }, options: [], notes: [], twins: [], isZero: false });
 
-  /** The diagram and its twins: the label of each, the words of its changes, and a function that makes its setting. */
+  /** Returns the diagram and its twins: the label of each, the words of its changes, and a function that makes its setting. */
   function settingsOf({ setting, twins, isZero }) {
     const found = isZero ? [] : [{ label: twins.length ? letterOf(0) : '', said: '', make: () => setting }];
     let last = () => setting;
@@ -31,7 +31,7 @@ const drafts = (() => {
 
   const linesOf = (texts, name) => texts.filter(([one]) => one === name).map(([, text]) => text);
 
-  /** The lines of one problem, between the words that open and end it. */
+  /** Returns the lines of one problem, between its opening and closing words. */
   function problemLines({ texts, options, notes }, { label, said, make }, isFirst) {
     const setting = make();
     const title = [linesOf(texts, 'Title').join('; '), label].filter(Boolean).join(' ');
@@ -46,7 +46,7 @@ const drafts = (() => {
     ];
   }
 
-  /** Refuses a problem that pops would find a fault in. */
+  /** Refuses a problem in which pops would find a fault. */
   function checked(lines) {
     const text = ['BeginProblem', ...lines, 'EndProblem', ''].join('\n');
     const [fault] = explaining.faultsOf(text);
@@ -55,7 +55,7 @@ const drafts = (() => {
   }
 
   /**
-   * The text of drafts, and why some were left out.
+   * Returns the text of drafts, and why some were left out.
    * @param {(() => Draft)[]} readers each reads a problem, or throws Unposed
    */
   function textOf(readers) {

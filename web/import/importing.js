@@ -1,8 +1,8 @@
 // @ts-check
-// Texts of other programs that become problems of pops: inputs of Popeye, collections in YAML.
+// Turns texts of other programs into problems of pops: inputs of Popeye, collections in YAML.
 'use strict';
 
-/** Whether a text that begins as ours has words that only Popeye reads, or is in another language. */
+/** Returns whether a text that begins as ours has words that only Popeye reads, or is in another language. */
 function isOfPopeye(text) {
   const words = wordsOf(text).filter(token => !reading.isTextLine(token));
   const [first] = words;
@@ -12,8 +12,8 @@ function isOfPopeye(text) {
 }
 
 /**
- * The problems that a text of another program becomes, and why some were left out; null if it is no such text. The text is null if
- * no problem of it can be posed.
+ * Returns the problems of a text of another program, and why some were left out; null for any other text. The result's text is null if no
+ * problem can be posed.
  * @param {string} text
  * @returns {{ text: string | null, lost: string[] } | null}
  */

@@ -1,5 +1,5 @@
 // @ts-check
-// Inputs of Popeye in English, German or French, by Popeye's manual: the words that problems of pops can do with.
+// Reads inputs of Popeye in English, German or French, by Popeye's manual: the words that problems of pops can use.
 'use strict';
 
 const popeye = (() => {
@@ -17,14 +17,14 @@ const popeye = (() => {
   const englishOf = (word, names) => reading.named(characters.withoutAccents(word), names)
     ?? names.find(name => name === vocabulary.foreign(word)?.english);
 
-  /** The change of a twin that a word means; undefined if it means none. */
+  /** Returns the change of a twin that a word means; undefined if it means none. */
   function changeOf(word, language) {
     const table = Object.entries(EXPLANATIONS.twinnings[language] ?? {});
     const found = table.find(([name]) => name.toLowerCase() === vocabulary.folded(word));
     return found?.[1] ?? reading.named(word, CHANGES);
   }
 
-  /** The words of an input, one by one; that of a text line takes the rest of its line. */
+  /** The words of an input, one by one; a text line's word includes the rest of its line. */
   class Words {
     constructor(text) {
       Object.assign(this, { text, place: 0, language: 'English' });
@@ -50,7 +50,7 @@ const popeye = (() => {
       return rest.trim();
     }
 
-    /** The command that comes next; undefined if another word does. */
+    /** Returns the command that comes next; undefined if another word does. */
     command() {
       const word = this.peek();
       return word === null ? undefined : englishOf(word, NAMES);
@@ -67,7 +67,7 @@ const popeye = (() => {
     return place < 0 ? null : 'wb'[place];
   }
 
-  /** Takes men with their colours up to another word. */
+  /** Reads men with their colours up to another word. */
   function takeMen(words) {
     const men = [];
     let colour = null;
@@ -106,7 +106,7 @@ const popeye = (() => {
     }));
   }
 
-  /** Takes a stipulation, and after it the wanted number of solutions, as 2.1.1.1. */
+  /** Reads a stipulation, and after it the wanted number of solutions, as 2.1.1.1. */
   function takeStipulation(words, draft) {
     const word = words.value();
     const counts = words.command() ? null : words.peek();
@@ -294,7 +294,7 @@ const popeye = (() => {
     return draft;
   }
 
-  /** The texts of the problems of an input, and its language; null if it doesn't begin as an input of Popeye. */
+  /** Returns the texts of the problems of an input, and its language; null if it doesn't begin as an input of Popeye. */
   function problemsOf(text) {
     const words = new Words(text);
     const first = words.peek();
@@ -314,7 +314,7 @@ const popeye = (() => {
     }
   }
 
-  /** The problems of an input as drafts to be read; null if it is none. */
+  /** Returns the problems of an input as drafts; null if it isn't an input of Popeye. */
   function readersOf(text) {
     const found = problemsOf(text);
     return found && found.texts.map(one => () => draftOf(one, found.language));

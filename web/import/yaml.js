@@ -1,5 +1,5 @@
 // @ts-check
-// Collections in YAML in the form of Olive and YACPDB, written from memory of it: the keys that make a problem.
+// Reads collections in YAML in the form of Olive and YACPDB, written from memory: the keys that make a problem.
 'use strict';
 
 const yaml = (() => {
@@ -7,7 +7,7 @@ const yaml = (() => {
 
   const withoutComment = line => line.replace(/(^|\s)#(?=[^"']*$).*/, '$1').trimEnd();
 
-  /** The lines of a document that say something: { indent, text }. */
+  /** Returns the lines of a document with content: { indent, text }. */
   function linesOf(document) {
     return document.split('\n').filter(line => !line.startsWith('%')).map(line => ({ indent: line.length - line.trimStart().length, text: withoutComment(line).trim(), raw: line }));
   }
@@ -19,7 +19,7 @@ const yaml = (() => {
     return text;
   }
 
-  /** The value of `[a, b]` or `{a: b}`, in which others may stand. */
+  /** Reads `[a, b]` or `{a: b}`, also nested. */
   function flow(text) {
     const parts = text.match(/"(?:[^"\\]|\\.)*"|'(?:[^']|'')*'|[[\]{},]|:(?=\s|$)|(?:[^[\]{},:]|:(?!\s|$))+/g).map(it => it.trim()).filter(Boolean);
     const value = flowValue(parts);
@@ -57,7 +57,7 @@ const yaml = (() => {
       return this.lines[this.at];
     }
 
-    /** The value after a key: on its line, or in the lines below that are indented more. */
+    /** Returns the value after a key: on its line, or in the lines below that are indented more. */
     value(text, indent) {
       if (/^[|>]/.test(text)) return this.block(indent);
       if (/^[[{]/.test(text)) return flow(this.toEnd(text, text[0] === '[' ? ']' : '}'));
@@ -118,7 +118,7 @@ const yaml = (() => {
   const textsOf = value => (Array.isArray(value) ? value.flatMap(textsOf) : value && typeof value === 'object' ? Object.values(value).flatMap(textsOf)
     : String(value ?? '').split('\n').map(text => text.trim()).filter(Boolean));
 
-  /** A problem as the input of Popeye that says the same, read as such. */
+  /** Turns a problem into an equivalent input of Popeye, and reads that. */
   function draftOf(document) {
     const found = objectOf(document);
     const sides = ['white', 'black'].map(side => [side, textsOf(found.algebraic?.[side])]).filter(([, men]) => men.length);
@@ -147,7 +147,7 @@ const yaml = (() => {
     ]);
   }
 
-  /** The problems of a collection as drafts to be read; null if it is none. */
+  /** Returns the problems of a collection as drafts; null if it isn't a collection. */
   function readersOf(text) {
     if (!/^\s*algebraic\s*:/m.test(text)) return null;
     const documents = text.replaceAll('\r\n', '\n').split(/^---.*$|^\.\.\.\s*$/m).filter(document => document.replace(/^%.*$/gm, '').trim());

@@ -1,4 +1,4 @@
--- Words and lemmas of the standard library and of the crates that most proofs name.
+-- Definitions and lemmas of the standard library and of this crate that most proofs use.
 pub use Rattle.std.proofs.Common.{Bool, List, MatchBool, None, Option, Some, [], ap, arith, cond, eqb, false, find, get_or, inl, inr, is_some, leb, length, map, max, min, not, refl, rules, set, subst, suc, sym, true, zero, ℕ, ◌%◌, ◌&&◌, ◌*◌, ◌+◌, ◌-◌, ◌/◌, ◌<◌, ◌^◌, ◌||◌, ◌∙◌, ◌∷◌, ◌≡◌, ◌≢◌, ◌≤◌, ◌⊎◌}
 pub use Rattle.std.proofs.lemmas.Bool.{and_from, and_left, and_parts, and_right, cases_Bool, cases_eq, cases_lt, cond-false, cond-true, eq-eqb, eqb-true, false_from_ne_true, leb-true, ne_eqb, not-false, not-true, not_from_false, not_from_true, or_cases, or_from, or_left, or_right, true_from_ne_false}
 pub use Rattle.std.proofs.lemmas.List.{get_or-set_other, get_or-set_same, get_or_past, length-set, set_past}

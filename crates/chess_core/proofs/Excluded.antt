@@ -1,4 +1,5 @@
--- What the clauses of men, diagrams and boards exclude: small boards on which the definitions say otherwise than a wrong body would.
+-- What the clauses on men, diagrams and boards exclude: small boards where a wrong body would differ from
+-- the definitions.
 use Rattle.chess_core.proofs.Basics.{Black, King, List, Man, None, Option, Pawn, Some, White, [], false, has_kind, has_men, has_unmoved, is_home, is_other_king, is_second_king, is_stray_pawn, is_taken, is_man_on, king_square, man_on, mark_unmoved, none_unmoved, refl, repeat, is_kind_on, side_of, some_square, squares, squares_of, has_man, true, with_man, with_unmoved, without_man, without_unmoved, word, word_of, ◌∷◌, ◌≡◌}
 use Rattle.chess_core.specs.SquareNames.{a1, b1, e1, a2, e8, h8}
 
@@ -23,7 +24,7 @@ pub square_is_in : has_unmoved (with_unmoved none_unmoved a1) a1 ≡ true
 unfolding has_unmoved mark_unmoved none_unmoved
 square_is_in = refl
 
--- so is h8, the last square
+-- h8, the last square, can be put into the set
 pub h8_is_in : has_unmoved (with_unmoved none_unmoved h8) h8 ≡ true
 unfolding has_unmoved mark_unmoved none_unmoved
 h8_is_in = refl
@@ -66,7 +67,7 @@ pub colour_has_square : side_of (with_man empty a1 white_king) White ≡ 1
 unfolding side_of word word_of squares
 colour_has_square = refl
 
--- and in the word of his kind
+-- the square of a placed man is in the word of its kind
 pub kind_has_square : squares_of (with_man empty b1 white_king) White King ≡ 2
 unfolding squares_of word word_of squares
 kind_has_square = refl
@@ -82,7 +83,7 @@ pub pawn_is_astray : (some_square (is_stray_pawn (with_man empty a1 white_pawn))
 unfolding is_stray_pawn some_square squares
 pawn_is_astray = (refl, refl)
 
--- of two kings the first is found
+-- where a board has two kings of a colour, the lower square is found
 pub first_king_is_found : king_square two_kings White ≡ Some a1
 unfolding king_square squares
 first_king_is_found = refl

@@ -1,4 +1,4 @@
--- The words kept beside the men keep step with them.
+-- The bitboards kept with the men agree with them.
 use Rattle.chess_core.proofs.Basics.{arith, Colour, IsInStep, Kind, List, Man, None, Option, Some, bit_and, bit_not, bit_or, colour_number, eqb-true, get_or, is_kind, is_man, is_of_colour, kind_number, kind_words, length, man_on, rules, same_colour, same_kind, set, side_words, true, w64, word_of, ℕ, ◌%◌, ◌*◌, ◌<◌, ◌^◌, ◌≡◌}
 use Rattle.chess_core.proofs.Words.{word_with, word_without, word_same, word_both}
 

@@ -1,4 +1,4 @@
--- Laws of words: their bits, one bit set or cleared, two words joined.
+-- Laws of bitboards: their bits, one bit set or cleared, and unions.
 use Rattle.chess_core.proofs.Basics.{Bool, List, [], and_le_l, ap, arith, bit_and, bit_at, bit_at-pow_other, bit_at-pow_same, bit_at-suc, bit_at-trailing_zeros, bit_at-zero, bit_at_and, bit_at_clear_other, bit_at_clear_same, bit_at_lowest, bit_at_not, bit_at_or, bit_at_set_other, bit_at_set_same, bit_not, bit_of, bit_or, cases_eq, eq-eqb, eqb, false, get_or}
 use Rattle.chess_core.proofs.Basics.{get_or-set_other, get_or-set_same, inl, inr, length, length-set, max, min, ne_eqb, not, one_shl, or_lt, refl, rules, same_from_bits_below, set, some_square, squares, subst, suc, sym, trailing_zeros, true, w64, word, word_of, zero, ℕ, ◌%◌, ◌&&◌, ◌*◌, ◌+◌, ◌-◌, ◌<◌, ◌^◌, ◌||◌, ◌∙◌, ◌∷◌, ◌≡◌}
 use Rattle.std.proofs.lemmas.List.FromFn.{get_or-range_with_len}
@@ -45,7 +45,7 @@ word_without test xs s y l p h =
       | inr ne ↦ grind (arith, bit_at_clear_other w64 (word_of test xs) s p i q ne, word_bit test xs y i (omega arith), get_or-set_other xs s i y y ne)
     ])
 
--- a member is put in that the test cannot tell from the one before
+-- a list stays the same to a test if one element is replaced by another with the same result
 pub word_same : {X : Type 0} (test : X → Bool) (xs : List X) (s : ℕ) (y d : X) → test (get_or xs s d) ≡ test y → word_of test (set xs s y) ≡ word_of test xs
 unfolding word_of
 word_same test [] s y d h = refl
@@ -73,17 +73,17 @@ unfolding word squares
 word_on test xs d l = word_from_bits (λ s. test (get_or xs s d)) squares 0 (word_of test xs) refl (subst (λ k. word_of test xs < 2 ^ k) l (word_small test xs))
     (λ i p. word_bit test xs d i (omega arith) ∙ ap (λ n. bit_of (test (get_or xs n d))) (sym (squares_at i p)))
 
--- bit s of a word of squares
+-- bit s of a bitboard
 pub square_bit : (test : ℕ → Bool) (s : ℕ) → s < 64 → bit_at (word test) s ≡ bit_of (test s)
 unfolding word squares
 square_bit test s p = word_bit test squares 0 s p ∙ ap (λ n. bit_of (test n)) (squares_at s p)
 
--- a word of squares fits into 64 bits
+-- a bitboard fits into 64 bits
 pub square_word_small : (test : ℕ → Bool) → word test < 2 ^ 64
 unfolding word squares
 square_word_small test = word_small test squares
 
--- a number of 64 bits with these bits is the word of squares
+-- a number of 64 bits with these bits is the bitboard
 pub square_word : (test : ℕ → Bool) (n : ℕ) → n < 2 ^ 64 → ((s : ℕ) → s < 64 → bit_at n s ≡ bit_of (test s)) → n ≡ word test
 unfolding word squares
 square_word test n fits h = word_from_bits test squares 0 n refl fits (λ s p. h s p ∙ ap (λ m. bit_of (test m)) (sym (squares_at s p)))
@@ -123,7 +123,7 @@ squares_some test h =
     let w = bit_at-trailing_zeros w64 (word test) h (square_word_small test) in
     some_square_true test (trailing_zeros w64 (word test)) w.0 (bit_true _ (sym (square_bit test (trailing_zeros w64 (word test)) w.0) ∙ w.1))
 
--- whether the word is another than 0 tells whether some square passes
+-- some square passes exactly if the bitboard isn't 0
 pub some_square_told : (test : ℕ → Bool) (n : ℕ) → n ≡ word test → not (eqb n 0) ≡ some_square test
 some_square_told test n h = grind (arith, cases_eq, squares_none, ne_eqb, squares_some)
 

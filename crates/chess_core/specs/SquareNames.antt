@@ -1,5 +1,5 @@
--- The squares by name: a letter for the file, a figure for the rank (FIDE Laws, appendix C). Named are those
--- of which definitions and examples speak.
+-- Names of squares: a letter for the file, a figure for the rank (FIDE Laws, appendix C), as far as
+-- definitions and examples use them.
 use Rattle.std.specs.Prelude.{ℕ}
 
 abbrev pub a1 : ℕ

@@ -9,8 +9,8 @@ use crate::man::{Colour, Kind, Man};
 use crate::square::{Square, Squares};
 use std::marker::Model;
 
-/// The men on the squares, and beside them what needn't be looked for then: the squares of the men of
-/// each kind and of each colour, a bit a square. Contracts see the men square by square, a1 first.
+/// The men on the squares, and bitboards of the men of each kind and of each colour, so that no search for
+/// them is needed. Contracts see the men square by square, a1 first.
 #[derive(Clone, Copy)]
 pub(crate) struct Placement {
     array: [Option<Man>; 64],
@@ -40,7 +40,7 @@ impl Model for Placement {
 }
 
 impl Placement {
-    // Nobody on any square.
+    // Returns the placement without any man.
     pub(crate) fn none() -> Placement
         ensures { result ≡ repeat 64 (None ∷ []) }
     {
@@ -51,21 +51,21 @@ impl Placement {
         }
     }
 
-    // The man on a square, if one stands there.
+    // Returns the man on a square, if there is one.
     pub(crate) fn on(&self, square: Square) -> Option<Man>
         ensures { result ≡ man_on self.now square }
     {
         self.array[square.index() as usize]
     }
 
-    // The squares of the men of this kind.
+    // Returns the squares of the men of this kind.
     pub(crate) fn of_kind(&self, kind: Kind) -> Squares
         ensures { result ≡ word (is_kind_on self.now kind) }
     {
         self.by_kind[kind.number()]
     }
 
-    // The squares of the men of this colour.
+    // Returns the squares of the men of this colour.
     #[tactic(auto, unfolding(crate::specs::ties::Words::side_of))]
     pub(crate) fn of_colour(&self, colour: Colour) -> Squares
         ensures { result ≡ side_of self.now colour }
@@ -73,7 +73,7 @@ impl Placement {
         self.by_side[colour.number()]
     }
 
-    // The squares of the men of this colour and kind.
+    // Returns the squares of the men of this colour and kind.
     #[tactic(auto, unfolding(crate::specs::ties::Words::squares_of))]
     pub(crate) fn squares(&self, colour: Colour, kind: Kind) -> Squares
         ensures { result ≡ squares_of self.now colour kind }
@@ -81,7 +81,7 @@ impl Placement {
         self.by_side[colour.number()] & self.by_kind[kind.number()]
     }
 
-    // The square of the colour's king, the first of them where there are more.
+    // Returns the square of the colour's king, the lowest if there are several.
     pub(crate) fn king_of(&self, colour: Colour) -> Option<Square>
         ensures { result ≡ king_square self.now colour }
     {
@@ -93,7 +93,7 @@ impl Placement {
         }
     }
 
-    // Takes the man that stands on the square away.
+    // Removes the man on the square.
     pub(crate) fn lift(&mut self, square: Square)
         requires { IsSome (man_on self.old square) }
         ensures { self.new ≡ without_man self.old square }

@@ -3,17 +3,18 @@ use crate::man::{Man, Unmoved};
 use crate::square::Square;
 use std::marker::Model;
 
-/// What a move destroyed: with the move itself, all that taking it back needs. It holds no position.
+/// What a move destroyed: with the move itself, all that is needed to take it back. It holds no position.
 #[derive(Clone, Copy, Default)]
 pub struct Undo {
-    // First: fields lie in memory in this order, and this one at a multiple of eight bytes.
-    /// The unmoved squares before the move.
+    // First, since fields lie in memory in this order and this one needs an address that is a multiple of
+    // eight.
+    /// The castling rights before the move.
     pub unmoved: Unmoved,
     /// The captured man.
     pub captured: Option<Man>,
     /// The square on which the captured man was reborn (Circe).
     pub rebirth: Option<Square>,
-    /// The crossed square before the move.
+    /// The en passant square before the move.
     pub crossed: Option<Square>,
 }
 

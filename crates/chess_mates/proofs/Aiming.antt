@@ -1,4 +1,4 @@
--- The legal moves that aim at the enemy's king, passed over by walking from candidate to candidate.
+-- Aimed legal moves: walking from candidate to candidate passes over all others.
 use Rattle.chess_mates.proofs.Chess.{and_left, cases_Bool, first_of_and, moves_behind-here, off_second, off_zero, on_first, second_of_and, word_has}
 use Rattle.chess_rules.proofs.Chess.{second_fails}
 use Rattle.chess_rules.proofs.listing_moves.Places.{place_of_none, place_of_triple}

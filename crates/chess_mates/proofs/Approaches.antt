@@ -1,4 +1,4 @@
--- From where pawns come to a square: so many squares before it, or behind it.
+-- The squares from which pawns come to a square, by the difference of square numbers.
 use Rattle.chess_mates.proofs.Chess.{AreApproaches, AreCapturers, Black, Bool, Colour, None, Pawn, Position, White, agree_below, agree_below_at, along, and_parts, ap, arith, bit_at, bit_at_cat_high, bit_at_cat_low, bit_or, eqb-true, false, false≢true, forward, if◌then◌else◌, implied, is_advance, is_square, leaps, list_any, man_on, may_go, not, not-true, on_left, on_right, or_cases, or_left, or_right, other, pawn_capture_steps, pawn_goes, queen_steps, rank_of, reaches_as, refl, rules, same_colour, second_rank, true, ℕ, List, Option, Some, Step, [], list_all, false_by, square_is, sym, ◌%◌, ◌&&◌, ◌*◌, ◌+◌, ◌-◌, ◌/◌, ◌<◌, ◌==◌, ◌^◌, ◌||◌, ◌≡◌, ◌≤◌, ◌∷◌, ◌∙◌}
 use Rattle.std.proofs.Math.Nat.{div-add-mod}
 use Rattle.std.proofs.lemmas.Nat.{pow_pos, shr-shr}
@@ -7,7 +7,7 @@ use Rattle.std.proofs.lemmas.Nat.{pow_pos, shr-shr}
 pub bit_down : (w k s : ℕ) → bit_at (w / 2 ^ k) s ≡ bit_at w (k + s)
 bit_down w k s = ap (λ x. x % 2) (shr-shr w k s)
 
--- the same word moved up: its squares are so much higher
+-- the squares of a word moved up by k are higher by k
 pub bit_up : (w k s : ℕ) → k ≤ s → s < 64 → bit_at (w * 2 ^ k % 2 ^ 64) s ≡ bit_at w (s - k)
 bit_up w k s from small =
     let all = w * 2 ^ k in
@@ -22,7 +22,7 @@ abbrev is_after : Colour → ℕ → ℕ → ℕ → Bool
 is_after White k s t = t == k + s
 is_after Black k s t = s == k + t
 
--- the word of the squares from which those of w are k squares after
+-- the bitboard of the squares that are k squares before a square of w
 abbrev before : Colour → ℕ → ℕ → ℕ
 before White w k = w / 2 ^ k
 before Black w k = w * 2 ^ k % 2 ^ 64

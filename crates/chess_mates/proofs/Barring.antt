@@ -116,7 +116,8 @@ module _ (rule : RuleSet) (p : Position) (m : Move) (x : Man) (v : Siege) (well 
     unfolding is_attacked
     attacked_there = some_square_true (is_attacker rule then m.to (other p.turn)) a.from a.stands.small strikes
 
--- a king's step to such a square is illegal: he would be in check after it
+-- a king's step to an empty square that an attacker reaches over the hurdles is illegal: it would be in
+-- check after it
 pub barred_is_illegal : (rule : RuleSet) (p : Position) (m : Move) (x : Man) (v : Siege) → IsWellFormed p → is_pseudo_legal rule p m ≡ true
     → man_on p.men m.from ≡ Some x → m.to < 64 → IsPlainMove p x m → (captures_do_more rule ≡ true → IsMereMove p x m) → same_kind x.kind King ≡ true
     → v.king ≡ m.from → IsSiege v → IsWhole v → IsSiegeOf rule p v → IsBarred rule v m.to → is_legal rule p m ≡ true → ⊥

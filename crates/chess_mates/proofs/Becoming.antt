@@ -1,4 +1,4 @@
--- What a man may become where he arrives.
+-- What a man may be after its arrival.
 use Rattle.chess_mates.proofs.Chess.{Bishop, Bool, Colour, Grasshopper, IsLeft, Kind, List, Man, Move, None, Option, Pawn, Position, Rook, RuleSet, Some, and_parts, arith, arriving_man, false, false_by, false≢true, is_promoting, is_promotion_right, list_any-append, man_on, not-true, or_left, or_right, position_after, position_after_by, reaches_as, refl, rules, same_kind, sym, true, ℕ, ◌∙◌, ◌≡◌}
 use Rattle.chess_mates.proofs.KindByKind.{man_is}
 use Rattle.chess_mates.specs.ties.Attackers.{is_promotion}
@@ -12,7 +12,7 @@ reaches_counted men c Rook s t h = grind (arith, list_any-append, or_left)
 reaches_counted men c Bishop s t h = grind (arith, list_any-append, or_right)
 reaches_counted men c k s t h = h
 
--- so what she leaves is left
+-- a square that is left when the promoted man counts as a queen is left
 pub counted_left : (w t f : ℕ) (z : Man) → IsLeft w (record { colour = z.colour; kind = counts_as z.kind }) t f → IsLeft w z t f
 counted_left w t f z h = record {
   small = h.small;

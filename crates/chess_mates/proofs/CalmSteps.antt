@@ -1,4 +1,4 @@
--- After a move a legal step of the enemy king that gives no check: not every reply mates.
+-- If the enemy king has a legal step without check after a move, not every reply mates.
 use Rattle.chess_mates.proofs.Chess.{AreOpen, AreSeen, AreSteps, Colour, IsQuietTo, IsSafe, IsSeenFrom, IsWellFormed, Kind, King, List, Man, Move, Option, Position, RuleSet, Some, after_well_formed, and_left, and_right, ap, arith, arriving_man, bit_and, bit_not, capture_square, captures_arrival, cases_Bool, cases_eq, differs, eq-eqb, false, gone_to, in_check, inl, inr, is_legal, is_man, is_mating, is_of_colour, is_open, is_pseudo_legal-from_legal, is_reached, is_simple, is_some, is_square, kept_now, king-back, king_after, king_is_after, king_square, king_stands, left_now, legal_moves_are_triples, length, list_all, man_on, man_on-with_other, may_check_from, moves, no_man, not, not-true, not_attacked, occupied_squares, on_first, or_parts, other, other_twice, position_after, reaches, reaches_as, refl, rules, same_colour, same_kind, same_kind-true, sight_lifted, sight_stepped, simple_after, some_square_same, squares_both, squares_not, squares_of, sym, there_now, true, w64, word, ℕ, ◌&&◌, ◌<◌, ◌==◌, ◌||◌, ◌∙◌, ◌≡◌}
 use Rattle.chess_mates.proofs.Mating.{quiet}
 use Rattle.chess_mates.proofs.Fleeing.{IsKingOn, after_seen, is_made, king_is_other, king_on, king_seen, king_step, no_king_free, no_own_arrives, open_parts, reaches_alike_of, safe_step, simple_step, some_of_colour, is_step, step_taken, step_to, turn_is}
@@ -6,7 +6,7 @@ use Rattle.chess_mates.proofs.KingsApart.{kings_apart}
 use Rattle.chess_mates.proofs.QuietSteps.{one_fails}
 use Rattle.chess_mates.proofs.Stepping.{occupied_stepped, on_flight, on_left, on_others, stands, stepped}
 
--- what is asked of the squares: the men of colour c are looked at, but for their king, who goes from k to t
+-- what must hold of the squares: the men of colour c count, except their king, which goes from k to t
 record IsLeft (men : List (Option Man)) (a : ℕ) (o : Option ℕ) (b : ℕ) (z : Man) (u : Option ℕ) (t : ℕ) (c : Colour) : Type 0 where
   pub arrival : b < length men
   pub flight : t < length men
@@ -104,7 +104,7 @@ module _ (rule : RuleSet) (p : Position) (m : Move) (x : Man) (k : ℕ) (i : IsS
       rw (turned, king_after_step, men_made, after_seen rule p m x k i) (not_attacked rule now_men (other p.turn) s none) in
       one_fails rule after (step_to k t) (after_well_formed rule p m i.well_formed i.pseudo) lawful (quiet rule after (step_to k t) lawful unchecked)
 
-  -- so where no other man of his side does
+  -- no other man of its side reaches the mover's king
   none_of_others : IsQuietTo p.men p.turn (sight_lifted p.men m.from (capture_square p x m) m.to k) k t s → is_reached now_men s (other p.turn) ≡ false
   none_of_others quiet = unreached p.men m.from (capture_square p x m) m.to (arriving_man x m.promo) k taken t (other p.turn) is_left y s apart
       (quiet.unreached _ (seen_left p.men m.from (capture_square p x m) m.to (arriving_man x m.promo) k taken t (other p.turn) is_left))

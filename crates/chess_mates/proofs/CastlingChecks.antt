@@ -1,4 +1,4 @@
--- Castling that uncovers no king gives check by its rook alone.
+-- Castling that uncovers no king gives check only by its rook.
 use Rattle.chess_mates.proofs.Chess.{AreCastlingTargets, Bishop, Bool, CheckSquares, Colour, Direction, East, Grasshopper, IsCastle, IsCovered, IsMade, IsShift, IsWellFormed, Kind, King, List, Man, Move, Nightrider, None, North, NorthEast, NorthWest, Option, Pawn, Position, Queen, Rook, RuleSet, Some, South, SouthEast, SouthWest, Step, Straight, West, [], agree_below, agree_below_at, all_at, along, along-is, and_from, and_left, and_parts, any_kept, ap, arith, arrived, back, bit_and, bit_or, can_castle, cases_eq, castle_of, cond-true, corner, corner_stays, covered_parts, enemy, eq-eqb, eqb-true, false, false_from_ne_true, false≢true, frees, goes_on, gone_shift, halfway, hops, implied, in_check, inl, inr, is_ahead, is_castling, is_clear, is_diagonal, is_man, is_of_colour, is_on_some, is_reached, is_some, is_square, is_two_files_aside, is_vacant, king_is, king_no_step, king_square, king_stays_king, length-set, line_before, list_all, list_any, man_on, man_on-with_same, man_there, may_castle, may_check_from, may_expose, may_expose_at, may_stand_between, moved_men, no_capture, not, not_attacked, not_parted, off_left, off_right, off_second, onward, or_cases, or_left, or_parts, other, passes, position_after, range_with_len, reaches, reaches_as, refl, return_square, rides, rules, same_colour, same_kind, same_kind-true, some_square_false, some_square_true, square_is, squares_between, step_of, stood, straight_steps, sym, true, unreached, unreborn_after, ways, with_man, without_man, word, word_has, ℕ, ◌%◌, ◌&&◌, ◌*◌, ◌+◌, ◌-◌, ◌/◌, ◌<◌, ◌==◌, ◌^◌, ◌||◌, ◌∙◌, ◌∷◌, ◌≡◌, ◌≢◌, ◌≤◌, ◌⊎◌}
 use Rattle.chess_rules.proofs.making_moves.Castles.{no_man}
 use Rattle.chess_rules.proofs.attacks.FairyLines.{Holds, IsBeside, IsNoHurdle, hop_kept, knight_directions, queen_directions, ride_kept}
@@ -18,7 +18,7 @@ is_end s d = list_all (λ n. not (is_some (along s d n))) (range_with_len 1 7)
 abbrev is_half : ℕ → Bool
 is_half h = h == 3 || h == 5 || h == 59 || h == 61
 
--- no square is right behind h on a line from elsewhere, the two beside h on its rank apart
+-- no square is right beyond h on a line from elsewhere, except the two next to h on its rank
 abbrev is_beside_alone : ℕ → Step → Bool
 is_beside_alone h d = not (is_some (along h (back d) 1)) || not (is_some (along h d 1)) || is_square (along h d 1) (h + 1)
     || is_square (along h d 1) (h - 1)
@@ -35,7 +35,7 @@ bare x b lt = agree_below_at (is_bare (step_of x)) (λ b. true) 64 b refl lt
 end_none : (s : ℕ) (d : Step) (n t : ℕ) → is_end s d ≡ true → 1 ≤ n → n ≤ 7 → along s d n ≡ Some t → ⊥
 end_none s d n t h low le at = search (rules, all_at, false≢true)
 
--- so a man in a corner stands between no two squares
+-- a man in a corner stands between no two squares
 corner_beside : (x : Direction) (b s k : ℕ) → is_corner b ≡ true → b < 64 → s < 64 → IsBeside b s k (step_of x)
 corner_beside x b s k h inside small = λ n i at low lt le. false_from_ne_true _ (λ y.
     let here : along s (step_of x) i ≡ Some b = square_is _ b y in
@@ -70,7 +70,7 @@ module _ (men after : List (Option Man)) (b s k : ℕ) (free : Frees after men b
   reached t holds none e Nightrider h = rode knight_directions h
   reached t holds none e j h = h
 
--- what stands on a straight line with both of the king's squares stands on one with the rook's
+-- a man on a straight line with both of the king's squares is on one with the rook's
 abbrev is_lined_up : ℕ → ℕ → ℕ → ℕ → Bool
 is_lined_up a c h k = not (is_on_some straight_steps k h && is_on_some straight_steps k a) || (k == c || is_on_some straight_steps k c)
 
@@ -130,7 +130,7 @@ module _ (rule : RuleSet) (p : Position) (x : Man) (m : Move) (well : IsWellForm
   frees_corner : Frees castled stepped (corner m)
   frees_corner = frees stepped castled (corner m) (halfway m) rook.0 rook_shift
 
-  -- what is asked, so that castling gives no check to the king of colour c
+  -- what must hold for castling to give no check to the king of colour c
   module _ (c : Colour) (enemy_of : same_colour x.colour c ≡ false) (covered : may_expose p.men c m.from ≡ false)
       (aside : may_stand_between p.men c m.to ≡ false) (king_off : may_check_from p.men c x m.to ≡ false)
       (rook_off : may_check_from p.men c (enemy c Rook) (halfway m) ≡ false) where
@@ -144,7 +144,7 @@ module _ (rule : RuleSet) (p : Position) (x : Man) (m : Move) (well : IsWellForm
       unfolding may_stand_between may_check_from
       king_steps = search (rules, unreached, king_shift, parts, or_parts, stood, small, at, aside, king_off)
 
-      -- nor does the rook from halfway
+      -- once the king has castled, the rook doesn't reach the other king from halfway
       rook_strikes : is_of_colour (man_on castled (halfway m)) (other c) ≡ true → reaches castled (halfway m) k ≡ true → ⊥
       unfolding reaches reaches_as is_on_some may_check_from
       rook_strikes side hit =
@@ -160,7 +160,8 @@ module _ (rule : RuleSet) (p : Position) (x : Man) (m : Move) (well : IsWellForm
           (grind (arith, lined, goes_on p.men k m.from straight_steps both.0, or_cases, and_from, eqb-true)) (both.0, the_way.2)) before in
           grind (arith, rook_off, at, rode, or_parts)
 
-      -- nor another man, who would have reached him before the rook went
+      -- once the king has castled, no other man reaches the other king: it would have reached it before the
+      -- rook went
       man_strikes : (s : ℕ) (o : Option Man) → man_on castled s ≡ o → s < 64 → s ≢ halfway m → is_of_colour o (other c) ≡ true → reaches castled s k ≡ true → ⊥
       unfolding reaches is_reached
       man_strikes s None there lt ne side hit = cc
@@ -184,7 +185,7 @@ module _ (rule : RuleSet) (p : Position) (x : Man) (m : Move) (well : IsWellForm
         let off_to : k ≢ m.to = λ e. grind (arith, rook_shift.others k y.0 y.1 off_half, king_shift.arrived y.0, enemy_of, and_parts) in
         grind (arith, king_shift.others k y.0 (rook_shift.others k y.0 y.1 off_half) off_to)
 
-    -- for castlings told by words: neither king nor rook gives check, nor is one uncovered
+    -- for castlings described by bitboards: neither king nor rook gives check, and none is uncovered
     pub castling_gives_no_check : in_check rule (position_after rule p m).men c ≡ false
     castling_gives_no_check = rw after_is (unchecked rule castled c (λ k small here.
         not_attacked rule castled (other c) k (castled_unreached k (king_is p.men c k well.kings small (king_stood k here)) (king_stood k here) small)))

@@ -1,4 +1,4 @@
--- A move that goes to no square from which its man may give check gives none.
+-- A move that doesn't arrive where its man may give check gives none.
 use Rattle.chess_mates.proofs.Chess.{AreCastlingTargets, AreCheckSquares, AreCheckTargets, Black, CheckSquares, Colour, IsMade, IsWellFormed, King, Man, Move, Pawn, Position, Rook, RuleSet, Some, White, agree_below_at, and_parts, ap, are_rebirths_quiet, arith, arrival_needed, bit_at, bit_or, cannot_expose, captures_do_more, cases_Bool, castling_steps, check_squares_for, enemy, false, false_by, halfway, implied, in_check, inl, inr, is_castling, is_pseudo_legal, is_pseudo_legal-from_legal, is_some, is_square, is_two_files_aside, last_rank, made, man_on, may_check_from, may_expose, may_go, may_go_aimed, may_stand_between, not, off_left, off_right, other, position_after, rank_of, refl, rules, same_kind, steps_to, sym, true, word, word_has, ℕ, ◌+◌, ◌/◌, ◌<◌, ◌==◌, ◌||◌, ◌∙◌, ◌≡◌}
 use Rattle.chess_rules.proofs.attacks.EvasionTargets.{plain_elsewhere}
 use Rattle.chess_mates.proofs.CastlingChecks.{castling_gives_no_check}

@@ -13,7 +13,7 @@ pub rook_squares : (men : List (Option Man)) (c : Colour) (k w : ℕ) → king_s
 unfolding may_check_from reaches_as
 rook_squares men c k w at h = inl (h ∙ squares_same _ _ (λ t small. rw at (straight-back men t k small (king_there men c k at).0)))
 
--- and so does a bishop
+-- a bishop checks from where it would get from the king
 pub bishop_squares : (men : List (Option Man)) (c : Colour) (k w : ℕ) → king_square men c ≡ Some k → w ≡ word (may_check_from men c (enemy c Bishop))
     → AreRides men (other c) Bishop diagonal_steps k w
 unfolding may_check_from reaches_as

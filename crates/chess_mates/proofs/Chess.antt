@@ -1,4 +1,4 @@
--- The words of chess, and the lemmas on squares and tests, that most proofs name.
+-- Definitions of chess, and lemmas on squares and tests, that most proofs use.
 pub use Rattle.chess_rules.proofs.Chess.{AreOrigins, AreSeen, AtMostOneKing, Bishop, Black, CanCastle, Colour, Grasshopper, HaveNone, IsPlaceIn, IsWellFormed, Kind, King, Knight, Man, Move, Nightrider, Pawn, Position, Queen, Rook, RuleSet, Step, White, all_at, along-is, any_range_cases, any_range_false, any_range_same, is_promoting, arriving_man, circe, corner, diagonal_steps, differs, find_first, first_of_and, is_attacked_at}
 pub use Rattle.chess_rules.proofs.Chess.{halfway, is_advance, captures_do_more, is_arrival_free, is_two_files_aside, is_castling, is_diagonal, is_fairy, is_man, is_man-without, is_nil, is_occupied, is_on_fairy_line_at, is_of_colour, is_square, is_vacant_at, is_vacant, king_after, knight_steps, last_rank, man_on, man_on-with_other, man_on-with_same, man_on-without_other, man_on-without_same, man_on_at, may_expose_at, men_on, move_man, occupied_squares}
 pub use Rattle.chess_rules.proofs.Chess.{is_pseudo_legal_of, orthodox, other, pawn_capture_steps, place, put_at, queen_steps, rank_of, reaches_of, same_colour, same_colour-true, same_kind, same_kind-true, second_of_and, some_square_false, some_square_true, squares_between, squares_both, squares_either, squares_not, squares_same, step_of, straight_steps, with_man, without_at, without_man, AreRides, AreSifted, Gait, Hopper, IsAt, Leaper, Rider, all_triples, captured_man, captures_are_reborn, faced_men_stand_still, file_of, forward, gait_of, goes_by, is_double_step, is_legal-idle, is_lined, is_promotion_right, kind_steps, same_colour-refl, second_rank, sight_after, square_at, square_at-is}

@@ -1,4 +1,4 @@
--- The king's legal steps, told by the squares that his attackers reach.
+-- The king's legal steps, from the squares that its attackers reach.
 use Rattle.chess_mates.proofs.Chess.{AreReached, Attackers, Grasshopper, IfSome, IsAttackedOver, IsNear, IsSiege, IsSiegeOf, IsWellFormed, IsWhole, Man, Move, None, Option, Position, RuleSet, Siege, Some, and_from, and_parts, ap, arith, arrived, bit_and, bit_at, bit_not, capture_of_piece, capture_square, captures_do_more, cases_Bool, faced_men_stand_still, false, false_by, false_from_ne_true, false≢true, inl, inr, is_arrival, is_arrival_free, is_attacked, is_hopper, is_legal, is_open, is_pseudo_legal-from_legal, leaps, list_any, made, man_on, men_on, no_pawn_arrives, not, on_first, other, queen_steps, reached_over, reaches_as, refl, rules, same_kind, same_kind-true, sym, true, true_from_ne_false, w64, word, word_has, ℕ, ◌<◌, ◌==◌, ◌^◌, ◌∙◌, ◌≡◌, ◌≢◌}
 use Rattle.chess_mates.proofs.Fleeing.{IsKingOn, IsKingStep, king_on, may_step, step_is, step_to}
 use Rattle.chess_mates.proofs.FarMen.{off_denied}
@@ -81,7 +81,7 @@ module _ (rule : RuleSet) (p : Position) (v : Siege) (squares w : ℕ) (well : I
     legal_is : is_legal rule p m ≡ not (is_attacked rule (arrived p x m) t (other p.turn))
     legal_is = step_is rule p x v.king t step
 
-  -- the steps that are told are the legal ones
+  -- the computed steps are exactly the legal ones
   pub are_exact : AreExact rule p v.king w
   are_exact = record {
     candidates = record {
@@ -107,7 +107,7 @@ module _ (rule : RuleSet) (p : Position) (v : Siege) (squares w : ℕ) (well : I
     };
   }
 
--- for the squares that a sieve tells
+-- for `legal_squares` of filters
 pub told_exactly : (rule : RuleSet) (p : Position) (v : Siege) (s squares : ℕ) (o : Option ℕ) → IsWellFormed p → IsSiegeOf rule p v → IsSiege v → IsWhole v
     → v.king ≡ s → AreCandidates rule p (is_legal rule p) s squares → IfSome o (λ w. AreExactSteps rule v squares w) → IfSome o (λ w. AreExact rule p s w)
 told_exactly rule p v s squares None well of siege whole at are steps = steps

@@ -1,4 +1,5 @@
--- What the clauses of check squares and targets exclude: small positions in which the definitions say otherwise than a wrong body would.
+-- What the clauses on check squares and targets exclude: small positions where a wrong body would differ
+-- from the definitions.
 use Rattle.chess_mates.proofs.Chess.{AreCheckTargets, Black, Grasshopper, King, Knight, List, Man, Option, Pawn, Position, Queen, Rook, White, [], arith, bit_at, circe, enemy, false, false≢true, in_check, is_ahead, is_legal, is_on_fairy_line, is_reached, is_shut, may_check_from, may_expose, orthodox, position_after, refl, sym, true, true_from_ne_false, ℕ, ◌==◌, ◌∙◌, ◌∷◌, ◌≡◌}
 use Rattle.chess_rules.specs.ties.Shields.{is_behind}
 use Rattle.chess_rules.proofs.Typed.{go, on, position, set_up}
@@ -11,12 +12,12 @@ en_passant_checks : (is_legal orthodox opening_capture (go e5 d6) ≡ true)
 unfolding is_legal check_after_a_move
 en_passant_checks = (refl, refl)
 
--- so the squares to which the pawn must go to give check hold d6, from which a pawn gives none
+-- the squares to which the pawn must go to give check hold d6, from which a pawn gives none
 pub crossed_square_may_give_check : (w : ℕ) → AreCheckTargets orthodox opening_capture e5 w → (bit_at w d6 == 1) ≡ true
 crossed_square_may_give_check w are = true_from_ne_false _ (λ e. false≢true
     (sym (are.elsewhere (go e5 d6) refl (omega arith) en_passant_checks.0 e) ∙ en_passant_checks.1))
 
--- and no man that leaves e5 opens a line
+-- no pawn gives check from d6, and no man that leaves e5 opens a line
 pub no_pawn_checks_from_there : (may_check_from opening_capture.men Black (enemy Black Pawn) d6 ≡ false)
     × (may_expose opening_capture.men Black e5 ≡ false)
 unfolding may_check_from may_expose is_reached is_on_fairy_line is_ahead is_shut is_behind check_after_a_move
@@ -33,7 +34,7 @@ reborn_knight_checks : (is_legal circe reborn_hurdle (go d1 d3) ≡ true)
 unfolding is_legal check_after_a_move
 reborn_knight_checks = (refl, refl, refl)
 
--- so the squares to which the rook must go to give check hold d3, from which it gives none
+-- the squares to which the rook must go to give check hold d3, from which it gives none
 pub captures_with_rebirth_may_give_check : (w : ℕ) → AreCheckTargets circe reborn_hurdle d1 w → (bit_at w d3 == 1) ≡ true
 captures_with_rebirth_may_give_check w are = true_from_ne_false _ (λ e. false≢true
     (sym (are.elsewhere (go d1 d3) refl (omega arith) reborn_knight_checks.0 e) ∙ reborn_knight_checks.1))

@@ -1,9 +1,9 @@
--- Men who couldn't come to a check square give no check.
+-- Men that could reach no check square give no check.
 use Rattle.chess_mates.proofs.Chess.{AreApproaches, AreCheckOrigins, AreCheckTargets, Colour, Kind, King, Man, Move, None, Option, Position, RuleSet, Some, arith, bit_and, bit_at, bit_at-lt, bit_at_and, bit_at_not, bit_not, bit_or, cases_Bool, eq-eqb, eqb-true, false, false_by, false≢true, is_legal, is_pseudo_legal-from_legal, is_square, man_on, may_go, off_second, off_zero, on_first, own_man, own_moves, refl, rules, same_colour-true, same_kind, same_kind-true, side_of, squares_of, sym, true, w64, word, word_has, ℕ, ◌<◌, ◌==◌, ◌^◌, ◌∙◌, ◌≡◌}
 use Rattle.chess_mates.proofs.Hurdles.{on_either}
 use Rattle.chess_mates.proofs.CheckTargets.{targets_lack}
 
--- for men who are told by the word of their kind
+-- a square in the bitboard of a kind holds a man of the kind
 pub man_of_word : (men : _) (c : Colour) (k : Kind) (w s : ℕ) → w ≡ squares_of men c k → s < 64 → (bit_at w s == 1) ≡ true
     → man_on men s ≡ Some (record { colour = c; kind = k })
 unfolding squares_of
@@ -39,7 +39,7 @@ AreTargetsOff rule p j king h w = (s : ℕ) (x : Man) → s < 64 → man_on p.me
 -- men m of the mover, of this kind, on no square of the word h
 module _ (rule : RuleSet) (p : Position) (j : Kind) (m h w : ℕ) (stands : (s : ℕ) → s < 64 → (bit_at m s == 1) ≡ true → man_on p.men s ≡ Some (own_man p j))
     (off : (s : ℕ) → s < 64 → (bit_at m s == 1) ≡ true → (bit_at h s == 1) ≡ false) where
-  -- those off the squares from which they could come to a target
+  -- men off the squares from which they could come to a target are far
   pub far_apart : (n : ℕ) (c : Colour) → n < 2 ^ 64 → same_kind j King ≡ false → AreTargetsOff rule p j None h w → c ≡ p.turn
       → AreApproaches (record { colour = c; kind = j }) w n → (s : ℕ) → s < 64 → (bit_at (bit_and m (bit_not w64 n)) s == 1) ≡ true → AreCheckTargets rule p s 0
   far_apart n c fits mortal targets turn come s small on =
@@ -64,7 +64,7 @@ from_own rule p o m own inside lawful = grind (arith, is_pseudo_legal-from_legal
 pub check_origins_own : (rule : RuleSet) (p : Position) (o : ℕ) → o ≡ side_of p.men p.turn → AreCheckOrigins rule p o
 check_origins_own rule p o own = record { elsewhere = λ m inside small lawful off. absurd (false≢true (sym off ∙ from_own rule p o m own inside lawful)) }
 
--- or those who are not far
+-- for `check_origins`: each man of the mover that isn't far
 pub check_origins_are : (rule : RuleSet) (p : Position) (o f : ℕ) → o ≡ side_of p.men p.turn → f < 2 ^ 64 → AreFar rule p f
     → AreCheckOrigins rule p (bit_and o (bit_not w64 f))
 check_origins_are rule p o f own fits are = record {

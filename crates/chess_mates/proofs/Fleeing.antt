@@ -1,4 +1,4 @@
--- A flight after a move, told by the men that an attack on it sees.
+-- A flight after a move, from the men that attack it then.
 use Rattle.chess_mates.proofs.Chess.{AreOpen, AreSteps, Bool, Colour, IsMade, IsSafe, IsSeenFrom, IsSimple, IsWellFormed, King, List, Man, Move, None, Option, Position, RuleSet, Some, StandAlike, after_well_formed, and_from, and_left, and_parts, and_right, any_range_cases, any_range_false, arith, arrived, arriving_colour, arriving_king, arriving_man, bit_and, bit_at, bit_at-lt, bit_at_and, bit_not, bit_or, capture_of_piece, capture_square, captures_arrival, captures_do_more, cases_Bool, cases_eq, check_is, cond-false, cond-true, eq-eqb, eqb-true, false, false_from_ne_true, false≢true, first_of_and, gone_to, has_flight, inl, inr, is_arrival_free, is_attacked, is_flight, is_flight_at, is_legal, is_man, is_mate, is_nil, is_of_colour, is_open, is_paralysed, is_pseudo_legal, is_reached, is_some, is_square, kept_now, king_is_no_pawn, king_no_step, king_square, king_stands, king_there, leaps, left_now, length, list_any, made, man_on, man_there, mates, moves, moves_are_the_legal_triples, no_capture, no_reach_there, not, not-true, not_attacked, occupied_now, occupied_squares, on_first, or_cases, or_left, or_parts, other, other_differs, other_twice, position_after, queen_steps, reaches, reaches_alike, reaches_as, reaches_of, refl, rules, same_colour, same_colour-true, same_kind, side_of, sight_lifted, simple_after, some_square, some_square_same, some_square_true, square_is, squares, squares_both, squares_either, squares_not, squares_of, sym, taken, there_now, true, w64, without_man, word, word_has, ℕ, ◌&&◌, ◌<◌, ◌==◌, ◌||◌, ◌∙◌, ◌≡◌, ◌≢◌}
 use Rattle.chess_rules.proofs.listing_moves.Triples.{nothing_in}
 use Rattle.chess_mates.proofs.Mating.{turn_after}
@@ -17,7 +17,7 @@ flight_there rule p h =
     let f = is_flight_at rule p (king_square p.men p.turn) in
     elim (any_range_cases f 0 64) [ inl w ↦ flight_is_legal rule p _ w.0 refl w.2 w.3 | inr off ↦ absurd (false≢true (sym (any_range_false f 0 64 off) ∙ h)) ]
 
--- for moves behind which a flight is left
+-- after these moves a flight remains
 pub no_mate_with_flight : (rule : RuleSet) (p : Position) (m : Move) → has_flight rule (position_after rule p m) ≡ true → false ≡ mates rule p m
 unfolding mates is_mate
 no_mate_with_flight rule p m h = search (rules, flight_there)
@@ -30,11 +30,11 @@ no_king_free c d o h = grind (arith, and_parts, and_right, not-true)
 pub on_second : (a b i : ℕ) → (bit_at (bit_and a b) i == 1) ≡ true → (bit_at b i == 1) ≡ true
 on_second a b i h = search (rules, bit_at-lt, bit_at_and, eq-eqb, eqb-true)
 
--- for a square of a difference of words, of which the second is told by a test
+-- a square of the difference of two bitboards isn't in the second
 pub unseen_bit : (test : ℕ → Bool) (n w t : ℕ) → w ≡ word test → t < 64 → (bit_at (bit_and n (bit_not w64 w)) t == 1) ≡ true → (bit_at w t == 1) ≡ false
 unseen_bit test n w t h small on = search (rules, on_second, squares_not, word_has)
 
--- and for one of the first that the test leaves out
+-- a square of the first word that the test leaves out is in the difference
 pub seen_bit : (test : ℕ → Bool) (n w t : ℕ) → w ≡ word test → t < 64 → (bit_at n t == 1) ≡ true → (bit_at w t == 1) ≡ false
     → (bit_at (bit_and n (bit_not w64 w)) t == 1) ≡ true
 seen_bit test n w t h small on off = search (rules, bit_at_and, eq-eqb, eqb-true, squares_not, word_has)
@@ -75,7 +75,7 @@ module _ (rule : RuleSet) (p : Position) (m : Move) (x : Man) (k : ℕ) (i : IsS
   no_own_arrives = grind (arith, arriving_colour, is_made, other_differs)
 
   module _ (small : m.to < 64) where
-    -- its king stands where he stood
+    -- the king of the side that waits keeps its square
     pub king_seen : king_square (position_after rule p m).men (other p.turn) ≡ Some k
     king_seen = search (rules, after_seen, king_waits rule p x m (other p.turn) i.well_formed is_made small refl, i.king)
 
@@ -96,7 +96,7 @@ module _ (rule : RuleSet) (p : Position) (m : Move) (x : Man) (k : ℕ) (i : IsS
       ]
     ]
 
-    -- but where he has come
+    -- a free square other than the arrival may be stepped to
     free_elsewhere : (t : ℕ) → t ≢ m.to → is_free t ≡ true → is_arrival_free (other p.turn) (man_on (arrived p x m) t) ≡ true
     free_elsewhere t ne free = grind (arith, cases_Bool, left_now, kept_now, or_parts)
 
@@ -108,7 +108,7 @@ module _ (rule : RuleSet) (p : Position) (m : Move) (x : Man) (k : ℕ) (i : IsS
       | inl king ↦ grind (arith, free_elsewhere t, cases_eq t m.to, i.apart king, and_parts, false≢true)
     ]
 
-    -- for the word of squares open to the king: without Circe
+    -- the squares open to the king, without Circe
     pub open_squares : (w l h : ℕ) → captures_do_more rule ≡ false → w ≡ word (λ t. list_any (leaps k t) queen_steps)
         → l ≡ (sight_lifted p.men m.from (capture_square p x m) m.to k).standing
         → h ≡ bit_or (bit_and (side_of p.men (other p.turn)) l) (squares_of p.men p.turn King)
@@ -144,7 +144,7 @@ pub record IsStepSeen (men : List (Option Man)) (a : ℕ) (o : Option ℕ) (b : 
     pub size : length men ≡ 64
     pub arrived : (l : List (Option Man)) → (sight_lifted men a o b k).occupied ≡ occupied_squares l → r ≡ word (reaches_as l z.colour z.kind b)
 
--- where men stand on the same squares, t apart, whoever reaches t on one board reaches it on the other
+-- if the same squares are occupied, except perhaps t, a man reaches t on both boards or on neither
 pub reaches_alike_of : (men others : List (Option Man)) (o : Option Man) (s t : ℕ) → StandAlike men others t → reaches_of men o s t ≡ reaches_of others o s t
 reaches_alike_of men others o s t a = grind (arith, reaches_alike)
 
@@ -218,7 +218,7 @@ module _ (rule : RuleSet) (q : Position) (x : Man) (k t : ℕ) (i : IsKingStep r
   unfolding is_pseudo_legal
   may_step = grind (arith, open_parts, king_is_no_pawn, king_is_able, and_left, cond-false, or_left, steps_there, and_from)
 
-  -- and nobody is reborn by it
+  -- by a step of the king to an open square nobody is reborn
   pub simple_step : IsSimple rule q x (step_to k t)
   simple_step =
       let way = open_parts rule q.men q.turn k t i.near in
@@ -227,7 +227,7 @@ module _ (rule : RuleSet) (q : Position) (x : Man) (k t : ℕ) (i : IsKingStep r
         rebirth = search (rules, no_capture, way.nobody, and_left, king_is_no_pawn);
       }
 
-  -- and it is legal exactly where nobody attacks the square then
+  -- a step of the king to an open square is legal exactly where nobody attacks the square after it
   pub step_is : is_legal rule q (step_to k t) ≡ not (is_attacked rule (arrived q x (step_to k t)) t (other q.turn))
   unfolding is_legal
   step_is =
@@ -241,7 +241,7 @@ pub record IsKingOn (men : List (Option Man)) (c : Colour) (k : ℕ) (x : Man) :
   pub mine : same_colour x.colour c ≡ true
   pub king : same_kind x.kind King ≡ true
 
--- the king who stands on his square
+-- the king on its square
 pub king_on : (men : List (Option Man)) (c : Colour) (k : ℕ) → king_square men c ≡ Some k → (x : Man) × IsKingOn men c k x
 king_on men c k at = grind (arith, king_there men c k, man_there, and_parts)
 
@@ -254,7 +254,7 @@ pub no_king_square : (men : List (Option Man)) (c d : Colour) (k b : ℕ) → ki
 no_king_square men c d k b at free e = grind (arith, false≢true, no_king_free c d (man_on men b) free, king_there men d k)
 
 module _ (rule : RuleSet) (p : Position) (m : Move) (x : Man) (k : ℕ) (i : IsSeenFrom rule p m x k) (small : m.to < 64) where
-  -- the king's step after the move meets what is asked of the squares
+  -- the king's step after the move meets these conditions
   pub is_step : (y : Man) (t : ℕ) → t < 64 → IsKingOn (position_after rule p m).men (other p.turn) k y
       → IsStep p.men m.from (capture_square p x m) m.to k (capture_square (position_after rule p m) y (step_to k t)) t y p.turn
   is_step y t there king =

@@ -1,4 +1,4 @@
--- The squares on which captured men may be reborn, and those that are closed to a king.
+-- Home squares of captured men, and squares closed to a king.
 use Rattle.chess_mates.proofs.Chess.{AreClosed, AreHomes, AreHomesOf, Bishop, Black, Colour, Grasshopper, Kind, King, Knight, List, Man, Nightrider, Option, Pawn, Position, Queen, Rook, RuleSet, Some, White, agree_below_at, arith, bit_at, bit_or, captures_do_more, cases_Bool, eq-eqb, false, false≢true, file_of, is_man, is_of_colour, is_some, is_square, man_on, not, on_left, on_right, other, rank_of, rebirth, rebirth_small, refl, rules, same_kind, side_of, square_at, square_at-is, squares_of, true, word, word_has, ℕ, ◌<◌, ◌==◌, ◌||◌, ◌≡◌, ◌⊎◌}
 use Rattle.chess_mates.proofs.Risks.{none_on}
 

@@ -26,7 +26,7 @@ far : (x : Direction) (s t n : ℕ) → s < 64 → 2 ≤ n → n < 8 → along s
 far x s t n low two eight at =
     not-true _ (rw at at (all_at (λ n. is_far s (along s (step_of x) n)) 2 6 n (left_behind x s low) two (omega (arith, eight))))
 
--- a hop from s to f on some board is one over the hurdles next to f alone, if who stands next to f stands on one
+-- a hop from s to f on some board is one over the hurdles next to f, if all men next to f are hurdles
 module _ (men : List (Option Man)) (d f s n : ℕ) (near : n ≡ word (λ q. list_any (leaps f q) queen_steps)) (inside : f < 64) (low : s < 64)
     (kept : (h : ℕ) → h < 64 → h ≢ s → list_any (leaps f h) queen_steps ≡ true → is_some (man_on men h) ≡ true → (bit_at d h == 1) ≡ true) where
   abbrev Over : List (Option Man)

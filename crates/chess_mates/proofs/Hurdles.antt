@@ -1,4 +1,4 @@
--- What men reach over hurdles, the squares of a word, and later on the board.
+-- What men reach over hurdles, and what they reach later on the board.
 use Rattle.chess_mates.proofs.Chess.{AreReached, Attackers, Bishop, Bool, Colour, Grasshopper, IsAttackedOver, IsNear, IsReached, IsReachedFrom, Kind, King, Knight, List, Man, Nightrider, None, Option, Pawn, Queen, Rook, Some, Step, [], along, arith, bit_at, bit_at-lt, bit_at_or, bit_or, cases_Bool, cases_eq, diagonal_steps, eq-eqb, eqb-true, false, false≢true, find, find_first, gait_of, inl, inr, is_hopper, is_leaper, is_rider, is_some, is_vacant_at, knight_steps, leaps, list_any, man_on, men_on, not, not-true, occupied_squares, on_left, on_right, or_cases, or_left, or_right, other, queen_steps, range_with_len, reached_over, reaches_as, refl, ride-found, ride-made, rides, rules, same_kind, same_kind-true, squares_for, straight_steps, suc, sym, true, word, word_has, zero, ℕ, ◌-◌, ◌<◌, ◌==◌, ◌^◌, ◌||◌, ◌∙◌, ◌∷◌, ◌≡◌, ◌≢◌, ◌≤◌, ◌⊎◌}
 use Rattle.chess_rules.proofs.rays.OnSquares.{empty_on, occupied_on}
 use Rattle.chess_rules.specs.ties.Taking.{IsTaken}
@@ -24,7 +24,7 @@ on_either a b i h off = grind (arith, eqb-true, bit_at_or, unset, bit_at-lt, eq-
 pub on_one : (a b i : ℕ) → (bit_at (bit_or a b) i == 1) ≡ true → ((bit_at a i == 1) ≡ true) ⊎ ((bit_at b i == 1) ≡ true)
 on_one a b i h = search (rules, cases_Bool, on_either)
 
--- for reach told over a word of hurdles
+-- for squares reached over a bitboard of hurdles
 pub reached_is : (d : ℕ) (x : Man) (s r : ℕ) → d < 2 ^ 64 → ((men : List (Option Man)) → d ≡ occupied_squares men → r ≡ word (reaches_as men x.colour x.kind s))
     → IsReached d x s r
 unfolding reached_over
@@ -46,7 +46,7 @@ rest_on w rest k left h next = record { within = λ s small on. grind (arith, ca
 pub rest_here : (w rest k left : ℕ) → IsRest w rest → IsTaken rest k left → (bit_at w k == 1) ≡ true
 rest_here w rest k left h next = h.within k next.small next.here
 
--- those that the attackers reach, kind by kind
+-- the squares that the attackers reach, kind by kind
 module _ (d : ℕ) (a : Attackers) (region : ℕ) where
   abbrev ReachAs : Kind → ℕ → Type 0
   ReachAs k w = (s : ℕ) → s < 64 → (bit_at (squares_for a k) s == 1) ≡ true → IsNear (record { colour = a.colour; kind = k }) s region
@@ -134,7 +134,7 @@ module _ (d : ℕ) (men : List (Option Man)) where
   later c Grasshopper s t plain stand h = absurd (false≢true (sym plain))
   later c _ s t plain stand h = h
 
-  -- the same where two hurdles may be gone, on none of his lines
+  -- a man that is no hopper, where two hurdles on none of its lines may be gone
   pub later_but : (a o : ℕ) (c : Colour) (k : Kind) (s t : ℕ) → is_hopper (gait_of k) ≡ false
       → ((e : ℕ) → e < 64 → (bit_at d e == 1) ≡ true → e ≢ a → e ≢ o → is_some (man_on men e) ≡ true)
       → (is_rider k ≡ true → (bit_at d a == 1) ≡ true → reaches_as (men_on d) c k s a ≡ true → ⊥)

@@ -1,4 +1,4 @@
--- What holds of attackers kind by kind holds of all.
+-- A property of attackers of each kind is one of all attackers.
 use Rattle.chess_mates.proofs.Chess.{Attackers, Bishop, Colour, Grasshopper, IsAttacker, Kind, King, Knight, Man, Nightrider, Pawn, Queen, Rook, ap, bit_at, refl, squares_for, subst, sym, true, ℕ, ◌<◌, ◌==◌, ◌∙◌, ◌≡◌}
 
 -- a man by his colour and his kind
@@ -6,11 +6,11 @@ pub man_is : (x : Man) (c : Colour) (k : Kind) → x.colour ≡ c → x.kind ≡
 man_is x c k colour kind = rw (← colour, ← kind) refl
 
 module _ (a : Attackers) (P : Man → ℕ → Type 0) where
-  -- it holds of the attackers of one kind, square by square
+  -- P holds of the attackers of one kind, square by square
   abbrev pub HoldsOf : Kind → Type 0
   HoldsOf k = (s : ℕ) → s < 64 → (bit_at (squares_for a k) s == 1) ≡ true → P (record { colour = a.colour; kind = k }) s
 
-  -- so it does of each attacker of that kind
+  -- P holds of each attacker of that kind
   pub of_kind : (k : Kind) (s : ℕ) (x : Man) → HoldsOf k → IsAttacker a x s → x.kind ≡ k → P x s
   of_kind k s x h i kind =
       subst (λ (y : Man). P y s) (man_is x a.colour k i.mine kind) (h s i.small (ap (λ (j : Kind). bit_at (squares_for a j) s == 1) (sym kind) ∙ i.on))

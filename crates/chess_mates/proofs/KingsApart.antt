@@ -1,4 +1,4 @@
--- A king who goes next to the other king is in check there: no legal move does so.
+-- A king that goes next to the other king is in check there: no legal move does so.
 use Rattle.chess_mates.proofs.Chess.{CanCastle, IsMade, IsWellFormed, King, Man, Move, Position, RuleSet, Some, after_well_formed, and_from, and_parts, arith, arrived, arrived_other, can_move, capture_square, cases_Bool, corner, false, false≢true, halfway, in_check, inl, inr, is_attacked, is_attacker, is_castling, is_legal, is_pseudo_legal, is_pseudo_legal-from_legal, king-back, king_is, king_square, king_stays_king, made, man_on, man_on-without_other, man_on_at, may_check_from, move_man_other, moved_men, moved_plainly, not-true, other, other_differs, position_after, reaches_as, reborn_is, reborn_square, same_colour-refl, same_kind, same_kind-true, some_square_true, sym, taken, true, ℕ, ◌<◌, ◌∙◌, ◌≡◌}
 use Rattle.chess_mates.proofs.Fleeing.{IsKingOn, king_is_able, king_on, no_king_square, steps_there}
 use Rattle.chess_mates.proofs.Standing.{stood_reborn}
@@ -28,7 +28,7 @@ module _ (rule : RuleSet) (p : Position) (x : Man) (m : Move) (well : IsWellForm
           (grind (arith, man_on-without_other, arrived_there)) ∙ arrived_there)
     ]
 
-    -- so he attacks the king who came next to him
+    -- the enemy's king attacks a king that came next to it
     module _ (small : m.to < 64) (king : same_kind x.kind King ≡ true) (near : reaches_as p.men x.colour x.kind m.to k ≡ true) where
       strikes_him : is_attacker rule (position_after rule p m).men m.to (other p.turn) k ≡ true
       unfolding is_attacker reaches_as

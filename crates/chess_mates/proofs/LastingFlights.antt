@@ -27,7 +27,7 @@ reached_left x s a b h = record { inside = λ men t small r. on_left a b t (h.in
 pub reached_right : (x : Man) (s a b : ℕ) → AreReached x s b → AreReached x s (bit_or a b)
 reached_right x s a b h = record { inside = λ men t small r. on_right a b t (h.inside men t small r) }
 
--- the same for targets
+-- targets stay targets in a larger word
 pub targets_left : (x : Man) (s a b : ℕ) → AreTargets x s a → AreTargets x s (bit_or a b)
 targets_left x s a b h = record { inside = λ p t small may. on_left a b t (h.inside p t small may) }
 
@@ -44,7 +44,7 @@ all_guard a k q r b n p g y kings queens rooks bishops knights pawns grasshopper
     let words = bit_or (bit_or (bit_or (bit_or (bit_or (bit_or (bit_or k q) r) b) n) p) g) y in
     record { guards = search (rules, of_all a (λ x s. AreReached x s words), reached_left, reached_right) depth 12 }
 
--- the targets, told by what each kind reaches and by the squares to which kings and pawns go
+-- the targets, from what each kind reaches and the squares to which kings and pawns go
 abbrev told : ℕ → ℕ → ℕ → ℕ → ℕ → ℕ → ℕ → ℕ → ℕ → ℕ → OpenTargets
 told k q r b n p g y f w = record {
   kings = k;
@@ -59,7 +59,7 @@ told k q r b n p g y f w = record {
 }
 
 module _ (a : Attackers) where
-  -- but for pawns and kings the targets are what they reach, and more
+  -- for a kind other than pawn and king the targets are what it reaches, and more
   piece_targets_of : (k : Kind) (w v : ℕ) → same_kind k Pawn ≡ false → same_kind k King ≡ false → HoldsOf a (λ x s. AreReached x s w) k
       → HoldsOf a (λ x s. AreTargets x s (bit_or w v)) k
   piece_targets_of k w v none piece h s small on = record {
@@ -73,7 +73,7 @@ module _ (a : Attackers) where
     inside = λ p t low may. piece_targets p (record { colour = a.colour; kind = k }) s t w low may (h s small on) none piece;
   }
 
-  -- for `all_open_targets`: the squares of the last ranks to which pawns go are also those of what they become
+  -- for `all_open_targets`: the squares of the last ranks to which pawns go also count for what they become
   pub are_open_targets : (k q r b n p g y f w : ℕ) → AreGuarded a w → HoldsOf a (λ x s. AreTargets x s k) King → HoldsOf a (λ x s. AreReached x s q) Queen
       → HoldsOf a (λ x s. AreReached x s r) Rook → HoldsOf a (λ x s. AreReached x s b) Bishop → HoldsOf a (λ x s. AreReached x s n) Knight
       → HoldsOf a (λ x s. AreTargets x s p) Pawn → HoldsOf a (λ x s. AreReached x s g) Grasshopper → HoldsOf a (λ x s. AreReached x s y) Nightrider
@@ -202,7 +202,7 @@ module _ (a : Attackers) (o : OpenTargets) (w : ℕ) (are : AreOpenTargets a o) 
 pub keeps_one : (a : Attackers) (w g : ℕ) → g < 2 ^ 64 → AreGuarded a g → LeaveOne a (bit_and w (bit_not w64 g)) → KeepsOne a w
 keeps_one a w g fits guards leave = search (rules, on_first, off_denied)
 
--- the king's move keeps a flight behind each move of the enemy
+-- the king keeps a flight after its move and any reply
 module _ (rule : RuleSet) (p : Position) (m : Move) (x : Man) (k w : ℕ) (well : IsWellFormed p) (may : is_pseudo_legal rule p m ≡ true)
     (here : man_on p.men m.from ≡ Some x) (circe : captures_do_more rule ≡ false) (plain : is_castling x m ≡ false) (small : m.to < 64)
     (king : king_after p x m ≡ Some k) (near : AreNear p m k w) (a : Attackers) (men : AreAttackers p.men a) (colour : a.colour ≡ other p.turn)

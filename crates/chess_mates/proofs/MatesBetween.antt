@@ -1,9 +1,9 @@
--- The mates between two places, and the walk that finds them.
+-- The mates between two cursors, and the walk that finds them.
 use Rattle.chess_mates.proofs.Chess.{HaveNone, IsNextMate, Position, RuleSet, [], all_triples, append_cancel_right, arith, cases_lt, filter, filter-append, first_of_and, is_mating, mates, mates_behind, mates_between, min, moves_behind, moves_behind-here, moves_between, place_of_triple, second_of_and, triple_at, true, ℕ, ◌++◌, ◌+◌, ◌<◌, ◌∷◌, ◌≡◌, ◌≤◌}
 use Rattle.chess_rules.proofs.listing_moves.Between.{behind_cut, between-none, between-past}
 use Rattle.chess_mates.proofs.Mating.{mates_behind-end, mates_behind-none, mates_numbered}
 
--- the first move that mates behind a place, by its number
+-- the first mating move after a cursor, by number
 pub next_mate_numbered : (rule : RuleSet) (p : Position) (start n : ℕ) → start ≤ n → n < all_triples → mates_behind rule p n ≡ mates_behind rule p start
     → mates rule p (triple_at n) ≡ true → IsNextMate rule p start (n + 1) (triple_at n)
 unfolding mates_behind mates
@@ -11,7 +11,7 @@ next_mate_numbered rule p start n le lt same h =
     let none = append_cancel_right (filter (is_mating rule p) (moves_between rule p start n)) [] (filter (is_mating rule p) (moves_behind rule p n)) in
     grind (arith, behind_cut rule p start n le, filter-append, none, moves_behind-here, first_of_and, second_of_and)
 
--- the mates behind a place, cut at another
+-- the mates after a cursor, cut at another
 pub cut_mates : (rule : RuleSet) (p : Position) (a b : ℕ) → a ≤ b → mates_behind rule p a ≡ mates_between rule p a b ++ mates_behind rule p b
 unfolding mates_behind mates_between
 cut_mates rule p a b le = grind (arith, behind_cut rule p a b le, filter-append (is_mating rule p) (moves_between rule p a b) (moves_behind rule p b))
@@ -30,7 +30,7 @@ until-mateless rule p a n e lt fits before all none =
     append_cancel_right (mates_between rule p a e) [] (mates_behind rule p e)
     (grind (arith, cut_mates rule p a e (omega (arith, lt, before)), mates_behind-none, cases_lt n all_triples, mates_behind-end))
 
--- none lies between a place and one that isn't behind it, nor behind the last triple
+-- no mate lies between a cursor and one that isn't after it, or after the last triple
 pub mates_between-none : (rule : RuleSet) (p : Position) (a b : ℕ) → min b all_triples ≤ a → mates_between rule p a b ≡ []
 unfolding mates_between
 mates_between-none rule p a b le = grind (arith, between-none, between-past)

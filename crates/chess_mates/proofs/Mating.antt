@@ -1,4 +1,4 @@
--- The moves that mate, by their numbers.
+-- The moves that mate, by number.
 use Rattle.chess_mates.proofs.Chess.{HaveNone, Move, Position, RuleSet, [], all_triples, and_left, and_right, arith, cases_Bool, false, first_of_and, in_check, is_legal, is_legal-idle, is_mate, is_mating, is_pseudo_legal, is_pseudo_legal-from_legal, maker, mates, mates_behind, moves_behind-end, moves_behind-here, moves_behind-start, not-true, other, position_after, position_after_by, refl, rules, second_of_and, sym, triple_at, true, ℕ, ◌+◌, ◌<◌, ◌∙◌, ◌∷◌, ◌≡◌, ◌≤◌}
 use Rattle.chess_rules.proofs.listing_moves.Sifting.{wanted-none}
 
@@ -12,7 +12,7 @@ pub mates_behind-end : (rule : RuleSet) (p : Position) (n : ℕ) → all_triples
 unfolding mates_behind
 mates_behind-end rule p n ge = search (rules, moves_behind-end)
 
--- over a stretch without mates
+-- over a range without mates
 pub mates_behind-none : (rule : RuleSet) (p : Position) (a b : ℕ) → (b < all_triples → a ≤ b) → b ≤ all_triples → HaveNone (mates rule p) a b
     → mates_behind rule p a ≡ mates_behind rule p b
 unfolding mates_behind mates

@@ -1,4 +1,4 @@
--- Another man than the king parries a check: he leaves no line to the king open.
+-- Another man than the king parries a check and opens no line to the king.
 use Rattle.chess_mates.proofs.Chess.{AreSeen, Bishop, Black, Bool, Colour, Grasshopper, IsCovered, IsMade, IsShift, IsSimple, IsWellFormed, Kind, King, List, Man, Move, Nightrider, None, Option, Pawn, Position, Queen, Rook, RuleSet, Some, StandAlike, Step, White, after_well_formed, agree_below_at, along, and_from, and_left, and_parts, and_right, any_kept, any_range_cases, any_range_false, ap, arith, arrived, arriving_colour, arriving_man, attacked_plainly, bit_and, bit_at, bit_not, bit_or, can_castle, cannot_expose_parts, capture_square, captures_arrival, captures_do_more, cases_Bool, cases_eq, check_is, cond-false, cond-true, covered_parts, diagonal_steps, differs, eq-eqb, eqb-true, faced_men_stand_still, false, false_from_ne_true, false≢true, forward, goes_on, gone_shift, gone_to, if◌then◌else◌, in_check, inl, inr, is_advance, is_ahead, is_arrival_free, is_attacked_at, is_legal, is_lined, is_man, is_mate, is_of_colour, is_on_fairy_line, is_on_fairy_line_at, is_on_some, is_paralysed, is_promoting, is_promotion_right, is_pseudo_legal, is_pseudo_legal-from_legal, is_reached, is_shut, is_some, is_square, kept_now, king_is, king_square, king_there, knight_steps, leaps, left_now, legal_moves_are_triples, length, length-set, list_any, made, maker, man_on, man_on-with_other, man_on-with_same, man_there, mates, may_castle, may_expose, may_expose_at, may_stand_between, no_capture, not, not-true, not_attacked, occupied_now, occupied_squares, off_second, off_zero, on_board, on_first, or_cases, or_left, or_parts, or_right, other, other_differs, other_twice, pawn_goes, position_after, position_after_by, queen_steps, reaches, refl, return_square, rules, same_colour, same_colour-refl, same_colour-true, same_kind, sight_after, simple_after, some_square, some_square_false, some_square_true, square_is, squares, squares_both, squares_either, squares_not, squares_of, squares_same, stood, straight_steps, subst, sym, there_now, true, true_from_ne_false, unreached, w64, with_man, word, word_has, ℕ, ◌&&◌, ◌<◌, ◌==◌, ◌||◌, ◌∙◌, ◌≡◌, ◌≢◌}
 use Rattle.chess_rules.proofs.attacks.Shielding.{CannotExpose, IsPlain, IsQuiet, arrived_shift}
 use Rattle.chess_mates.proofs.Fleeing.{king_waits, on_second, reaches_alike_of, seen_bit, unseen_bit}
@@ -35,7 +35,7 @@ unfolding some_square squares
 some_before f g each h =
     elim (any_range_cases f 0 64) [ inl w ↦ some_square_true g w.0 w.2 (each w.0 w.3) | inr none ↦ absurd (false≢true (sym (any_range_false f 0 64 none) ∙ h)) ]
 
--- and fewer squares lie on fairy lines
+-- where fewer men stand, fewer squares lie on fairy lines
 unlined_before : (men mid : List (Option Man)) (e : Colour) (k t : ℕ) → ((j : Kind) (q : ℕ) → is_man (man_on mid q) e j ≡ true
     → is_man (man_on men q) e j ≡ true) → is_on_fairy_line men e k t ≡ false → is_on_fairy_line mid e k t ≡ false
 unfolding is_on_fairy_line
@@ -82,7 +82,7 @@ module _ (men after : List (Option Man)) (a b s t k : ℕ) (z : Man) (c : Colour
   unreached_after : is_reached after k (other c) ≡ false
   unreached_after = unreached mid after s t z shift_second c k covered small (unlined_before men mid (other c) k t fairy_stood too) (quiet mid s t)
 
--- whoever stands on b, if he doesn't reach k, the others reach it or not
+-- if the man on b doesn't reach k, replacing it by another doesn't change what the others reach
 pub unreached_in_place : (men : List (Option Man)) (b k : ℕ) (z : Man) (c : Colour) → b < length men → is_some (man_on men b) ≡ true
     → (is_of_colour (man_on men b) c && reaches men b k) ≡ false → is_reached (with_man men b z) k c ≡ false → is_reached men k c ≡ false
 unfolding is_reached reaches
@@ -145,7 +145,7 @@ pub no_mate_with_parry : (rule : RuleSet) (p : Position) (m : Move) → is_mate 
 unfolding mates
 no_mate_with_parry rule p m parried = sym (and_right _ _ parried)
 
--- after a move of which parries are told
+-- after a move whose parries are computed
 module _ (rule : RuleSet) (p : Position) (m : Move) (x : Man) (k : ℕ) (well : IsWellFormed p) (may : is_pseudo_legal rule p m ≡ true)
     (here : man_on p.men m.from ≡ Some x) (told : AreParriesTold rule p x m) (small : m.to < 64) (king : king_square p.men (other p.turn) ≡ Some k) where
   abbrev q : Position
@@ -236,7 +236,7 @@ module _ (rule : RuleSet) (p : Position) (m : Move) (x : Man) (k : ℕ) (well : 
                 covered_y off_line aside off
           ]
 
-      -- so it is no mate
+      -- where the check is parried, it is no mate
       no_mate_where_parried : is_mate rule q ≡ false
       no_mate_where_parried =
           let turn = turn_after rule p m may in
@@ -331,7 +331,7 @@ module _ (rule : RuleSet) (p : Position) (m : Move) (x : Man) (k : ℕ) (well : 
   -- nobody parries the check of a man who isn't taken, if nobody comes between
   module _ (o w : ℕ) (i : IsUntaken o w x m.to k) (occupied : o ≡ occupied_squares q.men)
       (takers : w ≡ word (λ s. is_of_colour (man_on q.men s) (other p.turn) && reaches q.men s m.to)) (u : NobodyComes q.men (other p.turn) m.to k) where
-    -- nor is anybody captured en passant
+    -- nobody is captured en passant
     uncrossed : q.crossed ≡ None
     unfolding position_after position_after_by
     uncrossed = search (rules, here, i.piece, cond-false, and_left)
@@ -347,7 +347,7 @@ module _ (rule : RuleSet) (p : Position) (m : Move) (x : Man) (k : ℕ) (well : 
           let side = ap (λ (c : Colour). same_colour c (other p.turn)) (arriving_colour x m.promo ∙ is_m.mine) ∙ other_differs p.turn in
           false≢true (sym side ∙ ap (λ (v : Option Man). is_of_colour v (other p.turn)) (sym e) ∙ enemy)
 
-      -- nor does he stand on the king's square
+      -- the parrying man isn't on the king's square
       away : is_square (Some k) n.from ≡ false
       away =
           let there = king_there q.men q.turn k king_q in
@@ -363,7 +363,7 @@ module _ (rule : RuleSet) (p : Position) (m : Move) (x : Man) (k : ℕ) (well : 
           let set : (bit_at w n.from == 1) ≡ true = word_has _ w n.from takers inside ∙ and_from _ _ side goes in
           false≢true (sym away ∙ i.untaken n.from inside set)
 
-      -- nor does he come between
+      -- the man doesn't interpose
       apart : (bit_at u.squares n.to == 1) ≡ false
       unfolding can_castle may_castle
       apart = false_from_ne_true _ (λ h.
@@ -386,7 +386,7 @@ module _ (rule : RuleSet) (p : Position) (m : Move) (x : Man) (k : ℕ) (well : 
         rebirth = λ h. absurd (false≢true (sym told.reborn ∙ h));
       }
 
-      -- so the check stays
+      -- the check stays
       still : in_check rule (position_after rule q n).men q.turn ≡ true
       unfolding is_reached reaches
       still =
@@ -451,7 +451,7 @@ module _ (p : Position) (m : Move) (k w l d : ℕ) (shields : w ≡ word (may_ex
       search (rules, shields, straight, diagonal, squares_either, squares_not) in
       words ∙ squares_same _ _ (λ s b. grind (arith, on_line_is, on))
 
-  -- and beside one from elsewhere
+  -- for `unpinned_squares`: beside a move from elsewhere
   pub unpinned_alone : (bit_at (bit_or l d) m.from == 1) ≡ false → bit_not w64 w ≡ word (is_unpinned p m k)
   unpinned_alone off =
       let words : bit_not w64 w ≡ word (λ s. not (may_expose p.men (other p.turn) s)) = search (rules, shields, squares_not) in
@@ -529,7 +529,7 @@ nobody_between men p b k a o f occupied lines between free none =
       none = λ t lt on. none t lt (seen_bit _ a (bit_or o f) t held lt on (off t on));
     }
 
--- for `is_untaken`: of those who take him all stand on the king's square
+-- for `is_untaken`: all men that take the checker are on the king's square
 pub kings_alone : (w n k s : ℕ) → n ≡ word (is_square (Some k)) → (bit_and w (bit_not w64 n) == 0) ≡ true → s < 64 → (bit_at w s == 1) ≡ true
     → is_square (Some k) s ≡ true
 kings_alone w n k s only none lt on =

@@ -1,4 +1,4 @@
--- Moves that are plain: who castles, captures en passant or might be captured so.
+-- Plain moves: no castling, no en passant, and no double step that en passant might capture.
 use Rattle.chess_mates.proofs.Chess.{AreCapturers, Black, Colour, IsMereMove, IsPassing, IsPlainMove, King, Man, Move, None, Pawn, Position, White, and_left, and_parts, and_right, arith, bit_and, bit_at, bit_not, bit_or, capture_of_piece, capture_square, cond-false, cond-true, false, false_by, false≢true, halfway, is_advance, is_castling, is_man, is_of_colour, is_square, king_is_no_pawn, leaps, list_any, man_on, may_go, no_capture, no_pawn_arrives, off_left, off_right, or_cases, other, pawn_goes, pawn_is_no_king, queen_steps, refl, rules, same_colour-refl, same_kind, same_kind-true, side_of, squares_of, sym, true, w64, word, word_has, ℕ, ◌<◌, ◌==◌, ◌^◌, ◌∙◌, ◌≡◌}
 use Rattle.chess_rules.proofs.rays.Tables.{king_step_is_no_castling}
 use Rattle.chess_mates.proofs.Approaches.{far_is_vacant, goes_over_next, no_far_step, steps_from_there, takes_or_steps}

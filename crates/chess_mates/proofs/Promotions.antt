@@ -1,4 +1,4 @@
--- Pawns that are promoted: whom they may check, and what they leave.
+-- Promoting pawns: where they may give check, and what they leave.
 use Rattle.chess_mates.proofs.Chess.{AreApproached, Attackers, Bishop, Bool, Colour, Kind, King, Knight, LeavesOne, LeavesUntaken, List, Man, Option, Pawn, Queen, Rook, and_parts, arith, bit_and, bit_at, bit_or, cases_Bool, eqb-true, false, false_by, false≢true, inl, inr, is_promoting, off_left, off_right, on_left, on_right, reaches_as, refl, rules, same_kind, subst, sym, true, ℕ, ◌<◌, ◌==◌, ◌∙◌, ◌≡◌}
 use Rattle.chess_mates.proofs.Becoming.{counted_left, piece_stays, reaches_counted, unchanged}
 use Rattle.chess_mates.proofs.CheckTargets.{last_rank_on}
@@ -51,7 +51,7 @@ pub unpromoted_leaves : (w e c s : ℕ) (x z : Man) (t : ℕ) → t < 64 → (bi
     → (bit_and s 18374686479671623935 == 0) ≡ true → MayBecome false x t z → LeavesOne w e c z t
 unpromoted_leaves w e c s x z t small on leaves none may = rw (unchanged false x z t (no_last_rank x s t none small on) may) leaves
 
--- and on them
+-- for `critical_of_pawn`: on the last ranks too
 pub pawn_leaves : (w e c q n s : ℕ) (x z : Man) (t : ℕ) → t < 64 → (bit_at s t == 1) ≡ true → LeavesOne w e c x t
     → ((bit_at (bit_and s 18374686479671623935) t == 1) ≡ true → LeavesOne w e q (record { colour = x.colour; kind = Queen }) t)
     → ((bit_at (bit_and s 18374686479671623935) t == 1) ≡ true → LeavesOne w e n (record { colour = x.colour; kind = Knight }) t)
@@ -74,7 +74,7 @@ pawn_leaves w e c q n s x z t small on leaves queens knights may = elim (cases_B
   by last Knight may = leaves_right w e (bit_or c q) n _ t (knights last)
   by last _ may = absurd (false≢true may)
 
--- for `critical_of_going`: whoever else stands on the board
+-- for `critical_of_going`: on any board
 pub leaves_untaken : (d k w e c : ℕ) (x : Man) (t : ℕ) → LeavesOne w e c x t → LeavesUntaken d k w e c x t
 leaves_untaken d k w e c x t h = record {
   left = λ b small off there.

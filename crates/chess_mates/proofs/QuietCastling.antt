@@ -1,10 +1,11 @@
--- Castling gives no check where the rook doesn't see the enemy king from his new square, and the king leaves no line to him.
+-- Castling gives no check if the rook doesn't reach the enemy king from its new square and the king leaves
+-- no line to it.
 use Rattle.chess_mates.proofs.Chess.{Bishop, Colour, Grasshopper, IsMade, IsWellFormed, Kind, Man, Move, Nightrider, Position, Rook, RuleSet, Some, Step, and_left, and_right, any_false, arith, eqb-true, false, false_by, halfway, in_check, is_castling, is_fairy, is_lined, is_man, is_on_fairy_line, is_on_some, is_reached, is_rider, is_shut, king_square, king_there, knight_steps, man_on, may_check_from, may_expose, may_stand_between, or_from, other, position_after, queen_steps, reaches_as, refl, rules, some_square_false, straight-back, straight_steps, true, ℕ, ◌<◌, ◌==◌, ◌≡◌}
 use Rattle.chess_rules.proofs.listing_moves.OpenBoard.{rides_on}
 use Rattle.chess_mates.proofs.CastlingChecks.{castling_gives_no_check}
 use Rattle.chess_mates.proofs.Standing.{not_mine, reach_none}
 
--- x castles in p; the enemy's king, of colour c, stands on k
+-- x castles in p; the enemy king, of colour c, is on k
 module _ (rule : RuleSet) (p : Position) (x : Man) (m : Move) (c : Colour) (k : ℕ) (well : IsWellFormed p) (is : IsMade rule p x m)
     (castling : is_castling x m ≡ true) (small : k < 64) (king : king_square p.men c ≡ Some k) (enemy : x.colour ≡ other c)
     (calm : (s : ℕ) (z : Man) → s < 64 → man_on p.men s ≡ Some z → z.colour ≡ other c → reaches_as p.men z.colour z.kind s k ≡ false)
@@ -24,7 +25,7 @@ module _ (rule : RuleSet) (p : Position) (x : Man) (m : Move) (c : Colour) (k : 
       let apart : (k == m.from) ≡ false = false_by _ (λ e. grind (arith, eqb-true k m.from e, (king_there p.men c k king).1, is.here, not_mine x c enemy)) in
       grind (arith, king, some_square_false, reach_none p.men k c calm, apart, unseen Rook refl refl, unseen Bishop refl refl, unlined m.from)
 
-  -- for castlings told by squares
+  -- for castlings described by squares
   pub castles_quietly : in_check rule (position_after rule p m).men c ≡ false
   unfolding may_stand_between may_check_from reaches_as
   castles_quietly =

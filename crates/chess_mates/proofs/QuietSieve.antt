@@ -1,4 +1,4 @@
--- Quiet steps of the enemy king told for all moves of a man: the others reach no more than with both lifted.
+-- Quiet steps of the enemy king for all moves of a man: the other men reach no more than with both lifted.
 use Rattle.chess_mates.proofs.Chess.{AreApproached, AreOpen, AreSeen, Black, Colour, Grasshopper, IsSeenFrom, IsWellFormed, Kind, King, List, Man, Move, None, Option, Position, RuleSet, Some, StandAlike, White, after_well_formed, and_from, and_right, ap, arith, arrived, arriving_man, attacked_plainly, bit_and, bit_at, bit_not, bit_or, capture_square, captures_do_more, cases_Bool, cases_eq, cases_lt, cond-false, cond-true, eq-eqb, eqb-true, every_square_on, false, false_from_ne_true, false≢true, gait_of, in_check, inl, inr, is_hopper, is_legal, is_man, is_of_colour, is_open, is_promoting, is_reached, is_simple, is_some, is_square, kept_now, king_after, king_is_after, king_is_no_pawn, king_square, leaps, left_now, legal_moves_are_triples, length, list_any, man_on, man_on-without_other, man_on-without_same, men_on, no_pawn_arrives, no_reach_there, not, not_attacked, occupied_now, occupied_squares, off_left, off_right, off_zero, on_first, or_cases, or_parts, other, other_twice, position_after, queen_steps, reaches, reaches_alike, reaches_as, refl, rules, same_colour, same_kind, side_of, some_square_false, some_square_true, squares_both, squares_either, squares_not, squares_of, sym, there_now, true, w64, ways, without_man, word, word_has, ℕ, ◌&&◌, ◌<◌, ◌==◌, ◌^◌, ◌||◌, ◌∙◌, ◌≡◌, ◌≢◌, ◌⊎◌, IsLeft, has_flight, is_flight}
 use Rattle.chess_mates.proofs.Barring.{beyond}
 use Rattle.chess_mates.proofs.CalmSteps.{apart, calm, seen_from}
@@ -25,7 +25,7 @@ open_in_circe rule men c k n w reborn near held = record {
       grind (arith, reached_near men c k n t near, on_first n (bit_not w64 w) t, unseen_bit (λ s. is_some (man_on men s)) n w t held lt on, there);
 }
 
--- and elsewhere
+-- the squares to which the king may step, attacks apart: elsewhere than in Circe
 pub open_elsewhere : (rule : RuleSet) (men : List (Option Man)) (c : Colour) (k n v h : ℕ) → captures_do_more rule ≡ false
     → n ≡ word (λ t. list_any (leaps k t) queen_steps) → v ≡ side_of men (other c) → h ≡ squares_of men c King
     → AreOpen rule men (other c) k (bit_and n (bit_not w64 (bit_or v h)))
@@ -324,11 +324,11 @@ step_left w a o t f x flight small on are only off =
     let apart : f ≢ t = λ e. grind (arith, off_right a o t off, word_has _ o t only small, eq-eqb) in
     search (rules, apart, are.inside, off_left a o t off, false_from_ne_true, false≢true, flight, on)
 
--- where nothing is told no square is left out
+-- if all squares are returned, no square is left out
 pub all_left : {P : Type 0} (t : ℕ) → t < 64 → (bit_at 18446744073709551615 t == 1) ≡ false → P
 all_left t small off = absurd (false≢true (sym off ∙ every_square_on t small))
 
--- so no move is
+-- if all squares are returned, no move is left out
 pub nothing_told : (rule : RuleSet) (p : Position) (m : Move) → IsWellFormed p → is_legal rule p m ≡ true
     → (bit_at 18446744073709551615 m.to == 1) ≡ false → must_reply_with_mate rule p m ≡ false
 nothing_told rule p m well lawful off = all_left m.to (small_arrival rule p m well lawful) off

@@ -1,4 +1,4 @@
--- Steps of the king that give no check, told without playing them.
+-- Steps of the king that give no check, found without playing them.
 use Rattle.chess_mates.proofs.Chess.{AreOpen, AreSeen, Bool, Colour, IsUnreached, IsWellFormed, King, List, Man, Move, Position, RuleSet, Some, [], and_from, and_parts, ap, arith, bit_and, bit_at, capture_square, captures_do_more, cond-true, exposed_is, false, is_arrival, is_legal, is_mating, is_open, king_after, king_square, leaps, list_all, list_any, man_on, moves, moves_are_the_legal_moves, not, not_attacked, on_first, other, queen_steps, rules, same_colour, same_colour-true, same_kind, sight_after, subst, sym, true, word, word_has, ℕ, ◌<◌, ◌==◌, ◌∷◌, ◌≡◌}
 use Rattle.chess_mates.proofs.Fleeing.{IsKingStep, king_on, may_step, on_second, reached_near, simple_step, step_to}
 use Rattle.chess_rules.proofs.listing_moves.Members.{in_cases, none_in_nil}
@@ -11,7 +11,7 @@ unfolding is_open is_arrival
 open_steps rule p k n w circe near at x here king =
     grind (arith, reached_near p.men p.turn k n, word_has (is_arrival rule p k) w, on_first n w, on_second n w, near, at, here, and_parts, and_from)
 
--- for steps told by a word of what enemies reach: a step to where none reaches the king is legal
+-- a step to a square where no enemy reaches the king is legal
 pub step_legal : (rule : RuleSet) (p : Position) (x : Man) (k t w : ℕ) → IsWellFormed p → king_square p.men p.turn ≡ Some k → man_on p.men k ≡ Some x
     → ((y : Man) → man_on p.men k ≡ Some y → same_kind y.kind King ≡ true → AreOpen rule p.men p.turn k w)
     → (t < 64) × ((bit_at w t == 1) ≡ true) → IsUnreached p x k t → is_legal rule p (step_to k t) ≡ true

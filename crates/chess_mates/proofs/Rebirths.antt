@@ -1,4 +1,4 @@
--- A man who is reborn gives his own king no check, but as a grasshopper's hurdle.
+-- A reborn man gives check to its own king only as a grasshopper's hurdle.
 use Rattle.chess_mates.proofs.Chess.{AreCheckSquares, AtMostOneKing, CheckSquares, Colour, Grasshopper, IsWellFormed, Kind, King, List, Man, Move, None, Option, Position, RuleSet, Some, Step, all_kept, along, and_from, and_parts, any_kept, are_rebirths_quiet, arith, arrived, bit_at, can_castle, cannot_expose, capture_square, captured_enemy, captured_mortal, cases_Bool, check_squares_for, circe, cond-false, cond-true, false, false_from_ne_true, false≢true, in_check, is_absent, is_attacked, is_attacker, is_castling, is_clear, is_man, is_man-without, is_paralysed, is_pseudo_legal, is_square, is_vacant_at, king_is, length, list_all, made, man_on, man_on-with_cases, man_on_at, man_there, may_castle, may_check_from, moved_men, moved_sound, not-true, on_board, orthodox, other, other_twice, position_after, position_after_by, put_at, range_with_len, reaches, reaches_as, reborn_square, refl, rides, rule_of_checks, rules, same_colour, same_kind, some_square_false, some_square_true, sym, true, unreborn_after, with_man, without_man, ℕ, ◌&&◌, ◌-◌, ◌<◌, ◌==◌, ◌∙◌, ◌≡◌}
 use Rattle.chess_mates.proofs.Checking.{no_check, unchecked}
 
@@ -6,7 +6,7 @@ use Rattle.chess_mates.proofs.Checking.{no_check, unchecked}
 abbrev LacksGrasshopper : List (Option Man) → Colour → Type 0
 LacksGrasshopper men e = (s : ℕ) → is_man (man_on men s) e Grasshopper ≡ false
 
--- once y stands on r too, lines are shut and none is opened
+-- y is put on r too: lines are blocked and none is opened
 module _ (men : List (Option Man)) (r : ℕ) (y : Man) where
   was_vacant : (o : Option ℕ) → is_vacant_at (with_man men r y) o ≡ true → is_vacant_at men o ≡ true
   was_vacant o h = grind (arith, man_on-with_cases, false≢true)
@@ -20,7 +20,7 @@ module _ (men : List (Option Man)) (r : ℕ) (y : Man) where
   unfolding reaches_as
   reached e v1 s t g h = search (rules, any_kept (rides (with_man men r y) s t) (rides men s t), rode, false≢true)
 
-  -- so y gives the king of his colour no check
+  -- the reborn man y gives the king of its own colour no check
   module _ (c : Colour) (own : same_colour y.colour (other c) ≡ false) (mortal : same_kind y.kind King ≡ false) (lacks : LacksGrasshopper men (other c))
       (one : AtMostOneKing men) where
     struck : (k s : ℕ) → is_attacker circe (with_man men r y) k (other c) s ≡ true → is_attacker orthodox men k (other c) s ≡ true

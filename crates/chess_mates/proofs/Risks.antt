@@ -1,4 +1,4 @@
--- The words of risks: what a defender must avoid lest a reply may mate.
+-- Bitboards of risks: where a defender's arrival might allow mate.
 use Rattle.chess_mates.proofs.Chess.{AreApproached, AreApproaches, AreArrivals, AreGuardsWithout, AreWeak, Bishop, Colour, Field, Grasshopper, IsCheckWord, IsHarmless, IsNear, IsNoCheck, IsReached, IsUnguarded, IsWeak, Kind, King, Knight, List, Man, Nightrider, Option, Pawn, Position, Queen, Risk, Rook, Siege, and_parts, ap, arith, bit_and, bit_at, bit_at-lt, bit_at_not, bit_not, bit_or, eq-eqb, eqb-true, false, false_by, false≢true, gait_of, inl, is_hopper, king_is_no_pawn, may_go, no_pawn_arrives, not, occupied_squares, off_left, off_right, off_zero, other, reaches_as, refl, rules, same_kind, same_kind-true, squares, squares_for, sym, true, true_from_ne_false, w64, word, ℕ, IsArrival, ◌<◌, ◌==◌, ◌^◌, ◌∙◌, ◌≡◌}
 use Rattle.chess_mates.specs.declared.guards.Guards.{Guards}
 use Rattle.chess_mates.proofs.Hurdles.{on_one, reached_is}
@@ -11,7 +11,7 @@ use Rattle.chess_rules.specs.ties.Targets.{AreReached}
 pub none_at : (w s : ℕ) → w ≡ 0 → (bit_at w s == 1) ≡ true → ⊥
 none_at w s empty on = false≢true (sym (off_zero s) ∙ ap (λ (n : ℕ). bit_at n s == 1) (sym empty) ∙ on)
 
--- the same by a test
+-- a word that a test finds empty has no square
 pub none_on : (w s : ℕ) → (w == 0) ≡ true → (bit_at w s == 1) ≡ true → ⊥
 none_on w s empty on = none_at w s (eqb-true w 0 empty) on
 
@@ -89,7 +89,7 @@ pub none_checks : (checks squares s : ℕ) → not (bit_and checks squares == 0)
 none_checks checks squares s none on = false_by _ (λ h.
     none_on (bit_and checks squares) s (true_from_ne_false _ (λ some. false≢true (sym none ∙ ap not some))) (on_both checks squares s h on))
 
--- for check squares told from the king's square
+-- for check squares computed from the king's square
 pub check_word : (d k w : ℕ) (x : Man) → d < 2 ^ 64 → same_kind x.kind Grasshopper ≡ false
     → ((men : List (Option Man)) → d ≡ occupied_squares men → w ≡ word (reaches_as men (other x.colour) x.kind k)) → IsCheckWord d k x w
 check_word d k w x fits kind h = record {
@@ -97,7 +97,7 @@ check_word d k w x fits kind h = record {
   inside = λ plain t small reached. (reached_is d (record { colour = other x.colour; kind = x.kind }) k w fits h).inside t small reached;
 }
 
--- or by the lines of his field
+-- for check squares computed from the lines of the king's square
 pub check_lines : (d k w : ℕ) (x : Man) (j : Kind) → same_kind x.kind j ≡ true → is_hopper (gait_of j) ≡ false
     → ((c : Colour) → IsReached d (record { colour = c; kind = j }) k w) → IsCheckWord d k x w
 check_lines d k w x j kind plain h = record {
@@ -105,7 +105,7 @@ check_lines d k w x j kind plain h = record {
   inside = λ plain t small reached. (h (other x.colour)).inside t small (rw (same_kind-true x.kind j kind) at reached);
 }
 
--- of a grasshopper by those from which he might come
+-- for a grasshopper's check squares: those from which it might come
 pub check_hops : (d k w : ℕ) (x : Man) → same_kind x.kind Grasshopper ≡ true → AreApproached x k w → IsCheckWord d k x w
 check_hops d k w x kind are = search (rules, same_kind-true)
 

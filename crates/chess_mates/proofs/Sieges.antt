@@ -1,4 +1,4 @@
--- The men of a siege, its castlings and the king's field.
+-- The men around a king, castling squares and the king zone.
 use Rattle.chess_mates.proofs.Chess.{AreAdjacent, AreAttackers, AreCaptureSquares, AreCastlingSquares, AreClosed, AreFree, AreHurdles, AreReached, AreSpringboards, AreSprings, AreThreats, AreWeak, Attackers, Bishop, Colour, Field, Grasshopper, IsAttacker, IsCastlingHarmless, IsField, IsHurdle, IsReached, IsRiskAt, IsShut, IsSiege, IsSiegeOf, IsUnsprung, IsWellFormed, IsWhole, Kind, King, Knight, List, Man, MayRide, Nightrider, None, Option, Pawn, Position, Queen, Risk, Rook, RuleSet, Siege, Some, White, and_parts, arith, bit_and, bit_at, bit_not, bit_or, corner, eq-eqb, eqb-true, every_square_on, false, false_by, false≢true, find_no, has_unmoved, inl, inr, is_fairy, is_man, is_on_some, is_rider, is_square, king_square, king_there, leaps, list_any, list_any-append, man_on, men_on, ne_eqb, occupied_squares, off_left, off_right, on_first, on_left, on_right, or_cases, other, queen_steps, reached_over, reaches_as, refl, rules, side_of, square_is, squares, squares_for, squares_of, straight_steps, true, w64, word, word_has, ℕ, KeepsOne, ◌&&◌, ◌+◌, ◌-◌, ◌<◌, ◌==◌, ◌^◌, ◌||◌, ◌∙◌, ◌≡◌, ◌≢◌, ◌⊎◌}
 use Rattle.chess_core.specs.Position.{may_promote}
 use Rattle.chess_mates.specs.ties.Attackers.{is_promotion}
@@ -12,7 +12,7 @@ use Rattle.chess_mates.proofs.Springboards.{grasshopper_on, unsprung_right}
 use Rattle.chess_mates.proofs.Risks.{denied_on, none_at, none_on, weak_left}
 use Rattle.chess_mates.proofs.LastingFlights.{on_both}
 
--- for `capture_squares`: where no attacker stands on a closed square, and none is a hopper
+-- for `capture_squares`: no attacker is on a closed square, and none is a hopper
 pub captures_are : (v : Siege) (k n : ℕ) → n ≡ word (λ t. list_any (leaps k t) queen_steps) → bit_and v.closed v.enemies ≡ 0 → v.men.grasshoppers ≡ 0
     → AreCaptureSquares v k n
 captures_are v k n near none plain = record {
@@ -106,7 +106,7 @@ harmless_castling v g l lines h = elim (or_cases _ _ h) [
       }
 ]
 
--- for the risk told of all attackers
+-- for the risk of all attackers
 pub risk_is : (v : Siege) (k : ℕ) (g : Field) (r : Risk) (o : ℕ) → g.king ≡ k → IsField v g → IsCastlingHarmless v g → AreWeak v g r
     → AreFree v k g.springboards → o ≡ word (λ s. is_square (Some k) s) → o < 2 ^ 64
     → IsRiskAt v k (record { critical = bit_or r.critical (bit_and g.hops (bit_not w64 o)); lines = bit_or r.lines g.lines })
@@ -147,7 +147,7 @@ threats_are v critical lines w siege whole risk ridden = record {
   };
 }
 
--- the men of the siege
+-- the men around the king
 pub hurdles_are : (own enemies k o w : ℕ) → o ≡ word (λ t. is_square (Some k) t) → o < 2 ^ 64
     → AreHurdles own enemies k (bit_and (bit_and (bit_or own enemies) (bit_not w64 o)) (bit_not w64 w))
 hurdles_are own enemies k o w only fits = search (rules, off_denied, on_first, on_one, word_has)
@@ -163,7 +163,7 @@ pub lifted_off : (a w s : ℕ) (o : Option ℕ) → w ≡ word (λ t. is_square 
     → (bit_at (bit_and a (bit_not w64 w)) s == 1) ≡ false
 lifted_off a w s o only fits small e = search (rules, false_by, off_denied, word_has)
 
--- who stands on a square is of his colour and kind
+-- the man on a square is of its colour and kind
 there : (men : List (Option Man)) (s : ℕ) (x : Man) (c : Colour) → man_on men s ≡ Some x → x.colour ≡ c → is_man (man_on men s) c x.kind ≡ true
 there men s x c here mine = grind (arith, eq-eqb)
 
@@ -209,7 +209,7 @@ pub king_castles_to : (p : Position) (c : Colour) (k long short : ℕ) → king_
 king_castles_to p c k long short king far near well =
     king_castles p c (bit_or long short) k well king (inr (search (shut_in, on_left, on_right, far, near)))
 
--- for a siege by the board's men
+-- for `siege_of`
 pub siege_fits : (rule : RuleSet) (p : Position) (v : Siege) → v.men.colour ≡ other p.turn → king_square p.men p.turn ≡ Some v.king
     → v.own ≡ side_of p.men p.turn
     → v.enemies ≡ side_of p.men v.men.colour → AreAttackers p.men v.men → v.men.kings ≡ squares_of p.men v.men.colour King

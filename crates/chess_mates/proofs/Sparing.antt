@@ -314,7 +314,7 @@ module _ (rule : RuleSet) (p : Position) (m : Move) (x : Man) (v : Siege) (k : �
       stood_r : (s : ℕ) (z : Man) → man_on r.men s ≡ Some z → Stood s z ⊎ ((z.colour ≡ p.turn) × IsNew s)
       stood_r s z there = search (rules, same_or_new s, stood q y n s z (omega (arith, to, well_q.size)), same_man)
 
-      -- of the attackers nobody is new
+      -- no attacker is new
       enemy_r : (s : ℕ) (z : Man) → man_on r.men s ≡ Some z → z.colour ≡ other p.turn → Stood s z
       enemy_r s z there enemy = search (rules, stood_r s z there, one_side z p.turn enemy)
 
@@ -361,7 +361,7 @@ module _ (rule : RuleSet) (p : Position) (m : Move) (x : Man) (v : Siege) (k : �
               ∙ (u.are.rides s z a (λ e. ne (sym e)) rider near).inside m.from from reach))
               (λ rider on reach. (u.are.kept n.from from_small on).1 refl) h)))
 
-          -- nor y, from a square from which he doesn't check
+          -- y reaches no king from a square from which it gives no check
           quiet_off : (bit_at w.checks n.to == 1) ≡ false → reaches_as men y.colour y.kind n.to k ≡ false
           unfolding reached_over
           quiet_off quiet =
@@ -380,7 +380,7 @@ module _ (rule : RuleSet) (p : Position) (m : Move) (x : Man) (v : Siege) (k : �
         | inl old ↦ search (rules, old, before, last, stood_q h z, somebody h low, free.own h on low apart, free.enemies h on low apart, false≢true)
       ]
 
-      -- whoever stands elsewhere than where the two came stands on a later hurdle
+      -- a man elsewhere than on the two arrivals is on a later hurdle
       standing : (d h : ℕ) (z : Man) → AreLaterHurdles v k n.from d → h < 64 → h ≢ k → h ≢ n.to → man_on r.men h ≡ Some z
           → ((bit_at d h == 1) ≡ true) ⊎ (h ≡ m.to)
       standing d h z are low apart off there = elim (stood_r h z there) [

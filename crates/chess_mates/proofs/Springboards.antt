@@ -9,7 +9,7 @@ use Rattle.chess_mates.proofs.Risks.{denied_on, none_at, none_on}
 pub hopper_is : (k : Kind) → is_hopper (gait_of k) ≡ true → k ≡ Grasshopper
 hopper_is k hop = grind (arith, false≢true)
 
--- an attacker that is a hopper stands on a square of the grasshoppers' word
+-- an attacker that is a hopper is on a square of the grasshoppers' bitboard
 pub grasshopper_on : (a : Attackers) (q : ℕ) (z : Man) → IsAttacker a z q → is_hopper (gait_of z.kind) ≡ true → (bit_at a.grasshoppers q == 1) ≡ true
 grasshopper_on a q z i hop = rw (hopper_is z.kind hop) at i.on
 
@@ -132,7 +132,7 @@ free_are v k w o only fits none = search (rules, off_left, off_right, free) wher
 pub unsprung_left : (v : Siege) (k t a b : ℕ) → IsUnsprung v k t a → IsUnsprung v k t (bit_or a b)
 unsprung_left v k t a b h = record { springboards = h.springboards; are = h.are; free = h.free; within = λ s on. on_left a b s (h.within s on) }
 
--- the same for the second word
+-- for the second of two words of springboards that are joined
 pub unsprung_right : (v : Siege) (k t a b : ℕ) → IsUnsprung v k t b → IsUnsprung v k t (bit_or a b)
 unsprung_right v k t a b h = record { springboards = h.springboards; are = h.are; free = h.free; within = λ s on. on_right a b s (h.within s on) }
 

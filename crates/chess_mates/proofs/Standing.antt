@@ -1,11 +1,11 @@
--- Who stands where after a move.
+-- The men on the squares after a move.
 use Rattle.chess_mates.proofs.Chess.{Colour, Grasshopper, IsMade, IsWellFormed, Kind, King, List, Man, Move, None, Option, Pawn, Position, RuleSet, Some, and_from, and_left, and_parts, and_right, arith, arrived, arrived_other, arriving_man, can_castle, capture_square, captures_do_more, cases_Bool, cases_eq, cond-false, cond-true, corner, eq-eqb, false, false_by, false≢true, gait_of, has_flight, has_unmoved, inl, inr, is_arrival_free, is_attacked, is_attacker, is_castling, is_flight, is_hopper, is_man, is_of_colour, is_open, is_promoting, is_promotion_right, is_some, is_square, kept_now, king_is_no_pawn, king_no_step, king_square, leaps, left_now, length, list_any, made, man_on, man_on-with_cases, may_castle, not-true, or_cases, or_parts, other, other_differs, position_after, position_after_by, put_at, queen_steps, reaches, reaches_as, reborn_square, refl, rules, same_colour, same_colour-true, same_kind, some_square_false, some_square_true, there_now, triple_at, true, unmoved_after, ℕ, ◌&&◌, ◌<◌, ◌||◌, ◌∙◌, ◌≡◌, ◌≢◌, ◌⊎◌}
 use Rattle.chess_core.proofs.Castlings.{has_unmoved-parts}
 -- where a side stands somebody stands
 pub use Rattle.chess_mates.proofs.Fleeing.{some_of_colour as some_side}
 use Rattle.chess_mates.proofs.Fleeing.{IsKingOn, IsKingStep, king_on, step_is, step_to}
 
--- who stands on a square once a move is made: the man that came, or who stood there
+-- a man on a square after a move: the one that arrived, or one that was there
 pub stood : (p : Position) (x : Man) (m : Move) (t : ℕ) (z : Man) → m.to < length p.men → man_on (arrived p x m) t ≡ Some z
     → ((t ≡ m.to) × (z ≡ arriving_man x m.promo)) ⊎ ((t ≢ m.to) × ((t ≢ m.from) × (man_on p.men t ≡ Some z)))
 stood p x m t z size there = elim (cases_eq t m.to) [
@@ -21,7 +21,7 @@ not_mine x c e = grind arith
 pub free_man : (c : Colour) (o : Option Man) → is_of_colour o c ≡ false → is_man o (other c) King ≡ false → is_arrival_free c o ≡ true
 free_man c o side king = grind (arith, false≢true)
 
--- but not where his side stands
+-- a man may not arrive where its own side stands
 pub unfree : (c : Colour) (o : Option Man) → is_arrival_free c o ≡ true → is_of_colour o c ≡ true → ⊥
 unfree c o free side = grind (arith, and_parts, not-true, false≢true)
 
@@ -61,12 +61,12 @@ pub moved_stays : (rule : RuleSet) (p : Position) (x : Man) (m : Move) (s : ℕ)
 unfolding position_after position_after_by unmoved_after
 moved_stays rule p x m s nobody plain here moved = search (rules, false_by, false≢true, has_unmoved-parts, no_rebirth)
 
--- once a man is reborn, who stands on a square stood there, or is reborn there
+-- after a rebirth a man on a square was there, or is reborn there
 pub stood_reborn : (men : List (Option Man)) (o : Option ℕ) (w : Option Man) (s : ℕ)
     → (man_on (put_at men o w) s ≡ man_on men s) ⊎ ((o ≡ Some s) × ((y : Man) × ((w ≡ Some y) × (man_on (put_at men o w) s ≡ Some y))))
 stood_reborn men o w s = grind (arith, man_on-with_cases)
 
--- who stands on one square is one man
+-- the man on a square is one man
 pub same_man : (a b : Man) → Some a ≡ Some b → a ≡ b
 same_man a b h = cc
 
@@ -98,7 +98,7 @@ pub piece_reaches : (rule : RuleSet) (p : Position) (x : Man) (m : Move) → IsM
 unfolding can_castle may_castle reaches
 piece_reaches rule p x m made piece plain = grind (arith, cond-false, made, or_cases, and_parts, false≢true)
 
--- a king reaches what he does whoever stands on the board
+-- what a king reaches doesn't depend on the other men
 pub king_reaches : (men others : List (Option Man)) (c : Colour) (k : Kind) (s t : ℕ) → k ≡ King → reaches_as men c k s t ≡ reaches_as others c k s t
 unfolding reaches_as
 king_reaches men others c k s t e = rw e refl

@@ -1,4 +1,4 @@
--- The men once a man has made a move and the enemy king a step, and what an attack then sees.
+-- The men after a man's move and a step of the enemy king, and what they attack.
 use Rattle.chess_mates.proofs.Chess.{AreSeen, Colour, Kind, List, Man, None, Option, Some, StandAlike, and_left, and_right, arith, cases_Bool, cases_eq, differs, eq-eqb, eqb-true, false, false_from_ne_true, gone_to, inl, inr, is_man, is_occupied_after, is_of_colour, is_some, is_square, kept_now, left_now, length, length-set, man_on, man_on-with_other, man_on-without_other, man_on-without_same, no_man, not, occupied_now, occupied_squares, occupied_words, or_from, or_left, rules, same_colour, sight_lifted, sight_with, squares_both, squares_either, squares_not, squares_of, there_now, true, without_man, word, ℕ, ◌&&◌, ◌<◌, ◌==◌, ◌||◌, ◌≡◌, ◌≢◌}
 use Rattle.chess_rules.proofs.making_moves.Plays.{length-without_at}
 
@@ -6,7 +6,7 @@ use Rattle.chess_rules.proofs.making_moves.Plays.{length-without_at}
 abbrev pub stepped : List (Option Man) → ℕ → Option ℕ → ℕ → Man → ℕ → Option ℕ → ℕ → Man → List (Option Man)
 stepped men a o b z k u t x = gone_to (gone_to men a o b z) k u t x
 
--- what is asked of the squares, and of the men on them: those of colour c look for an attack
+-- what must hold of the squares and of the men on them; attacks by colour c count
 pub record IsStep (men : List (Option Man)) (a : ℕ) (o : Option ℕ) (b k : ℕ) (u : Option ℕ) (t : ℕ) (x : Man) (c : Colour) : Type 0 where
   pub arrival : b < length men
   pub flight : t < length men
@@ -43,12 +43,12 @@ module _ (men : List (Option Man)) (a : ℕ) (o : Option ℕ) (b : ℕ) (z : Man
         → man_on (stepped men a o b z k u t x) q ≡ man_on (gone_to men a o b z) q
     on_others q h ne off = search (rules, kept_now, or_from, taken_nowhere)
 
-    -- who stands on a square once the man has arrived
+    -- the man on a square after the arrival
     pub stands_arrived : (q : ℕ) → b < length men → ((s : ℕ) → is_square u s ≡ true → s ≡ t) → q ≡ b → q ≢ t → b ≢ k
         → man_on (stepped men a o b z k u t x) q ≡ Some z
     stands_arrived q arrival h e ne off = search (rules, on_others, there_now)
 
-    -- and once the king has stepped
+    -- the squares occupied once the king has stepped
     pub stands : (q : ℕ) → b < length men → t < length men → ((s : ℕ) → is_square u s ≡ true → s ≡ t)
         → ((is_occupied_after men a o b q && not (k == q)) || t == q) ≡ is_some (man_on (stepped men a o b z k u t x) q)
     stands q arrival flight h = grind (arith, gone_to, length-set, length-without_at, occupied_now)
@@ -69,7 +69,7 @@ module _ (men : List (Option Man)) (a : ℕ) (o : Option ℕ) (b : ℕ) (z y : M
       → StandAlike (stepped men a o b z k u t x) (stepped men a o b y k u t x) t
   arrival_alike arrival flight h = search (rules, stands)
 
-  -- so they do for each kind of arriving man
+  -- whichever man has arrived, the men elsewhere are equal
   pub same_elsewhere : (q : ℕ) → t < length men → ((s : ℕ) → is_square u s ≡ true → s ≡ t) → (q ≡ b → q ≡ t)
       → man_on (stepped men a o b z k u t x) q ≡ man_on (stepped men a o b y k u t x) q
   same_elsewhere q flight h off = search (rules, man_on-with_other, on_flight, on_left, on_others)
@@ -94,7 +94,7 @@ module _ (men : List (Option Man)) (a : ℕ) (o : Option ℕ) (b k : ℕ) (u : O
     ]
   ]
 
-  -- the words are those of the men once a man of the other side has come to b too
+  -- the bitboards describe the men after a man of the other side has come to b too
   pub seen_stepped : AreSeen men (stepped men a o b x k u t x) c (sight_with (sight_lifted men a o b k) t)
   unfolding squares_of
   seen_stepped = search (rules, attacker_stands, occupied_stepped, squares_both, squares_not)

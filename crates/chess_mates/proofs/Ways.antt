@@ -1,4 +1,4 @@
--- The ways of a defender to a square that isn't risky: his king goes, or another man, who may leave a line.
+-- How a defender comes to a square that isn't risky: its king goes, or another man, which may leave a line.
 use Rattle.chess_mates.proofs.Chess.{AreAdjacent, AreMere, ArePlain, AreRisky, AreThreatsOf, IsLike, IsMereMove, IsPlainMove, IsSafeMove, IsSafeStep, IsSettledStep, IsSiegeOf, IsSparedStep, IsWellFormed, KeepsFlight, KeepsFlightBeside, KeepsOne, King, Man, Move, Position, RuleSet, Siege, Some, ToldThreats, [], agree_below_at, along, and_from, and_parts, ap, arith, arrival_needed, bit_and, bit_at, bit_at_above, bit_not, bit_or, captures_do_more, cases_Bool, cases_lt, cond-false, cond-true, eqb-true, false, false_by, false≢true, inl, inr, is_castling, is_legal, is_man, is_pseudo_legal, is_pseudo_legal-from_legal, king_after, king_is, leaps, list_any, made, maker, man_on, mates_behind, may_go_aimed, off_left, off_right, off_second, position_after, queen_steps, refl, rules, same_colour-refl, same_kind, some_is, sym, true, w64, word, ℕ, ◌<◌, ◌==◌, ◌^◌, ◌∙◌, ◌≡◌, ◌≢◌}
 use Rattle.chess_mates.specs.ties.Siege.{AreNeeded}
 use Rattle.chess_mates.proofs.Risks.{denied_on}
@@ -13,7 +13,7 @@ no_step_back : (t : ℕ) → t < 64 → list_any (leaps t t) queen_steps ≡ fal
 unfolding along leaps
 no_step_back t small = agree_below_at (λ n. list_any (leaps n n) queen_steps) (λ _. false) 64 t refl small
 
--- a siege of the same men is one of the same position
+-- two values of `Siege` with equal men around the king belong to one position
 like_fits : (rule : RuleSet) (p : Position) (v w : Siege) → IsLike v w → IsSiegeOf rule p v → IsSiegeOf rule p w
 like_fits rule p v w l fits = search (rules, l.men, l.own, l.enemies, l.king, l.castled, l.closed, fits)
 
@@ -93,7 +93,8 @@ module _ (rule : RuleSet) (p : Position) (x : Man) (v : ToldThreats) (well : IsW
   inside : (w t : ℕ) → w < 2 ^ 64 → (bit_at w t == 1) ≡ true → t < 64
   inside w t fits on = grind (arith, bit_at_above w 64 t fits, cases_lt t 64)
 
-  -- of the squares of w those of l, if off them the king keeps a flight beside the man
+  -- among the squares of w only the ones in l are risky, if elsewhere the king keeps a flight when the man
+  -- arrives
   pub unkept_are_risky : (s w l r : ℕ) → man_on p.men s ≡ Some x → w < 2 ^ 64 → same_kind x.kind King ≡ false
       → ((t : ℕ) → t < 64 → (bit_at w t == 1) ≡ true → (bit_at l t == 1) ≡ false → (captures_do_more rule ≡ false) × KeepsFlightBeside v.siege t)
       → AreRisky rule p s l r → AreRisky rule p s w r
@@ -107,7 +108,7 @@ module _ (rule : RuleSet) (p : Position) (x : Man) (v : ToldThreats) (well : IsW
     ];
   }
 
-  -- of the squares of w those of u, where moves aren't plain, and of r
+  -- the squares of w that are in u, where moves aren't plain, or in r
   module _ (s w u r : ℕ) (here : man_on p.men s ≡ Some x) (from : s < 64) (fits : w < 2 ^ 64) (plain : ArePlain p x s u)
       (mere : captures_do_more rule ≡ true → AreMere p x s u) where
     -- by what spares a move off them

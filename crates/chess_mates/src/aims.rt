@@ -1,4 +1,4 @@
-//! Moves that aim at the enemy's king.
+//! Moves that give check or attack next to the enemy king.
 ghost use Rattle.std.specs.Prelude.{◌≡◌, ◌<◌, ◌∷◌, [], filter, IfSome, MatchOption, true};
 ghost use Rattle.chess_core.specs.Position.{man_on};
 ghost use Rattle.chess_core.specs.WellFormed.{IsWellFormed};
@@ -18,7 +18,8 @@ use chess_rules::sought::{Sought, next_passing};
 use chess_rules::targets::{Kept, TRIPLES};
 use chess_rules::words::contains;
 
-// The squares on which the man on `from`, if one stands there, would see the enemy's king on the board as it stands.
+// Returns the squares from which the man on `from`, if there is one, would attack the enemy king on the
+// board as it is.
 #[tactic(auto, using(chess_rules::proofs::Bits::word_empty))]
 fn aimed_squares(board: &Board, from: Square) -> Squares
     ensures { result ≡ word (aims_with board.now (man_on board.now.men from)) }
@@ -29,8 +30,8 @@ fn aimed_squares(board: &Board, from: Square) -> Squares
     }
 }
 
-/// Whether the man who moves arrives where he would see the enemy's king on the board as it stands. It
-/// tells good moves from others, and no clause of a search hangs on it.
+/// Returns whether the moving man arrives where it would attack the enemy king on the board as it was
+/// before the move. A search uses this to order moves only.
 #[tactic(auto, using(chess_rules::proofs::Bits::word_has), unfolding(crate::specs::ties::Aims::aims_at_king))]
 pub fn aims_at_king(board: &Board, m: &Move) -> bool
     ensures { result ≡ aims_at_king board.now m.now }
@@ -40,7 +41,7 @@ pub fn aims_at_king(board: &Board, m: &Move) -> bool
     contains(aimed_squares(board, m.from), m.to)
 }
 
-// What is known of a position where legal moves that aim at the enemy's king are looked for.
+// What the search for aimed moves knows of a position.
 #[derive(Clone, Copy)]
 struct Aimed {
     known: Known,
@@ -79,9 +80,9 @@ impl Sought for Aimed {
     ghost idle = { λ rule p m h. is_wanted-idle rule p (aims_at_king p) m h };
 }
 
-/// The first legal move behind the place that aims at the enemy's king, on which the place then stands. Where there
-/// is none: `None`, and the place stands behind all triples. The board is unchanged. The place must be one in the
-/// board's position.
+/// Returns the next aimed legal move after the cursor, and moves the cursor to
+/// it. After the last it returns `None` and moves the cursor to the end. The cursor must be of the board's
+/// position. The board is unchanged.
 #[tactic(auto, using(crate::proofs::Aiming::next_aimed))]
 pub fn next_aimed<R: Rules>(moves: &mut LegalMoves<R>, board: &mut Board) -> Option<Move>
     requires well_formed { IsWellFormed board.old }

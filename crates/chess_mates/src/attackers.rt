@@ -1,4 +1,4 @@
-//! The men of a side kind by kind.
+//! The men of a side, kind by kind.
 ghost use Rattle.std.specs.Prelude.{◌≡◌, true};
 ghost use Rattle.chess_core.specs.Position.{may_promote};
 ghost use Rattle.chess_core.specs.declared.man.Kind.{Kind};
@@ -10,11 +10,11 @@ use chess_core::board::Board;
 use chess_core::man::{Colour, Kind};
 use chess_core::square::Squares;
 
-// Against more attackers than these a king seldom keeps a flight whatever is played, and his steps seldom save him: neither
-// is looked for.
+// Against more attackers a king seldom keeps a flight, and steps seldom save it: the search for both isn't
+// worth its time.
 pub(crate) const MOST_ATTACKERS: u32 = 7;
 
-// The squares of a side's men kind by kind, and whether its pawns may become fairy men.
+// The squares of a side's men, kind by kind, and whether its pawns may promote to fairy men.
 #[derive(Clone, Copy)]
 pub(crate) struct Attackers {
     pub(crate) colour: Colour,
@@ -29,14 +29,14 @@ pub(crate) struct Attackers {
     pub(crate) fairy_promotions: bool,
 }
 
-// Whether pawns may become fairy men.
+// Returns whether pawns may promote to a fairy man.
 pub(crate) fn has_fairy_promotions(board: &Board) -> bool
     ensures { (k : Kind) → may_promote board.now k ≡ true → is_promotion result k ≡ true }
 {
     board.may_promote(Kind::Grasshopper) || board.may_promote(Kind::Nightrider)
 }
 
-// The men of the colour.
+// Returns the men of the colour.
 #[tactic(auto, using(crate::proofs::Sieges::attackers_are))]
 pub(crate) fn attackers_on(board: &Board, colour: Colour) -> Attackers
     ensures colour { result.colour ≡ colour }

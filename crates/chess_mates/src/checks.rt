@@ -1,4 +1,4 @@
-//! Moves that give no check, told before they are made.
+//! Moves that can't give check, recognised before they are made.
 ghost use Rattle.std.specs.Prelude.{◌≡◌, ◌<◌, ◌==◌, ℕ, None, Some, false, not, true, is_some};
 ghost use Rattle.std.specs.Int.{bit_at};
 ghost use Rattle.chess_core.specs.Position.{man_on, other, same_kind};
@@ -26,9 +26,9 @@ use chess_rules::shields::{cannot_expose, fairy_lines, safety_seen};
 use chess_rules::sight::sight_after;
 use chess_rules::words::{contains, only};
 
-/// The squares from which a move may give check in a position: by exposing the king, or by a man of
-/// this kind that arrives there. A king gives none so: next to the other he would be in check himself.
-/// With them are kept the lines to the king with a fairy man on them.
+/// The squares from which a move may give check: by exposing the king, or by a man of this kind that
+/// arrives there. A king never gives check by arriving: next to the other king it would be in check itself.
+/// The lines to the king with a fairy man on them are kept too.
 #[derive(Clone, Copy)]
 pub(crate) struct CheckSquares {
     shield_squares: Squares,
@@ -41,7 +41,7 @@ pub(crate) struct CheckSquares {
     nightrider: Squares,
 }
 
-// Whether it is one of the fairy kinds, and none of the colour stands on the board.
+// Returns whether this is a fairy kind and the colour has no man of it.
 #[tactic(auto, using(chess_rules::proofs::Bits::not_zero), unfolding(chess_core::specs::ties::Words::squares_of))]
 fn is_absent(board: &Board, colour: Colour, kind: Kind) -> bool
     ensures { result ≡ is_absent board.now.men (record { colour = colour; kind = kind }) }
@@ -49,8 +49,8 @@ fn is_absent(board: &Board, colour: Colour, kind: Kind) -> bool
     kind.is_fairy() && board.squares(colour, kind) == 0
 }
 
-// The squares from which an enemy of this kind may give check to the colour's king: all of them for fairy men
-// of whom none stands on the board.
+// Returns the squares from which an enemy of this kind may give check to the colour's king; all squares for
+// a fairy kind that is absent from the board.
 #[tactic(auto, using(chess_rules::proofs::Bits::word_empty, chess_rules::proofs::Bits::every_square, std::proofs::lemmas::Bool::or_left, chess_core::proofs::Words::squares_same), unfolding(crate::specs::ties::CheckSquares::may_check_from))]
 pub(crate) fn check_squares_of(board: &Board, colour: Colour, kind: Kind) -> Squares
     ensures { result ≡ word (may_check_from board.now.men colour (enemy colour kind)) }
@@ -65,8 +65,8 @@ pub(crate) fn check_squares_of(board: &Board, colour: Colour, kind: Kind) -> Squ
     comes_as(occupied(board), enemy, kind, king)
 }
 
-// The squares from which a move may expose the colour's king, told by those from which a rook and a bishop may
-// give check to it, and by the fairy lines to it.
+// Returns the squares from which a move may expose the colour's king. `straight` and `diagonal` are the
+// squares from which a rook and a bishop may give check to it, `lines` its fairy lines.
 #[inline(always)]
 #[tactic(auto, using(chess_rules::proofs::attacks::Shielding::shield_squares_none, crate::proofs::Checking::rook_squares, crate::proofs::Checking::bishop_squares))]
 fn shields_seen(
@@ -88,7 +88,7 @@ fn shields_seen(
     safety_seen(board, colour, king, straight, diagonal, lines).shields
 }
 
-// The squares from which a move may give check to the colour's king.
+// Returns the squares from which a move may give check to the colour's king.
 #[inline(always)]
 pub(crate) fn check_squares(board: &Board, colour: Colour) -> CheckSquares
     ensures { AreCheckSquares board.now.men colour result }
@@ -108,7 +108,7 @@ pub(crate) fn check_squares(board: &Board, colour: Colour) -> CheckSquares
     }
 }
 
-// Those from which a man of this kind may by a legal move.
+// Returns the squares from which a man of this kind may give check by a legal move.
 fn check_squares_for(squares: &CheckSquares, kind: Kind) -> Squares
     ensures { result ≡ check_squares_for squares.now kind }
 {
@@ -124,8 +124,8 @@ fn check_squares_for(squares: &CheckSquares, kind: Kind) -> Squares
     }
 }
 
-// Whether a man who is reborn gives no check, nor uncovers one: in Circe, where the mover has no grasshopper
-// to which he might be a hurdle.
+// Returns whether reborn men neither give check nor uncover one: in Circe, if the mover has no grasshopper
+// for which they could be a hurdle.
 #[inline(always)]
 #[tactic(auto, unfolding(crate::specs::ties::CheckSquares::are_rebirths_quiet))]
 fn are_rebirths_quiet<R: Rules>(board: &Board) -> bool
@@ -134,7 +134,7 @@ fn are_rebirths_quiet<R: Rules>(board: &Board) -> bool
     R::captures_are_reborn() && is_absent(board, board.turn(), Kind::Grasshopper)
 }
 
-// The squares on which a man may be captured and reborn, where that may give check.
+// Returns the squares where a capture with rebirth may give check.
 #[inline(always)]
 fn checking_rebirths<R: Rules>(board: &Board) -> Squares
     ensures { are_rebirths_quiet R.rule board.now.men board.now.turn ≡ false
@@ -146,8 +146,8 @@ fn checking_rebirths<R: Rules>(board: &Board) -> Squares
     eventful_captures::<R>(board)
 }
 
-// Whether a move from or to any square may give check, as far as is told here: each man exposes the king from
-// wherever he goes, or many captures are followed by a rebirth that may give check.
+// Returns whether nothing can be ruled out: moves from all squares may expose the king, or captures from
+// anywhere may give check by rebirth.
 pub(crate) fn may_check_from_everywhere<R: Rules>(board: &Board, squares: &CheckSquares) -> bool {
     squares.shield_squares == !0 || R::captures_do_more() && !are_rebirths_quiet::<R>(board)
 }
@@ -180,8 +180,8 @@ fn special_targets(squares: &CheckSquares, kind: Kind, king: Option<Square>) -> 
     }
 }
 
-// The squares to which a man of this kind must go to give check by a legal move, from any square that is no
-// shield square; a king from his own, `king`.
+// Returns a superset of the squares to which a man of this kind must go to give check by a legal move, from
+// any square that isn't a blocker's; for a king from its own square, `king`.
 #[inline(always)]
 #[tactic(auto, using(crate::proofs::CheckTargets::check_targets_some))]
 pub(crate) fn targets_off_shields<R: Rules>(
@@ -205,7 +205,7 @@ pub(crate) fn targets_off_shields<R: Rules>(
         | squares.fairy_lines
 }
 
-// The squares to which this man must go from here to give check by a legal move.
+// Returns a superset of the squares to which this man must go from `from` to give check by a legal move.
 #[tactic(auto, using(chess_rules::proofs::listing_moves::Targeting::every_square_on))]
 fn check_targets<R: Rules>(board: &Board, squares: &CheckSquares, man: Man, from: Square) -> Squares
     requires well_formed { IsWellFormed board.now }
@@ -221,7 +221,7 @@ fn check_targets<R: Rules>(board: &Board, squares: &CheckSquares, man: Man, from
     targets_off_shields::<R>(board, squares, man.kind, Some(from))
 }
 
-// Those of them to which the man on the square, if one stands there, might go, were the others gone.
+// Returns the check targets of the man on the square, if there is one, that it could reach on some board.
 #[tactic(auto, using(chess_rules::proofs::listing_moves::Targeting::nobody_moves, crate::proofs::CheckTargets::targets_lack, chess_rules::proofs::listing_moves::Walks::off_second), unfolding(chess_rules::specs::Legal::is_legal))]
 pub(crate) fn near_check_targets<R: Rules>(
     board: &Board,
@@ -238,7 +238,7 @@ pub(crate) fn near_check_targets<R: Rules>(
     open_targets(man, from) & check_targets::<R>(board, squares, man, from)
 }
 
-// Whether the move may expose the enemy's king, by the man that leaves its square or by one that is
+// Returns whether the move may expose the enemy king, by the man that leaves its square or by one that is
 // captured, castled or reborn.
 fn may_discover<R: Rules>(board: &Board, squares: &CheckSquares, m: &Move) -> bool
     requires { AreCheckSquares board.now.men (other board.now.turn) squares.now }
@@ -251,15 +251,15 @@ fn may_discover<R: Rules>(board: &Board, squares: &CheckSquares, m: &Move) -> bo
     !cannot_expose::<R>(board, board.turn().other(), squares.shield_squares, m)
 }
 
-// Whether no man is promoted.
+// Returns whether the move doesn't promote.
 fn keeps_its_kind(m: &Move) -> bool
     ensures { result ≡ true → m.now.promo ≡ None }
 {
     m.promo.is_none()
 }
 
-// Whether this man's move may give check, told by what he sees from where he arrives, as what he is then: a
-// promoted man sees through the square that the pawn left.
+// Returns whether this man's move may give check: from its arrival, as what it then is, through the square
+// that it left, or by exposing the king.
 #[inline(never)]
 fn may_check_promoted<R: Rules>(board: &Board, squares: &CheckSquares, man: Man, m: &Move) -> bool
     requires well_formed { IsWellFormed board.now }
@@ -275,13 +275,13 @@ fn may_check_promoted<R: Rules>(board: &Board, squares: &CheckSquares, man: Man,
     };
     // For the proof: a square's number is below 64.
     let _small = m.to.index();
-    // Whom he captures, he captures where he arrives.
+    // The captured man, if any, is on the arrival.
     let sight = sight_after(board, m.from, None, m.to);
     let seen = covered_squares(sight.occupied, man, m.promo, m.to);
     contains(seen, king) || !cannot_expose::<R>(board, enemy, squares.shield_squares, m)
 }
 
-// Whether the move may give check, if it is legal: where it answers `false`, it gives none.
+// Returns whether the move may give check, if it is legal; `false` is certain.
 #[inline(always)]
 pub(crate) fn may_check<R: Rules>(board: &Board, squares: &CheckSquares, m: &Move) -> bool
     requires well_formed { IsWellFormed board.now }
@@ -304,7 +304,7 @@ pub(crate) fn may_check<R: Rules>(board: &Board, squares: &CheckSquares, m: &Mov
 }
 
 impl CheckSquares {
-    // The squares from which a move may expose the king.
+    // Returns the squares from which a move may expose the king.
     pub(crate) fn shields(&self) -> Squares
         ensures { result ≡ self.now.shield_squares }
     {

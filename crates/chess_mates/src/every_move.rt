@@ -26,8 +26,8 @@ use chess_rules::sight::sight_after;
 use chess_rules::targets::arrivals;
 use chess_rules::words::{contains, take_first};
 
-/// Whether the side to move has a legal move and each of its legal moves mates: one that can't give check
-/// says no without being played. The board is unchanged.
+/// Returns whether the side to move has a legal move and each of its legal moves mates. A move that can't
+/// give check decides it without being played. The board is unchanged.
 #[tactic(auto, using(crate::proofs::Mating::quietly))]
 pub fn every_move_mates<R: Rules>(board: &mut Board) -> bool
     requires { IsWellFormed board.old }
@@ -46,7 +46,7 @@ pub fn every_move_mates<R: Rules>(board: &mut Board) -> bool
     has_mates_alone::<R>(board, moves)
 }
 
-// The squares to which the king on `king` may step, attacks apart: in Circe none are told.
+// Returns the squares to which the king on `king` may step, whether attacked or not; none in Circe.
 #[inline(always)]
 #[tactic(auto, using(crate::proofs::QuietSteps::open_steps, chess_rules::proofs::listing_moves::Walks::off_zero))]
 fn step_squares<R: Rules>(board: &Board, king: Square) -> Squares
@@ -59,7 +59,7 @@ fn step_squares<R: Rules>(board: &Board, king: Square) -> Squares
     king_leaps(king) & arrivals::<R>(board, king)
 }
 
-// Whether no enemy reaches the king once he has stepped from `from` to `to`.
+// Returns whether no enemy reaches the king after its step from `from` to `to`.
 #[tactic(auto, using(crate::proofs::Mating::quietly))]
 fn is_unreached(board: &Board, king: Man, from: Square, to: Square) -> bool
     ensures { result ≡ true → IsUnreached board.now king from to }
@@ -77,7 +77,7 @@ fn is_unreached(board: &Board, king: Man, from: Square, to: Square) -> bool
     !is_attacker_seen(board, sight, to, board.turn().other())
 }
 
-// The first of the squares on which no enemy reaches him then.
+// Returns the first of the squares where no enemy reaches the king after its step.
 #[tactic(auto, using(chess_rules::proofs::HoldTaken::rest_falls, crate::proofs::Hurdles::rest_here, crate::proofs::Hurdles::rest_on))]
 fn first_unreached(board: &Board, king: Man, from: Square, squares: Squares) -> Option<Square>
     ensures within { IfSome result (λ t. (t < 64) × ((bit_at squares t == 1) ≡ true)) }
@@ -92,7 +92,8 @@ fn first_unreached(board: &Board, king: Man, from: Square, squares: Squares) -> 
     None
 }
 
-// Whether the king has a legal step that gives no check, told without playing it.
+// Returns whether the king surely has a legal step that gives no check; `false` says nothing. No move is
+// played.
 #[tactic(auto, using(crate::proofs::QuietSteps::step_legal))]
 fn steps_quietly<R: Rules>(board: &Board, squares: &CheckSquares) -> bool
     requires well_formed { IsWellFormed board.now }
@@ -121,7 +122,7 @@ fn steps_quietly<R: Rules>(board: &Board, squares: &CheckSquares) -> bool
     is_quiet::<R>(board, squares, &step)
 }
 
-// Whether a legal move behind the place can't give check.
+// Returns whether some legal move after the cursor can't give check.
 fn has_quiet_move<R: Rules>(
     board: &mut Board,
     squares: &CheckSquares,
@@ -143,7 +144,7 @@ fn has_quiet_move<R: Rules>(
     false
 }
 
-// Whether a legal move can't give check, so that it doesn't mate.
+// Returns whether the legal move can't give check, so that it doesn't mate.
 #[tactic(auto, using(crate::proofs::Mating::quietly))]
 fn is_quiet<R: Rules>(board: &Board, squares: &CheckSquares, m: &Move) -> bool
     requires well_formed { IsWellFormed board.now }
@@ -154,7 +155,7 @@ fn is_quiet<R: Rules>(board: &Board, squares: &CheckSquares, m: &Move) -> bool
     !may_check::<R>(board, squares, m)
 }
 
-// Whether there is a legal move behind the place, and each of them mates.
+// Returns whether there is a legal move after the cursor, and each one mates.
 fn has_mates_alone<R: Rules>(board: &mut Board, mut moves: LegalMoves<R>) -> bool
     requires well_formed { IsWellFormed board.old }
     requires place { IsPlaceIn R.rule board.old moves }
@@ -172,7 +173,7 @@ fn has_mates_alone<R: Rules>(board: &mut Board, mut moves: LegalMoves<R>) -> boo
     some
 }
 
-// Whether the side to move is mated after a legal move. The board is unchanged after it.
+// Returns whether the legal move mates. The board is unchanged.
 #[tactic(auto, using(chess_rules::proofs::listing_moves::Calls::playing))]
 fn mates_by<R: Rules>(board: &mut Board, m: Move) -> bool
     requires well_formed { IsWellFormed board.old }

@@ -1,5 +1,5 @@
-//! The field of a besieged king: where he might go, and from where he might be checked. Hoppers need a man right before the
-//! square that they reach, on a springboard.
+//! The king zone: where a king might go, and from where it might be checked. A hopper needs a man next to
+//! the square that it reaches, on a springboard.
 ghost use Rattle.std.specs.Prelude.{◌≡◌, ◌≢◌, ◌<◌, ◌==◌, ℕ, true};
 ghost use Rattle.std.specs.Int.{bit_at};
 ghost use Rattle.chess_core.specs.declared.man.Kind.TheVariants.{Nightrider};
@@ -22,9 +22,10 @@ use chess_rules::reach::reach_over;
 use chess_rules::rules::Rules;
 use chess_rules::words::{highest, next_bit, only, take_first};
 
-// A king's square, the squares next to it to which he might go, attacks apart, those on which he might capture who comes
-// there, and those of the lines from there: the straight ones, the diagonals, and all; the springboards of his square, and
-// with them those of the squares next to it; the squares on which a pawn is promoted and may check him.
+// A king zone: the king's square; the squares next to it where it might go, attacked or not, and where it
+// might capture an arriving man; the lines from the king's square, straight, diagonal and all; the
+// springboards of its square, and of the squares next to it too; and the squares where a pawn may promote
+// with check.
 #[derive(Clone, Copy)]
 pub(crate) struct Field {
     pub(crate) king: Square,
@@ -38,14 +39,15 @@ pub(crate) struct Field {
     pub(crate) promotions: Squares,
 }
 
-// Squares that no hopper reaches but over a man who comes to one of these springboards.
+// Squares that hoppers reach only over a man that arrives on one of these springboards.
 #[derive(Clone, Copy)]
 pub(crate) struct Landings {
     squares: Squares,
     springboards: Squares,
 }
 
-// Such squares next to a king; the springboards of his own square, and with them those of the others.
+// Squares next to a king that hoppers reach only over an arriving man; the springboards of the king's own
+// square; and all springboards.
 #[derive(Clone, Copy)]
 pub(crate) struct Springs {
     near: Squares,
@@ -53,7 +55,7 @@ pub(crate) struct Springs {
     all: Squares,
 }
 
-// The squares next to a king of the defender on this square to which he might go, attacks apart.
+// Returns the squares next to a defender's king on this square where it might go, attacked or not.
 #[tactic(auto, using(crate::proofs::FarMen::off_denied, chess_rules::proofs::listing_moves::Walks::on_first, chess_rules::proofs::Bits::word_has))]
 pub(crate) fn adjacent_squares(siege: &Siege, king: Square) -> Squares
     ensures { AreAdjacent siege.now king result }
@@ -61,8 +63,8 @@ pub(crate) fn adjacent_squares(siege: &Siege, king: Square) -> Squares
     king_leaps(king) & !siege.closed & !siege.men.kings
 }
 
-// The squares next to the king on which he may capture, attacks apart: in Circe, where attackers stand on closed squares,
-// and beside hoppers none.
+// Returns the squares next to the king where it may capture, attacked or not; none in Circe, where
+// attackers are on closed squares, and none if there are hoppers.
 #[tactic(auto, using(crate::proofs::Sieges::captures_are, crate::proofs::Risks::none_at))]
 fn capture_squares(siege: &Siege, king: Square) -> Squares
     ensures { AreCaptureSquares siege.now king result }
@@ -73,7 +75,7 @@ fn capture_squares(siege: &Siege, king: Square) -> Squares
     king_leaps(king)
 }
 
-// The squares of a nightrider's lines from a king on this square, if the attackers have one.
+// Returns the nightrider's lines from a king on this square, if the attackers have a nightrider.
 #[tactic(auto, using(crate::proofs::Hurdles::reached_is), unfolding(crate::specs::ties::Siege::reached_over, chess_rules::specs::Reaches::reaches_as))]
 pub(crate) fn nightrider_lines(siege: &Siege, king: Square) -> Squares
     ensures { siege.now.men.nightriders ≢ 0 → (c : Colour)
@@ -85,7 +87,7 @@ pub(crate) fn nightrider_lines(siege: &Siege, king: Square) -> Squares
     reach_over(siege.hurdles, Colour::White, Kind::Nightrider, king)
 }
 
-// The springboards of a square: those next to it on the lines to it from grasshoppers farther off.
+// Returns the springboards of a square: the squares next to it on lines from grasshoppers farther away.
 #[tactic(auto, using(crate::proofs::Springboards::none_sprung, crate::proofs::Springboards::springboards_are))]
 #[inline(always)]
 fn springboards_of(men: &Attackers, to: Square) -> Squares
@@ -107,7 +109,8 @@ fn springboards_of(men: &Attackers, to: Square) -> Squares
     (before | aslant) & near
 }
 
-// Whether no man stands on one of the squares, but perhaps the king on `king`, and none is closed.
+// Returns whether no man, except perhaps the king on `king`, is on one of the squares, and none of them is
+// closed.
 #[tactic(auto, using(crate::proofs::Springboards::free_are))]
 pub(crate) fn are_free(siege: &Siege, king: Square, squares: Squares) -> bool
     ensures { result ≡ true → AreFree siege.now king squares }
@@ -115,7 +118,7 @@ pub(crate) fn are_free(siege: &Siege, king: Square, squares: Squares) -> bool
     squares & (siege.own | siege.enemies | siege.closed) & !only(Some(king)) == 0
 }
 
-// The square, unless a grasshopper may reach it as the men stand.
+// Returns the square with its springboards, unless a grasshopper may reach it as the men are.
 #[tactic(auto, using(crate::proofs::Risks::none_at, crate::proofs::Springboards::landing_is))]
 fn landing_on(siege: &Siege, king: Square, to: Square) -> Landings
     ensures { (f : ℕ) → f < 64 → (bit_at result.squares f == 1) ≡ true
@@ -134,7 +137,7 @@ fn landing_on(siege: &Siege, king: Square, to: Square) -> Landings
     }
 }
 
-// Such squares of a word.
+// Returns the squares among `squares` that no grasshopper reaches as the men are, with their springboards.
 #[tactic(auto, using(chess_rules::proofs::HoldTaken::rest_falls, crate::proofs::Risks::none_at, crate::proofs::Springboards::landing_anywhere))]
 fn landings_among(siege: &Siege, king: Square, squares: Squares) -> Landings
     ensures { (f : ℕ) → f < 64 → (bit_at result.squares f == 1) ≡ true
@@ -160,7 +163,7 @@ fn landings_among(siege: &Siege, king: Square, squares: Squares) -> Landings
     }
 }
 
-// What is told of springboards to a king on this square.
+// Returns the springboards around a king on this square.
 pub(crate) fn springs_of(siege: &Siege, king: Square) -> Springs
     ensures { AreSprings siege.now king result }
 {
@@ -174,7 +177,7 @@ pub(crate) fn springs_of(siege: &Siege, king: Square) -> Springs
     }
 }
 
-// The same against attackers without a grasshopper.
+// Returns the springboards around a king on this square, against attackers without a grasshopper: none.
 #[tactic(auto, using(crate::proofs::Springboards::landing_anywhere, crate::proofs::Springboards::none_sprung))]
 pub(crate) fn no_springs(siege: &Siege, king: Square) -> Springs
     requires { siege.now.men.grasshoppers ≡ 0 }
@@ -203,8 +206,8 @@ fn promotion_squares(men: &Attackers, king: Square) -> Squares
     LAST_RANKS & (queens | knights)
 }
 
-// The field of a king of the defender on this square. If the attackers have nightriders, `riders` are the squares of their
-// lines from there.
+// Returns the king zone of a defender's king on this square. If the attackers have nightriders, `riders`
+// are the nightrider's lines from there.
 #[inline(always)]
 pub(crate) fn field_of(siege: &Siege, king: Square, riders: Squares, springs: &Springs) -> Field
     requires riders { siege.now.men.nightriders ≢ 0 → (c : Colour)
@@ -228,8 +231,8 @@ pub(crate) fn field_of(siege: &Siege, king: Square, riders: Squares, springs: &S
     }
 }
 
-// Whether no castling of the attackers checks: no rook from his new square, nor another man once their king has gone. Beside
-// fairy men of theirs it isn't told.
+// Returns whether no castling by the attackers gives check: neither the rook on its new square, nor another
+// man once the king has left. It says no if they have fairy men.
 #[tactic(auto, using(crate::proofs::Sieges::harmless_castling))]
 pub(crate) fn castling_is_harmless(siege: &Siege, field: &Field) -> bool
     ensures { result ≡ true → IsCastlingHarmless siege.now field.now }
@@ -240,7 +243,8 @@ pub(crate) fn castling_is_harmless(siege: &Siege, field: &Field) -> bool
     (siege.castled == 0) | ((rooks == 0) & (kings == 0) & (fairies == 0))
 }
 
-// Tells the targets of the attackers, were all others gone: where captures do more, or against many attackers, nothing.
+// Computes the attackers' targets on an otherwise empty board. Computes nothing, so that each square
+// counts, in Circe or against many attackers.
 #[inline(always)]
 pub(crate) fn tell_targets<R: Rules>(siege: &Siege, targets: &mut OpenTargets)
     ensures { AreOpenTargets siege.now.men targets.new }
@@ -252,8 +256,8 @@ pub(crate) fn tell_targets<R: Rules>(siege: &Siege, targets: &mut OpenTargets)
     *targets = all_open_targets(&siege.men);
 }
 
-// Two of the squares next to a king, the first and the last, or the only one; of none none. That it is these two costs time
-// alone.
+// Returns the first and the last of the squares next to a king; nothing if there are none. Which two they
+// are affects speed only.
 #[tactic(auto, using(crate::proofs::Sieges::fewer_adjacent))]
 fn ends_of(squares: Squares) -> Squares
     ensures { (v : Siege) (k : ℕ) → AreAdjacent v k squares → AreAdjacent v k result }
@@ -264,8 +268,9 @@ fn ends_of(squares: Squares) -> Squares
     squares & (only(next_bit(squares, 0)) | only(Some(highest(squares))))
 }
 
-// The squares to which no other man may come lest the king, who stays, keeps no flight whatever is played: those that no
-// attacker reaches, were all others gone, if they can't all be taken with one move; two of them, if these can't.
+// Returns the squares whose occupation might leave the king without a flight, if it stays: squares next to
+// it that no attacker reaches on an otherwise empty board. They are flights that one move can't all take:
+// two of them if that is enough, otherwise all; if one move can take all, every square is returned.
 #[tactic(auto, using(chess_rules::proofs::listing_moves::Targeting::every_square_on))]
 #[inline(always)]
 pub(crate) fn needed_squares(siege: &Siege, targets: &OpenTargets) -> Squares

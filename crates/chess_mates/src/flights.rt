@@ -1,4 +1,4 @@
-//! Flights of the enemy king after a move, told without playing it.
+//! Flights of the enemy king after a move, found without playing it.
 ghost use Rattle.std.specs.Prelude.{◌≡◌, ◌<◌, ◌==◌, ◌&&◌, ℕ, IfNone, IfSome, List, Option, false, is_some, not, true};
 ghost use Rattle.std.specs.Int.{bit_at};
 ghost use Rattle.std.specs.Int.Bits.{bit_and, bit_or};
@@ -29,19 +29,19 @@ use chess_rules::rules::Rules;
 use chess_rules::sight::{Sight, sight_after};
 use chess_rules::words::{only, take_first};
 
-/// What is told of the flights of the side that is to move.
+/// What is known of the flights of the side to move.
 #[derive(Clone, Copy)]
 pub(crate) enum Flights {
-    /// It has one.
+    /// It has a flight.
     Left,
-    /// Its king has no legal move where he is in check.
+    /// Its king has no legal move if it is in check.
     NoneLeft,
-    /// Nothing.
+    /// Nothing is known.
     Untold,
 }
 
-// The men once one has gone from `from` to `to`, the one on the captured square is gone, and the king on
-// `king` is lifted. The man that went doesn't count as one that stands.
+// Returns the sight after a man has gone from `from` to `to`, the man on `captured` has left the board, and
+// the king on `king` is lifted. The man that moved isn't among the standing men.
 pub(crate) fn sight_lifted(
     board: &Board,
     from: Square,
@@ -58,7 +58,7 @@ pub(crate) fn sight_lifted(
     }
 }
 
-// The men once that king stands on `to`, whoever stood there.
+// Returns the sight after the lifted king is put on `to`, whoever was there.
 pub(crate) fn sight_with(sight: Sight, to: Square) -> Sight
     ensures { result ≡ sight_with sight to }
 {
@@ -69,8 +69,8 @@ pub(crate) fn sight_with(sight: Sight, to: Square) -> Sight
     }
 }
 
-// The squares to which a king that isn't the mover's may not step: its own men stand there, as far as they
-// still stand, or the mover's king.
+// Returns the squares where a king of the side that isn't to move may not step: the squares of its own men that
+// are still there, and that of the mover's king.
 pub(crate) fn held_squares(board: &Board, standing: Squares) -> Squares
     ensures { result ≡ bit_or (bit_and (side_of board.now.men (other board.now.turn)) standing)
         (squares_of board.now.men board.now.turn King) }
@@ -79,7 +79,7 @@ pub(crate) fn held_squares(board: &Board, standing: Squares) -> Squares
     board.side(mover.other()) & standing | board.squares(mover, Kind::King)
 }
 
-// The squares that the man sees from where it arrives, as what it is then.
+// Returns the squares that the man attacks from its arrival, as what it then is.
 pub(crate) fn covered_squares(
     occupied: Squares,
     man: Man,
@@ -94,8 +94,9 @@ pub(crate) fn covered_squares(
     reach_over(occupied, arrived.colour, arrived.kind, to)
 }
 
-// The squares to which the enemy king on `king` may step after a simple move, attacks apart: no man of its
-// own and no king stands there, and in Circe nobody. `sight` is that after the move, the king lifted.
+// Returns the squares to which the enemy king on `king` may step after a simple move, attacked or not: no
+// man of its own and no king is there, and in Circe nobody. `sight` is the sight after the move with the
+// king lifted.
 #[tactic(auto, using(crate::proofs::Fleeing::open_squares_in_circe, crate::proofs::Fleeing::open_squares))]
 pub(crate) fn open_squares<R: Rules>(board: &Board, sight: Sight, king: Square) -> Squares
     ensures { (m : Move) (x : Man) → IsSeenFrom R.rule board.now m x king → m.to < 64
@@ -110,8 +111,8 @@ pub(crate) fn open_squares<R: Rules>(board: &Board, sight: Sight, king: Square) 
     near & !held_squares(board, sight.standing)
 }
 
-// The first of the squares that no man of the colour attacks once the enemy king stands there, the man that
-// moved apart.
+// Returns the first of the squares where no man of the colour, except perhaps the moved man, attacks the
+// enemy king.
 #[tactic(auto, using(chess_rules::proofs::HoldTaken::taken_all, chess_rules::proofs::HoldTaken::taken_none, chess_rules::proofs::HoldTaken::rest_falls))]
 #[inline(always)]
 pub(crate) fn first_safe(
@@ -132,14 +133,15 @@ pub(crate) fn first_safe(
     None
 }
 
-// Whether each flight is seen: none to a man that is captured is passed over, and no attacker stands still.
+// Returns whether all flights are seen: no capture is passed over, and no attacker may be paralysed.
 fn are_all_seen<R: Rules>() -> bool
     ensures { result ≡ (not (captures_do_more R.rule) && not (faced_men_stand_still R.rule)) }
 {
     !R::captures_do_more() && !R::faced_men_stand_still()
 }
 
-// What is told of the flights of the enemy king on `king` after the simple move of this man, who is no king.
+// Returns what is known of the flights of the enemy king on `king` after this man's simple move; the man is
+// no king.
 fn flights_from<R: Rules>(
     board: &Board,
     man: Man,
@@ -166,14 +168,15 @@ fn flights_from<R: Rules>(
     Flights::Untold
 }
 
-// Whether flights after the man's move are looked for: nobody castles or is reborn, and it is no king.
+// Returns whether to look for flights after the man's move: nobody castles or is reborn, and the man is no
+// king.
 fn is_looked_at<R: Rules>(man: Man, m: &Move, captures: bool) -> bool
     ensures { result ≡ (not (same_kind man.kind King) && is_simple R.rule man m.now captures) }
 {
     !man.kind.is(Kind::King) && is_simple::<R>(man, m, captures)
 }
 
-// What is told of the flights of the side that is to move after this move.
+// Returns what is known of the flights of the side to move after this move.
 pub(crate) fn flights_after<R: Rules>(board: &Board, m: &Move) -> Flights
     requires well_formed { IsWellFormed board.now }
     requires pseudo { is_pseudo_legal R.rule board.now m.now ≡ true }

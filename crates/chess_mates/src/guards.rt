@@ -1,4 +1,4 @@
-//! The squares that the men of a siege reach over the hurdles.
+//! The squares that attackers reach over hurdles.
 ghost use Rattle.std.specs.Prelude.{◌≡◌, ◌≢◌, ◌<◌, ◌==◌, ℕ, true};
 ghost use Rattle.std.specs.Int.{bit_at};
 ghost use Rattle.chess_core.specs.declared.man.Man.{Man};
@@ -13,14 +13,14 @@ use chess_rules::open_board::open_reach;
 use chess_rules::reach::reach_over;
 use chess_rules::words::{only, take_first};
 
-// The squares that attackers reach, and those that their riders do.
+// The squares that attackers reach, and those that riders among them reach.
 #[derive(Clone, Copy)]
 pub(crate) struct Guards {
     pub(crate) ridden: Squares,
     pub(crate) guarded: Squares,
 }
 
-// The squares that the man on `from` reaches over the hurdles.
+// Returns the squares that the man on `from` reaches over the hurdles.
 #[tactic(auto, using(chess_rules::proofs::rays::OnSquares::occupied_on, crate::proofs::Hurdles::reached_is, chess_rules::proofs::Bits::word_has), unfolding(crate::specs::ties::Siege::reached_over))]
 pub(crate) fn reach_from(hurdles: Squares, man: Man, from: Square) -> Squares
     ensures all { IsReached hurdles man from result }
@@ -30,7 +30,8 @@ pub(crate) fn reach_from(hurdles: Squares, man: Man, from: Square) -> Squares
     reach_over(hurdles, man.colour, man.kind, from)
 }
 
-// The same, but none if he reaches no square of the region, whoever stands on the board.
+// Returns the squares that the man on `from` reaches over the hurdles; nothing if it could reach no square
+// of the region on any board.
 #[tactic(auto, using(crate::proofs::Risks::none_at, crate::proofs::Risks::not_near))]
 fn reach_towards(hurdles: Squares, man: Man, from: Square, region: Squares) -> Squares
     ensures all { IsNear man from region → IsReached hurdles man from result }
@@ -43,7 +44,8 @@ fn reach_towards(hurdles: Squares, man: Man, from: Square, region: Squares) -> S
     reach_from(hurdles, man, from)
 }
 
-// Those that such men on the squares of a word reach.
+// Returns the squares that men like this on these squares reach over the hurdles, as far as they could
+// reach the region.
 #[tactic(auto, using(chess_rules::proofs::HoldTaken::taken_all, chess_rules::proofs::HoldTaken::taken_none, chess_rules::proofs::HoldTaken::rest_falls, chess_rules::proofs::listing_moves::Walks::off_zero))]
 fn reach_together(hurdles: Squares, man: Man, squares: Squares, region: Squares) -> Squares
     ensures all { (s : ℕ) → s < 64 → (bit_at squares s == 1) ≡ true
@@ -60,7 +62,8 @@ fn reach_together(hurdles: Squares, man: Man, squares: Squares, region: Squares)
     reached
 }
 
-// The same of the attackers of one kind.
+// Returns the squares that attackers of one kind reach over the hurdles, as far as they could reach the
+// region.
 #[tactic(auto, using(crate::proofs::Risks::none_at))]
 pub(crate) fn reach_of(
     hurdles: Squares,
@@ -81,7 +84,7 @@ pub(crate) fn reach_of(
     reach_together(hurdles, Man { colour, kind }, squares, region)
 }
 
-// The squares that riders reach.
+// Returns the squares that riders reach over the hurdles.
 #[tactic(auto, using(crate::proofs::Hurdles::riders_reach))]
 #[inline(always)]
 pub(crate) fn ridden_squares(hurdles: Squares, men: &Attackers, region: Squares) -> Squares
@@ -102,7 +105,7 @@ pub(crate) fn ridden_squares(hurdles: Squares, men: &Attackers, region: Squares)
     queens | rooks | bishops | nightriders
 }
 
-// Those that knights, pawns and kings reach.
+// Returns the squares that knights, pawns and kings reach.
 #[tactic(auto, using(crate::proofs::Hurdles::leapers_reach))]
 pub(crate) fn leapt_squares(hurdles: Squares, men: &Attackers, region: Squares) -> Squares
     ensures all { AreReached hurdles men.now region is_leaper result }
@@ -115,7 +118,7 @@ pub(crate) fn leapt_squares(hurdles: Squares, men: &Attackers, region: Squares) 
     knights | pawns | kings
 }
 
-// The attackers but the one on the square.
+// Returns the attackers without the one on the square.
 fn without(men: &Attackers, gone: Square) -> Attackers
     ensures { (s : ℕ) (x : Man) → IsAttacker men.now x s → gone ≢ s → IsAttacker result x s }
 {
@@ -133,7 +136,7 @@ fn without(men: &Attackers, gone: Square) -> Attackers
     }
 }
 
-// What the attackers who may reach a square of the region reach once the one on `from` has gone.
+// Returns the squares that attackers near the region reach after the one on `from` has left.
 pub(crate) fn guards_without(siege: &Siege, from: Square, region: Squares) -> Guards
     ensures { AreGuardsWithout siege.now from region result }
 {

@@ -1,5 +1,5 @@
-//! Squares to which a king isn't said to flee: those on which his men stand, and in Circe those of all men and those on which
-//! his men may be reborn.
+//! Closed squares: squares to which a king isn't assumed to flee. They hold its own men, and in Circe also
+//! all other men and the home squares of its men.
 ghost use Rattle.std.specs.Prelude.{◌≡◌, ◌<◌, ◌==◌, ℕ, Some, true, false};
 ghost use Rattle.std.specs.Int.{bit_at};
 ghost use Rattle.chess_core.specs.Position.{same_kind};
@@ -14,7 +14,7 @@ use chess_core::square::{Square, Squares};
 use chess_rules::rules::Rules;
 use chess_rules::words::{only, take_first};
 
-// The squares on which a man of the kind, who is no pawn, may be reborn.
+// Returns the home squares of a kind other than pawn.
 #[tactic(auto, using(crate::proofs::HomeSquares::home_on))]
 fn homes_of(colour: Colour, kind: Kind) -> Squares
     ensures { same_kind kind Pawn ≡ false → (t r : ℕ) → rebirth colour kind t ≡ Some r
@@ -36,7 +36,7 @@ fn homes_of(colour: Colour, kind: Kind) -> Squares
     }
 }
 
-// The square on which a pawn who is captured on the file of this square is reborn.
+// Returns the home square of a pawn captured on the file of this square.
 fn pawn_home(colour: Colour, from: Square) -> Squares
     ensures { (t r : ℕ) → file_of t ≡ file_of from → rebirth colour Pawn t ≡ Some r
         → (bit_at result r == 1) ≡ true }
@@ -47,7 +47,7 @@ fn pawn_home(colour: Colour, from: Square) -> Squares
     }
 }
 
-// The squares on which the pawns may be reborn.
+// Returns the home squares of the pawns.
 #[tactic(auto, using(chess_rules::proofs::HoldTaken::taken_all, chess_rules::proofs::HoldTaken::taken_none, chess_rules::proofs::HoldTaken::rest_falls))]
 fn pawn_homes(colour: Colour, pawns: Squares) -> Squares
     ensures { (s : ℕ) → s < 64 → (bit_at pawns s == 1) ≡ true → (t r : ℕ) → file_of t ≡ file_of s
@@ -62,7 +62,7 @@ fn pawn_homes(colour: Colour, pawns: Squares) -> Squares
     homes
 }
 
-// The squares on which men of the kind may be reborn, if the colour has any.
+// Returns the home squares of the colour's men of this kind, if there are any.
 #[tactic(auto, using(crate::proofs::HomeSquares::no_homes_are, crate::proofs::HomeSquares::pawn_homes_are))]
 fn homes_on(board: &Board, colour: Colour, kind: Kind) -> Squares
     ensures { AreHomesOf board.now.men colour kind result }
@@ -77,7 +77,7 @@ fn homes_on(board: &Board, colour: Colour, kind: Kind) -> Squares
     homes_of(colour, kind)
 }
 
-// The squares on which men of the colour may be reborn.
+// Returns the home squares of the colour's men.
 #[tactic(auto, using(crate::proofs::HomeSquares::all_homes))]
 fn home_squares(board: &Board, colour: Colour) -> Squares
     ensures { AreHomes board.now.men colour result }
@@ -91,8 +91,8 @@ fn home_squares(board: &Board, colour: Colour) -> Squares
         | homes_on(board, colour, Kind::Nightrider)
 }
 
-// The squares to which the king of the side to move isn't said to flee: those of his men, and in Circe all those on which
-// a man stands or may be reborn.
+// Returns the squares to which the king of the side to move isn't assumed to flee: the squares of its men; in
+// Circe also the squares of all men, and the home squares of its own.
 #[tactic(auto, using(crate::proofs::HomeSquares::all_closed, crate::proofs::HomeSquares::own_closed))]
 pub(crate) fn closed_squares<R: Rules>(board: &Board) -> Squares
     ensures { AreClosed R.rule board.now result }

@@ -1,4 +1,4 @@
-//! The flights of a besieged king that a grasshopper takes once he has come: he hops to one only over a man next to it.
+//! The flights that an arriving grasshopper takes: it hops to one only over a man next to it.
 ghost use Rattle.std.specs.Prelude.{◌≡◌, ◌<◌, ◌==◌, ℕ, true, false};
 ghost use Rattle.std.specs.Int.{bit_at};
 ghost use Rattle.chess_core.specs.Position.{same_kind};
@@ -13,8 +13,8 @@ use chess_rules::leaps::king_leaps;
 use chess_rules::outward::comes_as;
 use chess_rules::words::{only, take_first};
 
-// The squares on which a man may stand, where none arrived, once the attacker has left `from` and the king `king`: the
-// hurdles, and in Circe, where attackers stand on closed squares, those too.
+// Returns the squares where a man may be, unless one arrives, after the attacker has left `from` and the
+// king `king`: the hurdles, and in Circe, where attackers are on closed squares, these too.
 #[tactic(auto, using(chess_rules::proofs::Bits::on_left, chess_rules::proofs::Bits::on_right, chess_rules::proofs::Bits::word_has, crate::proofs::Risks::denied_on, std::proofs::lemmas::Bool::ne_eqb))]
 pub(crate) fn later_hurdles(siege: &Siege, king: Square, from: Square) -> Squares
     ensures { AreLaterHurdles siege.now king from result }
@@ -26,8 +26,8 @@ pub(crate) fn later_hurdles(siege: &Siege, king: Square, from: Square) -> Square
     (kept | siege.closed) & !only(Some(king))
 }
 
-// The squares from which a grasshopper takes the flight: that square, and those from which he hops there over a hurdle next
-// to it, whoever else stands on the line.
+// Returns the squares from which a grasshopper takes the flight: the flight itself, and those from which it
+// hops there over a hurdle next to it, whoever is on the line.
 fn taking_squares(hurdles: Squares, flight: Square) -> Squares
     ensures { (x : Man) (k near t b : ℕ) → same_kind x.kind Grasshopper ≡ true → t < 64
         → (bit_at near flight == 1) ≡ true → (bit_at result t == 1) ≡ false
@@ -39,16 +39,16 @@ fn taking_squares(hurdles: Squares, flight: Square) -> Squares
     only(Some(flight)) | comes_as(over, Colour::White, Kind::Grasshopper, flight)
 }
 
-// The flight and the squares next to it, where a man who arrives blocks it or is a hurdle. The king does neither: he leaves
-// his square for the flight.
+// Returns the flight and the squares next to it, where an arriving man blocks it or is a hurdle; without
+// the king's square, which the king leaves.
 fn squares_beside(king: Square, flight: Square) -> Squares
     ensures { (b : ℕ) → b < 64 → (bit_at result b == 1) ≡ false → IsApart king flight b }
 {
     only(Some(flight)) | king_leaps(flight) & !only(Some(king))
 }
 
-// The squares that a defender mustn't come to lest a grasshopper who comes to one of the targets leaves none of the flights
-// `near`. To a square where another attacker stands he comes only if he recaptures there.
+// Returns the squares whose occupation might leave no flight of `near` after a grasshopper arrives on one
+// of the targets. A target with another attacker counts only as a recapture there.
 #[tactic(auto, using(chess_rules::proofs::HoldTaken::rest_falls, chess_rules::proofs::listing_moves::Targeting::every_square_on))]
 pub(crate) fn critical_of_hops(
     king: Square,

@@ -1,4 +1,4 @@
-//! Flights that a king keeps whatever either side plays next, computed once for all moves of his side.
+//! Flights that a king keeps whatever either side plays next, computed once for all moves of its side.
 ghost use Rattle.std.specs.Prelude.{◌≡◌, Some};
 ghost use Rattle.chess_core.specs.Position.{king_square};
 ghost use Rattle.chess_core.specs.WellFormed.{IsWellFormed};
@@ -15,14 +15,14 @@ use chess_rules::rules::Rules;
 use chess_rules::sift::Sift;
 use std::marker::Model;
 
-/// The flights of the king of the side to move: a filter that takes moves after which he keeps one whatever is played, so
-/// that no reply mates. It leaves castling, and in Circe every move.
+/// The flights of the king of the side to move, as a filter: it takes moves after which the king keeps a
+/// flight whatever is played, so that no reply mates. It leaves castling, and in Circe every move.
 #[derive(Drop)]
 pub struct KeptFlights {
     siege: Siege,
-    // Where the attackers might go, if each were alone on the board.
+    // Where the attackers could go on an otherwise empty board.
     targets: OpenTargets,
-    // The squares to which another man must not come, so that the king, who stays, keeps a flight.
+    // The squares where another man must not arrive, so that the king, if it stays, keeps a flight.
     needed: Squares,
 }
 
@@ -41,7 +41,7 @@ impl Model for KeptFlights {
 }
 
 impl KeptFlights {
-    /// Computes the flights of the king of the side to move, who stands on the square.
+    /// Computes the flights of the king of the side to move, which is on this square.
     pub fn of<R: Rules>(board: &Board, king: Square) -> KeptFlights
         ensures { IsWellFormed board.now → IsTold R.rule
             → king_square board.now.men board.now.turn ≡ Some king
@@ -57,7 +57,8 @@ impl KeptFlights {
         }
     }
 
-    // The squares such that the king may keep no flight if the man on `from` goes there.
+    // Returns which of `squares` are risky: where the arrival of the man on `from` might leave the king without a
+    // flight.
     fn unkept_squares<R: Rules>(&self, _board: &Board, from: Square, squares: Squares) -> Squares
         requires well_formed { IsWellFormed _board.now }
         requires flights { AreThreatsOf R.rule _board.now self.now }

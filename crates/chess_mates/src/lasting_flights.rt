@@ -1,5 +1,5 @@
-//! Flights that one move can't take, told before the defender's move: the enemy's men count as if no other
-//! stood on the board, so it doesn't matter who goes, captures or is captured.
+//! Flights that one move can't take, found before the defender's move. The attackers count as if each were
+//! alone on the board, so it doesn't matter who moves, captures or is captured.
 ghost use Rattle.std.specs.Prelude.{◌≡◌, ◌≢◌, ◌<◌, ◌==◌, ℕ, IfSome, true, false};
 ghost use Rattle.std.specs.Int.{bit_at};
 ghost use Rattle.chess_core.specs.SquareNames.{e1, e8};
@@ -16,8 +16,9 @@ use chess_core::square::{Square, Squares};
 use chess_rules::open_board::{open_reach, open_targets};
 use chess_rules::words::{highest, next_bit, only, take_first};
 
-// The squares on which a side's men of each kind might stand after one move, were the others gone, and those that its men reach
-// so now; perhaps more. A promoted rook or bishop counts as a queen, who reaches all that they do.
+// Supersets of the squares where each kind of a side's men may be after one move on an otherwise empty
+// board, and of the squares that they reach now. A promoted rook or bishop counts as a queen, which reaches
+// all that they do.
 #[derive(Clone, Copy)]
 pub(crate) struct OpenTargets {
     pub(crate) kings: Squares,
@@ -32,7 +33,7 @@ pub(crate) struct OpenTargets {
 }
 
 impl OpenTargets {
-    // All squares, of men of whom nothing is told.
+    // Returns all squares, when nothing is computed.
     #[inline(always)]
     pub(crate) fn untold() -> OpenTargets
         ensures { (a : Attackers) → AreOpenTargets a result }
@@ -51,7 +52,7 @@ impl OpenTargets {
     }
 }
 
-// The squares that the men of this kind reach so, who stand on the squares of a word.
+// Returns the squares that men of this kind on these squares reach on otherwise empty boards.
 #[tactic(auto, using(chess_rules::proofs::HoldTaken::taken_all, chess_rules::proofs::HoldTaken::taken_none, chess_rules::proofs::HoldTaken::rest_falls, crate::proofs::Risks::none_on))]
 #[inline(always)]
 fn open_reach_of(colour: Colour, kind: Kind, squares: Squares) -> Squares
@@ -71,7 +72,8 @@ fn open_reach_of(colour: Colour, kind: Kind, squares: Squares) -> Squares
     reached
 }
 
-// Those to which they might go, steps ahead and castlings among them.
+// Returns the squares to which men of this kind on these squares could go, including steps and castling, on
+// otherwise empty boards.
 #[tactic(auto, using(chess_rules::proofs::HoldTaken::taken_all, chess_rules::proofs::HoldTaken::taken_none, chess_rules::proofs::HoldTaken::rest_falls, crate::proofs::Risks::none_on))]
 #[inline(always)]
 fn open_targets_of(colour: Colour, kind: Kind, squares: Squares) -> Squares
@@ -91,7 +93,7 @@ fn open_targets_of(colour: Colour, kind: Kind, squares: Squares) -> Squares
     targets
 }
 
-// The squares on which pawns become fairy men, if they may.
+// Returns the squares where pawns promote to fairy men, if they may.
 #[tactic(auto)]
 fn fairy_targets(men: &Attackers, promoted: Squares) -> Squares
     ensures { men.now.fairy_promotions ≡ true → result ≡ promoted }
@@ -99,7 +101,8 @@ fn fairy_targets(men: &Attackers, promoted: Squares) -> Squares
     if men.fairy_promotions { promoted } else { 0 }
 }
 
-// The targets of the men: except for pawns and kings, the squares that they reach and those on which a pawn becomes one of them.
+// Returns the targets of the men. For pieces other than kings these are the squares that they reach and
+// those where a pawn promotes to their kind.
 #[inline(always)]
 pub(crate) fn all_open_targets(men: &Attackers) -> OpenTargets
     ensures { AreOpenTargets men.now result }
@@ -128,7 +131,7 @@ pub(crate) fn all_open_targets(men: &Attackers) -> OpenTargets
     }
 }
 
-// The first of the squares that is left once the man has come to `to`.
+// Returns the first of the squares that remains after the man arrives on `to`.
 #[tactic(auto, using(crate::proofs::LastingFlights::left_first))]
 fn first_left(squares: Squares, man: Man, to: Square) -> Option<Square>
     ensures { IfSome result (λ f. IsLeft squares man to f) }
@@ -142,7 +145,7 @@ pub(crate) const LAST_RANKS: Squares = 0xff00_0000_0000_00ff;
 // The squares e1 and e8.
 const KINGS_HOMES: Squares = 0x1000_0000_0000_0010;
 
-// Whether no king stands on a square from which he castles.
+// Returns whether no king is on a square from which it castles.
 #[tactic(auto, using(crate::proofs::LastingFlights::off_homes))]
 #[inline(always)]
 fn never_castle(men: &Attackers) -> bool
@@ -152,7 +155,8 @@ fn never_castle(men: &Attackers) -> bool
     men.kings & KINGS_HOMES == 0
 }
 
-// The squares from which the man reaches `to`, whoever else stands on the board: a grasshopper comes along a queen's lines.
+// Returns a superset of the squares from which the man reaches `to` on some board; for a grasshopper a
+// queen's lines.
 #[tactic(auto, using(crate::proofs::LastingFlights::come_back, crate::proofs::LastingFlights::hop_back))]
 pub(crate) fn open_approaches(man: Man, to: Square) -> Squares
     ensures { AreApproached man to result }
@@ -168,7 +172,8 @@ pub(crate) fn open_approaches(man: Man, to: Square) -> Squares
     open_reach(Man { colour, kind }, to)
 }
 
-// The squares where the man takes this one: it, and those from which he reaches it, whoever else stands on the board.
+// Returns the squares where the man takes this flight: the flight itself, and those from which it could
+// reach the flight on some board.
 #[tactic(auto, using(crate::proofs::LastingFlights::untaken_left))]
 fn taking_squares(man: Man, flight: Square) -> Squares
     ensures { (w t : ℕ) → (bit_at w flight == 1) ≡ true → t < 64 → (bit_at result t == 1) ≡ false
@@ -179,7 +184,7 @@ fn taking_squares(man: Man, flight: Square) -> Squares
     open_approaches(man, flight) | only(Some(flight))
 }
 
-// Whether one of the squares is left wherever the man comes to a square of the word.
+// Returns whether one of the squares remains wherever the man arrives on a target.
 #[tactic(auto, using(chess_rules::proofs::HoldTaken::taken_all, chess_rules::proofs::HoldTaken::taken_none, chess_rules::proofs::HoldTaken::rest_falls))]
 fn leaves_one_each(squares: Squares, man: Man, targets: Squares) -> bool
     ensures { result ≡ true → (t : ℕ) → t < 64 → (bit_at targets t == 1) ≡ true
@@ -194,7 +199,8 @@ fn leaves_one_each(squares: Squares, man: Man, targets: Squares) -> bool
     true
 }
 
-// The same, asked only where he takes the first of them and the last: elsewhere one of these is left.
+// Returns whether one of the squares remains wherever the man arrives on a target. It tests only arrivals
+// that take both the first and the last of the squares: elsewhere one of these remains.
 #[inline(always)]
 fn leaves_one_among(squares: Squares, man: Man, targets: Squares) -> bool
     ensures { result ≡ true → (t : ℕ) → t < 64 → (bit_at targets t == 1) ≡ true
@@ -211,7 +217,7 @@ fn leaves_one_among(squares: Squares, man: Man, targets: Squares) -> bool
     leaves_one_each(squares, man, taken & taking_squares(man, last))
 }
 
-// The same for the targets of a kind, which may have no men.
+// Returns whether one of the squares remains wherever a man of this kind arrives; there may be none.
 #[tactic(auto, using(crate::proofs::Risks::none_on))]
 #[inline(always)]
 fn kind_leaves_one(squares: Squares, colour: Colour, kind: Kind, targets: Squares) -> bool
@@ -224,7 +230,7 @@ fn kind_leaves_one(squares: Squares, colour: Colour, kind: Kind, targets: Square
     leaves_one_among(squares, Man { colour, kind }, targets)
 }
 
-// Whether one is left wherever any of the men goes, whatever a pawn becomes.
+// Returns whether one of the squares remains wherever any of the men goes, whatever a pawn promotes to.
 #[inline(always)]
 fn leave_one(squares: Squares, men: &Attackers, targets: &OpenTargets) -> bool
     requires { AreOpenTargets men.now targets.now }
@@ -257,7 +263,7 @@ fn leave_one(squares: Squares, men: &Attackers, targets: &OpenTargets) -> bool
     kind_leaves_one(squares, men.colour, Kind::King, targets.kings)
 }
 
-// The square of the mover's king after this man's move, castling apart.
+// Returns the square of the mover's king after this man's move, without castling.
 pub(crate) fn king_after(board: &Board, man: Man, m: &Move) -> Option<Square>
     ensures { result ≡ king_after board.now man m.now }
 {
@@ -267,7 +273,8 @@ pub(crate) fn king_after(board: &Board, man: Man, m: &Move) -> Option<Square>
     board.king_of(board.turn())
 }
 
-// Whether those of the squares that none of the men reaches, were the others gone, can't all be taken with one move.
+// Returns whether one move can't take all those squares that the men don't reach now, as if each were alone
+// on the board.
 #[tactic(auto, using(crate::proofs::LastingFlights::keeps_one))]
 #[inline(always)]
 pub(crate) fn keeps_one(men: &Attackers, targets: &OpenTargets, near: Squares) -> bool

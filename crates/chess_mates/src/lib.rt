@@ -1,8 +1,31 @@
-//! Moves that give check and moves that mate, told before they are played: for speed alone, since the rules
-//! of play say all of them.
+//! Mating moves and replies that can't mate, found mostly without playing moves. All of it is for speed:
+//! `chess_rules` alone could say the same.
 //!
-//! No call of this crate takes memory, and none makes a list of moves. A board that is played on stands
-//! afterwards as before.
+//! ```rust
+//! use chess_core::{Board, Colour, Diagram, Kind, Man, Square};
+//! use chess_mates::MatingMoves;
+//! use chess_rules::Orthodox;
+//!
+//! // White Kg6 Ra1, Black Kg8, White to move.
+//! let mut diagram = Diagram::new();
+//! for (number, colour, kind) in [
+//!     (46, Colour::White, Kind::King),
+//!     (0, Colour::White, Kind::Rook),
+//!     (62, Colour::Black, Kind::King),
+//! ] {
+//!     let _ = diagram.put(Square::numbered(number), Man { colour, kind });
+//! }
+//! if diagram.is_well_formed() {
+//!     let mut board = Board::of(&diagram);
+//!     let mut mates = MatingMoves::<Orthodox>::of(&board);
+//!     while let Some(m) = mates.next(&mut board) {
+//!         // Once: Ra1-a8.
+//!     }
+//! }
+//! ```
+//!
+//! The interface is what is re-exported at the root, and `threats`, `quiet_steps` and `kept_flights`. No
+//! call allocates or builds a list of moves, and each leaves the board unchanged.
 #![tactic(auto)]
 
 pub mod aims;

@@ -1,4 +1,4 @@
-//! The moves of one position that mate, most of the others passed over without being played.
+//! The mating moves of one position; most other moves are passed over without being played.
 ghost use Rattle.std.specs.Prelude.{◌≡◌, ⊤, ℕ, ◌≤◌, ◌<◌, ◌∷◌, [], ◌&&◌, IfSome, MatchOption, None, Some, ◌==◌, false, not, true};
 ghost use Rattle.chess_core.specs.Position.{other};
 ghost use Rattle.chess_core.specs.WellFormed.{IsWellFormed};
@@ -31,7 +31,7 @@ use chess_rules::targets::{Kept, TRIPLES, arrivals};
 use std::alloc::AllocError;
 use std::marker::{Model, PhantomData};
 
-/// What tells of a move that it doesn't mate: the squares from which one may give check, and the flights of the
+/// What rules out that a move mates: the squares from which a move may give check, and the flights of the
 /// enemy king.
 #[derive(Clone, Copy)]
 pub(crate) struct MateClues {
@@ -39,8 +39,8 @@ pub(crate) struct MateClues {
     flights: StandingFlights,
 }
 
-/// A place among all triples, as in `Moves`, in one position: with it are kept the clues of that position,
-/// and the targets of the origin on which the place stands.
+/// A cursor over the mating moves of one position. It keeps the position's clues and the candidate squares
+/// of its current origin.
 #[derive_where(Copy)]
 pub struct MatingMoves<R> {
     number: u16,
@@ -80,7 +80,7 @@ impl<R> Clone for MatingMoves<R> {
 }
 
 impl<R: Rules> MatingMoves<R> {
-    /// The place before all triples, in the board's position.
+    /// Returns the cursor before the first triple, for the board's position.
     #[inline(always)]
     pub fn of(board: &Board) -> MatingMoves<R>
         ensures start { result.place ≡ 0 }
@@ -100,23 +100,23 @@ impl<R: Rules> MatingMoves<R> {
         }
     }
 
-    /// The same place, without what is kept.
+    /// Returns the cursor as `Moves`, without what is kept for this position.
     pub fn place(&self) -> Moves<R>
         ensures { result ≡ self.now.place }
     {
         Moves::at(self.number)
     }
 
-    /// Goes to another place in the same position.
+    /// Moves the cursor to another place in the list of the same position.
     pub fn go_to(&mut self, place: Moves<R>)
         ensures { self.new ≡ record self.old { place = place } }
     {
         self.number = place.number();
     }
 
-    /// The first legal move behind the place that mates, on which the place then stands. Where there is
-    /// none: `None`, and the place stands behind all triples. The board is unchanged.
-    /// The place must be one in the board's position.
+    /// Returns the next legal move after the cursor that mates, and moves the cursor to it. After the last
+    /// it returns `None` and moves the cursor to the end. The cursor must be of the board's position. The
+    /// board is unchanged.
     #[tactic(auto, using(crate::proofs::MatesBetween::next_mates), unfolding(crate::specs::ties::Mates::mates, chess_rules::specs::ties::Places::place_of))]
     pub fn next(&mut self, board: &mut Board) -> Option<Move>
         requires well_formed { IsWellFormed board.old }
@@ -145,9 +145,9 @@ impl<R: Rules> MatingMoves<R> {
         None
     }
 
-    /// The first legal move behind the place that mates and doesn't lie behind `end`, on which the place
-    /// then stands. Where there is none: `None`, and the place stays. The board is unchanged. The place
-    /// must be one in the board's position.
+    /// Returns the next legal move after the cursor and not after `end` that mates, and moves the cursor to
+    /// it. If there is none it returns `None` and the cursor stays. The cursor must be of the board's
+    /// position. The board is unchanged.
     #[tactic(auto, using(crate::proofs::MatesBetween::until_mates), unfolding(crate::specs::ties::Mates::mates))]
     pub fn next_until(&mut self, end: Moves<R>, board: &mut Board) -> Option<Move>
         requires well_formed { IsWellFormed board.old }
@@ -177,8 +177,8 @@ impl<R: Rules> MatingMoves<R> {
     }
 }
 
-/// The first legal move behind the place that mates, on which the place then stands. Where there is
-/// none: `None`, and the place stands behind all triples. The board is unchanged.
+/// Returns the next legal move after `place` that mates, and moves `place` to it. After the last it returns
+/// `None` and moves `place` to the end. The board is unchanged.
 pub fn next_mate<R: Rules>(place: &mut Moves<R>, board: &mut Board) -> Option<Move>
     requires { IsWellFormed board.old }
     ensures place { place.new ≡ place_of result }
@@ -196,8 +196,8 @@ pub fn next_mate<R: Rules>(place: &mut Moves<R>, board: &mut Board) -> Option<Mo
     found
 }
 
-// The number of the first move that mates from the triple numbered `start` on and before the one numbered
-// `end`; `end` where there is none.
+// Returns the number of the first mating move from triple `start` up to but not including `end`; `end` if
+// there is none.
 pub(crate) fn next_mating<R: Rules>(
     board: &mut Board,
     clues: &MateClues,
@@ -244,7 +244,7 @@ impl Sought for MateClues {
     ghost idle = { λ rule p m h. mates-idle rule p m h };
 }
 
-// The squares from which a move may mate, and perhaps more: those from which one may give check.
+// Returns a superset of the squares from which a move mates: those from which a move may give check.
 #[tactic(auto, using(crate::proofs::Mating::no_mate_quietly))]
 fn mating_origins<R: Rules>(board: &Board, squares: &CheckSquares) -> Squares
     requires well_formed { IsWellFormed board.now }
@@ -254,8 +254,8 @@ fn mating_origins<R: Rules>(board: &Board, squares: &CheckSquares) -> Squares
     check_origins::<R>(board, squares)
 }
 
-// The squares to which the man on `from` must go to mate, and perhaps more: elsewhere he gives no check, or one of the
-// flights is left.
+// Returns a superset of the squares to which the man on `from` must go to mate: elsewhere it gives no
+// check, or a flight remains.
 #[tactic(auto, using(chess_rules::proofs::listing_moves::Walks::off_zero, crate::proofs::Mating::no_mate_quietly))]
 fn mate_targets<R: Rules>(board: &Board, clues: &MateClues, from: Square) -> Squares
     requires well_formed { IsWellFormed board.now }
@@ -270,7 +270,7 @@ fn mate_targets<R: Rules>(board: &Board, clues: &MateClues, from: Square) -> Squ
     checks & clues.flights.mating_squares::<R>(board, from)
 }
 
-// Those of them to which he may go.
+// Returns the mate targets of the man on `from` to which it may go.
 #[tactic(auto, using(chess_rules::proofs::listing_moves::Walks::candidates, chess_rules::proofs::listing_moves::Walks::no_candidates, crate::proofs::Mating::not_mating))]
 fn candidates<R: Rules>(board: &Board, clues: &MateClues, from: Square) -> Squares
     requires well_formed { IsWellFormed board.now }
@@ -284,7 +284,7 @@ fn candidates<R: Rules>(board: &Board, clues: &MateClues, from: Square) -> Squar
     arrivals::<R>(board, from) & word
 }
 
-// Whether the move is legal and mates. The board is unchanged after it.
+// Returns whether the move is legal and mates. The board is unchanged.
 #[tactic(auto, using(crate::proofs::Mating::no_mate_quietly, crate::proofs::Mating::not_mating, crate::proofs::Fleeing::no_mate_with_flight, crate::proofs::Parrying::no_mate_with_parry))]
 fn is_mating<R: Rules>(board: &mut Board, squares: &CheckSquares, m: Move) -> bool
     requires well_formed { IsWellFormed board.old }
@@ -308,8 +308,8 @@ fn is_mating<R: Rules>(board: &mut Board, squares: &CheckSquares, m: Move) -> bo
     }
 }
 
-// Whether the move, which may be made, is legal and mates; `flights` and `parries` are told of the position after it.
-// The board is unchanged after it.
+// Returns whether the pseudo-legal move is legal and mates; `flights` and `parries` are what is known of
+// the position after it. The board is unchanged.
 #[tactic(auto, unfolding(crate::specs::ties::Mates::mates, chess_rules::specs::Legal::is_legal))]
 fn gives_mate<R: Rules>(board: &mut Board, m: Move, flights: Flights, parries: Parries) -> bool
     requires well_formed { IsWellFormed board.old }
@@ -326,7 +326,7 @@ fn gives_mate<R: Rules>(board: &mut Board, m: Move, flights: Flights, parries: P
     mated
 }
 
-// Whether the side to move is mated and `mover` isn't in check. The board is unchanged.
+// Returns whether the side to move is mated and `mover` isn't in check. The board is unchanged.
 #[tactic(auto, unfolding(chess_rules::specs::Legal::is_mate))]
 fn is_mated_by<R: Rules>(
     board: &mut Board,
@@ -346,7 +346,7 @@ fn is_mated_by<R: Rules>(
         && !has_move_in_check::<R>(board, flights, parries)
 }
 
-// Whether the side to move is in check, as it is where it is told that nobody parries.
+// Returns whether the side to move is in check; it is if parries are known to be impossible.
 fn is_checked<R: Rules>(board: &Board, parries: Parries) -> bool
     requires { AreParries R.rule board.now parries }
     ensures { result ≡ in_check R.rule board.now.men board.now.turn }
@@ -357,8 +357,8 @@ fn is_checked<R: Rules>(board: &Board, parries: Parries) -> bool
     }
 }
 
-// Whether the side to move, which is in check, has a legal move. The king's are passed over where it is told
-// that he has none, and then the others' too where it is told of them. The board is unchanged.
+// Returns whether the side to move, which is in check, has a legal move. Skips the king's moves if it is
+// known to have none, and then the others' too if they are known to have none. The board is unchanged.
 #[tactic(auto, using(crate::proofs::Flightless::others_are_all, crate::proofs::Flightless::none_are_left))]
 fn has_move_in_check<R: Rules>(board: &mut Board, flights: Flights, parries: Parries) -> bool
     requires well_formed { IsWellFormed board.old }

@@ -16,7 +16,7 @@ use chess_rules::open_board::open_targets;
 use chess_rules::rules::Rules;
 use chess_rules::words::{next_bit, only, take_first};
 
-// The squares of the mover's men of this kind from which no move exposes the enemy's king.
+// Returns the squares of the mover's men of this kind whose moves can't expose the enemy king.
 #[inline(always)]
 #[tactic(auto, using(crate::proofs::FarMen::man_of_word, crate::proofs::FarMen::off_denied, chess_rules::proofs::listing_moves::Walks::on_first))]
 fn men_off_shields(board: &Board, squares: &CheckSquares, kind: Kind) -> Squares
@@ -28,7 +28,7 @@ fn men_off_shields(board: &Board, squares: &CheckSquares, kind: Kind) -> Squares
     board.squares(board.turn(), kind) & !squares.shields()
 }
 
-// The squares of the mover's pawns who couldn't come to a check square on an empty board.
+// Returns the squares of the mover's pawns that could reach no check square on an empty board.
 #[inline(always)]
 fn far_pawns<R: Rules>(board: &Board, squares: &CheckSquares) -> Squares
     requires well_formed { IsWellFormed board.now }
@@ -40,7 +40,7 @@ fn far_pawns<R: Rules>(board: &Board, squares: &CheckSquares) -> Squares
     men_off_shields(board, squares, Kind::Pawn) & !pawns_before(board.turn(), targets)
 }
 
-// Whether the man couldn't come from here to one of his targets on an empty board.
+// Returns whether the man could reach none of its targets from here on an empty board.
 #[inline(always)]
 #[tactic(auto, using(crate::proofs::FarMen::far_by))]
 fn is_far<R: Rules>(board: &Board, man: Man, from: Square, targets: Squares) -> bool
@@ -51,8 +51,8 @@ fn is_far<R: Rules>(board: &Board, man: Man, from: Square, targets: Squares) -> 
     open_targets(man, from) & targets == 0
 }
 
-// The squares of the mover's men of this kind, no kings, who couldn't come to a check square on an empty
-// board.
+// Returns the squares of the mover's men of this kind, not kings, that could reach no check square on an
+// empty board.
 #[inline(always)]
 #[tactic(auto, using(chess_rules::proofs::HoldTaken::rest_falls, crate::proofs::Hurdles::rest_on, crate::proofs::FarMen::far_either, chess_rules::proofs::listing_moves::Walks::off_zero, crate::proofs::FarMen::far_one))]
 fn far_men<R: Rules>(board: &Board, squares: &CheckSquares, kind: Kind) -> Squares
@@ -81,8 +81,8 @@ fn far_men<R: Rules>(board: &Board, squares: &CheckSquares, kind: Kind) -> Squar
     far
 }
 
-// The square of the mover's king, if he couldn't come to a check square on an empty board, castling among
-// his moves.
+// Returns the square of the mover's king if it could reach no check square on an empty board, castling
+// included.
 #[inline(always)]
 #[tactic(auto, using(chess_rules::proofs::listing_moves::Walks::off_zero, crate::proofs::FarMen::far_one))]
 fn far_king<R: Rules>(board: &Board, squares: &CheckSquares) -> Squares
@@ -105,14 +105,14 @@ fn far_king<R: Rules>(board: &Board, squares: &CheckSquares) -> Squares
     only(Some(from))
 }
 
-// The squares of the mover's men.
+// Returns the squares of the mover's men.
 fn own_squares(board: &Board) -> Squares
     ensures { result ≡ side_of board.now.men board.now.turn }
 {
     board.side(board.turn())
 }
 
-// The squares of the mover's men, those apart who couldn't come to a check square on an empty board.
+// Returns the squares of the mover's men except those that could reach no check square on an empty board.
 #[tactic(auto, using(crate::proofs::FarMen::check_origins_own))]
 pub(crate) fn check_origins<R: Rules>(board: &Board, squares: &CheckSquares) -> Squares
     requires well_formed { IsWellFormed board.now }

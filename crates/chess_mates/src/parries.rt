@@ -1,5 +1,5 @@
-//! Checks that another man than the king parries, told before they are given: he captures the man who
-//! gives it, or comes between. Checks too that no other man can parry.
+//! Parries by men other than the king, found before the check is given: a man captures the checker or
+//! interposes. Also checks that no other man can parry.
 ghost use Rattle.std.specs.Prelude.{◌≡◌, ◌&&◌, ◌<◌, ◌==◌, ℕ, List, Option, true, false};
 ghost use Rattle.chess_core.specs.Position.{Position, is_of_colour, man_on, other};
 ghost use Rattle.chess_core.specs.Squares.{is_square, some_square};
@@ -32,19 +32,19 @@ use chess_rules::shields::{cannot_expose, fairy_lines};
 use chess_rules::sight::{Sight, sight_after};
 use chess_rules::words::{contains, next_bit, only, take_first};
 
-/// What is told of the parries of a check, which are legal moves of other men than the king.
+/// What is known of parries of a check by legal moves of men other than the king.
 #[derive(Clone, Copy)]
 pub(crate) enum Parries {
     /// There is one.
     Possible,
     /// There is none.
     Impossible,
-    /// Nothing.
+    /// Nothing is known.
     Unknown,
 }
 
-// Whether it is told who parries after the man's move: no king goes and nobody is promoted, no line to the enemy
-// king opens, nobody is reborn, and no man stands still.
+// Returns whether parries of the man's move are computed: it is no king and doesn't promote, no line to the
+// enemy king opens, nobody is reborn, and no man is paralysed.
 fn are_parries_told<R: Rules>(board: &Board, squares: &CheckSquares, man: Man, m: &Move) -> bool
     requires { AreCheckSquares board.now.men (other board.now.turn) squares.now }
     ensures { result ≡ true → AreParriesTold R.rule board.now man m.now }
@@ -56,8 +56,8 @@ fn are_parries_told<R: Rules>(board: &Board, squares: &CheckSquares, man: Man, m
         && cannot_expose::<R>(board, board.turn().other(), squares.shields(), m)
 }
 
-// The squares whose men the enemy king on `king` can spare after the move: none shuts a line to him, alone or with
-// the man that leaves one.
+// Returns the squares whose men may leave them after the move without exposing the enemy king on `king`:
+// they block no line to it, alone or together with the moved man.
 #[tactic(auto, using(crate::proofs::Parrying::unpinned_beside))]
 fn unpinned_squares(board: &Board, squares: &CheckSquares, m: &Move, king: Square) -> Squares
     requires { AreCheckSquares board.now.men (other board.now.turn) squares.now }
@@ -73,7 +73,8 @@ fn unpinned_squares(board: &Board, squares: &CheckSquares, m: &Move, king: Squar
     !shields
 }
 
-// The squares that a man of this kind sees from both, if the arrival is one of the lines' squares: those between.
+// Returns the squares that a man of this kind reaches from both `to` and `king`, if `to` is on one of the
+// lines: the squares between.
 #[inline(always)]
 fn seen_from_both(
     occupied: Squares,
@@ -92,7 +93,7 @@ fn seen_from_both(
     reach_over(occupied, Colour::White, kind, to) & reach_over(occupied, Colour::White, kind, king)
 }
 
-// The squares between the arrival and the king, if a line joins them.
+// Returns the squares between the arrival and the king, if they are on one line.
 #[inline(always)]
 fn squares_between(occupied: Squares, to: Square, king: Square) -> Squares
     ensures { (men : List (Option Man)) → occupied ≡ occupied_squares men
@@ -105,7 +106,8 @@ fn squares_between(occupied: Squares, to: Square, king: Square) -> Squares
     straight | diagonal
 }
 
-// Whether the man on `to` no longer reaches the king once the first of the others has come to the square.
+// Returns whether the man on `to` no longer reaches the king after the first of `comers` has gone to the
+// square.
 fn shuts(
     occupied: Squares,
     man: Man,
@@ -125,7 +127,7 @@ fn shuts(
     !contains(reach_over(occupied_after, man.colour, man.kind, to), king)
 }
 
-// The squares from which a pawn of this colour comes to the square by one step.
+// Returns the squares from which a pawn of this colour reaches the square by one step.
 #[tactic(auto, using(crate::proofs::Parrying::pawns_behind))]
 fn pawn_origins(colour: Colour, square: Square) -> Squares
     ensures { (s : ℕ) → s < 64 → (bit_at result s == 1) ≡ true
@@ -136,8 +138,8 @@ fn pawn_origins(colour: Colour, square: Square) -> Squares
     pawn_advances(colour.other(), square) & king_leaps(square)
 }
 
-// Whether another man of the colour than the king comes to the empty square. `reaching` are the squares of those who
-// reach it, `pawns` those of the pawns.
+// Returns whether a man of the colour other than the king can go to the empty square. `reaching` are the
+// squares of men that reach it, `pawns` the squares of the pawns.
 fn is_approached(
     reaching: Squares,
     pawns: Squares,
@@ -154,7 +156,7 @@ fn is_approached(
     (pieces | pawns & pawn_advances(colour.other(), square)) != 0
 }
 
-// What is told of men who come between the man that has come and the king on `king`.
+// Returns what is known of men that interpose between the arrived man and the king on `king`.
 #[tactic(auto, using(chess_rules::proofs::HoldTaken::rest_falls, crate::proofs::Hurdles::rest_on))]
 #[inline(always)]
 fn parries_between(
@@ -192,8 +194,8 @@ fn parries_between(
     }
 }
 
-// Whether nobody but the king takes the man on `to`, who gives check and is no pawn, which might be captured en
-// passant, and no fairy man. `takers` are the men who reach him.
+// Returns whether nobody but the king can take the checker on `to`, which is no pawn (it might be captured
+// en passant) and no fairy man. `takers` are the men that reach it.
 fn is_untaken(occupied: Squares, takers: Squares, man: Man, to: Square, king: Square) -> bool
     ensures { result ≡ true → IsUntaken occupied takers man to king }
 {
@@ -205,8 +207,8 @@ fn is_untaken(occupied: Squares, takers: Squares, man: Man, to: Square, king: Sq
         && contains(reach_over(occupied, man.colour, man.kind, to), king)
 }
 
-// What is told of the parries after the move: an unpinned man captures the one that moves or comes between, so that
-// it doesn't mate, or nobody can, be he pinned or not.
+// Returns what is known of the parries of the move: an unpinned man can capture the checker or interpose,
+// so that the move doesn't mate; or no man can, pinned or not.
 pub(crate) fn parries_after<R: Rules>(board: &Board, squares: &CheckSquares, m: &Move) -> Parries
     requires well_formed { IsWellFormed board.now }
     requires pseudo { is_pseudo_legal R.rule board.now m.now ≡ true }

@@ -1,4 +1,4 @@
-//! From where a pawn might come, whoever else stood on the board.
+//! The squares from which a pawn could come, on some board.
 ghost use Rattle.chess_core.specs.declared.man.Kind.TheVariants.{Pawn};
 ghost use Rattle.chess_mates.specs.ties.CheckSquares.{AreApproaches};
 ghost use Rattle.chess_mates.specs.ties.Threats.{AreCapturers};
@@ -6,8 +6,8 @@ ghost use Rattle.chess_mates.specs.ties.Threats.{AreCapturers};
 use chess_core::man::Colour;
 use chess_core::square::Squares;
 
-// The squares from which a pawn of this colour might come to one of the targets, and perhaps more: what lies
-// over the edge of a file counts.
+// Returns a superset of the squares from which a pawn of this colour could go to one of the targets; it
+// also holds squares beyond the edge of a file.
 #[inline(always)]
 #[tactic(auto, using(crate::proofs::Approaches::pawns_come_from))]
 pub(crate) fn pawns_before(colour: Colour, targets: Squares) -> Squares
@@ -19,7 +19,8 @@ pub(crate) fn pawns_before(colour: Colour, targets: Squares) -> Squares
     }
 }
 
-// The squares from which a pawn of this colour might capture on one of the targets, and perhaps more, as above.
+// Returns a superset of the squares from which a pawn of this colour could capture on one of the targets;
+// it also holds squares beyond the edge of a file.
 #[tactic(auto, using(crate::proofs::Approaches::pawns_capture_from))]
 pub(crate) fn capturers_before(colour: Colour, targets: Squares) -> Squares
     ensures { AreCapturers colour targets result }

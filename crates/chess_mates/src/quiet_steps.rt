@@ -1,4 +1,5 @@
-//! Steps of the enemy king after a move, told without playing it: if one gives no check not every reply mates.
+//! Steps of the enemy king after a move, found without playing it. If one gives no check, not every reply
+//! mates.
 ghost use Rattle.std.specs.Prelude.{◌≡◌, ◌<◌, ◌==◌, ℕ, IfSome, Option, Some, false, true};
 ghost use Rattle.std.specs.Int.{bit_at};
 ghost use Rattle.std.specs.List.{list_all};
@@ -36,7 +37,8 @@ use chess_rules::sift::Sift;
 use chess_rules::sight::Sight;
 use chess_rules::words::{only, take_first};
 
-// The men once the enemy king, lifted from `king`, stands on `to`: of his side the others count.
+// Returns the sight after the enemy king, lifted from `king`, is put on `to`; the king isn't among the
+// standing men.
 fn sight_stepped(sight: Sight, king: Square, to: Square) -> Sight
     ensures { result ≡ sight_stepped sight king to }
 {
@@ -47,7 +49,8 @@ fn sight_stepped(sight: Sight, king: Square, to: Square) -> Sight
     }
 }
 
-// Whether none of those others reaches the mover's king, who stands on `own`.
+// Returns whether no man of the stepping side but the king reaches the mover's king on `own` after the step
+// to `to`.
 #[inline(always)]
 fn is_quiet_to(board: &Board, sight: Sight, king: Square, to: Square, own: Square) -> bool
     ensures { result ≡ true → IsQuietTo board.now.men board.now.turn sight king to own }
@@ -56,8 +59,8 @@ fn is_quiet_to(board: &Board, sight: Sight, king: Square, to: Square, own: Squar
     !is_attacker_seen(board, seen, own, board.turn().other())
 }
 
-// Whether the enemy king on `king` has a legal step to one of the squares after this man's simple move, the first
-// of which gives no check.
+// Returns whether the enemy king on `king` has a legal step to one of the squares after this man's simple
+// move, and the first one gives no check.
 #[tactic(auto, using(crate::proofs::CalmSteps::not_all_mate))]
 fn steps_quietly<R: Rules>(
     board: &Board,
@@ -87,8 +90,8 @@ fn steps_quietly<R: Rules>(
     }
 }
 
-// The squares to which the enemy king on `king` could step if it were his move, and beside grasshoppers perhaps more: where
-// steps are looked for costs time alone.
+// Returns the squares to which the enemy king on `king` could step if it were to move, and perhaps others
+// if there are grasshoppers. Where to look for steps affects speed only.
 fn steps_now(board: &Board, king: Square) -> Squares {
     let near = king_leaps(king) & !held_squares(board, !0);
     let hurdles = occupied(board) & !only(Some(king));
@@ -96,7 +99,7 @@ fn steps_now(board: &Board, king: Square) -> Squares {
     near & !(ridden_squares(hurdles, &men, near) | leapt_squares(hurdles, &men, near))
 }
 
-// Whether no grasshopper stands on the board.
+// Returns whether no grasshopper is on the board.
 #[tactic(auto, using(crate::proofs::QuietSieve::no_grasshopper))]
 pub(crate) fn none_hops(board: &Board) -> bool
     ensures { result ≡ true → NoneHops board.now.men }
@@ -106,7 +109,7 @@ pub(crate) fn none_hops(board: &Board) -> bool
         == 0
 }
 
-// The men but for those on two squares.
+// Returns the sight without the men on two squares.
 fn sight_without(board: &Board, from: Square, king: Square) -> Sight
     ensures { result ≡ sight_without board.now.men from king }
 {
@@ -117,8 +120,8 @@ fn sight_without(board: &Board, from: Square, king: Square) -> Sight
     }
 }
 
-// The squares to which the enemy king on `king` may step, attacks apart: next to him, where neither a man of his own nor
-// a king stands, and in Circe nobody.
+// Returns the squares to which the enemy king on `king` may step, attacked or not: those next to it without
+// a man of its own and without a king, and in Circe without any man.
 #[tactic(auto, using(crate::proofs::QuietSieve::open_in_circe, crate::proofs::QuietSieve::open_elsewhere))]
 pub(crate) fn free_steps<R: Rules>(board: &Board, king: Square) -> Squares
     ensures { AreOpen R.rule board.now.men (other board.now.turn) king result }
@@ -131,7 +134,7 @@ pub(crate) fn free_steps<R: Rules>(board: &Board, king: Square) -> Squares
     near & !(board.side(mover.other()) | board.squares(mover, Kind::King))
 }
 
-// The squares to which the man on `from` goes by castling or being promoted, if at all.
+// Returns the squares to which the man on `from` goes by castling or with promotion, if at all.
 fn special_arrivals(man: Man, from: Square) -> Squares
     ensures { (m : Move) → m.from ≡ from → m.to < 64 → (bit_at result m.to == 1) ≡ false
         → (is_castling man m ≡ false) × (is_promoting man m.to ≡ false) }
@@ -147,7 +150,8 @@ fn special_arrivals(man: Man, from: Square) -> Squares
     0
 }
 
-// Those to which he may not simply go: so, or by capturing en passant, and in Circe by capturing.
+// Returns the squares to which the man's move may be more than simple: by castling, promotion or en
+// passant, and in Circe by any capture.
 pub(crate) fn unsimple_squares<R: Rules>(board: &Board, man: Man, from: Square) -> Squares
     ensures { (m : Move) → m.from ≡ from → m.to < 64 → (bit_at result m.to == 1) ≡ false
         → GoesSimply R.rule board.now man m }
@@ -160,8 +164,9 @@ pub(crate) fn unsimple_squares<R: Rules>(board: &Board, man: Man, from: Square) 
     only(board.crossed()) | special_arrivals(man, from) | captures
 }
 
-// Whether no step of the enemy king from `king` is seen to uncover a check, once this man has gone: of the men that are seen
-// none reaches the mover's king, or the square that is left, where that king himself goes.
+// Returns whether no step of the enemy king from `king` is seen to uncover a check after this man has left:
+// none of the standing men reaches the mover's king, or, if that king moves, the square that the enemy king
+// leaves.
 fn are_quiet<R: Rules>(board: &Board, sight: Sight, man: Man, king: Square) -> bool
     ensures { result ≡ true → AreQuiet R.rule board.now sight man king }
 {
@@ -175,7 +180,8 @@ fn are_quiet<R: Rules>(board: &Board, sight: Sight, man: Man, king: Square) -> b
     }
 }
 
-// The squares to which the man must go lest `to` is left: there he stands on it, or reaches it on some board.
+// Returns the squares where the man's arrival may bar the king from `to`: `to` itself, and those from which
+// the man could reach `to` on some board.
 #[tactic(auto, using(crate::proofs::QuietSieve::step_left))]
 pub(crate) fn barring_squares(man: Man, to: Square) -> Squares
     ensures { (w t : ℕ) → (bit_at w to == 1) ≡ true → t < 64 → (bit_at result t == 1) ≡ false
@@ -186,8 +192,8 @@ pub(crate) fn barring_squares(man: Man, to: Square) -> Squares
     open_approaches(man, to) | only(Some(to))
 }
 
-// The squares to which the man who is lifted must go lest the enemy king's step to `to` is left: all where another man
-// reaches it.
+// Returns the squares where the lifted man's arrival may stop the enemy king's step to `to`; all squares if
+// another man reaches `to`.
 fn stopping_squares(board: &Board, sight: Sight, man: Man, to: Square) -> Squares
     ensures { (w t : ℕ) → (bit_at w to == 1) ≡ true → t < 64 → (bit_at result t == 1) ≡ false
         → IsStepLeft board.now sight w man t to }
@@ -198,7 +204,7 @@ fn stopping_squares(board: &Board, sight: Sight, man: Man, to: Square) -> Square
     barring_squares(man, to)
 }
 
-// Those to which he must go lest one of the steps is left.
+// Returns the squares where the lifted man's arrival may stop all the steps.
 #[tactic(auto, using(chess_rules::proofs::HoldTaken::rest_falls, chess_rules::proofs::listing_moves::Targeting::every_square_on))]
 fn holding_squares(board: &Board, sight: Sight, man: Man, steps: Squares) -> Squares
     ensures { (t : ℕ) → t < 64 → (bit_at result t == 1) ≡ false
@@ -215,8 +221,8 @@ fn holding_squares(board: &Board, sight: Sight, man: Man, steps: Squares) -> Squ
     squares
 }
 
-// Those of the squares to which the mover's king on `king` steps by a legal move, if they are told. Other men are asked for
-// more often: apart, it keeps their question short.
+// Returns which of `squares` the mover's king on `king` may legally step to, if that is known. Out of
+// line: other men are asked for more often.
 #[inline(never)]
 #[tactic(auto, using(crate::proofs::ExactSteps::told_exactly))]
 fn king_steps<R: Rules>(board: &Board, king: Square, squares: Squares) -> Option<Squares>
@@ -229,15 +235,15 @@ fn king_steps<R: Rules>(board: &Board, king: Square, squares: Squares) -> Option
     exact_steps::<R>(&siege, squares)
 }
 
-/// Steps of the enemy king that give no check, for the moves of one position.
+/// Steps of the enemy king that give no check, for all moves of one position.
 #[derive(Clone, Copy)]
 pub struct QuietSteps {
-    // Where they are looked for: the squares to which he could step if it were his move.
+    // The squares to which the enemy king could step if it were to move; other steps aren't looked for.
     squares: Squares,
 }
 
 impl QuietSteps {
-    /// Those of this position.
+    /// Returns the quiet steps of this position.
     pub fn of(board: &Board) -> QuietSteps {
         let squares = match board.king_of(board.turn().other()) {
             Some(king) => steps_now(board, king),
@@ -246,8 +252,8 @@ impl QuietSteps {
         QuietSteps { squares }
     }
 
-    /// Whether one is seen to be legal after the move, so that not every reply mates. `false` says nothing: so it
-    /// answers where kings castle and men are reborn.
+    /// Returns whether a quiet step is surely legal after the move, so that not every reply mates. `false`
+    /// says nothing, as after castling and rebirth.
     pub fn follow<R: Rules>(&self, board: &Board, m: &Move) -> bool
         requires well_formed { IsWellFormed board.now }
         requires legal { is_legal R.rule board.now m.now ≡ true }
@@ -272,14 +278,15 @@ impl QuietSteps {
         }
     }
 
-    /// Whether they are told for all moves of a man at once: not where he could step nowhere, nor beside grasshoppers.
+    /// Returns whether quiet steps are known for all moves of a man at once: not without any step, and not
+    /// if there are grasshoppers.
     pub fn are_told(&self, board: &Board) -> bool
         ensures { result ≡ true → NoneHops board.now.men }
     {
         self.squares != 0 && none_hops(board)
     }
 
-    // The squares to which the man on `from` may go so that none is seen to be legal then.
+    // Returns the squares where the arrival of the man on `from` may leave no quiet step.
     #[tactic(auto, using(crate::proofs::QuietSieve::nothing_told))]
     fn unsettled_squares<R: Rules>(&self, board: &Board, from: Square) -> Squares
         requires well_formed { IsWellFormed board.now }

@@ -1,4 +1,5 @@
-//! The risk of a besieged king: the squares that his side mustn't come to lest a reply may mate, told before its move.
+//! The risk of a king: the squares where the arrival of one of its men might allow mate, found before that
+//! side's move.
 ghost use Rattle.std.specs.Prelude.{◌≡◌, ◌≢◌, ◌<◌, ◌==◌, ℕ, IfSome, true, false};
 ghost use Rattle.std.specs.Int.{bit_at};
 ghost use Rattle.chess_core.specs.Steps.{gait_of, is_hopper};
@@ -26,29 +27,30 @@ use chess_rules::open_board::{open_reach, open_targets};
 use chess_rules::reach::reach_over;
 use chess_rules::words::{contains, next_bit, only, take_first};
 
-// The squares that a defender mustn't come to lest a reply may mate, and those of all lines on which hurdles count.
+// The squares where a defender's arrival might allow mate, and the squares of all lines on which hurdles
+// matter.
 #[derive(Clone, Copy)]
 pub(crate) struct Risk {
     pub(crate) critical: Squares,
     pub(crate) lines: Squares,
 }
 
-// The risk of a defender who leaves a line on which he is a hurdle.
+// The risk after a defender has left a line on which it is a hurdle.
 #[derive(Clone, Copy)]
 pub(crate) struct RiskBehind {
     from: Square,
     risk: Risk,
 }
 
-// The squares of a word that are left to the king once the man has come to `to`.
+// Returns which of `near` remain for the king after the man has arrived on `to`.
 fn left_squares(near: Squares, man: Man, to: Square) -> Squares
     ensures { (f : ℕ) → f < 64 → (bit_at result f == 1) ≡ true → IsLeft near man to f }
 {
     near & !(open_reach(man, to) | only(Some(to)))
 }
 
-// The squares that a defender mustn't come to lest none is left then. To a square where another attacker stands the man
-// comes only if he recaptures there.
+// Returns the squares whose occupation by a defender leaves none of `near`, once the man is on `to`. If
+// another attacker is on `to`, the man arrives there only as a recapture.
 #[tactic(auto, using(chess_rules::proofs::listing_moves::Targeting::every_square_on))]
 fn critical_with(near: Squares, enemies: Squares, man: Man, to: Square) -> Squares
     ensures { LeavesOne near enemies result man to }
@@ -67,7 +69,8 @@ fn critical_with(near: Squares, enemies: Squares, man: Man, to: Square) -> Squar
     0
 }
 
-// The same wherever the man comes to a square of the word.
+// Returns the squares whose occupation by a defender might leave none of `near`, wherever the man arrives
+// on a target.
 #[tactic(auto, using(chess_rules::proofs::HoldTaken::rest_falls, chess_rules::proofs::HoldTaken::taken_all, chess_rules::proofs::HoldTaken::taken_none))]
 fn critical_after(near: Squares, enemies: Squares, man: Man, targets: Squares) -> Squares
     ensures { (t : ℕ) → t < 64 → (bit_at targets t == 1) ≡ true
@@ -82,8 +85,8 @@ fn critical_after(near: Squares, enemies: Squares, man: Man, targets: Squares) -
     critical
 }
 
-// The squares that a defender mustn't come to where a pawn who comes to a square of the word could leave none, whatever he
-// becomes: a promoted rook or bishop takes no more than a queen.
+// Returns the squares whose occupation by a defender might leave none of `near` after a pawn arrives on a
+// target, whatever it promotes to: a promoted rook or bishop takes no more than a queen.
 #[tactic(auto, using(crate::proofs::Promotions::pawn_leaves, crate::proofs::Promotions::unpromoted_leaves))]
 fn critical_of_pawn(near: Squares, enemies: Squares, man: Man, targets: Squares) -> Squares
     ensures { (t : ℕ) → t < 64 → (bit_at targets t == 1) ≡ true → (z : Man)
@@ -102,7 +105,8 @@ fn critical_of_pawn(near: Squares, enemies: Squares, man: Man, targets: Squares)
     critical | queens | knights
 }
 
-// The same of any man once he has gone from `from`: for a grasshopper by the hurdles that he may hop over then.
+// Returns the squares whose occupation by a defender might leave none of `near` after the man goes from
+// `from` to a target. For a grasshopper it uses the hurdles that are there then.
 #[inline(always)]
 fn critical_of_going(
     siege: &Siege,
@@ -126,7 +130,7 @@ fn critical_of_going(
     critical_after(near, siege.enemies, man, targets)
 }
 
-// Whether the man may become a fairy man on one of the squares.
+// Returns whether the man may promote to a fairy man on one of the squares.
 #[tactic(auto, using(crate::proofs::LastingFlights::no_last_rank, crate::proofs::Promotions::no_fairy, chess_rules::proofs::listing_moves::Targeting::no_pawn_arrives))]
 fn may_become_fairy(men: &Attackers, man: Man, targets: Squares) -> bool
     ensures { result ≡ false → (t : ℕ) → t < 64 → (bit_at targets t == 1) ≡ true → (z : Man)
@@ -138,8 +142,8 @@ fn may_become_fairy(men: &Attackers, man: Man, targets: Squares) -> bool
     targets & LAST_RANKS != 0
 }
 
-// The squares to which the man on `from` may go: a pawn or a grasshopper whoever else stands on the board, others over the
-// hurdles.
+// Returns the squares to which the man on `from` may go: for a pawn or grasshopper on some board, for
+// others over the hurdles.
 #[tactic(auto, using(crate::proofs::Standing::no_hopper))]
 fn arrivals(hurdles: Squares, man: Man, from: Square) -> Squares
     ensures { AreArrivals hurdles man from result }
@@ -150,7 +154,8 @@ fn arrivals(hurdles: Squares, man: Man, from: Square) -> Squares
     }
 }
 
-// The squares from which he checks, lets a hopper check, or may check once he is promoted there. A king doesn't check.
+// Returns the reached squares from which the man gives check, lets a hopper give check, or may
+// give check after promotion. A king itself gives no check.
 #[tactic(auto, using(chess_rules::proofs::listing_moves::Walks::off_second, crate::proofs::Risks::king_targets))]
 fn checking_targets(man: Man, reached: Squares, field: &Field, checks: Squares) -> Squares
     ensures { (t : ℕ) → t < 64 → (bit_at reached t == 1) ≡ true
@@ -165,7 +170,8 @@ fn checking_targets(man: Man, reached: Squares, field: &Field, checks: Squares) 
     reached & (checks | field.springboards)
 }
 
-// All squares that the man reaches, if another attacker checks once he has gone, else the targets.
+// Returns all squares that the man reaches if another attacker gives check once it has left, otherwise the
+// targets.
 #[tactic(auto)]
 fn watched_squares(guards: &Guards, king: Square, reached: Squares, targets: Squares) -> Squares
     ensures all { (bit_at guards.now.guarded king == 1) ≡ true → result ≡ reached }
@@ -178,7 +184,7 @@ fn watched_squares(guards: &Guards, king: Square, reached: Squares, targets: Squ
     }
 }
 
-// Those of the squares on which the king can't capture who comes there.
+// Returns the squares among `squares` on which the king can't capture the arriving man.
 #[tactic(auto, using(crate::proofs::Risks::bit_denied, chess_rules::proofs::Bits::off_left, chess_rules::proofs::Bits::off_right, chess_rules::proofs::listing_moves::Walks::off_second))]
 fn uncaptured_squares(field: &Field, guards: &Guards, squares: Squares) -> Squares
     ensures { (t : ℕ) → t < 64 → (bit_at squares t == 1) ≡ true
@@ -188,7 +194,7 @@ fn uncaptured_squares(field: &Field, guards: &Guards, squares: Squares) -> Squar
     squares & (!field.captures | guards.guarded)
 }
 
-// Whether the man, who goes from `from`, may come to a springboard of another's on one of the squares.
+// Returns whether the man, leaving `from`, may arrive on a springboard of another hopper.
 #[tactic(auto, using(crate::proofs::Risks::none_checks))]
 fn may_spring(siege: &Siege, field: &Field, from: Square, squares: Squares) -> bool
     ensures { result ≡ false → (t : ℕ) → t < 64 → (bit_at squares t == 1) ≡ true → (q : ℕ) (z : Man)
@@ -199,8 +205,8 @@ fn may_spring(siege: &Siege, field: &Field, from: Square, squares: Squares) -> b
     others != 0 && field.hops & squares != 0
 }
 
-// The risk that the man goes from `from` to one of the squares that he reaches: to one of the targets, or to any if
-// another attacker checks once he has gone. None where the king captures him.
+// Returns the risk of the man's move from `from` to one of the squares that it reaches: to a target, or to
+// any square if another attacker then gives check. There is no risk where the king captures it.
 #[inline(always)]
 fn risk_of_going(
     siege: &Siege,
@@ -231,8 +237,8 @@ fn risk_of_going(
     }
 }
 
-// The risk of the man on `from`, who checks from the squares of `checks`. Mostly he can't come there, were the others
-// gone.
+// Returns the risk of the man on `from`, which gives check from the squares `checks`. Mostly it couldn't
+// get there even on an empty board.
 #[inline(always)]
 fn risk_from(siege: &Siege, field: &Field, man: Man, from: Square, checks: Squares) -> Risk
     ensures { IsHarmless siege.now field.now checks result man from }
@@ -256,7 +262,7 @@ fn risk_from(siege: &Siege, field: &Field, man: Man, from: Square, checks: Squar
     risk_of_going(siege, field, man, from, reached, targets)
 }
 
-// The same of such men on the squares of a word.
+// Returns the risk of men like this on these squares.
 #[tactic(auto, using(chess_rules::proofs::HoldTaken::rest_falls, chess_rules::proofs::HoldTaken::taken_all, chess_rules::proofs::HoldTaken::taken_none))]
 #[inline(always)]
 fn risk_together(siege: &Siege, field: &Field, man: Man, squares: Squares, checks: Squares) -> Risk
@@ -274,8 +280,8 @@ fn risk_together(siege: &Siege, field: &Field, man: Man, squares: Squares, check
     Risk { critical, lines }
 }
 
-// The squares from which the man, once he has come there, checks the king of the field: a grasshopper whoever else stands on
-// the board, others over the hurdles.
+// Returns the squares from which the man would check the zone's king: for a grasshopper on some board, for
+// others over the hurdles.
 #[tactic(auto, using(crate::proofs::Risks::check_hops, crate::proofs::Risks::check_word))]
 fn check_squares_over(siege: &Siege, field: &Field, man: Man) -> Squares
     requires { IsField siege.now field.now }
@@ -296,8 +302,8 @@ fn check_squares_over(siege: &Siege, field: &Field, man: Man) -> Squares
     reach_over(siege.hurdles, man.colour.other(), man.kind, field.king)
 }
 
-// The squares from which the man may check with his next move, promoted or not, were the others gone, or uncover a check, and
-// perhaps more: for pawns and kings fewer than all, except where hoppers aim at the king.
+// Returns a superset of the squares from which the man may give check with its next move, promoted or not,
+// on an empty board, or uncover a check. For pawns and kings these are few, unless hoppers attack the king.
 #[tactic(auto, using(chess_rules::proofs::listing_moves::Targeting::every_square_on, chess_rules::proofs::listing_moves::Targeting::false_by, crate::proofs::Risks::king_targets, crate::proofs::Risks::none_at, crate::proofs::Risks::pawn_idly))]
 #[inline(always)]
 fn suspect_squares(field: &Field, man: Man, checks: Squares) -> Squares
@@ -316,7 +322,8 @@ fn suspect_squares(field: &Field, man: Man, checks: Squares) -> Squares
     !0
 }
 
-// Whether one of such men on the squares checks now: of grasshoppers the springboards tell it.
+// Returns whether a man like this on one of the squares gives check now; for grasshoppers the springboards
+// say so.
 #[tactic(auto, using(crate::proofs::Risks::none_checks))]
 fn check_now(man: Man, checks: Squares, squares: Squares) -> bool
     ensures { result ≡ false → is_hopper (gait_of man.kind) ≡ false → (s : ℕ)
@@ -328,7 +335,8 @@ fn check_now(man: Man, checks: Squares, squares: Squares) -> bool
     checks & squares != 0
 }
 
-// The risk of the men of this kind, who stand on the squares. Where one of them checks now, nothing is told.
+// Returns the risk of the men of this kind on these squares. If one gives check now, every square is
+// critical.
 #[tactic(auto, using(chess_rules::proofs::listing_moves::Targeting::every_square_on, crate::proofs::Risks::none_at))]
 #[inline(always)]
 fn risk_of(siege: &Siege, field: &Field, kind: Kind, squares: Squares) -> Risk
@@ -358,7 +366,7 @@ fn risk_of(siege: &Siege, field: &Field, kind: Kind, squares: Squares) -> Risk
     risk_together(siege, field, man, suspects, checks)
 }
 
-// The risk of all attackers.
+// Returns the risk of all attackers.
 #[tactic(auto, using(crate::proofs::Risks::all_weak))]
 #[inline(always)]
 fn risk_of_all(siege: &Siege, field: &Field) -> Risk
@@ -394,8 +402,8 @@ fn risk_of_all(siege: &Siege, field: &Field) -> Risk
     }
 }
 
-// The risk of a defender whose king is on the square, with his field's lines of nightriders and springboards. Where a hopper
-// checks him, or a castling may, nothing is told.
+// Returns the risk of a defender whose king is on this square, with its nightrider lines and springboards.
+// If a hopper checks it or a castling may, every square is critical.
 #[tactic(auto, using(crate::proofs::Sieges::risk_is, chess_rules::proofs::listing_moves::Targeting::every_square_on))]
 #[inline(always)]
 fn risk_with(siege: &Siege, king: Square, riders: Squares, springs: &Springs) -> Risk
@@ -418,7 +426,7 @@ fn risk_with(siege: &Siege, king: Square, riders: Squares, springs: &Springs) ->
     }
 }
 
-// The risk of a defender whose king is on the square, whatever men the attackers have.
+// Returns the risk of a defender whose king is on this square, for any attackers.
 #[inline(never)]
 fn risk_beside_fairies(siege: &Siege, king: Square) -> Risk
     ensures { IsRiskAt siege.now king result }
@@ -427,7 +435,8 @@ fn risk_beside_fairies(siege: &Siege, king: Square) -> Risk
     risk_with(siege, king, nightrider_lines(siege, king), &springs)
 }
 
-// The same, told at once beside attackers without fairy men.
+// Returns the risk of a defender whose king is on this square; faster without fairy men among the
+// attackers.
 pub(crate) fn risk_at(siege: &Siege, king: Square) -> Risk
     ensures { IsRiskAt siege.now king result }
 {
@@ -438,7 +447,7 @@ pub(crate) fn risk_at(siege: &Siege, king: Square) -> Risk
     risk_beside_fairies(siege, king)
 }
 
-// The risk of the siege's own king. On the lines of all riders hurdles count too.
+// Returns the risk of the attacked king itself. Hurdles on the lines of all riders count too.
 fn risk_of_siege(siege: &Siege) -> Risk
     requires siege { IsSiege siege.now }
     requires whole { IsWhole siege.now }
@@ -451,7 +460,7 @@ fn risk_of_siege(siege: &Siege) -> Risk
     }
 }
 
-// The same, as kept once it has been told.
+// Returns the risk of the attacked king, from `kept` if it is there.
 #[inline(always)]
 pub(crate) fn kept_risk(siege: &Siege, kept: &mut Option<Risk>) -> Risk
     requires siege { IsSiege siege.now }
@@ -468,7 +477,7 @@ pub(crate) fn kept_risk(siege: &Siege, kept: &mut Option<Risk>) -> Risk
     risk
 }
 
-// That of a defender who leaves a line on which he is a hurdle.
+// Returns the risk of a defender that leaves a line on which it is a hurdle.
 fn risk_behind(siege: &Siege, from: Square) -> Risk
     ensures { IsRiskBehind siege.now from result }
 {
@@ -476,7 +485,8 @@ fn risk_behind(siege: &Siege, from: Square) -> Risk
     risk_at(&lifted, siege.king)
 }
 
-// The same, as kept if it is of that man; it is kept for his other moves.
+// Returns the risk of a defender that leaves `from`, from `kept` if it is for this square, and keeps it for
+// the defender's other moves.
 fn kept_risk_behind(siege: &Siege, kept: &mut Option<RiskBehind>, from: Square) -> Risk
     requires { IfSome kept.old (λ b. IsRiskBehind siege.now b.from b.risk) }
     ensures risk { IsRiskBehind siege.now from result }
@@ -492,8 +502,9 @@ fn kept_risk_behind(siege: &Siege, kept: &mut Option<RiskBehind>, from: Square) 
     risk
 }
 
-// Those of the squares that the man on `from`, who isn't the king, mustn't come to, and perhaps more: told by the siege's
-// own risk, unless he leaves a line on which he is a hurdle. Nothing gets better by that.
+// Returns the critical squares among `squares`, and perhaps others: where the arrival of the man on `from`, not the king, might
+// allow mate. It uses the king's own risk, unless the man leaves a line on which it is a hurdle; leaving
+// never makes it smaller.
 #[tactic(auto, using(chess_rules::proofs::listing_moves::Targeting::false_by))]
 pub(crate) fn critical_from(
     siege: &Siege,

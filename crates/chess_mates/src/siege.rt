@@ -1,5 +1,6 @@
-//! A king's siege: the men around him, before his side's move. All men but the king are hurdles: each square on which one
-//! stands stays occupied, be it that he is captured, but for the squares that the defender and the attacker leave.
+//! The men around a king before its side's move. All men but the king are hurdles: a square with a man
+//! counts as occupied even if the man is captured, except for the squares that the defender and the
+//! attacker leave.
 ghost use Rattle.std.specs.Prelude.{◌≡◌, ◌≢◌, ◌<◌, ◌==◌, ◌⊎◌, ℕ, Some, true, false};
 ghost use Rattle.std.specs.Int.{bit_at};
 ghost use Rattle.chess_core.specs.Castling.{has_unmoved};
@@ -15,8 +16,9 @@ use chess_core::square::{Square, Squares};
 use chess_rules::rules::Rules;
 use chess_rules::words::{contains, only};
 
-// The men around the defender's king, who stands on `king`: the squares of the defender's men, of the attackers, and of
-// the hurdles; those to which a rook of theirs may castle; those to which the king isn't said to flee.
+// The men around the defender's king on `king`: the squares of the defender's men, of the attackers and of
+// the hurdles, those to which an attacking rook may castle, and the closed ones, to which the king isn't
+// assumed to flee.
 #[derive(Clone, Copy)]
 pub(crate) struct Siege {
     pub(crate) king: Square,
@@ -28,8 +30,8 @@ pub(crate) struct Siege {
     pub(crate) closed: Squares,
 }
 
-// The square `next`, beside the king, if the side may castle with the rook in the corner: he is unmoved, and no man of
-// its own stands there.
+// Returns the square `next` beside the king if the side may castle with the rook in the corner: the rook
+// has the right to, and no man of its own is on that square.
 #[tactic(auto, using(chess_rules::proofs::Bits::word_has))]
 fn castling_square(board: &Board, own: Squares, corner: Square, next: Square) -> Squares
     ensures { (has_unmoved board.now.unmoved corner ≡ false)
@@ -46,7 +48,8 @@ fn castling_square(board: &Board, own: Squares, corner: Square, next: Square) ->
     only(Some(next))
 }
 
-// The squares to which a rook of the colour may castle, whatever the other side plays before, and perhaps more.
+// Returns a superset of the squares to which a rook of the colour may castle, whatever the other side plays
+// before.
 #[tactic(auto, using(crate::proofs::Sieges::moved_king_castles, crate::proofs::Sieges::no_king_castles))]
 fn castling_squares(board: &Board, colour: Colour) -> Squares
     ensures { IsWellFormed board.now → AreCastlingSquares board.now colour result }
@@ -77,7 +80,7 @@ fn castling_squares(board: &Board, colour: Colour) -> Squares
     long | short
 }
 
-// All men but the king, and perhaps without one of his.
+// Returns the squares of all men but the king, and without `lifted`.
 #[tactic(auto, using(crate::proofs::Sieges::hurdles_are, crate::proofs::Sieges::lifted_off))]
 fn hurdles_of(own: Squares, enemies: Squares, king: Square, lifted: Option<Square>) -> Squares
     ensures are { AreHurdles own enemies king result }
@@ -87,7 +90,7 @@ fn hurdles_of(own: Squares, enemies: Squares, king: Square, lifted: Option<Squar
     (own | enemies) & !only(Some(king)) & !only(lifted)
 }
 
-// The siege by the board's men of the king of the side to move, who stands on the square.
+// Returns the men around the king of the side to move, which is on this square.
 #[inline(always)]
 pub(crate) fn siege_of<R: Rules>(board: &Board, king: Square) -> Siege
     ensures siege { IsSiege result }
@@ -110,7 +113,7 @@ pub(crate) fn siege_of<R: Rules>(board: &Board, king: Square) -> Siege
     }
 }
 
-// The same without the man on the square.
+// Returns the same men, without the hurdle on the square.
 pub(crate) fn lifted_from(siege: &Siege, from: Square) -> Siege
     ensures { IsLifted siege.now from result }
 {
@@ -122,7 +125,7 @@ pub(crate) fn lifted_from(siege: &Siege, from: Square) -> Siege
     }
 }
 
-// Whether these are the men on the board, the defender to move.
+// Returns whether these are the men on the board, with the defender to move.
 pub(crate) fn is_of<R: Rules>(siege: &Siege, board: &Board) -> bool
     requires { IsWellFormed board.now }
     ensures { result ≡ true → IsSiegeOf R.rule board.now siege.now }

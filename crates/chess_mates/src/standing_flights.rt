@@ -1,4 +1,4 @@
-//! Flights of the enemy king as the men stand, most of which are left whatever one man does.
+//! Flights of the enemy king as the men are. Most of them remain after any single move.
 ghost use Rattle.std.specs.Prelude.{◌≡◌, ◌<◌, ◌==◌, ℕ, Some, false, true};
 ghost use Rattle.std.specs.Int.{bit_at};
 ghost use Rattle.chess_core.specs.Position.{king_square, other};
@@ -18,17 +18,18 @@ use chess_rules::lines::occupied;
 use chess_rules::rules::Rules;
 use chess_rules::words::{contains, highest, next_bit, only};
 
-// Against more men than these a king seldom has flights that are left: such flights are not looked for.
+// Against more men a king seldom has flights that remain: the search for them isn't worth its time.
 const MOST_MEN: u32 = 12;
 
-/// The flights, and the squares that the mover's riders reach: a man who stands on none of these opens no line as he goes.
+/// The flights, and the squares that the mover's riders reach: a man that leaves any other square opens no
+/// line.
 #[derive(Clone, Copy)]
 pub(crate) struct StandingFlights {
     flights: Squares,
     ridden: Squares,
 }
 
-// Those of the enemy king on `king`, beside no hopper.
+// Returns the flights of the enemy king on `king`, without hoppers on the board.
 fn flights_around<R: Rules>(board: &Board, king: Square) -> StandingFlights
     requires king { king_square board.now.men (other board.now.turn) ≡ Some king }
     requires plain { NoneHops board.now.men }
@@ -44,14 +45,14 @@ fn flights_around<R: Rules>(board: &Board, king: Square) -> StandingFlights
     }
 }
 
-// Whether flights are looked for: against few men, and beside no hopper.
+// Returns whether to look for flights: against few men, and without hoppers on the board.
 fn are_sought(board: &Board) -> bool
     ensures { result ≡ true → NoneHops board.now.men }
 {
     board.side(board.turn()).count_ones() <= MOST_MEN && none_hops(board)
 }
 
-/// Those of this position; none where they aren't looked for.
+/// Returns the flights of this position; none if it isn't worth looking for them.
 #[tactic(auto, using(crate::proofs::KeptFlights::no_flights))]
 pub(crate) fn standing_flights<R: Rules>(board: &Board) -> StandingFlights
     ensures { AreStandingFlights R.rule board.now result }
@@ -69,7 +70,7 @@ pub(crate) fn standing_flights<R: Rules>(board: &Board) -> StandingFlights
     }
 }
 
-// The squares to which the man must go lest the first of the flights or the last is left.
+// Returns the squares where the man must arrive to take both the first and the last flight.
 #[inline(always)]
 fn taking_squares(flights: Squares, man: Man) -> Squares
     ensures { (t : ℕ) → t < 64 → (bit_at result t == 1) ≡ false → (f : ℕ) × IsLeft flights man t f }
@@ -81,7 +82,8 @@ fn taking_squares(flights: Squares, man: Man) -> Squares
 }
 
 impl StandingFlights {
-    /// The squares to which the man on `from` must go to mate, and perhaps more: elsewhere one of the flights is left.
+    /// Returns a superset of the squares to which the man on `from` must go to mate: elsewhere one of the
+    /// flights remains.
     pub(crate) fn mating_squares<R: Rules>(&self, board: &Board, from: Square) -> Squares
         requires well_formed { IsWellFormed board.now }
         requires flights { AreStandingFlights R.rule board.now self.now }

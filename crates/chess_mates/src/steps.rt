@@ -1,4 +1,4 @@
-//! The steps of a king who is besieged: those that he mustn't make lest a reply may mate.
+//! The steps of an attacked king after which a reply might mate.
 ghost use Rattle.std.specs.Prelude.{◌≡◌, ◌<◌, ◌==◌, ℕ, IfSome, not, true, false};
 ghost use Rattle.std.specs.Int.{bit_at};
 ghost use Rattle.chess_core.specs.Steps.{gait_of, is_hopper};
@@ -17,8 +17,8 @@ use chess_rules::leaps::king_leaps;
 use chess_rules::rules::Rules;
 use chess_rules::words::{contains, only, take_first};
 
-// Steps of the king, and those of them that he mustn't make, if they are legal, under rules by which faced men stand still
-// or don't, and captures do more or don't.
+// Steps of the king, the risky steps among them, after which a reply might mate, and the rules for which this was
+// computed.
 #[derive(Clone, Copy)]
 pub(crate) struct ToldSteps {
     steps: Squares,
@@ -28,7 +28,7 @@ pub(crate) struct ToldSteps {
 }
 
 impl ToldSteps {
-    // No step, of which nothing is told.
+    // Returns the value before any step has been computed.
     pub(crate) fn none() -> ToldSteps
         ensures { (v : Siege) → AreToldSteps v result }
     {
@@ -41,7 +41,7 @@ impl ToldSteps {
     }
 }
 
-// Whether the king keeps a flight after the step, whatever is played then.
+// Returns whether the king keeps a flight after the step, whatever is played.
 #[inline(always)]
 fn keeps_flight_at<R: Rules>(siege: &Siege, targets: &OpenTargets, to: Square) -> bool
     requires { AreOpenTargets siege.now.men targets.now }
@@ -50,7 +50,8 @@ fn keeps_flight_at<R: Rules>(siege: &Siege, targets: &OpenTargets, to: Square) -
     !R::captures_do_more() && keeps_one(&siege.men, targets, adjacent_squares(siege, to))
 }
 
-// The square, if the king mustn't step there: a reply may mate him there, or a man stands on it, unless he keeps a flight.
+// Returns the square if the king's step there might allow mate: a reply may mate there or a man is on it,
+// and no flight is sure.
 #[tactic(auto, using(crate::proofs::Sparing::one_square))]
 fn risky_step<R: Rules>(siege: &Siege, targets: &OpenTargets, to: Square) -> Squares
     requires { AreOpenTargets siege.now.men targets.now }
@@ -68,7 +69,7 @@ fn risky_step<R: Rules>(siege: &Siege, targets: &OpenTargets, to: Square) -> Squ
     step & risk_at(siege, to).critical
 }
 
-// Those of the squares to which he mustn't step.
+// Returns which of the steps might allow mate.
 #[tactic(auto, using(chess_rules::proofs::HoldTaken::taken_all, chess_rules::proofs::HoldTaken::taken_none, chess_rules::proofs::HoldTaken::rest_falls))]
 fn risky_among<R: Rules>(siege: &Siege, targets: &OpenTargets, steps: Squares) -> Squares
     requires { AreOpenTargets siege.now.men targets.now }
@@ -84,10 +85,10 @@ fn risky_among<R: Rules>(siege: &Siege, targets: &OpenTargets, steps: Squares) -
     risky
 }
 
-// Whether fewer steps are legal isn't asked: they are told at once.
+// For fewer steps it isn't worth finding out which are legal.
 const FEW_STEPS: u32 = 3;
 
-// The squares that the attackers reach, grasshoppers apart, those who may reach the region.
+// Returns the squares that attackers near the region reach, without grasshoppers.
 #[tactic(auto, using(crate::proofs::Hurdles::all_reach))]
 #[inline(always)]
 fn reached_squares(siege: &Siege, region: Squares) -> Squares
@@ -100,7 +101,8 @@ fn reached_squares(siege: &Siege, region: Squares) -> Squares
     ridden | leapt_squares(siege.hurdles, &siege.men, region)
 }
 
-// Whether the squares that the attackers reach tell which steps are legal: these are few, and no grasshopper among them.
+// Returns whether the attackers' reach decides which steps are legal: they are few, with no grasshopper
+// among them.
 #[tactic(auto, using(crate::proofs::ExactSteps::none_hops))]
 fn tells_steps(siege: &Siege) -> bool
     ensures { result ≡ true → AreUnhopping siege.now.men }
@@ -108,7 +110,7 @@ fn tells_steps(siege: &Siege) -> bool
     siege.men.grasshoppers == 0 && siege.enemies.count_ones() <= MOST_ATTACKERS
 }
 
-// The squares next to the king; where captures do more the empty ones alone.
+// Returns the squares next to the king; in Circe only the empty ones.
 #[tactic(auto, using(chess_rules::proofs::Bits::word_has))]
 fn plain_squares<R: Rules>(siege: &Siege) -> Squares
     ensures { (t : ℕ) → t < 64 → (bit_at result t == 1) ≡ true → IsPlainStep R.rule siege.now t }
@@ -120,8 +122,8 @@ fn plain_squares<R: Rules>(siege: &Siege) -> Squares
     near
 }
 
-// Those of the squares to which he steps by a legal move, if they are told: not where faced men stand still, nor for few
-// squares, nor if he castles or, where captures do more, captures on one of them.
+// Returns exactly which of the squares the king may legally step to, if they can be computed: not in
+// Madrasi, not for few squares, and not if the king may castle or, in Circe, capture on one of them.
 #[tactic(auto, using(crate::proofs::ExactSteps::unreached_are))]
 #[inline(always)]
 pub(crate) fn exact_steps<R: Rules>(siege: &Siege, squares: Squares) -> Option<Squares>
@@ -136,8 +138,8 @@ pub(crate) fn exact_steps<R: Rules>(siege: &Siege, squares: Squares) -> Option<S
     Some(squares & !reached_squares(siege, squares))
 }
 
-// The steps but for those to an empty square that an attacker reaches: they are illegal, unless attackers may stand still.
-// Where legal steps were told before, captures too, these alone are asked for.
+// Returns the steps without those to an empty attacked square, which are illegal unless attackers may be
+// paralysed. If `exact_steps` has already selected the legal steps, they are returned unchanged.
 #[tactic(auto, using(crate::proofs::Barring::barred_is))]
 fn unbarred_steps<R: Rules>(siege: &Siege, steps: Squares) -> Squares
     ensures { (t : ℕ) → t < 64 → (bit_at steps t == 1) ≡ true
@@ -152,7 +154,7 @@ fn unbarred_steps<R: Rules>(siege: &Siege, steps: Squares) -> Squares
     steps & (siege.hurdles | !reached_squares(siege, steps))
 }
 
-// Those of the squares to which he mustn't step, of legal steps.
+// Returns which of the steps might allow mate; the steps are legal ones and perhaps others.
 #[tactic(auto, using(chess_rules::proofs::Basics::cases_Bool))]
 fn risky_steps<R: Rules>(siege: &Siege, targets: &OpenTargets, steps: Squares) -> Squares
     requires { AreOpenTargets siege.now.men targets.now }
@@ -163,7 +165,8 @@ fn risky_steps<R: Rules>(siege: &Siege, targets: &OpenTargets, steps: Squares) -
     risky_among::<R>(siege, targets, unbarred)
 }
 
-// The same, as kept if they are those; they are kept for the next question.
+// Returns which of the steps might allow mate, from `kept` if it is for these steps, and keeps them
+// for the next call.
 pub(crate) fn kept_risky_steps<R: Rules>(
     siege: &Siege,
     targets: &OpenTargets,
@@ -191,7 +194,7 @@ pub(crate) fn kept_risky_steps<R: Rules>(
     risky
 }
 
-// The square, if the king may keep no flight after the step there.
+// Returns the square if the king may keep no flight after its step there.
 #[tactic(auto, using(crate::proofs::Sparing::one_square))]
 fn flightless_step<R: Rules>(siege: &Siege, targets: &OpenTargets, to: Square) -> Squares
     requires { AreOpenTargets siege.now.men targets.now }
@@ -205,7 +208,7 @@ fn flightless_step<R: Rules>(siege: &Siege, targets: &OpenTargets, to: Square) -
     only(Some(to))
 }
 
-// The squares such that the king may keep no flight after a step there.
+// Returns the steps after which the king may keep no flight.
 #[tactic(auto, using(chess_rules::proofs::HoldTaken::taken_all, chess_rules::proofs::HoldTaken::taken_none, chess_rules::proofs::HoldTaken::rest_falls))]
 pub(crate) fn flightless_steps<R: Rules>(
     siege: &Siege,

@@ -1,4 +1,5 @@
-//! Threats of mate, told before the defender's move: the squares that his men mustn't come to lest a reply may mate.
+//! Threats of mate, computed before the defender's move: the squares where a man's arrival might allow
+//! mate.
 ghost use Rattle.std.specs.Prelude.{◌≡◌, ◌<◌, ◌==◌, [], ℕ, IfSome, Some, true, false};
 ghost use Rattle.std.specs.Int.{bit_at};
 ghost use Rattle.chess_core.specs.Position.{Position, king_square};
@@ -28,7 +29,8 @@ use chess_rules::sift::Sift;
 use chess_rules::words::only;
 use std::marker::Model;
 
-// The squares more than a step away, if an enemy pawn might capture on the next square ahead of a pawn on `from`.
+// Returns the squares more than a step away, if an enemy pawn could capture on the square right ahead of a
+// pawn on `from`; otherwise nothing.
 fn contested_squares(board: &Board, man: Man, from: Square) -> Squares
     ensures { (m : Move) → m.from ≡ from → m.to < 64 → may_go board.now man from m.to ≡ true
         → (bit_at result m.to == 1) ≡ false → IsPassing board.now man m }
@@ -44,8 +46,8 @@ fn contested_squares(board: &Board, man: Man, from: Square) -> Squares
     !near
 }
 
-// The squares to which the man on `from` can't go but by castling or capturing en passant, or so that he might be
-// captured so.
+// Returns the squares that the man on `from` reaches only by castling or en passant, or by a double step
+// that en passant might capture.
 fn special_squares(board: &Board, man: Man, from: Square) -> Squares
     ensures { ArePlain board.now man from result }
 {
@@ -60,7 +62,7 @@ fn special_squares(board: &Board, man: Man, from: Square) -> Squares
     0
 }
 
-// The squares to which the man can't go but by capturing or being promoted.
+// Returns the squares that the man reaches only by a capture or promotion.
 #[tactic(auto, using(crate::proofs::Passing::piece_mere))]
 fn altering_squares(board: &Board, man: Man, from: Square) -> Squares
     ensures { AreMere board.now man from result }
@@ -75,7 +77,8 @@ fn altering_squares(board: &Board, man: Man, from: Square) -> Squares
     }
 }
 
-// The squares for which nothing is told of the man on `from`: in Circe captures and promotions too.
+// Returns the squares about which threats say nothing for the man on `from`: special moves, and in Circe
+// captures and promotions too.
 #[tactic(auto, using(chess_rules::proofs::Bits::off_left, chess_rules::proofs::Bits::off_right))]
 fn unplain_squares<R: Rules>(board: &Board, man: Man, from: Square) -> Squares
     ensures plain { ArePlain board.now man from result }
@@ -88,7 +91,7 @@ fn unplain_squares<R: Rules>(board: &Board, man: Man, from: Square) -> Squares
     special | altering_squares(board, man, from)
 }
 
-// Those of the squares that are needed; where captures do more all.
+// Returns which of the squares are needed; in Circe all of them.
 #[tactic(auto, using(chess_rules::proofs::listing_moves::Walks::off_second))]
 fn unkept_squares<R: Rules>(needed: Squares, squares: Squares) -> Squares
     ensures { (t : ℕ) → t < 64 → (bit_at squares t == 1) ≡ true → (bit_at result t == 1) ≡ false
@@ -100,8 +103,8 @@ fn unkept_squares<R: Rules>(needed: Squares, squares: Squares) -> Squares
     squares & needed
 }
 
-// Those of the squares that the man on `from`, who isn't the king, mustn't come to, and perhaps more. The siege's risk is
-// told only where there are squares.
+// Returns the critical squares among `squares`, and perhaps others: where the arrival of the man on `from`, not the king, might
+// allow mate. It computes the risk only if there are squares.
 #[inline(always)]
 fn critical_of(
     siege: &Siege,
@@ -126,20 +129,21 @@ fn critical_of(
     critical_from(siege, &told, behind, from, squares)
 }
 
-/// What the side that isn't to move threatens, told once a position: to which squares the other side's men mustn't come
-/// lest a reply may mate.
+/// The threats of the side that isn't to move, computed once for a position: for each man of the other
+/// side, the squares where its arrival might allow mate.
 #[derive(Drop)]
 pub struct Threats {
     siege: Siege,
-    // Of the attackers, were all others gone.
+    // The attackers' targets on an otherwise empty board.
     targets: OpenTargets,
-    // Those to which another man than the king mustn't come, where captures do no more, lest the king keeps no flight.
+    // The squares where another man's arrival might leave the king without a flight; they serve all rules
+    // but Circe.
     needed: Squares,
-    // Told when it is first asked for.
+    // The king's risk, computed when it is first needed.
     risk: Option<Risk>,
-    // Of the last man who left a line.
+    // The risk for the last man that left a line.
     behind: Option<RiskBehind>,
-    // Of the last steps that were asked for.
+    // The last steps of the king that were computed.
     steps: ToldSteps,
 }
 
@@ -162,7 +166,7 @@ impl Model for Threats {
 }
 
 impl Threats {
-    /// The threats to the king of the side to move, who stands on the square.
+    /// Computes the threats to the king of the side to move, which is on this square.
     pub fn of<R: Rules>(board: &Board, king: Square) -> Threats
         ensures { IsWellFormed board.now → IsTold R.rule
             → king_square board.now.men board.now.turn ≡ Some king
@@ -181,7 +185,8 @@ impl Threats {
         }
     }
 
-    /// Tells the threats to the king of the side to move, who stands on the square, in place of these.
+    /// Computes the threats to the king of the side to move, which is on this square, in place of the old
+    /// ones.
     pub fn retell<R: Rules>(&mut self, board: &Board, king: Square)
         ensures { IsWellFormed board.now → IsTold R.rule
             → king_square board.now.men board.now.turn ≡ Some king
@@ -195,15 +200,16 @@ impl Threats {
         self.steps = ToldSteps::none();
     }
 
-    /// Whether they are told at all: not where captures do more than that men are reborn.
+    /// Returns whether threats can be computed under these rules: captures only remove men, which may be
+    /// reborn.
     pub fn are_told<R: Rules>() -> bool
         ensures { result ≡ true → IsTold R.rule }
     {
         !R::captures_do_more() || R::captures_are_reborn()
     }
 
-    /// Whether these are the threats in the board's position: they hold in each with the same men and castlings and the
-    /// same side to move.
+    /// Returns whether these are the threats in the board's position. They hold in each position with the
+    /// same men, castling squares and side to move.
     pub fn are_of<R: Rules>(&self, board: &Board) -> bool
         requires { IsWellFormed board.now }
         ensures { result ≡ true → AreThreatsOf R.rule board.now self.now }
@@ -211,10 +217,11 @@ impl Threats {
         Threats::are_told::<R>() && is_of::<R>(&self.siege, board)
     }
 
-    /// Those of the squares that the man on `from` mustn't come to by a legal move lest a reply may mate. So he mustn't where
-    /// kings castle or capture, where a pawn captures en passant or might be captured so, and in Circe where anybody captures
-    /// or is promoted; but he may where, except in Circe, the king keeps a flight whatever is played. What is told for the
-    /// question is kept for the next ones.
+    /// Returns the risky squares among `squares`: where the arrival of the man on `from` by a legal move might allow
+    /// mate. They include all squares reached by castling, by the king's captures, by en passant or a
+    /// double step that it might capture, and in Circe by any capture or promotion; but, except in Circe,
+    /// no square where the king keeps a flight whatever is played. What is computed is kept for later
+    /// calls.
     pub fn risky_squares<R: Rules>(
         &mut self,
         board: &Board,
@@ -243,8 +250,8 @@ impl Threats {
         left & (unplain | critical)
     }
 
-    // Whether the man on `from`, who isn't the king, may come to each of the squares: the king keeps a flight whatever is
-    // played. `false` says nothing.
+    // Returns whether the man on `from`, not the king, may go to each of the squares since the king keeps a
+    // flight whatever is played; `false` says nothing.
     #[inline(always)]
     fn keep_flights<R: Rules>(&self, from: Square, squares: Squares) -> bool
         ensures { result ≡ true → (p : Position) → IsWellFormed p → AreThreatsOf R.rule p self.now
@@ -258,7 +265,7 @@ impl Threats {
         !R::captures_do_more() && squares & self.needed == 0
     }
 
-    /// Whether the move doesn't come to such a square, so that no reply mates. `false` says nothing.
+    /// Returns whether no reply to the move mates, by these threats; `false` says nothing.
     #[tactic(auto, using(crate::proofs::Sparing::one_square))]
     pub fn rule_out_mate<R: Rules>(&mut self, board: &Board, m: &Move) -> bool
         requires well_formed { IsWellFormed board.now }

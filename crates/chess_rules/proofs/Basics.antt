@@ -1,4 +1,4 @@
--- Words and lemmas of the standard library that most proofs name.
+-- Definitions and lemmas of the standard library that most proofs use.
 pub use Rattle.std.proofs.Common.{Bool, IsSome, List, MatchOption, None, Option, Some, [], add-one, ap, arith, cond, drop, drop-cons, eqb, false, filter, find, get_or, if◌then◌else◌, inl, inr, is_some, length, map, nat_le, nat_lt, not, option_to_list, pow_mono, refl, rules, subst, suc, sym, take, true, zero, ℕ, ◌%◌, ◌&&◌, ◌*◌, ◌++◌, ◌+◌, ◌-◌, ◌/◌, ◌<◌, ◌==◌, ◌^◌, ◌||◌, ◌↔◌, ◌∙◌, ◌∷◌, ◌≡◌, ◌≢◌, ◌≤◌, ◌⊎◌}
 pub use Rattle.std.proofs.Math.Nat.{add-mul, mul-add, pow-suc}
 pub use Rattle.std.proofs.lemmas.Bool.{agree_below, agree_below_at, and_from, and_left, and_parts, and_right, cases_Bool, cases_eq, cases_lt, cond-false, cond-true, eq-eqb, eqb-true, false_from_ne_true, false≢true, le-leb, le-ltb, leb-true, lt-ltb, ne_eqb, not-true, not_from_false, or_cases, or_from, or_left, or_parts, or_right, true_from_ne_false, true≢false}

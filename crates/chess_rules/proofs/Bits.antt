@@ -1,4 +1,5 @@
--- Bits of words: the first from a place on, one alone, words that are not 0, and words of several lines joined.
+-- Bitboards: the first square from a number on, a single square, bitboards that aren't empty, and unions of
+-- lines.
 use Rattle.chess_rules.proofs.Basics.{Bool, List, None, Some, [], ap, arith, bit_and, bit_at, bit_at-lt, bit_at-pow_other, bit_at-pow_same, bit_at-trailing_zeros, bit_at-zero, bit_at_and, bit_at_mask_below, bit_at_mask_inside, bit_at_or, bit_not, bit_or, cases_eq, cases_lt, eq-eqb, eqb-true, false, false_from_ne_true, find, list_any, list_any-append, nat_le, not, one_shl, ones_shl, range_with_len, refl, rules, sym, trailing_zeros, true, true_from_ne_false, w64, ℕ, ◌%◌, ◌*◌, ◌++◌, ◌-◌, ◌<◌, ◌==◌, ◌^◌, ◌&&◌, ◌||◌, ◌∙◌, ◌∷◌, ◌≡◌, ◌≤◌}
 use Rattle.chess_core.proofs.Ranges.{find_range_none, find_range_some}
 use Rattle.chess_core.proofs.Words.{square_bit, square_word, squares_both, squares_either, squares_none, squares_not, squares_same, squares_some}
@@ -30,7 +31,7 @@ next_none word from p h =
 pub next_low : (word from : ℕ) → from < 64 → 0 < from_on word from → from_on word from < 2 ^ 64 → from ≤ trailing_zeros w64 (from_on word from)
 next_low word from p pos fits = grind (arith, bit_at-trailing_zeros w64 (from_on word from) pos fits, cases_lt, bit_below)
 
--- and it is the one that is found
+-- the lowest bit from the place on is the square that the search finds
 pub next_some : (word from : ℕ) → from < 64 → 0 < from_on word from → from_on word from < 2 ^ 64
     → find (λ s. bit_at word s == 1) (range_with_len from (64 - from)) ≡ Some (trailing_zeros w64 (from_on word from))
 next_some word from p pos fits =
@@ -43,7 +44,7 @@ next_some word from p pos fits =
 pub kept_from : (word from t : ℕ) → from < 64 → t < 64 → (bit_at (from_on word from) t == 1) ≡ (nat_le from t && bit_at word t == 1)
 kept_from word from t p q = grind (arith, cases_lt t from, bit_from_on word from t, bit_below word from t)
 
--- none of them lies behind the last square
+-- no square lies after the last one
 pub none_from : (word from t : ℕ) → 64 ≤ from → t < 64 → (bit_at 0 t == 1) ≡ (nat_le from t && bit_at word t == 1)
 none_from word from t p q = grind (arith, bit_at-zero t)
 
@@ -80,7 +81,7 @@ every_square test h = ap (bit_not w64) (word_empty (λ s. false) (λ s b. refl))
 pub off_left : (a b i : ℕ) → (bit_at (bit_or a b) i == 1) ≡ false → (bit_at a i == 1) ≡ false
 off_left a b i h = search (rules, bit_at-lt, bit_at_or, eq-eqb, eqb-true, false_from_ne_true)
 
--- and off the second word
+-- a square off both words is off the second
 pub off_right : (a b i : ℕ) → (bit_at (bit_or a b) i == 1) ≡ false → (bit_at b i == 1) ≡ false
 off_right a b i h = search (rules, bit_at-lt, bit_at_or, eq-eqb, eqb-true, false_from_ne_true)
 
@@ -88,7 +89,7 @@ off_right a b i h = search (rules, bit_at-lt, bit_at_or, eq-eqb, eqb-true, false
 pub on_left : (a b i : ℕ) → (bit_at a i == 1) ≡ true → (bit_at (bit_or a b) i == 1) ≡ true
 on_left a b i h = true_from_ne_false _ (λ e. let off = off_left a b i e in cc)
 
--- and so is one of the second word
+-- a square of the second word is one of both together
 pub on_right : (a b i : ℕ) → (bit_at b i == 1) ≡ true → (bit_at (bit_or a b) i == 1) ≡ true
 on_right a b i h = true_from_ne_false _ (λ e. let off = off_right a b i e in cc)
 
@@ -96,7 +97,7 @@ on_right a b i h = true_from_ne_false _ (λ e. let off = off_right a b i e in cc
 pub joined : (p q : ℕ → Bool) (k l : ℕ) → k ≡ word p → l ≡ word q → bit_or k l ≡ word (λ s. p s || q s)
 joined p q k l h i = (λ j. bit_or (h j) (i j)) ∙ squares_either p q
 
--- and those of both words
+-- the intersection of two bitboards holds the squares of both tests
 pub shared : (p q : ℕ → Bool) (k l : ℕ) → k ≡ word p → l ≡ word q → bit_and k l ≡ word (λ s. p s && q s)
 shared p q k l h i = (λ j. bit_and (h j) (i j)) ∙ squares_both p q
 

@@ -1,4 +1,5 @@
--- The words of chess, the lemmas on squares, words of bits and tests, and those of the standard library that most proofs name.
+-- Definitions of chess, lemmas on squares, bitboards and tests, and what most proofs use of the standard
+-- library.
 pub use Rattle.chess_core.proofs.Boards.{IsAt, along-is, square_at-is}
 pub use Rattle.chess_core.proofs.Castlings.{has_unmoved-mark_other, has_unmoved-parts, is_home-none, is_home-square}
 pub use Rattle.chess_core.proofs.Kept.{same_kind-true, same_colour-refl}

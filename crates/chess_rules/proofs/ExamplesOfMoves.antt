@@ -1,4 +1,4 @@
--- Moves of all sorts, computed from the definitions.
+-- Moves of all kinds, computed from the definitions.
 use Rattle.chess_rules.proofs.Chess.{Bishop, Black, Grasshopper, King, Nightrider, None, Pawn, Position, Rook, Some, White, [], circe, false, is_legal, is_mate, kinds, madrasi, man_on, map, none_unmoved, orthodox, position_after, refl, same_kind, true, with_unmoved, ◌∷◌, ◌≡◌}
 use Rattle.chess_rules.proofs.Typed.{legal_moves, go, man, on, position, promoting, a1, d1, e1, f1, g1, h1, f2, h2, b3, f3, h3, d5, e5, d6, g6, d7, e7, a8, b8, c8, e8, g8, h8}
 
@@ -19,12 +19,13 @@ castling_wants_the_rook_unmoved : is_legal orthodox (record castling { unmoved =
 unfolding legal_moves
 castling_wants_the_rook_unmoved = refl
 
--- the same with a black grasshopper on d1: after castling it hops over f1 to g1
+-- the position for castling with a black grasshopper added on d1: after castling it hops over f1 to g1
 abbrev guarded : Position
 guarded = record (position (on White King e1 ∷ on White Rook h1 ∷ on White Rook e8 ∷ on White Rook g8 ∷ on Black King f3 ∷ on Black Grasshopper d1 ∷ [])
     White) { unmoved = with_unmoved (with_unmoved none_unmoved e1) h1 }
 
--- so castling isn't legal, and Rh1-f1, which mates without it, doesn't, since the grasshopper captures there
+-- with the grasshopper on d1 castling isn't legal; Rh1-f1 isn't mate, since the grasshopper captures there,
+-- and is mate without it
 grasshopper_forbids_castling : (is_legal orthodox guarded (go e1 g1) ≡ false) × (is_mate orthodox (position_after orthodox guarded (go h1 f1)) ≡ false)
     × (is_mate orthodox (position_after orthodox castling (go h1 f1)) ≡ true)
 unfolding legal_moves
@@ -46,7 +47,7 @@ en_passant_in_circe : man_on (position_after circe passing (go e5 d6)).men d7 �
 unfolding legal_moves
 en_passant_in_circe = refl
 
--- without the crossed square there is no such capture
+-- without the en passant square the capture isn't legal
 en_passant_wants_the_crossed_square : is_legal orthodox (record passing { crossed = None }) (go e5 d6) ≡ false
 unfolding legal_moves
 en_passant_wants_the_crossed_square = refl
@@ -74,11 +75,11 @@ bishop_is_reborn : (man_on (position_after circe bishop_at_home (go a1 a8)).men 
 unfolding legal_moves
 bishop_is_reborn = (refl, refl)
 
--- the same with a rook on a8, which is its home: it is captured for good
+-- White Kg6 Ra1, Black Kg8 Ra8, in Circe: a8 is the rook's home square, so it is captured and disappears
 abbrev rook_at_home : Position
 rook_at_home = position (on White King g6 ∷ on White Rook a1 ∷ on Black King g8 ∷ on Black Rook a8 ∷ []) White
 
--- so this is mate
+-- the capture Ra1xa8 is mate
 rook_vanishes : is_mate circe (position_after circe rook_at_home (go a1 a8)) ≡ true
 unfolding legal_moves
 rook_vanishes = refl
@@ -94,7 +95,7 @@ nightrider_mates : (is_legal orthodox promotion (promoting e7 e8 Nightrider) ≡
 unfolding legal_moves
 nightrider_mates = (refl, refl)
 
--- without one in the diagram there is no such promotion, and a king there is never
+-- without a nightrider in the diagram promotion to one isn't legal; promotion to a king never is
 no_nightrider_without_one : (is_legal orthodox (record promotion { in_diagram = [] }) (promoting e7 e8 Nightrider) ≡ false)
     × (is_legal orthodox promotion (promoting e7 e8 King) ≡ false)
 unfolding legal_moves

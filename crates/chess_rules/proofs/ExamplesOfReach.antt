@@ -1,4 +1,4 @@
--- How men go and give check, computed from the definitions.
+-- How men move and give check, computed from the definitions.
 use Rattle.chess_rules.proofs.Chess.{Black, Grasshopper, King, Knight, List, Man, Nightrider, Option, Pawn, Rook, White, [], along, faces, faces_its_like, false, hops, in_check, is_attacked, is_attacker, is_clear, is_paralysed, king_square, leaps, madrasi, orthodox, reaches, reaches_as, refl, rides, some_square, squares, true, with_man, ◌∷◌, ◌≡◌}
 use Rattle.chess_rules.proofs.Typed.{man, on, set_up, a1, e1, f1, a3, b3, a4, a5, e5, a6, f6, d7, e7, f7, g7, b8}
 
@@ -33,7 +33,7 @@ rook_checks : (in_check orthodox three Black ≡ true) × (in_check madrasi (wit
 unfolding reaches reaches_as rides hops leaps is_clear along squares some_square king_square faces_its_like faces is_attacker is_paralysed is_attacked in_check
 rook_checks = (refl, refl)
 
--- but not where a black rook on a3 paralyses it
+-- in Madrasi a black rook on a3 paralyses the rook, which gives no check
 paralysed_rook : in_check madrasi (with_man (with_man three a4 (man White Knight)) a3 (man Black Rook)) Black ≡ false
 unfolding reaches reaches_as rides hops leaps is_clear along squares some_square king_square faces_its_like faces is_attacker is_paralysed is_attacked in_check
 paralysed_rook = refl

@@ -1,4 +1,5 @@
--- What the clauses of attack, of lines and of targets exclude: small positions in which the definitions say otherwise than a wrong body would.
+-- What the clauses on attacks, lines and targets exclude: small positions where a wrong body would differ
+-- from the definitions.
 use Rattle.chess_rules.proofs.Chess.{AreEvasions, AreEvasionsFrom, Bishop, Black, Bool, Colour, Grasshopper, IsBarrenFrom, Kind, King, Knight, List, Man, Nightrider, Option, Pawn, Position, Queen, Rook, RuleSet, Some, White, [], agree_below_at, along, and_from, ap, arith, bit_at, can_castle, can_go, cannot_expose, cases_lt, drop, faces, faces_its_like, false, false≢true, filter, find, has_fairy, has_fairy_lines_of, hopped_from, hops, in_check, is_ahead, is_arrival_free, is_attacked, is_behind, is_checker, is_clear, is_evasion, is_legal, is_man, is_met, is_of_colour, is_on_fairy_line, is_on_some, is_paralysed, is_plain, is_pseudo_legal, is_reached, is_shut, king_square, leaps, madrasi, man_on, may_be_paralysed, may_expose, may_go, may_promote, may_stand_between, moves_between, none_unmoved, not, orthodox, pawn_goes, per_arrival, per_origin, position_after, promotion_at, range_with_len, reaches, reaches_as, refl, rides, rides_on, rules, sight_after, some_square, squares, step_by, steps_to, straight_steps, sym, take, triple_at, triples, true, true_from_ne_false, true≢false, with_unmoved, without_man, word, word_of, ℕ, ◌%◌, ◌&&◌, ◌*◌, ◌+◌, ◌-◌, ◌/◌, ◌<◌, ◌==◌, ◌^◌, ◌∙◌, ◌∷◌, ◌≡◌, ◌≤◌}
 use Rattle.chess_rules.proofs.making_moves.Pseudo.{on_board}
 use Rattle.chess_rules.proofs.attacks.StayingInCheck.{side_there}
@@ -46,7 +47,8 @@ en_passant_meets : (in_check orthodox passing_check.men White ≡ true) × (is_p
 unfolding check_after_a_move
 en_passant_meets = (refl, refl, refl)
 
--- so the squares to which the pawn must go to leave no check hold d6, which meets it in no other way
+-- the squares to which the pawn must go to leave no check hold d6, though a man on d6 meets the check in no
+-- other way
 pub crossed_square_may_meet_a_check : (w : ℕ) → AreEvasionsFrom orthodox passing_check e5 w → (bit_at w d6 == 1) ≡ true
 crossed_square_may_meet_a_check w are = search (rules, true_from_ne_false, true≢false, en_passant_meets, are)
 
@@ -64,7 +66,7 @@ king_goes : (in_check orthodox rook_check.men White ≡ true) × (is_pseudo_lega
 unfolding check_after_a_move
 king_goes = (refl, refl, refl)
 
--- so the squares to which the king must go hold b1
+-- the squares to which the king must go to leave no check hold b1
 pub king_may_leave_a_check : (w : ℕ) → AreEvasionsFrom orthodox rook_check a1 w → (bit_at w b1 == 1) ≡ true
 king_may_leave_a_check w are = true_from_ne_false _ (λ e. true≢false (sym (are.elsewhere (go a1 b1) refl (omega arith) king_goes.1 e) ∙ king_goes.2))
 
@@ -82,12 +84,12 @@ arriving_man_shuts = (refl, refl)
 pub promotion_needs_its_man : (may_promote (position [] White) Grasshopper ≡ false) × (may_promote (position [] White) Queen ≡ true)
 promotion_needs_its_man = (refl, refl)
 
--- the last per_origin triples are those of a man on h8
+-- the last per_origin triples are the triples of a man on h8
 pub last_triples_are_from_h8 : (triple_at (per_origin * h8)).from ≡ h8
 unfolding triple_at
 last_triples_are_from_h8 = refl
 
--- of a1 and b1 the first from b1 on is b1
+-- the first square from b1 on, of the word of a1 and b1, is b1
 pub earlier_squares_are_passed : find (λ s. bit_at 3 s == 1) (range_with_len 1 63) ≡ Some b1
 earlier_squares_are_passed = refl
 
@@ -143,7 +145,7 @@ pub rider_gets_to_the_next_square : rides (set_up []) a1 a2 (step_by 0 0 1 0) �
 unfolding rides is_clear along
 rider_gets_to_the_next_square = refl
 
--- looked for from a6, a grasshopper that hops over a5 stands on a4, and not on a5
+-- from a6, the grasshopper that hops over a5 is on a4, and not on a5
 pub grasshopper_stands_behind_its_hurdle : (hopped_from (set_up (on Black Pawn a5 ∷ [])) a6 a4 (step_by 0 0 0 1) ≡ true)
     × (hopped_from (set_up (on Black Pawn a5 ∷ [])) a6 a5 (step_by 0 0 0 1) ≡ false)
 unfolding hopped_from rides_on along
@@ -169,7 +171,7 @@ abbrev orthodox_checker : ℕ → Bool
 orthodox_checker s =
     (is_of_colour (man_on grasshopper_check s) Black && reaches grasshopper_check s a1) && not (has_fairy_lines_of (man_on grasshopper_check s))
 
--- so a grasshopper's check may be met everywhere
+-- a grasshopper's check may be met on every square
 pub any_square_may_meet_a_fairy_check : (w t : ℕ) → t < 64 → AreEvasions orthodox grasshopper_check White w → (bit_at w t == 1) ≡ true
 unfolding check_after_a_move
 any_square_may_meet_a_fairy_check w t small are = true_from_ne_false _ (λ e.
@@ -185,7 +187,7 @@ any_square_may_meet_a_fairy_check w t small are = true_from_ne_false _ (λ e.
 abbrev unmet : ℕ → ℕ → Bool
 unmet t s = (is_of_colour (man_on rook_check.men s) Black && reaches rook_check.men s a1) && not (is_evasion rook_check.men White a1 s t)
 
--- the rook's check is met where no such enemy is
+-- the rook's check is parried if no enemy of the kind above is there
 met_there : (w t : ℕ) → t < 64 → ((s : ℕ) → s < 64 → unmet t s ≡ false) → AreEvasions orthodox rook_check.men White w → (bit_at w t == 1) ≡ true
 unfolding king_square squares
 met_there w t small none are = true_from_ne_false _ (λ e.
@@ -194,7 +196,7 @@ met_there w t small none are = true_from_ne_false _ (λ e.
     let on = on_board rook_check.men u.checker enemy.0 refl enemy.1.0 in
     grind (arith, none u.checker on, u.enemy, u.here, u.check, u.no_evasion))
 
--- so a man may capture the rook on a8, or shut the file on a4
+-- White may capture the rook on a8, or interpose on a4
 pub captures_and_shuts_meet_a_check : (w : ℕ) → AreEvasions orthodox rook_check.men White w → ((bit_at w a8 == 1) ≡ true) × ((bit_at w a4 == 1) ≡ true)
 unfolding reaches reaches_as rides hops leaps is_clear along
 captures_and_shuts_meet_a_check w are = (
@@ -258,7 +260,7 @@ moving_checker_there : (s : ℕ) → s < 64 → moving_checker s ≡ false
 unfolding check_after_a_move
 moving_checker_there s lt = agree_below_at moving_checker (λ _. false) 64 s refl lt
 
--- so a White man who goes to d3 may meet the check
+-- in Madrasi a White man that goes to d3 may meet the check
 pub men_of_the_checkers_kind_may_meet_its_check : (w : ℕ) → AreEvasions madrasi rook_faces_rook.men White w → (bit_at w d3 == 1) ≡ true
 unfolding king_square squares
 men_of_the_checkers_kind_may_meet_its_check w are = true_from_ne_false _ (λ e.
@@ -271,7 +273,7 @@ men_of_the_checkers_kind_may_meet_its_check w are = true_from_ne_false _ (λ e.
 abbrev promotion_faces_rook : Position
 promotion_faces_rook = position (on White King h1 ∷ on White Pawn e7 ∷ on Black King a3 ∷ on Black Rook h8 ∷ []) White
 
--- so the pawn's promotion may end the check
+-- the pawn's promotion to a rook ends the check, the promotion to a queen doesn't
 pub promoted_man_paralyses : (in_check madrasi promotion_faces_rook.men White ≡ true)
     × (is_pseudo_legal madrasi promotion_faces_rook (promoting e7 e8 Rook) ≡ true)
     × (in_check madrasi (position_after madrasi promotion_faces_rook (promoting e7 e8 Rook)).men White ≡ false)
@@ -279,7 +281,7 @@ pub promoted_man_paralyses : (in_check madrasi promotion_faces_rook.men White �
 unfolding check_after_a_move
 promoted_man_paralyses = (refl, refl, refl, refl)
 
--- and the squares to which the pawn must go to leave no check hold e8
+-- the squares to which the pawn must go to leave no check hold e8
 pub promotion_may_meet_a_check : (w : ℕ) → AreEvasionsFrom madrasi promotion_faces_rook e7 w → (bit_at w e8 == 1) ≡ true
 promotion_may_meet_a_check w are = search (rules, true_from_ne_false, true≢false, promoted_man_paralyses, are)
 
@@ -287,14 +289,15 @@ promotion_may_meet_a_check w are = search (rules, true_from_ne_false, true≢fal
 abbrev king_faces_king : Position
 king_faces_king = position (on White King a1 ∷ on Black King c3 ∷ []) White
 
--- so Black's king isn't paralysed and gives check
+-- a king that faces a king isn't paralysed: Black's gives check
 pub kings_are_never_paralysed : (faces_its_like (position_after madrasi king_faces_king (go a1 b2)).men (man Black King) c3 ≡ true)
     × (is_paralysed madrasi (position_after madrasi king_faces_king (go a1 b2)).men c3 ≡ false)
     × (in_check madrasi (position_after madrasi king_faces_king (go a1 b2)).men White ≡ true)
 unfolding check_after_a_move
 kings_are_never_paralysed = (refl, refl, refl)
 
--- but queens are: White Kh1 Qd1, Black Kb8 Qh3, which gives check, and the queen goes to d3
+-- White Kh1 Qd1, Black Kb8 Qh3, which gives check: a queen that faces a queen is paralysed, here after
+-- Qd1-d3
 abbrev queen_faces_queen : Position
 queen_faces_queen = position (on White King h1 ∷ on White Queen d1 ∷ on Black King b8 ∷ on Black Queen h3 ∷ []) White
 
@@ -304,17 +307,17 @@ pub queens_are_paralysed : (in_check madrasi queen_faces_queen.men White ≡ tru
 unfolding check_after_a_move
 queens_are_paralysed = (refl, refl)
 
--- what the examples of shields compute with beside it
+-- what the examples of blockers compute with as well
 lines_to_a_king : Unit {0}
 unfolding may_expose cannot_expose may_stand_between is_on_fairy_line is_plain is_reached is_ahead is_on_some is_shut is_behind
 lines_to_a_king = tt
 
--- White Ka1 Rh2, Black Kh8 Ga8: on a2 the rook is the hurdle over which the grasshopper gives check, though the rook stood on no line to
--- the king
+-- White Ka1 Rh2, Black Kh8 Ga8: on a2 the rook is the hurdle over which the grasshopper gives check, though
+-- the rook was on no line to the king
 abbrev hurdle_comes : Position
 hurdle_comes = position (on White King a1 ∷ on White Rook h2 ∷ on Black King h8 ∷ on Black Grasshopper a8 ∷ []) White
 
--- so the move to a2 uncovers the king: the arrival tells, the origin doesn't
+-- the move to a2 exposes the king: the arrival is a line square, the origin isn't
 pub arriving_man_is_a_hurdle : (may_expose hurdle_comes.men White h2 ≡ false) × (may_stand_between hurdle_comes.men White h2 ≡ false)
     × (may_stand_between hurdle_comes.men White a2 ≡ true) × (cannot_expose orthodox hurdle_comes White (go h2 a2) ≡ false)
     × (is_pseudo_legal orthodox hurdle_comes (go h2 a2) ≡ true) × (in_check orthodox hurdle_comes.men White ≡ false)
@@ -326,7 +329,7 @@ arriving_man_is_a_hurdle = (refl, refl, refl, refl, refl, refl, refl)
 abbrev hurdle_goes : Position
 hurdle_goes = position (on White King a1 ∷ on White Rook a2 ∷ on White Knight a4 ∷ on Black King h8 ∷ on Black Grasshopper a8 ∷ []) White
 
--- so a move from a4 may uncover the king, and Na4-b6 does
+-- a move from a4 may expose the king, and Na4-b6 does
 pub leaving_man_opens_a_hop : (is_shut hurdle_goes.men Black Rook straight_steps a1 a4 ≡ false) × (may_stand_between hurdle_goes.men Black a4 ≡ false)
     × (may_expose hurdle_goes.men White a4 ≡ true) × (is_pseudo_legal orthodox hurdle_goes (go a4 b6) ≡ true)
     × (in_check orthodox hurdle_goes.men White ≡ false) × (in_check orthodox (position_after orthodox hurdle_goes (go a4 b6)).men White ≡ true)
@@ -337,7 +340,8 @@ leaving_man_opens_a_hop = (refl, refl, refl, refl, refl, refl)
 abbrev shut_nightrider : Kind → Position
 shut_nightrider k = position (on White King c1 ∷ on White Bishop d3 ∷ on Black King h8 ∷ on Black k e5 ∷ []) White
 
--- so d3 lies on a fairy line to the king, on none with a knight, and Bd3-e4 uncovers him
+-- d3 lies on a fairy line to the king with a nightrider on e5, on none with a knight; Bd3-e4 exposes the
+-- king
 pub nightriders_line_is_shut : (may_stand_between (shut_nightrider Nightrider).men White d3 ≡ true)
     × (may_stand_between (shut_nightrider Knight).men White d3 ≡ false)
     × (is_pseudo_legal orthodox (shut_nightrider Nightrider) (go d3 e4) ≡ true) × (in_check orthodox (shut_nightrider Nightrider).men White ≡ false)
@@ -345,17 +349,17 @@ pub nightriders_line_is_shut : (may_stand_between (shut_nightrider Nightrider).m
 unfolding lines_to_a_king check_after_a_move
 nightriders_line_is_shut = (refl, refl, refl, refl, refl)
 
--- a stretch without a move ends before a move to one of the word's squares
+-- a range without a move ends before a move to one of the bitboard's squares
 ends_at : (p : Position) (s w k b : ℕ) → (bit_at w (k / per_arrival) == 1) ≡ true
     → is_pseudo_legal orthodox p (record { from = s; to = k / per_arrival; promo = promotion_at (k % per_arrival) }) ≡ true → IsBarrenFrom p s w 0 b → b ≤ k
 ends_at p s w k b on may barren = grind (arith, cases_lt, false≢true)
 
--- of a rook on a1 to b1, and of a pawn that becomes a queen on e8
+-- a range without a move ends before the move of a rook from a1 to b1
 pub stretch_ends_at_a_move : (w b : ℕ) → (bit_at w b1 == 1) ≡ true → IsBarrenFrom (position (on White Rook a1 ∷ []) White) a1 w 0 b → b ≤ per_arrival
 unfolding check_after_a_move
 stretch_ends_at_a_move w b there barren = ends_at (position (on White Rook a1 ∷ []) White) a1 w 7 b there refl barren
 
--- of a pawn on e7 to e8, where it becomes a queen
+-- a range without a move ends before the promotion to a queen of a pawn that goes from e7 to e8
 pub stretch_ends_at_a_promotion : (w b : ℕ) → (bit_at w e8 == 1) ≡ true → IsBarrenFrom (position (on White Pawn e7 ∷ []) White) e7 w 0 b
     → b ≤ per_arrival * e8 + 1
 unfolding check_after_a_move

@@ -1,4 +1,4 @@
--- Loops that take the squares of a word one after another.
+-- Loops that remove the squares of a bitboard one after another.
 use Rattle.chess_rules.proofs.Chess.{Bool, None, Option, Some, and_from, and_right, arith, bit_at, cases_Bool, cases_eq, false, false≢true, inl, inr, not, refl, some_square, some_square_false, some_square_true, subst, sym, true, ℕ, ◌&&◌, ◌<◌, ◌==◌, ◌||◌, ◌∙◌, ◌≡◌}
 use Rattle.chess_rules.proofs.attacks.Attacking.{some_square_same}
 use Rattle.std.specs.Prelude.{IfSome}
@@ -27,12 +27,12 @@ taken_next w rest k left P h taken here =
 pub is_taken : (rest k left : ℕ) (o : Option ℕ) → IfSome o (λ s. IsTaken rest s left) → o ≡ Some k → IsTaken rest k left
 is_taken rest k left o next some = subst (λ o. IfSome o (λ s. IsTaken rest s left)) some next
 
--- the same for search
+-- for a search: a property of the taken squares holds of the square that the search finds
 pub taken_on : (w rest k left : ℕ) (o : Option ℕ) (P : ℕ → Type 0) → HoldTaken w rest P → IfSome o (λ s. IsTaken rest s left) → o ≡ Some k → P k
     → HoldTaken w left P
 taken_on w rest k left o P h next some here = taken_next w rest k left P h (is_taken rest k left o next some) here
 
--- for its end: what holds of each square that was taken holds of all
+-- at the end of a search: what holds of each taken square holds of all squares of the word
 pub taken_all : (w rest : ℕ) (o : Option ℕ) (P : ℕ → Type 0) → HoldTaken w rest P → (o ≡ None → rest ≡ 0) → o ≡ None → (s : ℕ) → s < 64
     → (bit_at w s == 1) ≡ true → P s
 taken_all w rest o P h end none s small on = h.holds s small on (rw (end none) (off_zero s))
@@ -63,7 +63,7 @@ pub record PassTaken (w rest : ℕ) (test : ℕ → Bool) : Type 0 where
   pub inside : (s : ℕ) → (bit_at rest s == 1) ≡ true → (bit_at w s == 1) ≡ true
   pub same : some_square (λ s. bit_at w s == 1 && not (test s)) ≡ some_square (λ s. bit_at rest s == 1 && not (test s))
 
--- its next square passes
+-- a search goes on where the next square passes the test
 pub pass_next : (w rest k left : ℕ) (test : ℕ → Bool) → PassTaken w rest test → IsTaken rest k left → test k ≡ true → PassTaken w left test
 pass_next w rest k left test h taken passes =
     record {
@@ -71,7 +71,7 @@ pass_next w rest k left test h taken passes =
       same = h.same ∙ some_taken rest k left (λ s. not (test s)) taken ∙ rw passes refl;
     }
 
--- or it fails
+-- a search ends where the next square fails the test
 pub one_fails : (w rest k left : ℕ) (test : ℕ → Bool) → PassTaken w rest test → IsTaken rest k left → test k ≡ false
     → true ≡ some_square (λ s. bit_at w s == 1 && not (test s))
 one_fails w rest k left test h taken fails = sym (h.same ∙ some_taken rest k left (λ s. not (test s)) taken ∙ rw fails refl)

@@ -1,4 +1,4 @@
--- A number less one: its lowest 1 goes, those below it come, and the bits above stay.
+-- A number minus one: its lowest 1 is cleared, the bits below are set, and the bits above stay.
 use Rattle.chess_rules.proofs.Basics.{ap, arith, bit_and, bit_at, bit_at-lt, bit_at-trailing_zeros, bit_at_and, cases_eq, cases_lt, eq-eqb, sym, suc, trailing_zeros, w64, zero, ℕ, ◌%◌, ◌-◌, ◌/◌, ◌<◌, ◌^◌, ◌∙◌, ◌≡◌}
 use Rattle.std.proofs.lemmas.Nat.{and_le_r}
 use Rattle.std.proofs.lemmas.Nat.Bits.{bit_at-suc, bit_at_lowest}

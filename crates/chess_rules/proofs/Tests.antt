@@ -1,11 +1,11 @@
--- Tests joined, and tests over ranges of numbers.
+-- Conjunctions of tests, and tests over ranges of numbers.
 use Rattle.chess_rules.proofs.Basics.{Bool, List, None, Some, [], and_from, and_parts, arith, cases_Bool, cases_eq, false, false≢true, find, inr, list_all, list_any, not, or_cases, or_left, or_right, range_with_len, refl, rules, suc, true, zero, ℕ, ◌&&◌, ◌+◌, ◌<◌, ◌==◌, ◌||◌, ◌∷◌, ◌≡◌, ◌≤◌, ◌⊎◌}
 
 -- where two tests both pass, the first does
 pub first_of_and : (a b : Bool) → (a && b) ≡ true → a ≡ true
 first_of_and a b h = grind arith
 
--- and the second
+-- where two tests both pass, the second does
 pub second_of_and : (a b : Bool) → (a && b) ≡ true → b ≡ true
 second_of_and a b h = grind (arith, false≢true)
 

@@ -1,4 +1,4 @@
--- Positions and moves typed in for the examples, and what these compute with.
+-- Shorthand for the examples: positions and moves, and the definitions that they compute with.
 use Rattle.chess_rules.proofs.Chess.{Colour, Kind, List, Man, Move, None, Option, Position, Some, [], along, can_castle, capture_square, faces, faces_its_like, has_unmoved, hops, in_check, is_attacked, is_attacker, is_clear, is_legal, is_mate, is_paralysed, is_pseudo_legal, king_square, leaps, mark_unmoved, may_castle, moved_men, moves, none_unmoved, position_after, position_after_by, reaches, reaches_as, rebirth, reborn_square, repeat, rides, some_square, squares, triples, unmoved_after, with_man, ℕ, ◌∷◌}
 pub use Rattle.chess_core.specs.SquareNames.{a1, b1, c1, d1, e1, f1, g1, h1, a2, b2, c2, d2, e2, f2, g2, h2, a3, b3, c3, d3, f3, h3, a4, b4, e4, a5, d5, e5, a6, b6, d6, e6, f6, g6, a7, b7, c7, d7, e7, f7, g7, h7, a8, b8, c8, d8, e8, f8, g8, h8}
 
@@ -34,18 +34,18 @@ position xs c = record {
 abbrev pub go : ℕ → ℕ → Move
 go a b = record { from = a; to = b; promo = None }
 
--- the same with a promotion
+-- a promotion: the move from one square to another, and the kind that the pawn becomes
 abbrev pub promoting : ℕ → ℕ → Kind → Move
 promoting a b k = record { from = a; to = b; promo = Some k }
 
--- what tells whether a move may be made, and of the check after it
+-- what decides whether a move is pseudo-legal, and whether check follows it
 unfoldable pub check_after_a_move : Unit {0}
 unfolding reaches reaches_as rides hops leaps is_clear along squares some_square king_square faces_its_like faces is_attacker is_paralysed is_attacked in_check
     position_after position_after_by unmoved_after moved_men capture_square reborn_square rebirth can_castle may_castle is_pseudo_legal none_unmoved has_unmoved
     mark_unmoved
 check_after_a_move = tt
 
--- and what the legal moves and mate
+-- what decides which moves are legal, and whether a position is mate
 unfoldable pub legal_moves : Unit {0}
 unfolding check_after_a_move is_legal moves triples is_mate
 legal_moves = tt

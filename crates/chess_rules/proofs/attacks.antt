@@ -1,4 +1,4 @@
--- What attacks a square, before a move and after it.
+-- What attacks a square, before and after a move.
 pub mod FairyLines
 pub mod Attacking
 pub mod Shielding

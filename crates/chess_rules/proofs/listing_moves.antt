@@ -1,4 +1,4 @@
--- The legal moves in order, and how they are found.
+-- The legal moves in order, and how the search finds them.
 pub mod Targeting
 pub mod Members
 pub mod Places

@@ -1,4 +1,4 @@
--- Lines of squares: rides, hops, leaps, and the words of their squares.
+-- Lines of squares: rides, hops, leaps, and their bitboards.
 pub mod HopWords
 pub mod Ends
 pub mod Ways

@@ -1,4 +1,4 @@
-//! One move looked at alone, without the words that tell all moves of its position.
+//! Tests one move without computing the bitboards that serve all moves of a position.
 ghost use Rattle.std.specs.Prelude.{◌≡◌, false, true};
 ghost use Rattle.chess_core.specs.WellFormed.{IsWellFormed};
 ghost use Rattle.chess_rules.specs.Legal.{is_legal, is_pseudo_legal};
@@ -12,8 +12,8 @@ use crate::words::contains;
 use chess_core::board::Board;
 use chess_core::man::Move;
 
-// Whether the move goes where the man on its origin may go, promoted exactly where a pawn arrives on its
-// last rank.
+// Returns whether the move arrives on one of the man's arrival squares, with a promotion exactly if it is a
+// pawn on its last rank.
 fn is_aimed<R: Rules>(board: &Board, m: &Move) -> bool
     ensures aimed { result ≡ true → IsAimed R.rule board.now m.now }
     ensures idle { result ≡ false → is_pseudo_legal R.rule board.now m.now ≡ false }
@@ -26,7 +26,7 @@ fn is_aimed<R: Rules>(board: &Board, m: &Move) -> bool
     m.promo.is_some() == is_promoting(man, m.to) && contains(arrivals::<R>(board, m.from), m.to)
 }
 
-// Whether the move is legal. The board is unchanged after it.
+// Returns whether the move is legal. The board is unchanged.
 #[tactic(auto, unfolding(crate::specs::Legal::is_legal))]
 pub(crate) fn is_legal_alone<R: Rules>(board: &mut Board, m: Move) -> bool
     requires well_formed { IsWellFormed board.old }

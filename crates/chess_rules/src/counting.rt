@@ -1,4 +1,4 @@
-//! How many legal moves of one origin lie between two triples, most of them counted by words of squares.
+//! Counts the legal moves of one origin between two triples, mostly by counting bits.
 ghost use Rattle.std.specs.Prelude.{◌≡◌, ◌*◌, ◌+◌, ◌/◌, ◌^◌, ◌<◌, ◌≤◌, ◌==◌, ℕ, count_ones, false, length, true};
 ghost use Rattle.std.specs.Int.{bit_at};
 ghost use Rattle.chess_core.specs.Position.{is_man, man_on};
@@ -23,21 +23,21 @@ use chess_core::board::Board;
 use chess_core::man::{Colour, Kind, Man, Move};
 use chess_core::square::{Square, Squares};
 
-// Whether the moves to the squares are known to be legal, or each is to be looked at.
+// Whether moves to the squares are known to be legal (`Sure`), or each needs a test (`Open`).
 #[derive(Clone, Copy)]
 pub(crate) enum Legality {
     Open,
     Sure,
 }
 
-// Squares to which a man may go, and whether he does go to each by a legal move.
+// Candidate squares of a man, and whether each of them is known to be a legal move.
 #[derive(Clone, Copy)]
 pub(crate) struct Candidates {
     pub(crate) squares: Squares,
     pub(crate) legality: Legality,
 }
 
-// How many squares the word has from the one with this number on.
+// Returns the number of squares of `word` whose number is `from` or more.
 #[tactic(auto, using(crate::proofs::listing_moves::Counting::none_from))]
 fn count_from(word: Squares, from: u8) -> u16
     ensures value { result ≡ count_ones (word / 2 ^ from) }
@@ -49,8 +49,8 @@ fn count_from(word: Squares, from: u8) -> u16
     (word >> from).count_ones() as u16
 }
 
-// The squares to which another man than the king may go by a move that has to be looked at: one that changes
-// more than his own square, or names a promotion, or shuts or opens a line of a fairy man.
+// Returns the squares where a move of this man, not a king, needs a test of its own: those on fairy lines
+// of its king, and the squares of en passant, rebirth and promotion.
 #[tactic(auto, using(crate::proofs::listing_moves::SurelyLegal::unsure_word))]
 fn unsure_squares<R: Rules>(board: &Board, man: Man) -> Squares
     ensures { result ≡ word (is_unsure R.rule board.now man) }
@@ -61,8 +61,8 @@ fn unsure_squares<R: Rules>(board: &Board, man: Man) -> Squares
         | promoting_squares(man)
 }
 
-// Whether each move of the man on `from` to one of these squares, if there is one, is surely legal, without a promotion.
-// `shield_squares` are those from which a move may expose the mover's king.
+// Returns whether all moves of the man on `from` to these squares are certainly legal and none promotes.
+// `shield_squares` are the squares from which a move may expose the mover's king.
 #[tactic(auto, using(crate::proofs::listing_moves::SurelyLegal::surely_legal))]
 fn are_surely_legal<R: Rules>(
     board: &Board,
@@ -92,7 +92,8 @@ fn are_surely_legal<R: Rules>(
     squares & unsure_squares::<R>(board, man) == 0
 }
 
-// The same, which need not be looked into if it is sure.
+// Returns whether all moves of the man on `from` to the candidate squares are certainly legal, without a
+// test if `given` says so.
 fn are_known_legal<R: Rules>(
     board: &Board,
     shield_squares: Squares,
@@ -110,9 +111,9 @@ fn are_known_legal<R: Rules>(
     }
 }
 
-// How many legal moves the pawn on `from` has among his triples numbered from `start` on and below `end`, each
-// counted from the origin's first; each is looked at. `squares` are those to which he may go. The board is
-// unchanged. This and the one below are parts of the count: apart they cost more than they save.
+// Returns the number of legal moves of the pawn on `from` among its triples from `start` up to but not
+// including `end`, by testing each; `squares` are its candidates. Triples are counted from the first with
+// this origin. The board is unchanged. Inlined: a call costs more than it saves.
 #[inline(always)]
 fn count_of_pawn<R: Rules>(
     board: &mut Board,
@@ -142,7 +143,9 @@ fn count_of_pawn<R: Rules>(
     count
 }
 
-// The same for a man who is no pawn: he goes to each square by one triple, that without a promotion.
+// Returns the number of legal moves of the piece on `from` among its triples from `start` up to but not
+// including `end`, by testing each. Pieces don't promote, so each square has one triple. The board is
+// unchanged. Inlined: a call costs more than it saves.
 #[inline(always)]
 fn count_of_piece<R: Rules>(
     board: &mut Board,
@@ -179,7 +182,8 @@ fn count_of_piece<R: Rules>(
     count
 }
 
-// The same, whoever the man is.
+// Returns the number of legal moves of the man on `from` among its triples from `start` up to but not
+// including `end`, by testing each.
 #[inline(never)]
 #[tactic(auto, using(crate::proofs::Bits::word_has), unfolding(chess_core::specs::ties::Words::squares_of))]
 fn count_one_by_one<R: Rules>(
@@ -206,7 +210,9 @@ fn count_one_by_one<R: Rules>(
     }
 }
 
-// The same, where all are surely legal without looking at them: mostly, so the loops above stand apart.
+// Returns the number of legal moves of the man on `from` among its triples from `start` up to but not
+// including `end`. The board is unchanged. It mostly counts bits, so the loops that test each move are out
+// of line.
 #[inline(always)]
 pub(crate) fn count_origin<R: Rules>(
     board: &mut Board,
@@ -227,7 +233,7 @@ pub(crate) fn count_origin<R: Rules>(
 {
     let squares = given.squares;
     if are_known_legal::<R>(board, known.shield_squares, from, given) {
-        // Mostly the whole origin is asked for: then there is nothing to divide.
+        // Mostly the whole origin is counted, and no division is needed.
         if start == 0 && end == PER_ORIGIN {
             return squares.count_ones() as u16;
         }

@@ -1,4 +1,4 @@
-//! The moves that answer a check.
+//! The moves that parry a check.
 ghost use Rattle.std.specs.Prelude.{◌≡◌, ◌==◌, if◌then◌else◌, is_some, not, true};
 ghost use Rattle.chess_core.specs.Position.{man_on};
 ghost use Rattle.chess_core.specs.WellFormed.{IsWellFormed};
@@ -23,7 +23,7 @@ use chess_core::board::Board;
 use chess_core::man::{Colour, Kind, Man, Move};
 use chess_core::square::{Square, Squares};
 
-// Whether a fairy man that goes along lines stands on the square.
+// Returns whether a rider or hopper among the fairy men is on the square.
 fn has_fairy_lines_on(board: &Board, square: Square) -> bool
     ensures { result ≡ has_fairy_lines_of (man_on board.now.men square) }
 {
@@ -33,7 +33,7 @@ fn has_fairy_lines_on(board: &Board, square: Square) -> bool
     }
 }
 
-// Whether the colour has a man of the kind of the one on the square.
+// Returns whether the colour has a man of the same kind as the man on the square.
 #[tactic(auto, using(crate::proofs::Bits::not_zero), unfolding(chess_core::specs::ties::Words::squares_of))]
 fn has_like(board: &Board, colour: Colour, square: Square) -> bool
     ensures { result ≡ has_like board.now.men colour (man_on board.now.men square) }
@@ -44,16 +44,17 @@ fn has_like(board: &Board, colour: Colour, square: Square) -> bool
     }
 }
 
-// Whether the colour has a man who might paralyse the one on the square: in Madrasi one of its kind.
+// Returns whether the colour has a man that might paralyse the man on the square: in Madrasi, one of its
+// kind.
 fn may_be_paralysed<R: Rules>(board: &Board, colour: Colour, square: Square) -> bool
     ensures { result ≡ may_be_paralysed R.rule board.now.men colour (man_on board.now.men square) }
 {
     R::faced_men_stand_still() && has_like(board, colour, square)
 }
 
-// The squares to which a move of another man than the king may go that ends a check to the colour's king,
-// unless it is no plain move or, in Madrasi, a promotion: all of them where no check is seen. `checkers` are
-// the squares of the enemies that reach the king.
+// Returns the squares to which a man other than the king must go to parry a check to the colour's king; all
+// squares if there is no check. Moves that aren't plain, and promotions in Madrasi, aren't bound by it.
+// `checkers` are the squares of the enemy men that reach the king.
 pub(crate) fn evasion_squares<R: Rules>(board: &Board, colour: Colour, checkers: Squares) -> Squares
     requires { checkers ≡ word (is_checker board.now.men colour) }
     ensures { AreEvasions R.rule board.now.men colour result }
@@ -75,14 +76,16 @@ pub(crate) fn evasion_squares<R: Rules>(board: &Board, colour: Colour, checkers:
             & reach_as(board, colour, Kind::Queen, checker))
 }
 
-// Whether the move might paralyse a man of a kind that its side had none of: in Madrasi a promotion.
+// Returns whether the move might paralyse a man of a kind that its side didn't have: in Madrasi, a
+// promotion.
 fn may_paralyse_anew<R: Rules>(m: &Move) -> bool
     ensures { result ≡ may_paralyse_anew R.rule m.now }
 {
     R::faced_men_stand_still() && m.promo.is_some()
 }
 
-// The squares to which the man's moves might do so: in Madrasi those on which he is promoted, if he is a pawn.
+// Returns the squares on which the man's arrival might paralyse a man of a new kind: in Madrasi, a pawn's
+// promotion squares.
 fn paralysing_squares<R: Rules>(man: Man) -> Squares
     ensures { result ≡ (if faced_men_stand_still R.rule then word (is_promoting man) else 0) }
 {
@@ -93,8 +96,8 @@ fn paralysing_squares<R: Rules>(man: Man) -> Squares
     }
 }
 
-// Whether the move leaves its mover in check, as far as it can be told by the squares to which a move
-// that doesn't must go.
+// Returns whether the move surely leaves its own king in check: it isn't the king's and misses
+// `evasion_squares`. `false` says nothing.
 #[tactic(auto, using(crate::proofs::attacks::StayingInCheck::check_unmet))]
 fn leaves_check<R: Rules>(board: &Board, evasion_squares: Squares, m: &Move) -> bool
     requires well_formed { IsWellFormed board.now }
@@ -118,7 +121,8 @@ fn leaves_check<R: Rules>(board: &Board, evasion_squares: Squares, m: &Move) -> 
     }
 }
 
-/// The squares on which a capture does more than take a man off the board: all that are occupied, or none.
+/// Returns the squares on which a capture does more than take a man off the board: all occupied squares in
+/// Circe, none elsewhere.
 pub fn eventful_captures<R: Rules>(board: &Board) -> Squares
     ensures { result ≡ (if captures_do_more R.rule then word (λ s. is_some (man_on board.now.men s))
         else 0) }
@@ -130,9 +134,9 @@ pub fn eventful_captures<R: Rules>(board: &Board) -> Squares
     }
 }
 
-// The squares to which the man on `from` must go to leave no check to its king, and to which he might go, were
-// the others gone: all squares where no check is seen, and for the king. `evasion_squares` are those to which
-// another man than the king may go that ends it.
+// Returns a superset of the squares to which the man on `from` could go, on some board, without leaving its
+// king in check; all squares for a king or if there is no check. `evasion_squares` are the squares where
+// another man may parry.
 #[tactic(auto, using(crate::proofs::attacks::EvasionTargets::evasions_from_all, crate::proofs::attacks::EvasionTargets::evasions_from_some, crate::proofs::listing_moves::Targeting::nobody_moves))]
 #[inline(always)]
 pub(crate) fn evasions_from<R: Rules>(
@@ -162,8 +166,8 @@ pub(crate) fn evasions_from<R: Rules>(
             | paralysing_squares::<R>(man))
 }
 
-// Whether the mover isn't in check after the move; `squares` are those from which one may expose its
-// king, and `evasion_squares` those to which one may go that ends a check. The board is unchanged after it.
+// Returns whether the mover isn't in check after the move. `squares` are the squares from which a move may
+// expose its king, `evasion_squares` those where a move may parry a check. The board is unchanged.
 #[tactic(auto, using(crate::proofs::attacks::Shielding::cannot_expose_own))]
 #[inline(always)]
 pub(crate) fn is_safe<R: Rules>(

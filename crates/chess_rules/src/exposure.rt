@@ -1,4 +1,4 @@
-//! Whether a move leaves its mover in check.
+//! Whether a move leaves its own king in check.
 ghost use Rattle.std.specs.Prelude.{◌≡◌, ◌==◌, ◌&&◌, IfSome, List, Option, not, true};
 ghost use Rattle.std.specs.Int.{bit_at};
 ghost use Rattle.chess_core.specs.Position.{is_man, is_of_colour, man_on, other};
@@ -21,7 +21,7 @@ use chess_core::board::Board;
 use chess_core::man::{Kind, Man, Move};
 use chess_core::square::{Square, Squares};
 
-// The square of the mover's king once this man has made the move.
+// Returns the square of the mover's king after this man has made the move.
 fn king_after(board: &Board, man: Man, m: &Move) -> Option<Square>
     ensures { result ≡ king_after board.now man m.now }
 {
@@ -32,14 +32,15 @@ fn king_after(board: &Board, man: Man, m: &Move) -> Option<Square>
     }
 }
 
-/// Whether nothing more changes by the move than that this man goes and one is captured at most.
+/// Returns whether the move does no more than move this man and remove at most one captured man: no
+/// castling, and no rebirth.
 pub fn is_simple<R: Rules>(man: Man, m: &Move, captures: bool) -> bool
     ensures { result ≡ is_simple R.rule man m.now captures }
 {
     !is_castling(man, m) && !(R::captures_do_more() && captures)
 }
 
-// The arrival, where the man is of this kind once it stands there.
+// Returns the arrival square if the man that arrives there is of this kind, otherwise nothing.
 #[tactic(auto, using(crate::proofs::attacks::Exposing::arrives_as, crate::proofs::attacks::Exposing::arrives_otherwise))]
 fn arrival_as(man: Man, m: &Move, kind: Kind) -> Squares
     ensures { result ≡ word (is_arriving_as man m.now kind) }
@@ -51,7 +52,7 @@ fn arrival_as(man: Man, m: &Move, kind: Kind) -> Squares
     }
 }
 
-// The squares of the mover's men of this kind once the man has made a simple move; `sight` is that after it.
+// Returns the squares of the mover's men of this kind after a simple move; `sight` is the sight after it.
 fn own_squares_after(board: &Board, sight: Sight, man: Man, m: &Move, kind: Kind) -> Squares
     ensures { result ≡ own_after board.now.men sight man m.now kind }
 {
@@ -59,7 +60,8 @@ fn own_squares_after(board: &Board, sight: Sight, man: Man, m: &Move, kind: Kind
         | arrival_as(man, m, kind)
 }
 
-// Whether one of the mover's men of this kind reaches the square then.
+// Returns whether one of the mover's men of this kind reaches the square after the move; `sight` is the
+// sight after it.
 fn is_faced_after(
     board: &Board,
     sight: Sight,
@@ -76,7 +78,7 @@ fn is_faced_after(
     those_reaching(sight.occupied, own, square, man.colour, kind) != 0
 }
 
-// Whether the enemy man on the square is paralysed then.
+// Returns whether the enemy man on the square is paralysed after the move.
 #[tactic(auto, using(crate::proofs::attacks::Exposing::faced_king, crate::proofs::attacks::Exposing::none_paralysed, crate::proofs::attacks::Exposing::paralysed_by), unfolding(crate::specs::Attacks::is_paralysed))]
 fn is_paralysed_after<R: Rules>(
     board: &Board,
@@ -100,7 +102,7 @@ fn is_paralysed_after<R: Rules>(
     }
 }
 
-// Whether an enemy man on one of the word's squares isn't paralysed then.
+// Returns whether an enemy man on one of the squares of `word` isn't paralysed after the move.
 fn some_free_after<R: Rules>(board: &Board, sight: Sight, man: Man, m: &Move, word: Squares) -> bool
     ensures { (men : List (Option Man)) → AreArrived board.now.men men man m.now sight
         → AreOthers men man.colour word
@@ -115,7 +117,7 @@ fn some_free_after<R: Rules>(board: &Board, sight: Sight, man: Man, m: &Move, wo
     false
 }
 
-// Whether the other side than the man's attacks the square then.
+// Returns whether the opponent attacks the square after the move.
 #[inline(always)]
 fn is_attacked_after<R: Rules>(
     board: &Board,
@@ -136,8 +138,8 @@ fn is_attacked_after<R: Rules>(
     some_free_after::<R>(board, sight, man, m, attackers)
 }
 
-// Whether the move leaves its mover in check, told without playing it: by an attack on the squares as they
-// will be. `None` where more changes than is seen there.
+// Returns whether the move leaves its own king in check, from attacks after the move and without playing
+// it. `None` if the move isn't simple.
 #[inline(always)]
 fn exposes_unplayed<R: Rules>(board: &Board, m: &Move) -> Option<bool>
     requires well_formed { IsWellFormed board.now }
@@ -161,7 +163,7 @@ fn exposes_unplayed<R: Rules>(board: &Board, m: &Move) -> Option<bool>
     Some(is_attacked_after::<R>(board, sight, man, m, king))
 }
 
-// Whether the move leaves its mover in check. The board is unchanged after it.
+// Returns whether the move leaves its own king in check. The board is unchanged.
 #[inline(always)]
 pub(crate) fn exposes<R: Rules>(board: &mut Board, m: Move) -> bool
     requires well_formed { IsWellFormed board.old }
@@ -176,7 +178,7 @@ pub(crate) fn exposes<R: Rules>(board: &mut Board, m: Move) -> bool
     }
 }
 
-// The same, told by playing it and taking it back.
+// Returns whether the move leaves its own king in check, by playing it and taking it back.
 fn exposes_played<R: Rules>(board: &mut Board, m: Move) -> bool
     requires well_formed { IsWellFormed board.old }
     requires pseudo { is_pseudo_legal R.rule board.old m ≡ true }

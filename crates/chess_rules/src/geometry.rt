@@ -1,9 +1,9 @@
-//! The squares of lines, leaps and short steps from each square, a bit a square, a1 first: tables
-//! that the proofs compute from the definitions.
+//! Tables of bitboards, one for each square: lines, leaps and short steps on the empty board. The proofs
+//! compute each table from its definition.
 
 use chess_core::square::Squares;
 
-// For each direction, in the order of `Direction`, the line from each square on the empty board.
+// For each direction, in the order of `Direction`: the squares of the line from each square.
 #[rattlefmt::skip]
 pub(crate) static RAYS: [[Squares; 64]; 16] = [
     [
@@ -296,7 +296,7 @@ pub(crate) static RAYS: [[Squares; 64]; 16] = [
     ],
 ];
 
-// The neighbours.
+// The squares next to each square.
 #[rattlefmt::skip]
 pub(crate) static NEIGHBOURS: [Squares; 64] = [
     0x0000000000000302, 0x0000000000000705, 0x0000000000000e0a, 0x0000000000001c14,
@@ -317,7 +317,7 @@ pub(crate) static NEIGHBOURS: [Squares; 64] = [
     0x2838000000000000, 0x5070000000000000, 0xa0e0000000000000, 0x40c0000000000000,
 ];
 
-// The squares a knight's leap away.
+// The squares a knight's leap away from each square.
 #[rattlefmt::skip]
 pub(crate) static KNIGHT_LEAPS: [Squares; 64] = [
     0x0000000000020400, 0x0000000000050800, 0x00000000000a1100, 0x0000000000142200,
@@ -338,7 +338,7 @@ pub(crate) static KNIGHT_LEAPS: [Squares; 64] = [
     0x0044280000000000, 0x0088500000000000, 0x0010a00000000000, 0x0020400000000000,
 ];
 
-// The squares on which a white pawn captures.
+// The squares on which a white pawn captures from each square.
 #[rattlefmt::skip]
 pub(crate) static WHITE_CAPTURES: [Squares; 64] = [
     0x0000000000000200, 0x0000000000000500, 0x0000000000000a00, 0x0000000000001400,
@@ -359,7 +359,7 @@ pub(crate) static WHITE_CAPTURES: [Squares; 64] = [
     0x0000000000000000, 0x0000000000000000, 0x0000000000000000, 0x0000000000000000,
 ];
 
-// The squares on which a black pawn captures.
+// The squares on which a black pawn captures from each square.
 #[rattlefmt::skip]
 pub(crate) static BLACK_CAPTURES: [Squares; 64] = [
     0x0000000000000000, 0x0000000000000000, 0x0000000000000000, 0x0000000000000000,
@@ -380,7 +380,7 @@ pub(crate) static BLACK_CAPTURES: [Squares; 64] = [
     0x0028000000000000, 0x0050000000000000, 0x00a0000000000000, 0x0040000000000000,
 ];
 
-// The squares one and two ahead of a white pawn.
+// The squares one and two ahead of a white pawn on each square.
 #[rattlefmt::skip]
 pub(crate) static WHITE_STEPS: [Squares; 64] = [
     0x0000000000010100, 0x0000000000020200, 0x0000000000040400, 0x0000000000080800,
@@ -401,7 +401,7 @@ pub(crate) static WHITE_STEPS: [Squares; 64] = [
     0x0000000000000000, 0x0000000000000000, 0x0000000000000000, 0x0000000000000000,
 ];
 
-// The squares one and two ahead of a black pawn.
+// The squares one and two ahead of a black pawn on each square.
 #[rattlefmt::skip]
 pub(crate) static BLACK_STEPS: [Squares; 64] = [
     0x0000000000000000, 0x0000000000000000, 0x0000000000000000, 0x0000000000000000,
@@ -422,7 +422,7 @@ pub(crate) static BLACK_STEPS: [Squares; 64] = [
     0x0010100000000000, 0x0020200000000000, 0x0040400000000000, 0x0080800000000000,
 ];
 
-// The squares two files aside on the same rank.
+// The squares two files to either side of each square, on its rank.
 #[rattlefmt::skip]
 pub(crate) static ASIDE: [Squares; 64] = [
     0x0000000000000004, 0x0000000000000008, 0x0000000000000011, 0x0000000000000022,
@@ -443,7 +443,7 @@ pub(crate) static ASIDE: [Squares; 64] = [
     0x4400000000000000, 0x8800000000000000, 0x1000000000000000, 0x2000000000000000,
 ];
 
-// The four straight lines.
+// The rank and the file of each square, without the square itself.
 #[rattlefmt::skip]
 pub(crate) static STRAIGHT_LINES: [Squares; 64] = [
     0x01010101010101fe, 0x02020202020202fd, 0x04040404040404fb, 0x08080808080808f7,
@@ -464,7 +464,7 @@ pub(crate) static STRAIGHT_LINES: [Squares; 64] = [
     0xef10101010101010, 0xdf20202020202020, 0xbf40404040404040, 0x7f80808080808080,
 ];
 
-// The four diagonal lines.
+// The two diagonals of each square, without the square itself.
 #[rattlefmt::skip]
 pub(crate) static DIAGONAL_LINES: [Squares; 64] = [
     0x8040201008040200, 0x0080402010080500, 0x0000804020110a00, 0x0000008041221400,

@@ -1,4 +1,4 @@
-//! Leaps and short steps: squares a step or two away.
+//! Leaps and short steps, from tables.
 ghost use Rattle.std.specs.Prelude.{◌≡◌, ℕ};
 ghost use Rattle.std.specs.List.{list_any};
 ghost use Rattle.chess_core.specs.Steps.{knight_steps, pawn_capture_steps, queen_steps};
@@ -12,21 +12,21 @@ use crate::geometry::{
 use chess_core::man::Colour;
 use chess_core::square::{Square, Squares};
 
-/// The squares to which a king leaps from here.
+/// Returns the squares next to `from`: where a king moves, castling aside.
 pub fn king_leaps(from: Square) -> Squares
     ensures { result ≡ word (λ t. list_any (leaps from t) queen_steps) }
 {
     NEIGHBOURS[from.index() as usize]
 }
 
-/// The squares to which a knight leaps from here.
+/// Returns the squares a knight's leap away from `from`.
 pub fn knight_leaps(from: Square) -> Squares
     ensures { result ≡ word (λ t. list_any (leaps from t) knight_steps) }
 {
     KNIGHT_LEAPS[from.index() as usize]
 }
 
-/// The squares on which a pawn of this colour captures from here.
+/// Returns the squares on which a pawn of this colour captures from `from`.
 pub fn pawn_leaps(colour: Colour, from: Square) -> Squares
     ensures { result ≡ word (λ t. list_any (leaps from t) (pawn_capture_steps colour)) }
 {
@@ -37,7 +37,7 @@ pub fn pawn_leaps(colour: Colour, from: Square) -> Squares
     }
 }
 
-/// The squares one and two ahead of a pawn of this colour.
+/// Returns the squares one and two ahead of a pawn of this colour.
 pub fn pawn_advances(colour: Colour, from: Square) -> Squares
     ensures { result ≡ word (is_advance colour from) }
 {
@@ -48,7 +48,7 @@ pub fn pawn_advances(colour: Colour, from: Square) -> Squares
     }
 }
 
-/// The squares two files to the right and to the left: where a king arrives in castling.
+/// Returns the squares two files to either side on the same rank: where a king arrives when castling.
 pub fn squares_aside(from: Square) -> Squares
     ensures { result ≡ word (is_two_files_aside from) }
 {

@@ -23,9 +23,9 @@ use chess_core::square::{Square, Squares};
 use std::alloc::AllocError;
 use std::marker::{Model, PhantomData};
 
-/// A place among all triples, as in `Moves`, in one position: with it are kept the squares from which a
-/// move of that position may expose the mover's king, those to which one may go that ends a check, and
-/// the targets of the origin on which the place stands.
+/// A cursor over the legal moves of one position, as `Moves`, that also keeps what speeds up the search:
+/// the squares from which a move may expose the mover's king, the squares where a move may parry a check,
+/// and the candidate squares of its current origin.
 #[derive_where(Copy)]
 pub struct LegalMoves<R> {
     number: u16,
@@ -73,7 +73,7 @@ impl<R> Clone for LegalMoves<R> {
 }
 
 impl<R: Rules> LegalMoves<R> {
-    /// The place before all triples, in the board's position.
+    /// Returns the cursor before the first triple, for the board's position.
     pub fn of(board: &Board) -> LegalMoves<R>
         ensures start { result.place ≡ 0 }
         ensures place { IsPlaceIn R.rule board.now result }
@@ -91,14 +91,14 @@ impl<R: Rules> LegalMoves<R> {
         }
     }
 
-    /// The same place, without what is kept.
+    /// Returns the cursor as `Moves`, without what is kept for this position.
     pub fn place(&self) -> Moves<R>
         ensures { result ≡ self.now.place }
     {
         Moves::at(self.number)
     }
 
-    /// What is known of the position.
+    /// Returns what is known of the position.
     pub fn known(&self) -> Known
         ensures { result ≡ record {
           shield_squares = self.now.shield_squares;
@@ -111,16 +111,16 @@ impl<R: Rules> LegalMoves<R> {
         }
     }
 
-    /// Goes to another place in the same position.
+    /// Moves the cursor to another place in the list of the same position.
     pub fn go_to(&mut self, place: Moves<R>)
         ensures { self.new ≡ record self.old { place = place } }
     {
         self.number = place.number();
     }
 
-    /// The first legal move of the board's position behind the place, which then stands on it. Where
-    /// there is none: `None`, and the place stands behind all triples. The board is unchanged. The place
-    /// must be one in the board's position.
+    /// Returns the next legal move after the cursor and moves the cursor to it. After the last legal move
+    /// it returns `None` and moves the cursor to the end. The cursor must be of the board's position. The
+    /// board is unchanged.
     pub fn next(&mut self, board: &mut Board) -> Option<Move>
         requires well_formed { IsWellFormed board.old }
         requires place { IsPlaceIn R.rule board.old self.old }
@@ -153,9 +153,9 @@ impl<R: Rules> LegalMoves<R> {
         None
     }
 
-    /// The first legal move behind the place that doesn't lie behind `end`, on which the place then
-    /// stands. Where there is none: `None`, and the place stays. The board is unchanged. The place must
-    /// be one in the board's position.
+    /// Returns the next legal move after the cursor and not after `end`, and moves the cursor to it. If
+    /// there is none it returns `None` and the cursor stays. The cursor must be of the board's position.
+    /// The board is unchanged.
     #[tactic(auto, using(crate::proofs::listing_moves::Between::until))]
     pub fn next_until(&mut self, end: Moves<R>, board: &mut Board) -> Option<Move>
         requires well_formed { IsWellFormed board.old }
@@ -187,8 +187,8 @@ impl<R: Rules> LegalMoves<R> {
         None
     }
 
-    /// Whether the filter takes a legal move of the men on these squares; `false` says nothing about men elsewhere. The
-    /// board is unchanged. Place and filter must be of the board's position.
+    /// Returns whether the filter takes a legal move of a man on one of these squares; `false` says nothing
+    /// about other men. Cursor and filter must be of the board's position. The board is unchanged.
     pub fn has_taken<S: Sift>(&self, sift: &mut S, board: &mut Board, origins: Squares) -> bool
         requires well_formed { IsWellFormed board.old }
         requires place { IsPlaceIn R.rule board.old self.now }
@@ -200,9 +200,10 @@ impl<R: Rules> LegalMoves<R> {
         some_taken::<R, S>(board, self.known(), sift, origins)
     }
 
-    /// The first legal move behind the place that the sieve leaves, on which the place then stands; those
-    /// passed over fail its test, and are counted. Where there is none the place stands behind all triples. The
-    /// board is unchanged. Place and sieve must be of the board's position.
+    /// Returns the next legal move after the cursor that the filter leaves, with the number of legal moves
+    /// passed over, and moves the cursor to it. The moves passed over fail the filter's test. If there is
+    /// none, the cursor moves to the end. Cursor and filter must be of the board's position. The board is
+    /// unchanged.
     #[tactic(auto, using(crate::proofs::listing_moves::Sifting::next_sifted))]
     pub fn next_sifted<S: Sift>(&mut self, sift: &mut S, board: &mut Board) -> Sifted
         requires well_formed { IsWellFormed board.old }
@@ -241,9 +242,9 @@ impl<R: Rules> LegalMoves<R> {
     }
 }
 
-// The number of the first legal move from the triple numbered `start` on and before the one numbered `end`;
-// `end` where there is none. `squares` are those from which a move may expose the mover's king,
-// `evasion_squares` those to which one may go that ends a check.
+// Returns the number of the first legal move from triple `start` up to but not including `end`; `end` if
+// there is none. `squares` are the squares from which a move may expose the mover's king, `evasion_squares`
+// those where a move may parry a check. The board is unchanged.
 pub(crate) fn next_legal<R: Rules>(
     board: &mut Board,
     squares: Squares,
@@ -271,8 +272,8 @@ pub(crate) fn next_legal<R: Rules>(
     next_passing::<R, Known>(board, &known, kept, start, end)
 }
 
-/// What is known of a position where legal moves are looked for: the squares from which one may expose the
-/// mover's king, and those to which one may go that ends a check.
+/// What the search for legal moves knows of a position: the squares from which a move may expose the
+/// mover's king, and the squares where a move may parry a check.
 #[derive(Clone, Copy)]
 pub struct Known {
     pub(crate) shield_squares: Squares,
@@ -311,14 +312,14 @@ impl Sought for Known {
     ghost idle = { λ rule p m h. is_legal-idle rule p m h };
 }
 
-// The squares from which the side to move has a legal move, and perhaps more: those of its men.
+// Returns a superset of the squares from which the side to move has a legal move: all squares of its men.
 pub(crate) fn own_origins<R: Rules>(board: &Board) -> Squares
     ensures { AreOrigins (is_legal R.rule board.now) result }
 {
     board.side(board.turn())
 }
 
-// The squares to which the man on `from` may go by a legal move, and perhaps more.
+// Returns a superset of the squares to which the man on `from` has a legal move.
 #[tactic(auto, using(crate::proofs::listing_moves::Walks::legal_candidates))]
 #[inline(always)]
 pub(crate) fn candidates<R: Rules>(board: &Board, evasion_squares: Squares, from: Square) -> Squares

@@ -1,4 +1,4 @@
-//! Lines in one direction, and the squares that riders get to along them.
+//! Lines in one direction, and the squares that riders and hoppers reach along them.
 ghost use Rattle.std.specs.Prelude.{◌≡◌, ℕ, ◌<◌, ◌&&◌, Bool, List, Option};
 ghost use Rattle.std.specs.List.{list_any};
 ghost use Rattle.chess_core.specs.declared.man.Man.{Man};
@@ -18,7 +18,7 @@ use chess_core::board::Board;
 use chess_core::man::Colour;
 use chess_core::square::{Square, Squares};
 
-/// A direction of a line, as seen by White: the queen's eight, then the knight's eight.
+/// A direction of a line, as White sees it: the queen's eight, then the nightrider's eight.
 #[derive(Clone, Copy)]
 pub enum Direction {
     East,
@@ -40,7 +40,7 @@ pub enum Direction {
 }
 
 impl Direction {
-    // Whether the numbers of the squares rise along the line.
+    // Returns whether the square numbers rise along the line.
     #[tactic(auto, unfolding(crate::specs::ties::Lines::rises))]
     fn rises(self) -> bool
         ensures { result ≡ rises (step_of self) }
@@ -58,14 +58,14 @@ impl Direction {
         }
     }
 
-    // The squares of the line from this square on the empty board.
+    // Returns the squares of the line from this square on the empty board.
     fn ray(self, from: Square) -> Squares
         ensures { result ≡ ray from (step_of self) }
     {
         RAYS[self.number()][from.index() as usize]
     }
 
-    // Its place in the order of directions.
+    // Returns the direction's index in `RAYS`.
     fn number(self) -> usize
         ensures value { result ≡ direction_number self }
         ensures small { result < 16 }
@@ -73,8 +73,8 @@ impl Direction {
         self as usize
     }
 
-    // The square of the word that the line passes first; the last one of the board, behind which no
-    // line goes on, where the word has none.
+    // Returns the first square of `word` in this direction. For an empty `word` it returns the board's last
+    // square in this direction; no line goes on after it.
     #[tactic(auto, using(crate::proofs::rays::Firsts::highest_stop, crate::proofs::rays::Firsts::lowest_stop))]
     fn first(self, word: Squares) -> Square
         ensures { IsStop (step_of self) word result }
@@ -86,7 +86,7 @@ impl Direction {
         }
     }
 
-    // The squares that the line doesn't pass behind the first of the word: all, where the word has none.
+    // Returns all squares up to the first one of `word` in this direction; all squares if `word` is empty.
     #[tactic(auto, using(crate::proofs::rays::Firsts::falling_up_to, crate::proofs::rays::Firsts::rising_up_to))]
     fn up_to_first(self, word: Squares) -> Squares
         ensures { IsUpTo (step_of self) word result }
@@ -98,7 +98,7 @@ impl Direction {
         }
     }
 
-    // The next square of the line, if it has one.
+    // Returns the next square of the line, or `None` at the board's edge.
     #[tactic(auto, using(crate::proofs::rays::HopWords::next_none, crate::proofs::rays::HopWords::next_some))]
     fn next(self, from: Square) -> Option<Square>
         ensures { result ≡ along from (step_of self) 1 }
@@ -113,15 +113,15 @@ impl Direction {
     }
 }
 
-/// The squares on which men stand.
+/// Returns the occupied squares.
 pub fn occupied(board: &Board) -> Squares
     ensures { result ≡ occupied_squares board.now.men }
 {
     board.side(Colour::White) | board.side(Colour::Black)
 }
 
-// The squares to which a rider on `from` gets in this direction, whichever men stand on the occupied
-// squares.
+// Returns the squares that a rider on `from` reaches in this direction; only `occupied` matters, not which
+// men stand there.
 fn ride(occupied: Squares, from: Square, direction: Direction) -> Squares
     ensures { (men : List (Option Man)) → occupied ≡ occupied_squares men
         → result ≡ word (λ t. rides men from t (step_of direction)) }
@@ -132,21 +132,21 @@ fn ride(occupied: Squares, from: Square, direction: Direction) -> Squares
     ray & direction.up_to_first(ray & occupied)
 }
 
-/// The squares of the file and the rank of `from`, itself apart.
+/// Returns the squares of the file and the rank of `from`, without `from`.
 pub fn straight_lines(from: Square) -> Squares
     ensures { result ≡ word (is_on_some straight_steps from) }
 {
     STRAIGHT_LINES[from.index() as usize]
 }
 
-/// The squares of its diagonals.
+/// Returns the squares of the diagonals of `from`, without `from`.
 pub fn diagonal_lines(from: Square) -> Squares
     ensures { result ≡ word (is_on_some diagonal_steps from) }
 {
     DIAGONAL_LINES[from.index() as usize]
 }
 
-// The squares to which a rider on `from` gets along its file and its rank.
+// Returns the squares that a rook on `from` reaches.
 pub(crate) fn straight_rides(occupied: Squares, from: Square) -> Squares
     ensures { (men : List (Option Man)) → occupied ≡ occupied_squares men
         → result ≡ word (λ t. list_any (rides men from t) straight_steps) }
@@ -157,7 +157,7 @@ pub(crate) fn straight_rides(occupied: Squares, from: Square) -> Squares
         | ride(occupied, from, Direction::South)
 }
 
-// The squares to which it gets along its diagonals.
+// Returns the squares that a bishop on `from` reaches.
 pub(crate) fn diagonal_rides(occupied: Squares, from: Square) -> Squares
     ensures { (men : List (Option Man)) → occupied ≡ occupied_squares men
         → result ≡ word (λ t. list_any (rides men from t) diagonal_steps) }
@@ -168,7 +168,7 @@ pub(crate) fn diagonal_rides(occupied: Squares, from: Square) -> Squares
         | ride(occupied, from, Direction::SouthWest)
 }
 
-// The squares to which it gets along all of them.
+// Returns the squares that a queen on `from` reaches.
 pub(crate) fn queen_rides(occupied: Squares, from: Square) -> Squares
     ensures { (men : List (Option Man)) → occupied ≡ occupied_squares men
         → result ≡ word (λ t. list_any (rides men from t) queen_steps) }
@@ -176,7 +176,7 @@ pub(crate) fn queen_rides(occupied: Squares, from: Square) -> Squares
     straight_rides(occupied, from) | diagonal_rides(occupied, from)
 }
 
-// The squares of the line in this direction, if it passes a square of the word.
+// Returns the line from `from` in this direction if it crosses one of the squares, otherwise nothing.
 fn line_with(from: Square, squares: Squares, direction: Direction) -> Squares
     ensures { (test : ℕ → Bool) → squares ≡ word test
         → result ≡ word (λ t. is_ahead from (step_of direction) t
@@ -189,7 +189,7 @@ fn line_with(from: Square, squares: Squares, direction: Direction) -> Squares
     ray
 }
 
-// The square to which a grasshopper on `from` hops in this direction, if there is one.
+// Returns the square to which a grasshopper on `from` hops in this direction, if there is one.
 fn hop(occupied: Squares, from: Square, direction: Direction) -> Squares
     ensures { (men : List (Option Man)) → occupied ≡ occupied_squares men
         → result ≡ word (λ t. hops men from t (step_of direction)) }
@@ -200,7 +200,7 @@ fn hop(occupied: Squares, from: Square, direction: Direction) -> Squares
     only(direction.next(hurdle))
 }
 
-// The squares from which a grasshopper hops to `to` against this direction: behind the man next to it.
+// Returns the squares from which a grasshopper hops onto `to` over the man next to `to` in this direction.
 fn hop_back(occupied: Squares, to: Square, direction: Direction) -> Squares
     ensures { (men : List (Option Man)) → occupied ≡ occupied_squares men
         → result ≡ word (λ s. hopped_from men to s (step_of direction)) }
@@ -219,7 +219,7 @@ fn hop_back(occupied: Squares, to: Square, direction: Direction) -> Squares
     }
 }
 
-// The squares to which a nightrider on `from` gets, two ranks a step.
+// Returns the squares that a nightrider on `from` reaches by steps of two ranks and one file.
 fn steep_rides(occupied: Squares, from: Square) -> Squares
     ensures { (men : List (Option Man)) → occupied ≡ occupied_squares men
         → result ≡ word (λ t. list_any (rides men from t) steep_steps) }
@@ -230,7 +230,7 @@ fn steep_rides(occupied: Squares, from: Square) -> Squares
         | ride(occupied, from, Direction::SouthSouthWest)
 }
 
-// Those to which it gets one rank a step.
+// Returns the squares that a nightrider on `from` reaches by steps of one rank and two files.
 fn flat_rides(occupied: Squares, from: Square) -> Squares
     ensures { (men : List (Option Man)) → occupied ≡ occupied_squares men
         → result ≡ word (λ t. list_any (rides men from t) flat_steps) }
@@ -241,7 +241,7 @@ fn flat_rides(occupied: Squares, from: Square) -> Squares
         | ride(occupied, from, Direction::WestSouthWest)
 }
 
-// The squares to which a nightrider on `from` gets.
+// Returns the squares that a nightrider on `from` reaches.
 pub(crate) fn knight_rides(occupied: Squares, from: Square) -> Squares
     ensures { (men : List (Option Man)) → occupied ≡ occupied_squares men
         → result ≡ word (λ t. list_any (rides men from t) knight_steps) }
@@ -249,7 +249,7 @@ pub(crate) fn knight_rides(occupied: Squares, from: Square) -> Squares
     steep_rides(occupied, from) | flat_rides(occupied, from)
 }
 
-// The squares to which a grasshopper on `from` hops along its file and its rank.
+// Returns the squares to which a grasshopper on `from` hops along its file and its rank.
 fn straight_hops(occupied: Squares, from: Square) -> Squares
     ensures { (men : List (Option Man)) → occupied ≡ occupied_squares men
         → result ≡ word (λ t. list_any (hops men from t) straight_steps) }
@@ -260,7 +260,7 @@ fn straight_hops(occupied: Squares, from: Square) -> Squares
         | hop(occupied, from, Direction::South)
 }
 
-// Those to which it hops along its diagonals.
+// Returns the squares to which a grasshopper on `from` hops along its diagonals.
 fn diagonal_hops(occupied: Squares, from: Square) -> Squares
     ensures { (men : List (Option Man)) → occupied ≡ occupied_squares men
         → result ≡ word (λ t. list_any (hops men from t) diagonal_steps) }
@@ -271,7 +271,7 @@ fn diagonal_hops(occupied: Squares, from: Square) -> Squares
         | hop(occupied, from, Direction::SouthWest)
 }
 
-// The squares to which a grasshopper on `from` hops.
+// Returns the squares to which a grasshopper on `from` hops.
 pub(crate) fn queen_hops(occupied: Squares, from: Square) -> Squares
     ensures { (men : List (Option Man)) → occupied ≡ occupied_squares men
         → result ≡ word (λ t. list_any (hops men from t) queen_steps) }
@@ -279,7 +279,7 @@ pub(crate) fn queen_hops(occupied: Squares, from: Square) -> Squares
     straight_hops(occupied, from) | diagonal_hops(occupied, from)
 }
 
-// The squares from which a grasshopper hops to `to` along its file and its rank.
+// Returns the squares from which a grasshopper hops to `to` along a file or a rank.
 fn straight_hops_back(occupied: Squares, to: Square) -> Squares
     ensures { (men : List (Option Man)) → occupied ≡ occupied_squares men
         → result ≡ word (λ s. list_any (hopped_from men to s) straight_steps) }
@@ -290,7 +290,7 @@ fn straight_hops_back(occupied: Squares, to: Square) -> Squares
         | hop_back(occupied, to, Direction::South)
 }
 
-// Those from which it hops there along its diagonals.
+// Returns the squares from which a grasshopper hops to `to` along a diagonal.
 fn diagonal_hops_back(occupied: Squares, to: Square) -> Squares
     ensures { (men : List (Option Man)) → occupied ≡ occupied_squares men
         → result ≡ word (λ s. list_any (hopped_from men to s) diagonal_steps) }
@@ -301,7 +301,7 @@ fn diagonal_hops_back(occupied: Squares, to: Square) -> Squares
         | hop_back(occupied, to, Direction::SouthWest)
 }
 
-// The squares from which a grasshopper hops to `to`.
+// Returns the squares from which a grasshopper hops to `to`.
 pub(crate) fn queen_hops_back(occupied: Squares, to: Square) -> Squares
     ensures { (men : List (Option Man)) → occupied ≡ occupied_squares men
         → result ≡ word (λ s. list_any (hopped_from men to s) queen_steps) }
@@ -309,7 +309,7 @@ pub(crate) fn queen_hops_back(occupied: Squares, to: Square) -> Squares
     straight_hops_back(occupied, to) | diagonal_hops_back(occupied, to)
 }
 
-// The squares of those of the queen's lines from the square that pass a square of the word.
+// Returns the queen's lines from `from` that cross one of the squares.
 pub(crate) fn queen_lines_with(from: Square, squares: Squares) -> Squares
     ensures { (men : List (Option Man)) (e : Colour) → squares ≡ squares_of men e Grasshopper
         → result ≡ word (λ t. list_any (is_lined men e Grasshopper from t) queen_steps) }
@@ -325,7 +325,7 @@ pub(crate) fn queen_lines_with(from: Square, squares: Squares) -> Squares
     straight | diagonal
 }
 
-// The same of a nightrider's lines.
+// Returns the nightrider's lines from `from` that cross one of the squares.
 pub(crate) fn knight_lines_with(from: Square, squares: Squares) -> Squares
     ensures { (men : List (Option Man)) (e : Colour) → squares ≡ squares_of men e Nightrider
         → result ≡ word (λ t. list_any (is_lined men e Nightrider from t) knight_steps) }

@@ -1,4 +1,4 @@
-//! Where a man might go, whoever else stood on the board: mostly as if no other did.
+//! Where a man could go on some board: a superset of its moves that ignores the other men.
 ghost use Rattle.std.specs.Prelude.{◌≡◌, ℕ, ◌<◌, ◌==◌, true};
 ghost use Rattle.std.specs.Int.{bit_at};
 ghost use Rattle.chess_core.specs.Position.{Position};
@@ -11,7 +11,8 @@ use crate::targets::steps_to;
 use chess_core::man::{Kind, Man};
 use chess_core::square::{Square, Squares};
 
-/// The squares that the man on `from` reaches, whoever else stands on the board: of a grasshopper a queen's lines.
+/// Returns the squares that the man on `from` could reach on some board; for a grasshopper all of a queen's
+/// lines.
 #[tactic(auto, using(crate::proofs::listing_moves::OpenBoard::grasshopper_reach, crate::proofs::listing_moves::OpenBoard::leap_reach, crate::proofs::listing_moves::OpenBoard::nightrider_reach, crate::proofs::listing_moves::OpenBoard::queen_reach, crate::proofs::listing_moves::OpenBoard::ride_reach))]
 pub fn open_reach(man: Man, from: Square) -> Squares
     ensures { AreReached man from result }
@@ -27,7 +28,8 @@ pub fn open_reach(man: Man, from: Square) -> Squares
     }
 }
 
-/// The squares to which he might go, castling among them, and perhaps more.
+/// Returns a superset of the squares to which the man on `from` could move on some board, castling
+/// included.
 #[tactic(auto, using(crate::proofs::listing_moves::OpenBoard::king_targets, crate::proofs::listing_moves::OpenBoard::pawn_targets, crate::proofs::listing_moves::OpenBoard::piece_targets))]
 pub fn open_targets(man: Man, from: Square) -> Squares
     ensures { (p : Position) (t : ℕ) → t < 64 → may_go p man from t ≡ true

@@ -1,4 +1,4 @@
-//! Whether another man than the king has a legal move.
+//! Whether a man other than the king has a legal move.
 ghost use Rattle.std.specs.Prelude.{◌≡◌, ◌<◌, ◌&&◌, filter, not};
 ghost use Rattle.chess_core.specs.WellFormed.{IsWellFormed};
 ghost use Rattle.chess_rules.specs.Legal.{is_legal, is_nil, moves};
@@ -16,7 +16,7 @@ use chess_core::board::Board;
 use chess_core::man::{Kind, Move};
 use chess_core::square::{Square, Squares};
 
-// What is known of a position where legal moves of other men than the king are looked for.
+// What the search for legal moves of men other than the king knows of a position.
 #[derive(Clone, Copy)]
 struct Others {
     known: Known,
@@ -48,7 +48,8 @@ impl Sought for Others {
     ghost idle = { λ rule p m h. is_wanted-idle rule p (is_of_others p) m h };
 }
 
-// The squares from which another man than the king may have a legal move: those of these men.
+// Returns a superset of the squares from which a man other than the king has a legal move: all squares of
+// these men.
 #[tactic(auto, using(crate::proofs::listing_moves::OtherMoves::other_origins))]
 fn origins_of_others<R: Rules>(board: &Board) -> Squares
     ensures { AreOrigins (is_wanted R.rule board.now (is_of_others board.now)) result }
@@ -56,7 +57,7 @@ fn origins_of_others<R: Rules>(board: &Board) -> Squares
     own_origins::<R>(board) & !board.squares(board.turn(), Kind::King)
 }
 
-// The squares to which the man on `from` may go by a legal move, and perhaps more.
+// Returns a superset of the squares to which the man on `from` has a legal move.
 #[tactic(auto, using(crate::proofs::listing_moves::OtherMoves::other_candidates))]
 fn candidates_of_others<R: Rules>(board: &Board, known: Known, from: Square) -> Squares
     requires well_formed { IsWellFormed board.now }
@@ -67,7 +68,7 @@ fn candidates_of_others<R: Rules>(board: &Board, known: Known, from: Square) -> 
     candidates::<R>(board, known.evasion_squares, from)
 }
 
-// Whether the move is legal and not the king's. The board is unchanged after it.
+// Returns whether the move is legal and not the king's. The board is unchanged.
 #[tactic(auto, using(crate::proofs::listing_moves::OtherMoves::is_other))]
 fn is_legal_of_others<R: Rules>(board: &mut Board, known: Known, m: Move) -> bool
     requires well_formed { IsWellFormed board.old }
@@ -80,7 +81,7 @@ fn is_legal_of_others<R: Rules>(board: &mut Board, known: Known, m: Move) -> boo
         && !contains(board.squares(board.turn(), Kind::King), m.from)
 }
 
-/// Whether another man than the king of the side to move has a legal move. The board is unchanged.
+/// Returns whether a man of the side to move other than the king has a legal move. The board is unchanged.
 #[tactic(auto, using(crate::proofs::listing_moves::OtherMoves::others_found))]
 pub fn others_have_move<R: Rules>(board: &mut Board) -> bool
     requires { IsWellFormed board.old }

@@ -1,4 +1,4 @@
-//! Attack looked for outward from the square.
+//! Attackers of a square, found by looking outward from it.
 ghost use Rattle.std.specs.Prelude.{◌≡◌, ℕ, ◌&&◌, ◌==◌, not, List, Option};
 ghost use Rattle.std.specs.Int.{bit_at};
 ghost use Rattle.chess_core.specs.Position.{is_man, is_of_colour, man_on};
@@ -25,8 +25,8 @@ use chess_core::board::Board;
 use chess_core::man::{Colour, Gait, Kind};
 use chess_core::square::{Square, Squares};
 
-/// The squares from which a man of this colour and kind could go to `to` if an enemy stood there: those to which
-/// one of the other colour could from there, but for a hopper.
+/// Returns the squares from which a man of this colour and kind could capture on `to`. For all but hoppers
+/// these are the squares that a man of the kind, of the other colour, reaches from `to`.
 #[inline(always)]
 pub fn comes_as(occupied: Squares, colour: Colour, kind: Kind, to: Square) -> Squares
     ensures { (men : List (Option Man)) → occupied ≡ occupied_squares men
@@ -40,7 +40,7 @@ pub fn comes_as(occupied: Squares, colour: Colour, kind: Kind, to: Square) -> Sq
     }
 }
 
-// The squares of the men of this colour and kind that reach the square.
+// Returns the squares of the men of this colour and kind that reach the square.
 pub(crate) fn reached_by(
     board: &Board,
     sight: Sight,
@@ -55,7 +55,7 @@ pub(crate) fn reached_by(
     those_reaching(sight.occupied, men, square, colour, kind)
 }
 
-// Of the squares of all men of this colour and kind, those from which they reach the square.
+// Returns which of `squares`, all men of this colour and kind, reach the square.
 pub(crate) fn those_reaching(
     occupied: Squares,
     squares: Squares,
@@ -73,8 +73,8 @@ pub(crate) fn those_reaching(
     squares & comes_as(occupied, colour, kind, square)
 }
 
-// The squares of the queens and rooks of this colour that a rider on the square gets to along its file
-// and rank. Mostly no such man stands there, and no line is looked along.
+// Returns the squares of the rooks and queens of this colour that reach the square along its file or rank.
+// The first test is cheap and mostly enough: no rook or queen is on these lines.
 #[tactic(auto, using(crate::proofs::attacks::Attacking::met, crate::proofs::attacks::Attacking::met_none))]
 fn straight_attackers(board: &Board, sight: Sight, square: Square, colour: Colour) -> Squares
     ensures { (men : List (Option Man)) → AreSeen board.now.men men colour sight
@@ -88,7 +88,7 @@ fn straight_attackers(board: &Board, sight: Sight, square: Square, colour: Colou
     men & straight_rides(sight.occupied, square)
 }
 
-// The squares of its queens and bishops that such a rider gets to along the diagonals.
+// Returns the squares of the bishops and queens of this colour that reach the square along a diagonal.
 #[tactic(auto, using(crate::proofs::attacks::Attacking::met, crate::proofs::attacks::Attacking::met_none))]
 #[inline(always)]
 fn diagonal_attackers(board: &Board, sight: Sight, square: Square, colour: Colour) -> Squares
@@ -103,8 +103,8 @@ fn diagonal_attackers(board: &Board, sight: Sight, square: Square, colour: Colou
     men & diagonal_rides(sight.occupied, square)
 }
 
-// The squares of the men of this colour and kind that reach the square, looked for at once: leaps stand in a
-// table.
+// Returns the squares of the men of this colour and leaping kind that reach the square. It needs no test
+// beforehand: leaps come from a table.
 #[inline(always)]
 fn leaping_attackers(
     board: &Board,
@@ -119,8 +119,8 @@ fn leaping_attackers(
     squares_seen(board, sight, colour, kind) & comes_as(sight.occupied, colour, kind, square)
 }
 
-// Of the squares of all grasshoppers of this colour, those from which they reach the square. They hop along a
-// queen's lines alone. Mostly none stands on one to the square, and no line is looked along.
+// Returns which of `squares`, all grasshoppers of this colour, reach the square.
+// Grasshoppers hop along a queen's lines only, and mostly none is on one: that test comes first.
 fn hoppers_reaching(occupied: Squares, squares: Squares, square: Square, colour: Colour) -> Squares
     ensures { (men : List (Option Man)) → occupied ≡ occupied_squares men
         → squares ≡ squares_of men colour Grasshopper
@@ -134,7 +134,7 @@ fn hoppers_reaching(occupied: Squares, squares: Squares, square: Square, colour:
     those_reaching(occupied, squares, square, colour, Kind::Grasshopper)
 }
 
-// Of the squares of all fairy men of this colour, those from which they reach the square.
+// Returns the squares of the fairy men of this colour that reach the square.
 #[inline(never)]
 fn fairy_men_reaching(
     occupied: Squares,
@@ -152,7 +152,8 @@ fn fairy_men_reaching(
         | those_reaching(occupied, nightriders, square, colour, Kind::Nightrider)
 }
 
-// The squares of its fairy men that reach the square. Mostly there is none.
+// Returns the squares of the standing fairy men of this colour that reach the square. Mostly there are no
+// fairy men: that test comes first.
 #[inline(always)]
 pub(crate) fn fairy_attackers(
     board: &Board,
@@ -171,7 +172,7 @@ pub(crate) fn fairy_attackers(
     fairy_men_reaching(sight.occupied, hoppers, nightriders, square, colour)
 }
 
-// The squares of its kings, knights and pawns that reach the square.
+// Returns the squares of the kings, knights and pawns of this colour that reach the square.
 pub(crate) fn leapers_seen(board: &Board, sight: Sight, square: Square, colour: Colour) -> Squares
     ensures { (men : List (Option Man)) → AreSeen board.now.men men colour sight
         → result ≡ word (λ s. is_leaping_man (man_on men s) colour && reaches men s square) }
@@ -181,7 +182,7 @@ pub(crate) fn leapers_seen(board: &Board, sight: Sight, square: Square, colour: 
         | leaping_attackers(board, sight, square, colour, Kind::Pawn)
 }
 
-/// The squares of the men of this colour that reach the square.
+/// Returns the squares of the men of this colour that reach the square.
 #[inline(always)]
 pub fn attackers_seen(board: &Board, sight: Sight, square: Square, colour: Colour) -> Squares
     ensures { (men : List (Option Man)) → AreSeen board.now.men men colour sight
@@ -195,8 +196,8 @@ pub fn attackers_seen(board: &Board, sight: Sight, square: Square, colour: Colou
         | fairy_attackers(board, sight, square, colour)
 }
 
-/// Whether some man of this colour reaches the square. Leaps, which stand in a table, are looked for first: if
-/// there is one, no line is looked along.
+/// Returns whether a man of this colour reaches the square. It looks for leapers first: their table is
+/// cheaper than lines.
 #[tactic(auto, using(crate::proofs::attacks::Attacking::diagonal_reaches, crate::proofs::attacks::Attacking::leap_reaches, crate::proofs::attacks::Attacking::straight_reaches))]
 #[inline(always)]
 pub fn is_attacker_seen(board: &Board, sight: Sight, square: Square, colour: Colour) -> bool
@@ -217,7 +218,7 @@ pub fn is_attacker_seen(board: &Board, sight: Sight, square: Square, colour: Col
     fairy_attackers(board, sight, square, colour) != 0
 }
 
-// The same on the board as it stands.
+// Returns the squares of the men of this colour that reach the square on the board as it is.
 pub(crate) fn attackers(board: &Board, square: Square, colour: Colour) -> Squares
     ensures { result ≡ word (λ s. is_of_colour (man_on board.now.men s) colour
         && reaches board.now.men s square) }
@@ -225,7 +226,7 @@ pub(crate) fn attackers(board: &Board, square: Square, colour: Colour) -> Square
     attackers_seen(board, sight_now(board), square, colour)
 }
 
-// Whether some man of this colour reaches the square, be it paralysed or not.
+// Returns whether a man of this colour reaches the square, paralysed or not.
 #[inline(always)]
 pub(crate) fn is_reached(board: &Board, square: Square, colour: Colour) -> bool
     ensures { result ≡ is_reached board.now.men square colour }
@@ -233,7 +234,7 @@ pub(crate) fn is_reached(board: &Board, square: Square, colour: Colour) -> bool
     is_attacker_seen(board, sight_now(board), square, colour)
 }
 
-// Whether a man on one of the word's squares isn't paralysed, or no man stands there.
+// Returns whether one of the squares of `word` is empty or holds a man that isn't paralysed.
 pub(crate) fn some_free<R: Rules>(board: &Board, word: Squares) -> bool
     ensures { result ≡ some_square (λ s. bit_at word s == 1
         && not (is_paralysed R.rule board.now.men s)) }

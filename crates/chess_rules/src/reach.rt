@@ -1,4 +1,4 @@
-//! How men go: the squares that a man on one square reaches.
+//! How men move: the squares that a man reaches from its square.
 ghost use Rattle.std.specs.Prelude.{◌≡◌, ℕ, List, Option};
 ghost use Rattle.chess_core.specs.ties.Words.{word};
 ghost use Rattle.chess_core.specs.declared.man.Man.{Man};
@@ -14,8 +14,9 @@ use chess_core::board::Board;
 use chess_core::man::{Colour, Kind};
 use chess_core::square::{Square, Squares};
 
-/// The squares to which a man of this colour and kind on `from` could go if enemies stood there (a
-/// pawn captures, it doesn't step forward), whichever men stand on the occupied squares.
+/// Returns the squares where a man of this colour and kind on `from` could capture an enemy. Only
+/// `occupied` matters, not which men stand there. A pawn captures diagonally; its steps forward aren't
+/// included.
 #[tactic(auto, unfolding(crate::specs::Reaches::reaches_as))]
 pub fn reach_over(occupied: Squares, colour: Colour, kind: Kind, from: Square) -> Squares
     ensures { (men : List (Option Man)) → occupied ≡ occupied_squares men
@@ -33,14 +34,14 @@ pub fn reach_over(occupied: Squares, colour: Colour, kind: Kind, from: Square) -
     }
 }
 
-// The same over the men of the board.
+// Returns the squares where a man of this colour and kind on `from` could capture, on this board.
 pub(crate) fn reach_as(board: &Board, colour: Colour, kind: Kind, from: Square) -> Squares
     ensures { result ≡ word (λ t. reaches_as board.now.men colour kind from t) }
 {
     reach_over(occupied(board), colour, kind, from)
 }
 
-// Whether the man on `from`, if there is one, could go to `to` if an enemy stood there.
+// Returns whether a man is on `from` and could capture an enemy on `to`.
 #[tactic(auto, using(crate::proofs::Bits::word_has), unfolding(crate::specs::Reaches::reaches))]
 pub(crate) fn reaches(board: &Board, from: Square, to: Square) -> bool
     ensures { result ≡ reaches board.now.men from to }

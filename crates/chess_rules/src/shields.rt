@@ -1,4 +1,4 @@
-//! How safe a king is, and the moves that can't expose it.
+//! King safety: checkers, blockers, and the moves that can't expose the king.
 ghost use Rattle.std.specs.Prelude.{◌≡◌, ◌==◌, ◌&&◌, ◌||◌, List, Option, is_some, not};
 ghost use Rattle.std.specs.Int.{bit_at};
 ghost use Rattle.std.specs.Int.Bits.{bit_or};
@@ -27,14 +27,14 @@ use chess_core::board::Board;
 use chess_core::man::{Colour, Kind, Man, Move};
 use chess_core::square::{Square, Squares};
 
-// Whether it is a fairy man that goes along lines: a rider or a hopper.
+// Returns whether men of this kind are fairy men that move along lines: riders or hoppers.
 pub(crate) fn has_fairy_lines(kind: Kind) -> bool
     ensures { result ≡ has_fairy_lines kind }
 {
     kind.is_fairy() && !kind.gait().is_leaper()
 }
 
-// Whether a grasshopper or a nightrider of the colour stands on the board.
+// Returns whether the colour has a grasshopper or a nightrider.
 #[tactic(auto, using(crate::proofs::attacks::Shielding::some_hopper, crate::proofs::attacks::Shielding::some_nightrider))]
 pub(crate) fn has_fairy(board: &Board, colour: Colour) -> bool
     ensures { result ≡ has_fairy board.now.men colour }
@@ -42,8 +42,9 @@ pub(crate) fn has_fairy(board: &Board, colour: Colour) -> bool
     board.squares(colour, Kind::Grasshopper) != 0 || board.squares(colour, Kind::Nightrider) != 0
 }
 
-/// The squares of the lines to the colour's king with a fairy man of the other colour on them: the queen's
-/// lines with a grasshopper, and a nightrider's with a nightrider.
+/// Returns the squares of the lines from the colour's king that carry an enemy fairy man: queen's lines
+/// with a grasshopper, nightrider's lines with a nightrider. Mostly the enemy has no fairy man: that test
+/// comes first.
 #[inline(always)]
 #[tactic(auto, using(crate::proofs::attacks::FairyLines::no_fairy_line))]
 pub fn fairy_lines(board: &Board, colour: Colour) -> Squares
@@ -55,7 +56,7 @@ pub fn fairy_lines(board: &Board, colour: Colour) -> Squares
     lines_with_fairy_men(board, colour)
 }
 
-// The same where there is such a man.
+// Returns the squares of the lines from the colour's king that carry an enemy fairy man.
 #[inline(never)]
 fn lines_with_fairy_men(board: &Board, colour: Colour) -> Squares
     ensures { result ≡ word (may_stand_between board.now.men colour) }
@@ -68,7 +69,7 @@ fn lines_with_fairy_men(board: &Board, colour: Colour) -> Squares
         | knight_lines_with(king, board.squares(side, Kind::Nightrider))
 }
 
-/// The lines of a rook, or those of a bishop.
+/// The lines of a rook or of a bishop.
 #[derive(Clone, Copy)]
 pub enum RiderLines {
     Straight,
@@ -76,7 +77,7 @@ pub enum RiderLines {
 }
 
 impl RiderLines {
-    // The man that rides along these lines alone.
+    // Returns the piece that rides along these lines only.
     fn rider(self) -> Kind
         ensures { result ≡ rider_along self }
     {
@@ -86,7 +87,7 @@ impl RiderLines {
         }
     }
 
-    // The squares of the lines of `from`, itself apart.
+    // Returns the squares of the lines of `from`, without `from`.
     fn all(self, from: Square) -> Squares
         ensures { result ≡ word (is_on_some (steps_along self) from) }
     {
@@ -96,7 +97,7 @@ impl RiderLines {
         }
     }
 
-    // The squares to which a rider on `from` gets along them.
+    // Returns the squares that a rider on `from` reaches along these lines.
     fn rides(self, occupied: Squares, from: Square) -> Squares
         ensures { (men : List (Option Man)) → occupied ≡ occupied_squares men
             → result ≡ word (λ t. list_any (rides men from t) (steps_along self)) }
@@ -108,7 +109,7 @@ impl RiderLines {
     }
 }
 
-// The squares to which the riders on these squares get along the lines.
+// Returns the squares that riders on these squares reach along the lines.
 #[tactic(auto, using(crate::proofs::HoldTaken::is_taken, crate::proofs::HoldTaken::rest_falls, crate::proofs::rays::Riding::ridden_all, crate::proofs::rays::Riding::ridden_more))]
 fn ridden_squares(occupied: Squares, riders: Squares, lines: RiderLines) -> Squares
     ensures { (men : List (Option Man)) → occupied ≡ occupied_squares men
@@ -123,7 +124,7 @@ fn ridden_squares(occupied: Squares, riders: Squares, lines: RiderLines) -> Squa
     ridden
 }
 
-// The squares of the queens of this colour and of its riders along these lines.
+// Returns the squares of the colour's queens and of its riders along these lines.
 fn line_riders(board: &Board, colour: Colour, lines: RiderLines) -> Squares
     ensures { result ≡ bit_or (squares_of board.now.men colour (rider_along lines))
         (squares_of board.now.men colour Queen) }
@@ -131,7 +132,7 @@ fn line_riders(board: &Board, colour: Colour, lines: RiderLines) -> Squares
     board.squares(colour, lines.rider()) | board.squares(colour, Kind::Queen)
 }
 
-// Those that stand on one of the lines of the square.
+// Returns the squares of the colour's riders that are on one of these lines of the square.
 #[tactic(auto, using(crate::proofs::rays::Riding::riders_are))]
 fn riders_on_lines(board: &Board, colour: Colour, square: Square, lines: RiderLines) -> Squares
     ensures { result ≡ word (is_line_rider board.now.men colour (rider_along lines)
@@ -140,8 +141,8 @@ fn riders_on_lines(board: &Board, colour: Colour, square: Square, lines: RiderLi
     line_riders(board, colour, lines) & lines.all(square)
 }
 
-// The squares to which a rider gets from the square along these lines, if a rider of the colour stands on
-// them: mostly none does, and none is looked for.
+// Returns the squares that a rider on the square reaches along these lines, or nothing if no rider of the
+// colour is on them, as is mostly so.
 fn rides_to_riders(board: &Board, colour: Colour, square: Square, lines: RiderLines) -> Squares
     ensures { AreRides board.now.men colour (rider_along lines) (steps_along lines) square result }
 {
@@ -151,8 +152,8 @@ fn rides_to_riders(board: &Board, colour: Colour, square: Square, lines: RiderLi
     lines.rides(occupied(board), square)
 }
 
-// The squares that shut a line between the square and a rider of this colour; `rides` are those to which a
-// rider gets from the square.
+// Returns the squares that block a line between the square and a rider of this colour; `rides` are the
+// squares that a rider on the square reaches.
 fn shut_squares(
     board: &Board,
     colour: Colour,
@@ -171,8 +172,8 @@ fn shut_squares(
     rides & ridden_squares(occupied(board), riders, lines)
 }
 
-// The square of the colour's king, and those that shut a line between it and an enemy rider; `straight` and
-// `diagonal` are those to which a rook and a bishop get from there.
+// Returns the king's square and the squares that block a line between it and an enemy rider; `straight` and
+// `diagonal` are the squares that a rook and a bishop on the king's square reach.
 #[inline(always)]
 fn shields_of(
     board: &Board,
@@ -193,8 +194,8 @@ fn shields_of(
         | shut_squares(board, enemy, king, RiderLines::Diagonal, diagonal)
 }
 
-// The squares of the men of this colour that reach the square; `straight` and `diagonal` are those to which a
-// rook and a bishop get from there.
+// Returns the squares of the men of this colour that reach the square; `straight` and `diagonal` are the
+// squares that a rook and a bishop on it reach.
 #[inline(always)]
 fn checkers_of(
     board: &Board,
@@ -217,16 +218,16 @@ fn checkers_of(
         | fairy_attackers(board, sight, square, colour)
 }
 
-/// How safe a king is: the squares of the enemies that reach him, be they paralysed or not, and those from
-/// which a move may expose him.
+/// The safety of a king: the squares of the enemy men that reach it, paralysed or not, and the squares from
+/// which a move may expose it.
 #[derive(Clone, Copy)]
 pub struct KingSafety {
     pub checkers: Squares,
     pub shields: Squares,
 }
 
-/// How safe the colour's king is, told by the squares to which a rook and a bishop get from his, if an enemy
-/// rider stands on those lines, and by the fairy lines to him.
+/// Returns the safety of the colour's king. `straight` and `diagonal` are the squares that a rook and a
+/// bishop on its square reach, if an enemy rider is on those lines; `lines` are its fairy lines.
 #[inline(always)]
 pub fn safety_seen(
     board: &Board,
@@ -257,7 +258,7 @@ pub fn safety_seen(
     }
 }
 
-/// How safe the colour's king is.
+/// Returns the safety of the colour's king.
 #[tactic(auto, using(crate::proofs::attacks::Shielding::checkers_none, crate::proofs::attacks::Shielding::shield_squares_none))]
 #[inline(always)]
 pub fn king_safety(board: &Board, colour: Colour) -> KingSafety
@@ -277,14 +278,15 @@ pub fn king_safety(board: &Board, colour: Colour) -> KingSafety
     safety_seen(board, colour, king, straight, diagonal, lines)
 }
 
-/// The squares from which a move may expose the colour's king.
+/// Returns the squares from which a move may expose the colour's king.
 pub fn shield_squares(board: &Board, colour: Colour) -> Squares
     ensures { result ≡ word (may_expose board.now.men colour) }
 {
     king_safety(board, colour).shields
 }
 
-// Whether the man's move changes nothing but its own square.
+// Returns whether the move changes only its origin and its arrival: no castling, no en passant, no capture
+// with a rebirth.
 #[tactic(auto, unfolding(crate::specs::ties::Shields::is_plain))]
 pub(crate) fn is_plain<R: Rules>(board: &Board, man: Man, m: &Move) -> bool
     ensures { result ≡ is_plain R.rule board.now man m.now }
@@ -294,8 +296,9 @@ pub(crate) fn is_plain<R: Rules>(board: &Board, man: Man, m: &Move) -> bool
         && !(R::captures_do_more() && board.man_at(m.to).is_some())
 }
 
-// Whether a man on the square may be a hurdle before the colour's king, or shut a nightrider's line to it;
-// `squares` are those from which a move may expose him, these among them.
+// Returns whether a man on the square may be a hurdle for an enemy grasshopper that attacks the colour's
+// king, or block a nightrider's line to it. `squares` are the squares from which a move may expose the
+// king.
 #[inline(always)]
 #[tactic(auto, using(crate::proofs::attacks::Shielding::off_shields, crate::proofs::attacks::Shielding::between_is))]
 fn may_stand_between(board: &Board, colour: Colour, squares: Squares, square: Square) -> bool
@@ -307,8 +310,8 @@ fn may_stand_between(board: &Board, colour: Colour, squares: Squares, square: Sq
     contains(squares, square) && contains(fairy_lines(board, colour), square)
 }
 
-// Whether the man arrives on no line to the colour's king with a fairy man of the other colour, and its move
-// changes nothing but its own square; `squares` are those from which a move may expose the king.
+// Returns whether the move arrives on no fairy line of the colour's king and changes only its two squares.
+// `squares` are the squares from which a move may expose the king.
 #[inline(always)]
 fn stands_aside<R: Rules>(
     board: &Board,
@@ -324,7 +327,8 @@ fn stands_aside<R: Rules>(
     !may_stand_between(board, colour, squares, m.to) && is_plain::<R>(board, man, m)
 }
 
-/// Whether the move can't expose the colour's king; `squares` are those from which one may.
+/// Returns whether the move can't expose the colour's king; `squares` are the squares from which a move
+/// may.
 #[inline(always)]
 pub fn cannot_expose<R: Rules>(board: &Board, colour: Colour, squares: Squares, m: &Move) -> bool
     requires { squares ≡ word (may_expose board.now.men colour) }

@@ -1,4 +1,4 @@
-//! A sieve for legal moves: those that it takes needn't be looked at one by one.
+//! Filters over the legal moves of a position, which skip moves many at a time.
 ghost use Rattle.std.specs.Prelude.{◌≡◌, ◌+◌, ◌*◌, ◌<◌, ◌≤◌, length, true};
 ghost use Rattle.chess_core.specs.WellFormed.{IsWellFormed};
 ghost use Rattle.chess_rules.specs.Legal.{is_legal};
@@ -17,8 +17,9 @@ use chess_core::board::Board;
 use chess_core::man::Move;
 use chess_core::square::{Square, Squares};
 
-/// A sieve for the legal moves of a position, by the squares to which they go: it takes moves that fail a test,
-/// and leaves all that pass it, and perhaps more. Also told is when it is one of a position.
+/// A filter over the legal moves of a position, by their arrival squares. The moves that it takes fail a
+/// test; it leaves all moves that pass, and perhaps others. `fits` says to which positions a filter
+/// belongs.
 pub trait Sift {
     ghost use Rattle.std.specs.Prelude.{Bool, ◌≡◌, IfSome};
     ghost use Rattle.chess_core.specs.Position.{Position};
@@ -32,16 +33,16 @@ pub trait Sift {
 
     ghost fits: { Self → RuleSet → Position → Type 0 };
 
-    /// Those of the squares to which a legal move of the man on `from` may pass the test, and perhaps more. What the
-    /// sieve keeps for the next question isn't seen.
+    /// Returns the squares, out of `squares`, to which a legal move of the man on `from` may pass the test, and
+    /// perhaps others. Contracts don't see what the filter caches for later calls.
     fn sift<R: Rules>(&mut self, board: &Board, from: Square, squares: Squares) -> Squares
         requires well_formed { IsWellFormed board.now }
         requires fits { fits self.old R.rule board.now }
         ensures sifted { AreSifted R.rule board.now (test R.rule board.now) from squares result }
         ensures same { self.new ≡ self.old };
 
-    /// The squares to which the man on `from` goes by a legal move, if the sieve tells them. `squares` are those to which
-    /// he may, and perhaps more.
+    /// Returns exactly the squares to which the man on `from` has legal moves, if the filter knows them.
+    /// `squares` are a superset of them.
     fn legal_squares<R: Rules>(
         &self,
         board: &Board,
@@ -54,16 +55,18 @@ pub trait Sift {
         ensures { IfSome result (λ w. AreExact R.rule board.now from w) };
 }
 
-/// What a walk past the moves that a sieve takes comes to.
+/// The outcome of a search for the next legal move that a filter leaves.
 #[derive(Clone, Copy)]
 pub struct Sifted {
-    /// The first legal move that the sieve leaves, if there is one.
+    /// The first legal move that the filter leaves, if there is one.
     pub found: Option<Move>,
-    /// How many legal moves lie before it, or behind the place where it began if there is none.
+    /// The number of legal moves before `found`, or of all legal moves after the start of the search if
+    /// there is none.
     pub passed: u16,
 }
 
-// The squares to which the man on `from` may go by a legal move, those alone to which he does if the sieve tells them.
+// Returns the candidate squares of the man on `from`: the exact squares of its legal moves if the filter
+// knows them.
 fn given_candidates<R: Rules, S: Sift>(
     board: &Board,
     sift: &S,
@@ -88,7 +91,7 @@ fn given_candidates<R: Rules, S: Sift>(
     }
 }
 
-// Of the squares to which the man on `from` may go by a legal move those that the sieve leaves.
+// Returns the candidate squares of the man on `from` that the filter leaves.
 #[tactic(auto, using(crate::proofs::listing_moves::Sifting::wanted_candidates))]
 fn wanted_squares<R: Rules, S: Sift>(
     board: &Board,
@@ -109,8 +112,8 @@ fn wanted_squares<R: Rules, S: Sift>(
     squares & sift.sift::<R>(board, from, squares)
 }
 
-// The number of the first legal move that the sieve leaves, from the triple numbered `start` on; 28,672 where there is
-// none. The legal moves before it, which it takes, are counted. The board is unchanged.
+// Returns the number of the first legal move that the filter leaves, from triple `start` on; `TRIPLES` if
+// there is none. Adds to `passed` the number of legal moves before it. The board is unchanged.
 pub(crate) fn next_left<R: Rules, S: Sift>(
     board: &mut Board,
     known: Known,
@@ -146,7 +149,7 @@ pub(crate) fn next_left<R: Rules, S: Sift>(
     TRIPLES
 }
 
-// Whether the filter takes a legal move of the man on `from`. The board is unchanged.
+// Returns whether the filter takes a legal move of the man on `from`. The board is unchanged.
 fn takes_some<R: Rules, S: Sift>(
     board: &mut Board,
     known: Known,
@@ -173,7 +176,7 @@ fn takes_some<R: Rules, S: Sift>(
     }
 }
 
-// Whether the filter takes a legal move of the men on these squares. The board is unchanged.
+// Returns whether the filter takes a legal move of a man on one of these squares. The board is unchanged.
 pub(crate) fn some_taken<R: Rules, S: Sift>(
     board: &mut Board,
     known: Known,

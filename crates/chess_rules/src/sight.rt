@@ -1,4 +1,4 @@
-//! What men an attack sees, on the board or once a move is made.
+//! The occupied squares that attacks depend on, now or after a move.
 ghost use Rattle.std.specs.Prelude.{◌≡◌, List, Option};
 ghost use Rattle.chess_core.specs.declared.man.Colour.{Colour};
 ghost use Rattle.chess_core.specs.declared.man.Man.{Man};
@@ -11,16 +11,16 @@ use chess_core::board::Board;
 use chess_core::man::{Colour, Kind};
 use chess_core::square::{Square, Squares};
 
-/// What an attack sees: the squares that are occupied, and those on which the board's men still stand.
+/// What attacks depend on: the occupied squares, and the squares whose men still stand.
 #[derive(Clone, Copy)]
 pub struct Sight {
-    /// The squares on which a man stands.
+    /// The occupied squares.
     pub occupied: Squares,
-    /// The squares on which the board's men count; those elsewhere have gone or been captured.
+    /// The squares on which the board's men count; men on other squares have moved or been captured.
     pub standing: Squares,
 }
 
-// The men that stand on the board.
+// Returns the sight of the board as it is.
 #[tactic(auto, using(crate::proofs::attacks::Seeing::seen_now))]
 pub(crate) fn sight_now(board: &Board) -> Sight
     ensures { (c : Colour) → AreSeen board.now.men board.now.men c result }
@@ -31,7 +31,7 @@ pub(crate) fn sight_now(board: &Board) -> Sight
     }
 }
 
-/// The men once the one on the captured square is gone, and the one on the origin stands on the arrival.
+/// Returns the sight after the man on `from` has gone to `to` and the man on `captured` is off the board.
 pub fn sight_after(board: &Board, from: Square, captured: Option<Square>, to: Square) -> Sight
     ensures { result ≡ sight_after board.now.men from captured to }
 {
@@ -42,7 +42,7 @@ pub fn sight_after(board: &Board, from: Square, captured: Option<Square>, to: Sq
     }
 }
 
-// The squares of the men of this colour and kind.
+// Returns the squares of the men of this colour and kind that still stand.
 pub(crate) fn squares_seen(board: &Board, sight: Sight, colour: Colour, kind: Kind) -> Squares
     ensures { (men : List (Option Man)) → AreSeen board.now.men men colour sight
         → result ≡ squares_of men colour kind }

@@ -1,5 +1,4 @@
-//! The triples looked through for those that pass a test, most of them left out by what is known of a
-//! position.
+//! Searches the triples for the next move that passes a test. Knowledge of the position skips most of them.
 ghost use Rattle.std.specs.Int.{bit_at};
 ghost use Rattle.std.specs.Prelude.{◌≡◌, ◌==◌, ◌+◌, ◌*◌, ◌≤◌, ◌<◌, Some, false, true};
 ghost use Rattle.chess_core.specs.Position.{is_man, man_on};
@@ -16,8 +15,9 @@ use chess_core::board::Board;
 use chess_core::man::{Kind, Move};
 use chess_core::square::{Square, Squares};
 
-/// What is known of a position where moves that pass a test are looked for: the test, what a move that is found
-/// passes for certain, and when the knowledge is of a position.
+/// Knowledge of a position that finds the moves that pass a test. It may also find moves that fail the
+/// test: `found` says what each found move passes for certain, and `fits` says of which positions the
+/// knowledge is true.
 pub trait Sought {
     ghost use Rattle.std.specs.Prelude.{Bool, ◌≡◌, true, false};
     ghost use Rattle.chess_core.specs.Position.{Position};
@@ -31,19 +31,20 @@ pub trait Sought {
 
     ghost fits: { Self → RuleSet → Position → Type 0 };
 
-    /// The squares from which a move may pass, and perhaps more.
+    /// Returns a superset of the squares from which a move passes the test.
     fn origins<R: Rules>(&self, board: &Board) -> Squares
         requires well_formed { IsWellFormed board.now }
         requires fits { fits self.now R.rule board.now }
         ensures { AreOrigins (test R.rule board.now) result };
 
-    /// The squares to which the man on `from` may go by a move that passes, and perhaps more.
+    /// Returns a superset of the squares to which the man on `from` moves by a move that passes the test.
     fn candidates<R: Rules>(&self, board: &Board, from: Square) -> Squares
         requires well_formed { IsWellFormed board.now }
         requires fits { fits self.now R.rule board.now }
         ensures { AreCandidates R.rule board.now (test R.rule board.now) from result };
 
-    /// Whether the move is found: each that passes is, and perhaps more. The board is unchanged after it.
+    /// Returns whether the move is found: true for each move that passes the test, perhaps for others too.
+    /// The board is unchanged.
     fn is_found<R: Rules>(&self, board: &mut Board, m: Move) -> bool
         requires well_formed { IsWellFormed board.old }
         requires aimed { IsAimed R.rule board.old m }
@@ -56,8 +57,7 @@ pub trait Sought {
         → test rule p m ≡ false };
 }
 
-// What was kept, if it is of this origin, and else the squares to which the man on it may go by a move that
-// passes.
+// Returns `kept` if it belongs to this origin, and otherwise computes the candidate squares of `from`.
 fn keep<R: Rules, S: Sought>(board: &Board, sought: &S, kept: Kept, from: Square) -> Kept
     requires well_formed { IsWellFormed board.now }
     requires fits { S.fits sought.now R.rule board.now }
@@ -74,10 +74,9 @@ fn keep<R: Rules, S: Sought>(board: &Board, sought: &S, kept: Kept, from: Square
     }
 }
 
-// It and the two below are parts of each search: apart they cost more than they save.
-// The first triple of the pawn on `from` that is found, of those that go to one of the squares, from the one
-// numbered `start` on and before the one numbered `end`, each counted from the origin's first; `end` where there is
-// none. The board is unchanged.
+// Returns the first triple of the pawn on `from` that goes to one of the squares and is found, from `start`
+// up to but not including `end`; `end` if there is none. Triples are counted from the first with this
+// origin. The board is unchanged. Inlined: a call costs more than it saves.
 #[inline(always)]
 fn next_of_pawn<R: Rules, S: Sought>(
     board: &mut Board,
@@ -114,8 +113,10 @@ fn next_of_pawn<R: Rules, S: Sought>(
     end
 }
 
-// The first triple of the man on `from`, who is no pawn, as above: he goes to each square by one, that without a
-// promotion.
+// Returns the first triple of the piece on `from` that goes to one of the squares and is found, from
+// `start` up to but not including `end`; `end` if there is none. Pieces don't promote, so each square has
+// one triple. Triples are counted from the first with this origin. The board is unchanged. Inlined: a call
+// costs more than it saves.
 #[inline(always)]
 #[tactic(auto, using(crate::proofs::listing_moves::Walks::plain_aimed, crate::proofs::Chess::cases_eq, crate::proofs::Chess::cases_lt), unfolding(crate::specs::ties::Places::triple_at))]
 fn next_of_piece<R: Rules, S: Sought>(
@@ -161,7 +162,9 @@ fn next_of_piece<R: Rules, S: Sought>(
     end
 }
 
-// The first triple of the man on `from`, as above, whoever he is.
+// Returns the first triple of the man on `from` that goes to one of the squares and is found, from `start`
+// up to but not including `end`; `end` if there is none. Triples are counted from the first with this
+// origin. The board is unchanged. Inlined: a call costs more than it saves.
 #[inline(always)]
 #[tactic(auto, using(crate::proofs::Bits::word_has), unfolding(chess_core::specs::ties::Words::squares_of))]
 pub(crate) fn next_of_man<R: Rules, S: Sought>(
@@ -198,8 +201,8 @@ pub(crate) fn next_of_man<R: Rules, S: Sought>(
     }
 }
 
-/// The number of the first move that is found from the triple numbered `start` on and before the one numbered
-/// `end`; `end` where there is none. The board is unchanged.
+/// Returns the number of the first found move from triple `start` up to but not including `end`; `end` if
+/// there is none. `kept` carries the candidates of one origin from call to call. The board is unchanged.
 pub fn next_passing<R: Rules, S: Sought>(
     board: &mut Board,
     sought: &S,

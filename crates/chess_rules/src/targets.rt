@@ -1,4 +1,4 @@
-//! Where a man may go, and the triples that name it.
+//! The squares where a man may arrive, and the numbers of its triples.
 ghost use Rattle.std.specs.Prelude.{◌≡◌, ◌==◌, ℕ, ◌<◌, ◌≤◌, ◌&&◌};
 ghost use Rattle.chess_core.specs.Castling.{has_unmoved};
 ghost use Rattle.chess_core.specs.Position.{man_on};
@@ -18,25 +18,25 @@ use chess_core::board::Board;
 use chess_core::man::{Colour, Kind, Man};
 use chess_core::square::{Square, Squares};
 
-// How many triples have the same origin and arrival: the promotions, none being one too.
+// The number of triples with the same origin and arrival: no promotion, or one of six pieces.
 pub(crate) const PER_ARRIVAL: u16 = 7;
 
-// How many have the same origin.
+// The number of triples with the same origin.
 pub(crate) const PER_ORIGIN: u16 = 64 * PER_ARRIVAL;
 
-/// How many triples of origin, arrival and promotion there are.
+/// The number of all triples of origin, arrival and promotion.
 pub const TRIPLES: u16 = 64 * PER_ORIGIN;
 
-/// The candidates of one origin of a position, kept while its moves are walked.
+/// The candidate squares of one origin, kept while its moves are listed.
 #[derive(Clone, Copy)]
 pub struct Kept {
-    /// The origin, once there is one.
+    /// The origin, or `None` if nothing is kept.
     pub origin: Option<Square>,
-    /// The squares to which its man may go by a move that passes, and perhaps more.
+    /// A superset of the squares to which its man moves by a move that passes the test.
     pub squares: Squares,
 }
 
-/// The squares one and two steps ahead of a pawn, and two files beside a king.
+/// Returns the squares one and two ahead of a pawn, or two files to either side of a king.
 #[tactic(auto, using(crate::proofs::listing_moves::Targeting::step_words))]
 pub fn steps_to(man: Man, from: Square) -> Squares
     ensures { result ≡ word (steps_to man from) }
@@ -50,8 +50,8 @@ pub fn steps_to(man: Man, from: Square) -> Squares
     }
 }
 
-// The squares to which a pawn steps from here: the next one if it is empty, and from its second rank the
-// one behind it too.
+// Returns the squares to which a pawn on `from` steps: one ahead if it is empty, and from its second rank
+// two ahead if both are.
 fn pawn_goes(board: &Board, man: Man, from: Square) -> Squares
     ensures { result ≡ word (pawn_goes board.now man from) }
 {
@@ -65,7 +65,7 @@ fn pawn_goes(board: &Board, man: Man, from: Square) -> Squares
     ahead & king_leaps(from)
 }
 
-// Those to which a king castles, and perhaps more.
+// Returns a superset of the squares where the king arrives by castling.
 fn castling_squares(board: &Board, man: Man, from: Square) -> Squares
     ensures { result ≡ word (λ t. has_unmoved board.now.unmoved from && steps_to man from t) }
 {
@@ -76,7 +76,8 @@ fn castling_squares(board: &Board, man: Man, from: Square) -> Squares
     }
 }
 
-// The squares to which the man on `from` goes, whoever stands there, most tests of castling apart.
+// Returns the squares to which the man on `from` may go, whoever stands there; for a king without most
+// tests of castling.
 #[tactic(auto, using(crate::proofs::listing_moves::Arrivals::other_ways, crate::proofs::listing_moves::Arrivals::pawn_ways))]
 fn goes_to(board: &Board, man: Man, from: Square) -> Squares
     ensures { result ≡ word (may_go board.now man from) }
@@ -88,14 +89,15 @@ fn goes_to(board: &Board, man: Man, from: Square) -> Squares
     reach | castling_squares(board, man, from)
 }
 
-// The squares on which no man of the colour and no king stands.
+// Returns the squares without a man of the colour and without a king.
 fn free_squares(board: &Board, colour: Colour) -> Squares
     ensures { result ≡ word (λ t. is_arrival_free colour (man_on board.now.men t)) }
 {
     !(board.side(colour) | board.squares(colour.other(), Kind::King))
 }
 
-/// The squares to which the man on `from` may go, most tests of castling apart.
+/// Returns the squares where the man on `from` may arrive, without most tests of castling; nothing if the
+/// man is paralysed or not of the side to move.
 #[tactic(auto, using(crate::proofs::listing_moves::Arrivals::arrivals_nobody, crate::proofs::listing_moves::Arrivals::arrivals_other, crate::proofs::listing_moves::Arrivals::arrivals_paralysed))]
 #[inline(always)]
 pub fn arrivals<R: Rules>(board: &Board, from: Square) -> Squares
@@ -113,14 +115,14 @@ pub fn arrivals<R: Rules>(board: &Board, from: Square) -> Squares
     free_squares(board, board.turn()) & goes_to(board, man, from)
 }
 
-// Whether a pawn arrives on its last rank.
+// Returns whether a pawn arrives on its last rank.
 pub(crate) fn is_promoting(man: Man, to: Square) -> bool
     ensures { result ≡ is_promoting man to }
 {
     man.kind.is(Kind::Pawn) && to.rank() == last_rank(man.colour)
 }
 
-// The rank on which the colour's pawns are promoted.
+// Returns the squares of the rank on which the colour's pawns promote.
 #[tactic(auto, unfolding(chess_core::specs::Squares::squares, chess_core::specs::ties::Words::word, chess_core::specs::ties::Words::word_of))]
 fn last_rank_squares(colour: Colour) -> Squares
     ensures { result ≡ word (λ t. rank_of t == last_rank colour) }
@@ -131,7 +133,7 @@ fn last_rank_squares(colour: Colour) -> Squares
     }
 }
 
-// The squares on which this man is promoted, if he is a pawn.
+// Returns the squares on which this man promotes; nothing unless it is a pawn.
 #[tactic(auto, using(crate::proofs::listing_moves::SurelyLegal::promotion_words))]
 pub(crate) fn promoting_squares(man: Man) -> Squares
     ensures { result ≡ word (is_promoting man) }
@@ -143,9 +145,9 @@ pub(crate) fn promoting_squares(man: Man) -> Squares
     }
 }
 
-// The first triple with this origin that goes to one of the word's squares, with a promotion where a pawn
-// arrives on its last rank and none elsewhere, from the one numbered `start` on, each counted from the
-// origin's first; PER_ORIGIN where there is none.
+// Returns the first triple from `start` on that goes from `from` to one of the squares of `word`, with a
+// promotion exactly if a pawn arrives on its last rank; `PER_ORIGIN` if there is none. Triples are counted
+// from the first with this origin.
 pub(crate) fn next_from(board: &Board, from: Square, word: Squares, start: u16) -> u16
     requires { start ≤ per_origin }
     ensures low { start ≤ result }

@@ -1,4 +1,4 @@
-//! Sets of squares as words of 64 bits, and their squares in order.
+//! Bitboards: sets of squares as 64-bit words, bit 0 for a1, bit 63 for h8; and their squares in order.
 ghost use Rattle.std.specs.Prelude.{◌≡◌, ℕ, ◌<◌, ◌≤◌, ◌-◌, ◌*◌, ◌^◌, ◌==◌, ◌&&◌, IfSome, None, find, nat_le};
 ghost use Rattle.std.specs.Int.{bit_at, trailing_zeros, w64};
 ghost use Rattle.std.specs.List.{range_with_len};
@@ -8,7 +8,7 @@ ghost use Rattle.chess_rules.specs.ties.Taking.{IsTaken};
 
 use chess_core::square::{Square, Squares};
 
-/// The word of this square alone, or of none.
+/// Returns the bitboard with this square alone, or the empty one for `None`.
 #[tactic(auto, using(crate::proofs::Bits::word_only, crate::proofs::Bits::word_empty))]
 pub fn only(square: Option<Square>) -> Squares
     ensures { result ≡ word (λ t. is_square square t) }
@@ -19,14 +19,14 @@ pub fn only(square: Option<Square>) -> Squares
     }
 }
 
-/// Whether the word has the square.
+/// Returns whether the bitboard holds the square.
 pub fn contains(word: Squares, square: Square) -> bool
     ensures { result ≡ (bit_at word square == 1) }
 {
     word >> square.index() & 1 == 1
 }
 
-/// The first square of the word from the one with this number on, if there is one (a1 is 0, h8 is 63).
+/// Returns the lowest square of the bitboard whose number is `from` or more (a1 is 0, h8 is 63), or `None`.
 pub fn next_bit(word: Squares, from: u8) -> Option<Square>
     ensures value { result ≡ find (λ s. bit_at word s == 1) (range_with_len from (64 - from)) }
     ensures behind { IfSome result (λ s. from ≤ s) }
@@ -41,7 +41,7 @@ pub fn next_bit(word: Squares, from: u8) -> Option<Square>
     Some(lowest(rest))
 }
 
-/// The squares of the word from the one with this number on.
+/// Returns the squares of the bitboard whose number is `from` or more.
 #[tactic(auto, using(crate::proofs::Bits::none_from, crate::proofs::Bits::kept_from))]
 pub(crate) fn squares_from(word: Squares, from: u8) -> Squares
     ensures { (t : ℕ) → t < 64 → (bit_at result t == 1) ≡ (nat_le from t && bit_at word t == 1) }
@@ -53,7 +53,8 @@ pub(crate) fn squares_from(word: Squares, from: u8) -> Squares
     word & behind
 }
 
-/// The first square of the word, which is taken from it, if there is one: a loop takes them all in order.
+/// Removes the lowest square from the bitboard and returns it, or `None` if the bitboard is empty. A `while
+/// let` loop over it visits all squares in order.
 #[inline(always)]
 #[tactic(auto, using(crate::proofs::LowestBit::lowest_goes))]
 pub fn take_first(word: &mut Squares) -> Option<Square>
@@ -68,7 +69,7 @@ pub fn take_first(word: &mut Squares) -> Option<Square>
     Some(lowest(squares))
 }
 
-// The square of the lowest bit.
+// Returns the lowest square of a bitboard that isn't empty.
 pub(crate) fn lowest(word: Squares) -> Square
     requires { 0 < word }
     ensures { result ≡ trailing_zeros w64 word }
@@ -76,7 +77,7 @@ pub(crate) fn lowest(word: Squares) -> Square
     Square::numbered(word.trailing_zeros() as u8)
 }
 
-/// The last square of the word.
+/// Returns the highest square of a bitboard that isn't empty.
 pub fn highest(word: Squares) -> Square
     requires { 0 < word }
     ensures low { 2 ^ result ≤ word }

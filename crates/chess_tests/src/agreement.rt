@@ -1,4 +1,4 @@
-//! Whether all that is told is as the plain rules have it, along lines of moves.
+//! Compares the chess crates with the plain rules, position by position along lines of moves.
 ghost use Rattle.std.specs.Prelude.{◌≡◌};
 ghost use Rattle.chess_core.specs.Diagrams.{position_of};
 ghost use Rattle.chess_core.specs.WellFormed.{IsWellFormed};
@@ -9,12 +9,12 @@ use crate::setup::posed;
 use chess_core::{Board, Diagram};
 use chess_rules::{Circe, Madrasi, Moves, Orthodox, Rules};
 
-// What a walk met.
+// The counts of a comparison.
 #[derive(Clone, Copy)]
 pub(crate) struct Tally {
-    // The positions compared.
+    // The number of positions compared.
     pub(crate) positions: u64,
-    // Those that are told otherwise by the plain rules.
+    // The number of positions where the plain rules say otherwise.
     pub(crate) unlike: u64,
 }
 
@@ -25,7 +25,7 @@ fn compare_under<R: Rules>(diagram: &Diagram, rule: Rule, length: u32) -> Tally
     compare_on::<R>(&mut board, rule, length)
 }
 
-// Compares a position, and all less than so many moves from it.
+// Compares a position and all positions fewer than `length` moves away.
 pub(crate) fn compare(rule: Rule, position: &str, length: u32) -> Option<Tally> {
     let diagram = posed(position)?;
     Some(match rule {
@@ -35,7 +35,7 @@ pub(crate) fn compare(rule: Rule, position: &str, length: u32) -> Option<Tally> 
     })
 }
 
-// Compares this position, and all less than so many moves from it.
+// Compares the board's position and all positions fewer than `length` moves away.
 #[tactic(auto, using(chess_rules::proofs::listing_moves::Calls::playing))]
 fn compare_on<R: Rules>(board: &mut Board, rule: Rule, length: u32) -> Tally
     requires { IsWellFormed board.old }

@@ -1,9 +1,9 @@
-//! A move and what it shows. All is told by the plain rules.
+//! A move and the motifs that it shows, by the plain rules.
 use crate::motif::Motif;
 use crate::plain::{LINES, Plain, Rule, bit, next};
 use chess_core::{Colour, Kind, Man, Move, Square};
 
-// A move that may be made, but for check to the mover, or a castling that only attack or paralysis forbids.
+// A pseudo-legal move, or a castling that only attack or paralysis forbids.
 #[derive(Drop)]
 pub(crate) struct Case<'a> {
     rule: Rule,
@@ -15,13 +15,13 @@ pub(crate) struct Case<'a> {
     was_in_check: bool,
     // A bit for each enemy that attacks the mover's king after the move.
     exposing: u64,
-    // For each man of the mover that attacks the other king after it.
+    // A bit for each of the mover's men that attacks the other king after the move.
     checkers: u64,
-    // For each man that stood there before.
+    // A bit for each man that hasn't moved.
     stood: u64,
 }
 
-// A bit for each man that attacks the colour's king.
+// Returns a bit for each man that attacks the colour's king.
 fn checkers(plain: &Plain, rule: Rule, colour: Colour) -> u64 {
     match king_square(plain, colour) {
         Some(king) => plain.attackers(rule, king, colour.other()),
@@ -29,7 +29,7 @@ fn checkers(plain: &Plain, rule: Rule, colour: Colour) -> u64 {
     }
 }
 
-// For each man that stood there before the move as well.
+// Returns a bit for each man that is on the same square before and after the move.
 fn stood(before: &Plain, after: &Plain, m: Move) -> u64 {
     let mut squares = 0u64;
     for number in 0..64u8 {
@@ -51,7 +51,7 @@ fn king_square(plain: &Plain, colour: Colour) -> Option<Square> {
     None
 }
 
-// A bit for each square beside this one.
+// Returns a bit for each square next to this one.
 fn beside(square: Square) -> u64 {
     let mut squares = 0u64;
     for way in &LINES {
@@ -62,7 +62,7 @@ fn beside(square: Square) -> u64 {
     squares
 }
 
-// A bit for each square of the rank.
+// Returns a bit for each square of this square's rank.
 fn rank_of(square: Square) -> u64 {
     bit(Square::new(1, square.rank()).unwrap_or_default()).wrapping_mul(255)
 }
@@ -191,7 +191,7 @@ impl<'a> Case<'a> {
         king_square(self.before, colour)
     }
 
-    // Whether the move is refused for check to a king that wasn't in check.
+    // Returns whether the move is illegal because it exposes a king that wasn't in check.
     fn exposes(&self) -> bool {
         !self.was_in_check && self.exposing != 0
     }
@@ -262,7 +262,7 @@ impl<'a> Case<'a> {
         self.promotes_with_check(kind) && self.mates()
     }
 
-    // Whether a pawn mates, stays one and gives check itself.
+    // Returns whether a pawn mates, doesn't promote, and gives check itself.
     fn pawn_mates(&self) -> bool {
         self.man.kind == Kind::Pawn
             && self.m.promo.is_none()
@@ -270,7 +270,7 @@ impl<'a> Case<'a> {
             && self.checkers & bit(self.m.to) != 0
     }
 
-    // Whether the move goes so many ranks along its file.
+    // Returns whether the move goes this many ranks along its file.
     fn goes_ahead(&self, ranks: u8) -> bool {
         self.m.from.file() == self.m.to.file()
             && self.m.from.rank().abs_diff(self.m.to.rank()) == ranks
@@ -310,7 +310,7 @@ impl<'a> Case<'a> {
         true
     }
 
-    // Whether the king answers by going to a square that was attacked before the move.
+    // Returns whether the reply is the king's, to a square that was attacked before the move.
     fn flees(&self, answer: &Move) -> bool {
         self.after.has(answer.from, self.after.turn, Kind::King)
             && self
@@ -318,7 +318,7 @@ impl<'a> Case<'a> {
                 .is_attacked(self.rule, answer.to, self.man.colour)
     }
 
-    // A bit for each square beside the other king on which none of his men stands after the move.
+    // Returns a bit for each square next to the other king without a man of its side after the move.
     fn refuges(&self) -> u64 {
         match self.king(self.man.colour.other()) {
             Some(king) => beside(king) & !self.after.of_colour(self.man.colour.other()),
@@ -326,7 +326,7 @@ impl<'a> Case<'a> {
         }
     }
 
-    // Those that the mover didn't attack before it.
+    // Returns a bit for each refuge that the mover didn't attack before the move.
     fn fresh_refuges(&self) -> u64 {
         self.refuges() & !self.before.attacked(self.rule, self.man.colour)
     }
@@ -339,7 +339,7 @@ impl<'a> Case<'a> {
         self.mates() && self.refuges() & !self.after.attacked(self.rule, self.man.colour) != 0
     }
 
-    // Whether a man of the mover that stood there attacks a refuge that none attacked before.
+    // Returns whether one of the mover's men that didn't move attacks a refuge that none attacked before.
     fn unmasks_flight(&self) -> bool {
         if !self.mates() {
             return false;
@@ -354,7 +354,7 @@ impl<'a> Case<'a> {
         false
     }
 
-    // A bit for each man of the mover that stood there and attacks the square after the move.
+    // Returns a bit for each of the mover's men that didn't move and attacks the square after the move.
     fn stood_attackers(&self, square: Square) -> u64 {
         self.stood & self.after.attackers(self.rule, square, self.man.colour)
     }
@@ -365,7 +365,7 @@ impl<'a> Case<'a> {
             && self.m.from.file() != self.m.to.file()
     }
 
-    // Whether a man attacks the mover's king along the rank that the move left.
+    // Returns whether an enemy attacks the mover's king along the rank that the move left.
     fn is_rank_open(&self) -> bool {
         match self.king(self.man.colour) {
             Some(king) => {
@@ -383,7 +383,7 @@ impl<'a> Case<'a> {
         self.exposes() && !self.is_rank_open()
     }
 
-    // The crossed square, if the move is castling.
+    // Returns the rook's square and the square that the king crosses, if the move is castling.
     fn castling(&self) -> Option<(Square, Square)> {
         if self.man.kind != Kind::King {
             return None;
@@ -391,7 +391,7 @@ impl<'a> Case<'a> {
         self.before.castling(self.man, &self.m)
     }
 
-    // Whether the move is castling over a square that is attacked.
+    // Returns whether the move is castling across an attacked square.
     fn is_crossing_attacked(&self) -> bool {
         match self.castling() {
             Some((_, crossed)) => self
@@ -417,8 +417,8 @@ impl<'a> Case<'a> {
         }
     }
 
-    // Whether a grasshopper that stood there and didn't reach the king of this colour before, who hasn't moved, attacks him
-    // over the man that arrived, or not over it.
+    // Returns whether a grasshopper that didn't move, and didn't reach the king of this colour before,
+    // attacks it now although the king didn't move: over the man that arrived (`arrives`), or not over it.
     fn gets_hurdle(&self, attackers: u64, colour: Colour, arrives: bool) -> bool {
         let Some(king) = king_square(&self.after, colour) else {
             return false;
@@ -429,7 +429,7 @@ impl<'a> Case<'a> {
         king != self.m.to && anew & (if arrives { !over } else { over }) != 0
     }
 
-    // The position after the move without the man that arrived.
+    // Returns the position after the move without the man that arrived.
     fn lifted(&self) -> Plain {
         let mut lifted = self.after;
         lifted.men[self.m.to.index() as usize] = None;
@@ -444,12 +444,12 @@ impl<'a> Case<'a> {
         self.exposes() && self.gets_hurdle(self.exposing, self.man.colour, arrives)
     }
 
-    // The position after the move, were no man reborn.
+    // Returns the position after the move as if no man were reborn.
     fn unborn(&self) -> Plain {
         self.before.after(Rule::Orthodox, &self.m)
     }
 
-    // Whether the colour would be in check, were no man reborn.
+    // Returns whether the colour would be in check if no man were reborn.
     fn is_unborn_check(&self, colour: Colour) -> bool {
         self.unborn().is_in_check(self.rule, colour)
     }
@@ -478,12 +478,12 @@ impl<'a> Case<'a> {
         self.checks_by_rebirth() && self.mates()
     }
 
-    // Whether a pawn has become the grasshopper, where the mover had none.
+    // Returns whether a promotion gives check over a reborn man, and the mover had no grasshopper before.
     fn checks_over_by_promotion(&self) -> bool {
         self.m.promo.is_some() && !self.had_grasshopper() && self.checks_by_rebirth()
     }
 
-    // Whether the mover had a grasshopper before the move.
+    // Returns whether the mover had a grasshopper before the move.
     fn had_grasshopper(&self) -> bool {
         self.before.of_kind(Kind::Grasshopper) & self.before.of_colour(self.man.colour) != 0
     }
@@ -504,7 +504,8 @@ impl<'a> Case<'a> {
         self.legal && self.was_paralysed(self.checkers, self.man.colour.other())
     }
 
-    // Whether one of these, who stood there, reached the king of this colour before, but was paralysed.
+    // Returns whether one of these men, which didn't move, reached the king of this colour before but was
+    // paralysed.
     fn was_paralysed(&self, attackers: u64, colour: Colour) -> bool {
         match self.king(colour) {
             Some(king) => {

@@ -1,4 +1,4 @@
-//! Whether all that is told of a position is as the plain rules have it.
+//! Compares all that the chess crates say of a position with the plain rules.
 ghost use Rattle.std.specs.Prelude.{◌≡◌};
 ghost use Rattle.chess_core.specs.WellFormed.{IsWellFormed};
 
@@ -9,7 +9,7 @@ use chess_core::{Board, Colour, Move, Square};
 use chess_mates::{MatingMoves, next_mate};
 use chess_rules::{LegalMoves, Moves, Rules, has_legal_move, in_check, is_mate};
 
-// What is asked of a position.
+// What the chess crates are tested for.
 #[derive(Clone, Copy, Debug)]
 pub(crate) enum Question {
     Moves,
@@ -48,7 +48,7 @@ fn choices(plain: &Plain, rule: Rule) -> Choices {
     choices
 }
 
-// The first question that is answered otherwise than by the plain rules.
+// Returns the first question on which the chess crates and the plain rules differ.
 pub(crate) fn first_unlike<R: Rules>(board: &mut Board, rule: Rule) -> Option<Question>
     requires { IsWellFormed board.old }
     ensures { board.new ≡ board.old }
@@ -70,7 +70,7 @@ pub(crate) fn first_unlike<R: Rules>(board: &mut Board, rule: Rule) -> Option<Qu
     unlike_of_play::<R>(board, &plain, rule)
 }
 
-// Of attack, paralysis and check.
+// Compares attack, paralysis and check.
 fn unlike_of_men<R: Rules>(board: &Board, plain: &Plain, rule: Rule) -> Option<Question> {
     for number in 0..64u8 {
         let square = Square::numbered(number);
@@ -91,7 +91,7 @@ fn unlike_of_men<R: Rules>(board: &Board, plain: &Plain, rule: Rule) -> Option<Q
     None
 }
 
-// Of the ways to the moves.
+// Compares the different ways to list moves.
 fn unlike_of_moves<R: Rules>(board: &mut Board, choices: &[Choice]) -> Option<Question>
     requires { IsWellFormed board.old }
     ensures { board.new ≡ board.old }
@@ -163,7 +163,7 @@ fn gives_mating_moves<R: Rules>(board: &mut Board, choices: &[Choice]) -> bool
     place.next(board).is_none() && place.next(board).is_none()
 }
 
-// The place behind so many legal moves.
+// Returns the cursor after the first `count` legal moves.
 fn place_behind<R: Rules>(board: &mut Board, count: usize) -> Moves<R>
     requires { IsWellFormed board.old }
     ensures { board.new ≡ board.old }
@@ -175,7 +175,7 @@ fn place_behind<R: Rules>(board: &mut Board, count: usize) -> Moves<R>
     place
 }
 
-// Whether the moves behind the first `passed` legal ones up to the one numbered `last` are given.
+// Returns whether the legal moves after the first `passed` ones, up to number `last`, are returned.
 fn gives_until<R: Rules>(board: &mut Board, choices: &[Choice], passed: usize, last: usize) -> bool
     requires { IsWellFormed board.old }
     ensures { board.new ≡ board.old }
@@ -191,7 +191,7 @@ fn gives_until<R: Rules>(board: &mut Board, choices: &[Choice], passed: usize, l
     place.next_until(end, board).is_none()
 }
 
-// Whether the mates behind the first `passed` legal moves are given.
+// Returns whether the mates after the first `passed` legal moves are returned.
 fn gives_mates<R: Rules>(board: &mut Board, choices: &[Choice], passed: usize) -> bool
     requires { IsWellFormed board.old }
     ensures { board.new ≡ board.old }
@@ -208,7 +208,8 @@ fn gives_mates<R: Rules>(board: &mut Board, choices: &[Choice], passed: usize) -
     next_mate::<R>(&mut place, board).is_none()
 }
 
-// Whether the mates behind the first `passed` legal moves up to the one numbered `last` are given.
+// Returns whether the mates after the first `passed` legal moves, up to legal move number `last`, are
+// returned.
 fn gives_mates_until<R: Rules>(
     board: &mut Board,
     choices: &[Choice],
@@ -230,7 +231,7 @@ fn gives_mates_until<R: Rules>(
     place.next_until(end, board).is_none()
 }
 
-// Of the positions one move on, and of the one that is there again when the move is taken back.
+// Compares the positions one move on, and the position after each move is taken back.
 #[tactic(auto, using(chess_rules::proofs::listing_moves::Calls::playing))]
 fn unlike_of_play<R: Rules>(board: &mut Board, plain: &Plain, rule: Rule) -> Option<Question>
     requires { IsWellFormed board.old }
@@ -252,7 +253,7 @@ fn unlike_of_play<R: Rules>(board: &mut Board, plain: &Plain, rule: Rule) -> Opt
     None
 }
 
-// Of a position that was played to.
+// Compares a position that a move has led to.
 fn unlike_after<R: Rules>(board: &mut Board, plain: &Plain, rule: Rule) -> Option<Question>
     requires { IsWellFormed board.old }
     ensures { board.new ≡ board.old }

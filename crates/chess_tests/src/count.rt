@@ -1,4 +1,4 @@
-//! Lines of moves, counted.
+//! Counts lines of moves.
 ghost use Rattle.std.specs.Prelude.{◌≡◌};
 ghost use Rattle.chess_core.specs.Diagrams.{position_of};
 ghost use Rattle.chess_core.specs.WellFormed.{IsWellFormed};
@@ -11,18 +11,18 @@ use chess_rules::exposure::is_simple;
 use chess_rules::shields::{cannot_expose, shield_squares};
 use chess_rules::{Circe, Madrasi, Moves, Orthodox, Rules};
 
-// What a walk along all lines of moves met.
+// The counts of a walk along all lines of moves.
 #[derive(Clone, Copy)]
 pub(crate) struct Walk {
-    // The lines of full length.
+    // The number of lines of full length.
     pub(crate) lines: u64,
-    // The last moves of lines that are played before it is known that they are legal.
+    // The number of last moves that must be played to know that they are legal.
     pub(crate) played: u64,
-    // The moves after which, taken back, the board was another than before.
+    // The number of moves after which the board differed once they were taken back.
     pub(crate) changed: u64,
 }
 
-// Whether the move is told legal by what `LegalMoves` asks first, the squares around the king, and not by playing it.
+// Returns whether `LegalMoves` knows without playing the move that it is legal.
 fn is_told<R: Rules>(board: &Board, m: &Move) -> bool {
     let squares = shield_squares(board, board.turn());
     if cannot_expose::<R>(board, board.turn(), squares, m) {
@@ -42,7 +42,7 @@ fn walk_under<R: Rules>(diagram: &Diagram, length: u32) -> Walk
     walk_on::<R>(&mut board, length)
 }
 
-// Walks along all lines of so many legal moves from a position.
+// Walks along all lines of `length` legal moves from a position.
 pub(crate) fn walk_lines(rule: Rule, position: &str, length: u32) -> Option<Walk> {
     let diagram = posed(position)?;
     Some(match rule {
@@ -52,7 +52,7 @@ pub(crate) fn walk_lines(rule: Rule, position: &str, length: u32) -> Option<Walk
     })
 }
 
-// Walks along all lines of so many legal moves from here.
+// Walks along all lines of `length` legal moves from the board's position.
 #[tactic(auto, using(chess_rules::proofs::listing_moves::Calls::playing))]
 fn walk_on<R: Rules>(board: &mut Board, length: u32) -> Walk
     requires { IsWellFormed board.old }

@@ -1,4 +1,4 @@
-//! Positions before a defence: whether a mate follows a move after which none is told to.
+//! Compares threats with the plain rules: no mate follows a move that `rule_out_mate` accepts.
 ghost use Rattle.std.specs.Prelude.{◌≡◌};
 ghost use Rattle.chess_core.specs.WellFormed.{IsWellFormed};
 
@@ -9,16 +9,16 @@ use chess_core::{Board, Move};
 use chess_mates::threats::Threats;
 use chess_rules::{Circe, Madrasi, Moves, Orthodox, Rules};
 
-// What is told of the moves in the positions of a family.
+// The outcome for the positions of a family.
 #[derive(Clone, Copy)]
 pub(crate) struct Defences {
-    // The number of the first position in which a mate follows a move after which none is told to.
+    // The number of the first position where a mate follows a move that was ruled safe.
     pub(crate) wrong: Option<u64>,
-    // How many moves are told to be followed by none.
+    // The number of moves that were ruled safe.
     pub(crate) told: u32,
 }
 
-// Asks for so many positions of the family under the rule, the other side to move.
+// Tests `count` positions of the family, with the other side to move.
 pub(crate) fn defended(rule: Rule, family: Family, count: u64) -> Defences {
     let mut defences = Defences {
         wrong: None,
@@ -39,7 +39,7 @@ pub(crate) fn defended(rule: Rule, family: Family, count: u64) -> Defences {
     defences
 }
 
-// Whether a mate follows one of the moves after which none is told to. The others told so are counted.
+// Returns whether a mate follows a move that was ruled safe. Counts the moves ruled safe before it.
 fn is_told_wrong_by(rule: Rule, board: &mut Board, told: &mut u32) -> bool
     requires { IsWellFormed board.old }
 {
@@ -73,7 +73,7 @@ fn is_told_wrong<R: Rules>(rule: Rule, board: &mut Board, told: &mut u32) -> boo
     false
 }
 
-// Whether some reply to the move mates, by the plain rules.
+// Returns whether some reply to the move mates, by the plain rules.
 fn is_followed_by_mate(rule: Rule, plain: &Plain, m: &Move) -> bool {
     let after = plain.after(rule, m);
     let replies = after.moves_but_for_check(rule);

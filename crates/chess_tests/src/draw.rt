@@ -1,4 +1,4 @@
-//! Numbers that look drawn, the same on each run.
+//! Pseudorandom numbers, equal on each run.
 ghost use Rattle.std.specs.Prelude.{◌<◌};
 
 use crate::plain::{LEAPS, LINES};
@@ -32,17 +32,17 @@ const ALL_KINDS: [Kind; 8] = [
     Kind::Grasshopper,
 ];
 
-// Which kinds of men a position may hold besides kings.
+// The kinds of men that a position may hold besides kings.
 #[derive(Clone, Copy, PartialEq, Eq)]
 pub(crate) enum Kinds {
-    // Those of the FIDE Laws.
+    // The kinds of the FIDE Laws.
     Orthodox,
-    // Grasshoppers and nightriders too.
+    // Also grasshoppers and nightriders.
     All,
 }
 
 impl Draw {
-    // The numbers of the position with this number.
+    // Returns the generator for the position with this number.
     pub(crate) fn of(number: u64) -> Draw {
         let mut draw = Draw {
             state: number
@@ -62,7 +62,7 @@ impl Draw {
         self.state.wrapping_mul(0x2545_f491_4f6c_dd1d)
     }
 
-    // A number below this one.
+    // Returns a number below `count`.
     pub(crate) fn below(&mut self, count: u8) -> u8
         requires { 0 < count }
         ensures { result < count }
@@ -70,14 +70,14 @@ impl Draw {
         ((self.number() >> 32) % (count as u64)) as u8
     }
 
-    // True once in so many draws.
+    // Returns `true` once in `count` draws on average.
     pub(crate) fn once_in(&mut self, count: u8) -> bool
         requires { 0 < count }
     {
         self.below(count) == 0
     }
 
-    // The first once in so many draws, else the second.
+    // Returns `rare` once in `count` draws on average, otherwise `usual`.
     pub(crate) fn pick<T: Copy>(&mut self, count: u8, rare: T, usual: T) -> T
         requires { 0 < count }
     {
@@ -96,7 +96,7 @@ impl Draw {
         self.pick(2, Kinds::Orthodox, Kinds::All)
     }
 
-    // A kind, no king.
+    // Returns a kind other than king.
     pub(crate) fn kind(&mut self, kinds: Kinds) -> Kind {
         let at = self.below(8) as usize;
         match kinds {
@@ -105,7 +105,7 @@ impl Draw {
         }
     }
 
-    // A man of either colour, no king.
+    // Returns a man of either colour, no king.
     pub(crate) fn man(&mut self, kinds: Kinds) -> Man {
         Man {
             colour: self.colour(),
@@ -113,12 +113,12 @@ impl Draw {
         }
     }
 
-    // A direction of a queen.
+    // Returns a direction of a queen.
     pub(crate) fn line(&mut self) -> (u8, u8) {
         LINES[self.below(8) as usize]
     }
 
-    // A direction of a nightrider.
+    // Returns a direction of a nightrider.
     pub(crate) fn leap(&mut self) -> (u8, u8) {
         LEAPS[self.below(8) as usize]
     }

@@ -1,4 +1,4 @@
-//! Families of positions, each made so that what it is named after is likely.
+//! Families of positions, each built so that its motif is likely.
 mod castling;
 mod fairy;
 mod kings;
@@ -9,51 +9,51 @@ mod rebirths;
 use crate::draw::Draw;
 use chess_core::Diagram;
 
-// What a family of positions is made for.
+// The motif of a family of positions.
 #[derive(Clone, Copy)]
 pub(crate) enum Family {
-    // Men of the side to move between its king and a rider.
+    // Men of the side to move between their king and an enemy rider.
     Pins,
-    // Men of the side to move between the other king and their own rider.
+    // Men of the side to move between the other king and a rider of their own.
     Batteries,
-    // Two riders on one king, of the side to move or of the other.
+    // Two riders on one king, that of the side to move or the other.
     DoubleChecks,
-    // A pawn that has just passed a pawn.
+    // A pawn that has just passed an enemy pawn.
     EnPassant,
-    // Pawns before their last rank.
+    // Pawns one step before their last rank.
     Promotions,
     // Kings and rooks at home.
     Castling,
-    // The same with the other king on their rank.
+    // Kings and rooks at home, with the other king on their rank.
     HomeRanks,
-    // A king in check by a rider, with room behind him.
+    // A king in check from a rider, with room on the line beyond the king.
     KingSteps,
     // A king at the edge with few flights.
     Flights,
-    // A king among his men, with lines through the free squares beside him.
+    // A king among its men, with lines through the free squares next to it.
     Refuges,
-    // A king shut in, with a pawn before a check and a battery of a pawn or a king.
+    // A king shut in, with a pawn one move before a check, or a battery with a pawn or king in front.
     Nooks,
     // Positions without one king or both.
     MissingKings,
-    // Grasshoppers and hurdles before kings.
+    // Grasshoppers and hurdles on lines to kings.
     Hurdles,
     // Nightriders and men on their lines.
     NightriderLines,
-    // Men to be captured whose home squares lie near the kings.
+    // Men to be captured whose home squares are near the kings.
     Rebirths,
-    // Men to be captured whose home squares lie between the other king and a grasshopper.
+    // Men to be captured whose home squares are between the other king and a grasshopper.
     RebornHurdles,
-    // A grasshopper on a king's diagonal, and a pawn who comes back between them.
+    // A grasshopper on a king's diagonal, and a pawn that is reborn between them.
     HurdleNets,
-    // Men of one kind that face each other near the kings.
+    // Men of one kind that attack each other near the kings.
     Paralysis,
-    // A king on his home rank, seen by the other, and captures on lines to him.
+    // A king on its home rank, opposed by the other king, and captures on lines to it.
     Nets,
 }
 
 impl Family {
-    // A position of the family.
+    // Returns a position of the family.
     pub(crate) fn diagram(self, draw: &mut Draw) -> Diagram {
         match self {
             Family::Pins => lines::pins(draw),

@@ -1,5 +1,5 @@
-//! Tests of the chess crates by what is known from outside: published counts of lines of moves,
-//! positions from the literature of problems, and the rules written plainly beside them.
+//! Tests of the chess crates against knowledge from outside: published move counts, positions from chess
+//! problems, and a plain implementation of the rules (`plain`).
 #![tactic(auto)]
 
 #[cfg(test)]

@@ -1,113 +1,114 @@
-//! What a move may show: so that a family of positions is known to hold what it is made for.
+//! The motifs of moves. Tests count them, to know that a family of positions holds what it is made for.
 use chess_core::Kind;
 
 // What a move may show.
 #[derive(Clone, Copy)]
 pub(crate) enum Motif {
-    // A man of this kind may not go, since its king, not in check yet, would then be.
+    // The move of a man of this kind is illegal: it exposes its king, which wasn't in check.
     Exposes(Kind),
-    // A man may not go, since a man of this kind would then check its king.
+    // The move is illegal: a man of this kind would check its king.
     ExposedTo(Kind),
-    // A man of this kind moves, and another that stood there before gives check.
+    // A man of this kind moves, and another man that didn't move gives check.
     Uncovers(Kind),
-    // A man of this kind that stood there before gives check.
+    // A man of this kind that didn't move gives check.
     UncoveredBy(Kind),
     // Two men give check.
     DoubleCheck,
-    // A man that isn't the king may not go, since two men give check.
+    // The move, not the king's, is illegal because two men give check.
     InDoubleCheck,
     // The move mates.
     Mates,
-    // A capture en passant does.
+    // An en passant capture mates.
     EnPassantMates,
-    // Castling does.
+    // Castling mates.
     CastlingMates,
-    // A pawn that becomes a man of this kind does, checking itself.
+    // A promotion to this kind mates, and the promoted man gives check.
     PromotionMates(Kind),
-    // A pawn that steps one square does, checking itself.
+    // A pawn's single step mates, and the pawn gives check.
     StepMates,
-    // One that steps two does.
+    // A pawn's double step mates, and the pawn gives check.
     DoubleStepMates,
-    // One that captures on the way does, but not en passant.
+    // A pawn's capture, not en passant, mates, and the pawn gives check.
     CaptureMates,
-    // A man of this kind does, and another that stood there before gives check.
+    // The move of a man of this kind mates, and another man that didn't move gives check.
     UncoversMate(Kind),
-    // It ends a check.
+    // The move of a man of this kind parries a check.
     Parries(Kind),
-    // A capture en passant is legal.
+    // An en passant capture is legal.
     EnPassant,
-    // One isn't, since it uncovers the rank on which king and both pawns stand.
+    // An en passant capture is illegal because it opens the rank of king and both pawns.
     EnPassantOpensRank,
-    // One isn't, since it uncovers another line.
+    // An en passant capture is illegal because it opens another line.
     EnPassantOpensLine,
-    // One ends a check.
+    // An en passant capture parries a check.
     EnPassantParries,
-    // One uncovers a check.
+    // An en passant capture uncovers a check.
     EnPassantUncovers,
     // Castling is legal.
     Castles,
-    // It gives check.
+    // Castling gives check.
     CastlingChecks,
-    // It isn't legal, since the king is in check.
+    // Castling is illegal because the king is in check.
     CastlingFromCheck,
-    // It isn't, since the crossed square is attacked.
+    // Castling is illegal because the square that the king crosses is attacked.
     CastlingAcross,
-    // It isn't, since the arrival is attacked.
+    // Castling is illegal because the arrival is attacked.
     CastlingInto,
-    // It isn't, since the rook is paralysed.
+    // Castling is illegal because the rook is paralysed.
     CastlingParalysed,
-    // A pawn becomes a man of this kind and gives check.
+    // A promotion to this kind gives check.
     PromotionChecks(Kind),
-    // A pawn becomes a man and ends a check.
+    // A promotion parries a check.
     PromotionParries,
-    // The king, in check, may not go to a square that is attacked only once he has gone.
+    // The king, in check, may not go to a square that is attacked only because the king leaves its own.
     StepsAlong,
-    // Check, with no answer but of the king to squares that were attacked before the move.
+    // Check, and all legal replies are the king's, to squares that were attacked before the move.
     FlightOpened,
-    // Mate, with a square beside the king that wasn't attacked before the move.
+    // Mate, with a square next to the king that wasn't attacked before the move.
     FlightCovered,
-    // Mate, with a free square beside the king that is attacked only once he has gone there.
+    // Mate, with a free square next to the king that is attacked only once the king is there.
     FlightBehind,
-    // Mate, with a free square beside the king that wasn't attacked before, and is by a man that stood there.
+    // Mate, with a free square next to the king that wasn't attacked before the move, and now is by a man
+    // that didn't move.
     FlightUnmasked,
     // The mover has no king.
     KinglessMover,
-    // The other side has none.
+    // The other side has no king.
     KinglessEnemy,
-    // An arriving man is the hurdle over which a grasshopper checks.
+    // An arriving man is the hurdle over which a grasshopper gives check.
     HurdleArrives,
-    // A man that leaves or vanishes lets a grasshopper check.
+    // A man that leaves or disappears lets a grasshopper give check.
     HurdleLeaves,
-    // A man may not go where it is the hurdle over which its king would be checked.
+    // A move is illegal: its man would be the hurdle over which its king is in check.
     OwnHurdleArrives,
-    // A man may not leave, since a grasshopper would check over another.
+    // A move is illegal: a grasshopper would give check over another man.
     OwnHurdleLeaves,
-    // A capture isn't legal, since the reborn man checks or leaves a line open.
+    // A capture is illegal because of the reborn man: it gives check, or its absence opens a line.
     RebirthExposes,
-    // A capture is legal since the reborn man shuts a line to the mover's king.
+    // A capture is legal because the reborn man blocks a line to the mover's king.
     RebirthSaves,
-    // A capture gives no check since the reborn man shuts the line.
+    // A capture gives no check because the reborn man blocks the line.
     RebirthParries,
-    // A pawn that captures and is promoted gives no check since the reborn man shuts the line.
+    // A capture with promotion gives no check because the reborn man blocks the line.
     RebirthParriesPromoted,
-    // A capture gives check since the reborn man is a grasshopper's hurdle.
+    // A capture gives check because the reborn man is a grasshopper's hurdle.
     RebirthChecks,
-    // And mate.
+    // A capture mates because the reborn man is a grasshopper's hurdle.
     RebirthMatesOver,
-    // Check so by a pawn that has become the grasshopper, where the mover had none.
+    // A capture with promotion to the mover's first grasshopper gives check over the reborn man.
     RebirthChecksPromoted,
-    // A capture mates by the reborn man, who takes a flight or guards nothing there.
+    // A capture mates because the reborn man takes a flight or guards nothing.
     RebirthMates,
-    // A capture would mate, but for the reborn man.
+    // A capture would mate but for the reborn man.
     RebirthAnswers,
-    // A man may not go, since a paralysed enemy would then be free to check.
+    // A move is illegal because it frees a paralysed enemy, which gives check.
     FreesEnemy,
-    // Check by a man that was paralysed.
+    // A man that was paralysed gives check.
     FreesChecker,
-    // The checker is paralysed.
+    // The move paralyses the checker.
     ParalysesChecker,
-    // Mate since men are paralysed.
+    // Mate because men are paralysed.
     ParalysisMates,
-    // No mate since men are paralysed.
+    // No mate because men are paralysed.
     ParalysisSaves,
 }

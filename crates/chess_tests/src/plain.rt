@@ -1,9 +1,9 @@
-//! The rules written plainly, to be compared: a position is an array of squares that is copied for each
-//! move, and the moves are those of all triples that pass the tests.
+//! A plain implementation of the rules, for comparison: it copies the position for each move, and lists
+//! moves by testing all triples.
 use arrayvec::ArrayVec;
 use chess_core::{Board, Colour, Kind, Man, Move, Square, Unmoved};
 
-// The rules that hold.
+// The rules in force.
 #[derive(Clone, Copy, PartialEq, Eq)]
 pub(crate) enum Rule {
     Orthodox,
@@ -22,13 +22,13 @@ pub(crate) struct Plain {
     nightrider: bool,
 }
 
-// More moves than a position of the tests has.
+// More moves than any position of the tests has.
 pub(crate) const MOVES: usize = 1024;
 
-// Moves in their order.
+// Moves in order.
 pub(crate) type Moves = ArrayVec<Move, MOVES>;
 
-// What a pawn may become, none first.
+// The promotions in order, none first.
 const PROMOTIONS: [Option<Kind>; 7] = [
     None,
     Some(Kind::Queen),
@@ -39,7 +39,7 @@ const PROMOTIONS: [Option<Kind>; 7] = [
     Some(Kind::Nightrider),
 ];
 
-// Files to the right and ranks up, modulo 256: 255 goes one back.
+// The queen's directions: files to the right and ranks up, modulo 256, so 255 is one back.
 pub(crate) const LINES: [(u8, u8); 8] = [
     (1, 0),
     (255, 0),
@@ -51,7 +51,7 @@ pub(crate) const LINES: [(u8, u8); 8] = [
     (255, 255),
 ];
 
-// Those of a rook, and those of a bishop.
+// The rook's directions, and the bishop's.
 const STRAIGHT: [(u8, u8); 4] = [(1, 0), (255, 0), (0, 1), (0, 255)];
 
 const SLANTED: [(u8, u8); 4] = [(1, 1), (1, 255), (255, 1), (255, 255)];
@@ -67,7 +67,7 @@ pub(crate) const LEAPS: [(u8, u8); 8] = [
     (254, 255),
 ];
 
-// The next square in a direction.
+// Returns the next square in a direction.
 pub(crate) fn next(square: Square, way: (u8, u8)) -> Option<Square> {
     Square::new(
         square.file().wrapping_add(way.0),
@@ -75,12 +75,12 @@ pub(crate) fn next(square: Square, way: (u8, u8)) -> Option<Square> {
     )
 }
 
-// A bit for the square, a1 the lowest.
+// Returns a bit for the square; a1 is the lowest.
 pub(crate) fn bit(square: Square) -> u64 {
     1u64 << square.index()
 }
 
-// Whether one step in one of these directions leads from one square to another.
+// Returns whether one step in one of these directions leads from `from` to `to`.
 fn steps(from: Square, to: Square, ways: &[(u8, u8)]) -> bool {
     for way in ways {
         if next(from, *way) == Some(to) {
@@ -90,7 +90,7 @@ fn steps(from: Square, to: Square, ways: &[(u8, u8)]) -> bool {
     false
 }
 
-// How a man's number of ranks goes: up for White, down for Black.
+// Returns the rank step of the colour's pawns: up for White, down for Black.
 pub(crate) fn up(colour: Colour) -> u8 {
     match colour {
         Colour::White => 1,
@@ -99,7 +99,7 @@ pub(crate) fn up(colour: Colour) -> u8 {
 }
 
 impl Plain {
-    // The position of a board.
+    // Returns the position of a board.
     pub(crate) fn of(board: &Board) -> Plain {
         let mut men = [None; 64];
         for number in 0..64u8 {
@@ -123,7 +123,7 @@ impl Plain {
         self.man(square) == Some(Man { colour, kind })
     }
 
-    // Whether a man of the colour stands there.
+    // Returns whether a man of the colour is on the square.
     pub(crate) fn has_colour(&self, square: Square, colour: Colour) -> bool {
         match self.man(square) {
             Some(man) => man.colour == colour,
@@ -131,7 +131,7 @@ impl Plain {
         }
     }
 
-    // A bit for each man of the colour.
+    // Returns a bit for each man of the colour.
     pub(crate) fn of_colour(&self, colour: Colour) -> u64 {
         let mut squares = 0u64;
         for number in 0..64u8 {
@@ -143,7 +143,7 @@ impl Plain {
         squares
     }
 
-    // For each man of the kind.
+    // Returns a bit for each man of the kind.
     pub(crate) fn of_kind(&self, kind: Kind) -> u64 {
         let mut squares = 0u64;
         for number in 0..64u8 {
@@ -155,7 +155,7 @@ impl Plain {
         squares
     }
 
-    // Whether a rider gets from one square to another in one of these directions.
+    // Returns whether a rider reaches `to` from `from` in one of these directions.
     fn rides(&self, from: Square, to: Square, ways: &[(u8, u8)]) -> bool {
         for way in ways {
             let mut at = from;
@@ -175,7 +175,7 @@ impl Plain {
         false
     }
 
-    // Whether a grasshopper does.
+    // Returns whether a grasshopper hops from `from` to `to`.
     fn hops(&self, from: Square, to: Square) -> bool {
         for way in &LINES {
             let mut at = from;
@@ -195,7 +195,7 @@ impl Plain {
         false
     }
 
-    // Whether the man on `from` could capture on `to`.
+    // Returns whether the man on `from` could capture on `to`.
     pub(crate) fn reaches(&self, from: Square, to: Square) -> bool {
         let Some(man) = self.man(from) else {
             return false;
@@ -235,7 +235,7 @@ impl Plain {
         false
     }
 
-    // Whether the man on `from`, if it has the colour, attacks the square.
+    // Returns whether the man on `from` has the colour and attacks the square.
     fn attacks(&self, rule: Rule, from: Square, square: Square, colour: Colour) -> bool {
         self.has_colour(from, colour)
             && self.reaches(from, square)
@@ -251,7 +251,7 @@ impl Plain {
         false
     }
 
-    // A bit for each man of the colour that attacks the square.
+    // Returns a bit for each man of the colour that attacks the square.
     pub(crate) fn attackers(&self, rule: Rule, square: Square, colour: Colour) -> u64 {
         let mut squares = 0u64;
         for number in 0..64u8 {
@@ -263,7 +263,7 @@ impl Plain {
         squares
     }
 
-    // For each man that could capture on the square.
+    // Returns a bit for each man that could capture on the square.
     pub(crate) fn reachers(&self, to: Square) -> u64 {
         let mut squares = 0u64;
         for number in 0..64u8 {
@@ -275,7 +275,7 @@ impl Plain {
         squares
     }
 
-    // For each paralysed man.
+    // Returns a bit for each paralysed man.
     pub(crate) fn paralysed(&self, rule: Rule) -> u64 {
         let mut squares = 0u64;
         for number in 0..64u8 {
@@ -287,7 +287,7 @@ impl Plain {
         squares
     }
 
-    // For each square that the colour's men attack.
+    // Returns a bit for each square that the colour attacks.
     pub(crate) fn attacked(&self, rule: Rule, colour: Colour) -> u64 {
         let mut squares = 0u64;
         for number in 0..64u8 {
@@ -303,7 +303,7 @@ impl Plain {
         self.man(square).is_none()
     }
 
-    // Whether a pawn may go so.
+    // Returns whether a pawn moves like this: by a capture or a step.
     fn pawn_goes(&self, colour: Colour, m: &Move) -> bool {
         if self.reaches(m.from, m.to) {
             !self.is_empty(m.to) || self.crossed == Some(m.to)
@@ -312,7 +312,7 @@ impl Plain {
         }
     }
 
-    // Whether it may go one step ahead, or two from its first square.
+    // Returns whether a pawn moves like this by a step: one square ahead, or two from its second rank.
     fn is_pawn_step(&self, colour: Colour, m: &Move) -> bool {
         let Some(one) = next(m.from, (0, up(colour))) else {
             return false;
@@ -330,8 +330,8 @@ impl Plain {
         m.from.rank() == start && next(one, (0, up(colour))) == Some(m.to) && self.is_empty(m.to)
     }
 
-    // The rook's square and the crossed one, where the king goes two squares to an unmoved rook over
-    // empty squares.
+    // Returns the rook's square and the square that the king crosses, if the king goes two squares towards
+    // a rook with castling rights, over empty squares.
     pub(crate) fn castling(&self, king: Man, m: &Move) -> Option<(Square, Square)> {
         let (rook, crossed) = castling_squares(king.colour, m)?;
         if self.unmoved.has(m.from) && self.unmoved.has(rook) && self.rides(rook, m.from, &LINES) {
@@ -341,7 +341,7 @@ impl Plain {
         }
     }
 
-    // Whether a king may castle so.
+    // Returns whether the king may castle by this move.
     fn castles(&self, rule: Rule, king: Man, m: &Move) -> bool {
         let Some((rook, crossed)) = self.castling(king, m) else {
             return false;
@@ -353,7 +353,7 @@ impl Plain {
                 .is_in_check(rule, king.colour)
     }
 
-    // The men with the king alone moved.
+    // Returns the position with only the king moved.
     pub(crate) fn with_king_on(&self, king: Man, from: Square, to: Square) -> Plain {
         let mut plain = *self;
         plain.men[from.index() as usize] = None;
@@ -361,7 +361,7 @@ impl Plain {
         plain
     }
 
-    // Whether the promotion is right for the man.
+    // Returns whether the move names a promotion exactly if it should.
     fn is_promotion_right(&self, man: Man, m: &Move) -> bool {
         let last = match man.colour {
             Colour::White => 8,
@@ -376,7 +376,8 @@ impl Plain {
         }
     }
 
-    // Whether a man of the colour may stand there: alone, or in place of one that it captures.
+    // Returns whether a man of the colour may arrive on the square: it is empty or holds an enemy that
+    // isn't a king.
     fn is_free_for(&self, colour: Colour, square: Square) -> bool {
         match self.man(square) {
             Some(other) => other.colour != colour && other.kind != Kind::King,
@@ -384,7 +385,7 @@ impl Plain {
         }
     }
 
-    // Whether the man goes so, paralysed or not.
+    // Returns whether the man moves like this, paralysed or not.
     fn goes(&self, rule: Rule, man: Man, m: &Move) -> bool {
         match man.kind {
             Kind::Pawn => self.pawn_goes(man.colour, m),
@@ -393,7 +394,7 @@ impl Plain {
         }
     }
 
-    // Whether the move may be made, check to the mover apart.
+    // Returns whether the move is pseudo-legal.
     pub(crate) fn may_go(&self, rule: Rule, man: Man, m: &Move) -> bool {
         man.colour == self.turn
             && self.is_free_for(man.colour, m.to)
@@ -402,7 +403,7 @@ impl Plain {
             && !self.is_paralysed(rule, m.from)
     }
 
-    // Whether the move is legal.
+    // Returns whether the move is legal.
     pub(crate) fn is_legal(&self, rule: Rule, m: &Move) -> bool {
         let Some(man) = self.man(m.from) else {
             return false;
@@ -410,7 +411,7 @@ impl Plain {
         self.may_go(rule, man, m) && !self.after(rule, m).is_in_check(rule, man.colour)
     }
 
-    // The moves that may be made, check to the mover apart.
+    // Returns the pseudo-legal moves.
     pub(crate) fn moves_but_for_check(&self, rule: Rule) -> Moves {
         let mut moves = ArrayVec::new();
         for number in 0..64u8 {
@@ -419,7 +420,7 @@ impl Plain {
         moves
     }
 
-    // Adds those of the man on the square, if it is one of the side to move.
+    // Adds the pseudo-legal moves of the man on the square, if it is of the side to move.
     fn add_moves_from(&self, rule: Rule, from: Square, moves: &mut Moves) {
         let Some(man) = self.man(from) else {
             return;
@@ -441,12 +442,12 @@ impl Plain {
         }
     }
 
-    // Whether the side to move is in check without a legal move.
+    // Returns whether the side to move is in check without a legal move.
     pub(crate) fn is_mate(&self, rule: Rule) -> bool {
         self.is_in_check(rule, self.turn) && !self.has_legal_move(rule)
     }
 
-    // Whether the side to move has a legal move.
+    // Returns whether the side to move has a legal move.
     pub(crate) fn has_legal_move(&self, rule: Rule) -> bool {
         for number in 0..64u8 {
             let mut moves = ArrayVec::new();
@@ -460,8 +461,8 @@ impl Plain {
         false
     }
 
-    // The square on which the man that goes so captures: its arrival, or that of the pawn that has just
-    // passed.
+    // Returns the square on which the man captures by this move: its arrival, or for en passant the pawn's
+    // square.
     pub(crate) fn capture_square(&self, man: Man, m: &Move) -> Square {
         if man.kind == Kind::Pawn && m.from.file() != m.to.file() && self.is_empty(m.to) {
             return Square::new(m.to.file(), m.from.rank()).unwrap_or_default();
@@ -469,7 +470,7 @@ impl Plain {
         m.to
     }
 
-    // The position after a move that may be made.
+    // Returns the position after a pseudo-legal move.
     pub(crate) fn after(&self, rule: Rule, m: &Move) -> Plain {
         let Some(man) = self.man(m.from) else {
             return *self;
@@ -487,7 +488,7 @@ impl Plain {
         plain
     }
 
-    // Takes the captured man off and moves the other, who may become another.
+    // Removes the captured man and moves the other one, which may promote.
     fn carry(&mut self, man: Man, m: &Move, captured: Square) {
         self.men[captured.index() as usize] = None;
         self.men[m.from.index() as usize] = None;
@@ -497,7 +498,7 @@ impl Plain {
         });
     }
 
-    // Castles the rook where the king goes two squares.
+    // Moves the rook if the king castles.
     fn move_rook(&mut self, man: Man, m: &Move) {
         if man.kind == Kind::King {
             if let Some((rook, crossed)) = castling_squares(man.colour, m) {
@@ -513,7 +514,7 @@ impl Plain {
         self.unmoved = self.unmoved.without(from);
     }
 
-    // Puts a captured man on its home square, if this is empty: a rook is unmoved there.
+    // Puts a captured man on its home square, if that is empty. A reborn rook may castle.
     fn bear_again(&mut self, victim: Man, captured: Square) {
         let home = home(victim, captured);
         if self.is_empty(home) {
@@ -524,7 +525,7 @@ impl Plain {
         }
     }
 
-    // Whether a pawn may become such a man.
+    // Returns whether a pawn may promote to this kind.
     pub(crate) fn may_promote(&self, kind: Kind) -> bool {
         match kind {
             Kind::Grasshopper => self.grasshopper,
@@ -535,7 +536,8 @@ impl Plain {
     }
 }
 
-// The rook's square and the crossed one, where the king goes two squares from home along his rank.
+// Returns the rook's square and the square that the king crosses, if the king goes two squares from home
+// along its rank.
 fn castling_squares(colour: Colour, m: &Move) -> Option<(Square, Square)> {
     let rank = match colour {
         Colour::White => 1u8,
@@ -551,7 +553,7 @@ fn castling_squares(colour: Colour, m: &Move) -> Option<(Square, Square)> {
     }
 }
 
-// The directions of a rider of the kind; none of another man.
+// Returns the directions of a rider of this kind; none for other kinds.
 fn ways_of(kind: Kind) -> &'static [(u8, u8)] {
     match kind {
         Kind::Queen => &LINES,
@@ -562,7 +564,7 @@ fn ways_of(kind: Kind) -> &'static [(u8, u8)] {
     }
 }
 
-// The square that a pawn passes by this move.
+// Returns the square that a pawn passes by this move, if it is a double step.
 fn passed(man: Man, m: &Move) -> Option<Square> {
     if man.kind == Kind::Pawn && m.from.rank().abs_diff(m.to.rank()) == 2 {
         next(m.from, (0, up(man.colour)))
@@ -571,14 +573,15 @@ fn passed(man: Man, m: &Move) -> Option<Square> {
     }
 }
 
-// Where a man captured on the square is reborn.
+// Returns the home square of a man captured on this square.
 pub(crate) fn home(man: Man, captured: Square) -> Square {
     let dark = captured.file() % 2 == captured.rank() % 2;
     let first = match man.colour {
         Colour::White => 1,
         Colour::Black => 8,
     };
-    // The file of the home square of White's men for dark and light, which is Black's for light and dark.
+    // Whether the home square is the one for White's men captured on dark squares (a1, c1, g1), or Black's
+    // on light ones.
     let own = dark == (man.colour == Colour::White);
     let (file, rank) = match man.kind {
         Kind::King | Kind::Queen => (4, first),

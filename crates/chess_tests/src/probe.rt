@@ -1,4 +1,4 @@
-//! Boards compared, moves listed, and single moves tried.
+//! Compares boards, lists moves, and tries single moves.
 ghost use Rattle.std.specs.Prelude.{◌≡◌, IfSome};
 ghost use Rattle.chess_core.specs.Diagrams.{position_of};
 ghost use Rattle.chess_core.specs.WellFormed.{IsWellFormed};
@@ -12,7 +12,7 @@ use chess_mates::quiet_steps::QuietSteps;
 use chess_mates::threats::Threats;
 use chess_rules::{Circe, Madrasi, Moves, Orthodox, Rules, is_mate};
 
-// Whether two boards answer every question alike.
+// Returns whether two boards agree in all that they say.
 pub(crate) fn is_same(one: &Board, two: &Board) -> bool {
     for number in 0..64u8 {
         let square = Square::numbered(number);
@@ -29,7 +29,7 @@ pub(crate) fn is_same(one: &Board, two: &Board) -> bool {
         && one.may_promote(Kind::Nightrider) == two.may_promote(Kind::Nightrider)
 }
 
-// Whether the colour's king and the words of its men are the same.
+// Returns whether the boards agree on the colour's king and men.
 fn has_same_men(one: &Board, two: &Board, colour: Colour) -> bool {
     for kind in &Kind::all() {
         if one.squares(colour, *kind) != two.squares(colour, *kind) {
@@ -39,7 +39,7 @@ fn has_same_men(one: &Board, two: &Board, colour: Colour) -> bool {
     one.king_of(colour) == two.king_of(colour) && one.side(colour) == two.side(colour)
 }
 
-// Whether the board's answers are those of the plain position.
+// Returns whether the board agrees with the plain position.
 pub(crate) fn shows(board: &Board, plain: &Plain) -> bool {
     for number in 0..64u8 {
         let square = Square::numbered(number);
@@ -54,7 +54,7 @@ pub(crate) fn shows(board: &Board, plain: &Plain) -> bool {
         && shows_men(board, plain, Colour::Black)
 }
 
-// Whether it finds the colour's men, and knows which kinds may be promoted to.
+// Returns whether the board knows the colour's men, and to which kinds pawns may promote.
 fn shows_men(board: &Board, plain: &Plain, colour: Colour) -> bool {
     let mut side = 0u64;
     for kind in &Kind::all() {
@@ -74,7 +74,7 @@ fn shows_men(board: &Board, plain: &Plain, colour: Colour) -> bool {
     board.side(colour) == side && king == plain.of_kind(Kind::King) & plain.of_colour(colour)
 }
 
-// The board after this move from the diagram, if it is legal.
+// Returns the board after this move from the diagram, if the move is legal.
 #[tactic(auto, using(chess_rules::proofs::listing_moves::Calls::playing))]
 fn after_move<R: Rules>(diagram: &Diagram, wanted: Move) -> Option<Board>
     requires { IsWellFormed (position_of diagram.now) }
@@ -91,7 +91,7 @@ fn after_move<R: Rules>(diagram: &Diagram, wanted: Move) -> Option<Board>
     None
 }
 
-// What comes of a move.
+// The outcome of a move.
 #[derive(Clone, Copy, PartialEq, Eq)]
 pub(crate) enum Outcome {
     Illegal,
@@ -114,7 +114,7 @@ fn outcome_under<R: Rules>(diagram: &Diagram, m: Move) -> Outcome
     }
 }
 
-// Whether this comes of a move from the position.
+// Returns whether the move from the position has this outcome.
 pub(crate) fn has_outcome(rule: Rule, position: &str, m: &str, wanted: Outcome) -> bool {
     let (Some(diagram), Some(m)) = (posed(position), move_of(m)) else {
         return false;
@@ -127,7 +127,7 @@ pub(crate) fn has_outcome(rule: Rule, position: &str, m: &str, wanted: Outcome) 
         }
 }
 
-// Whether a move from the diagram, if it is legal, leads to this board, and taking it back leads to the first one.
+// Returns whether a legal move from the diagram leads to this board, and taking it back restores the first.
 #[tactic(auto, using(chess_rules::proofs::listing_moves::Calls::playing))]
 fn leads_and_back<R: Rules>(diagram: &Diagram, wanted: Move, after: &Board) -> bool
     requires { IsWellFormed (position_of diagram.now) }
@@ -146,7 +146,8 @@ fn leads_and_back<R: Rules>(diagram: &Diagram, wanted: Move, after: &Board) -> b
     false
 }
 
-// Whether a legal move from the position in Circe leads to this one, and taking it back leads to the first.
+// Returns whether a legal move from the position in Circe leads to `wanted`, and taking it back restores
+// the first position.
 pub(crate) fn leads_in_circe_and_back(position: &str, m: &str, wanted: &str) -> bool {
     let (Some(diagram), Some(m), Some(wanted)) = (posed(position), move_of(m), posed(wanted)) else {
         return false;
@@ -154,7 +155,7 @@ pub(crate) fn leads_in_circe_and_back(position: &str, m: &str, wanted: &str) -> 
     leads_and_back::<Circe>(&diagram, m, &Board::of(&wanted))
 }
 
-// The legal moves of a diagram, in order.
+// Returns the legal moves of a diagram, in order.
 fn moves_under<R: Rules>(diagram: &Diagram) -> plain::Moves
     requires { IsWellFormed (position_of diagram.now) }
 {
@@ -167,7 +168,7 @@ fn moves_under<R: Rules>(diagram: &Diagram) -> plain::Moves
     moves
 }
 
-// Whether these are the legal moves of a position.
+// Returns whether these are the legal moves of a position.
 pub(crate) fn has_moves(rule: Rule, position: &str, wanted: &str) -> bool {
     let Some(diagram) = posed(position) else {
         return false;
@@ -180,7 +181,7 @@ pub(crate) fn has_moves(rule: Rule, position: &str, wanted: &str) -> bool {
     moves.as_slice() == moves_of(wanted).as_slice()
 }
 
-// The legal moves that mate.
+// Returns the legal moves that mate.
 fn mates_under<R: Rules>(diagram: &Diagram) -> plain::Moves
     requires { IsWellFormed (position_of diagram.now) }
 {
@@ -193,7 +194,7 @@ fn mates_under<R: Rules>(diagram: &Diagram) -> plain::Moves
     moves
 }
 
-// Whether these are the mates of a position.
+// Returns whether these are the mating moves of a position.
 pub(crate) fn has_mates(rule: Rule, position: &str, wanted: &str) -> bool {
     let Some(diagram) = posed(position) else {
         return false;
@@ -206,7 +207,7 @@ pub(crate) fn has_mates(rule: Rule, position: &str, wanted: &str) -> bool {
     mates.as_slice() == moves_of(wanted).as_slice()
 }
 
-// Whether threats say that no mate follows this move, if it is legal.
+// Returns whether threats rule out a mate after this move, if it is legal.
 fn is_harmless_under<R: Rules>(diagram: &Diagram, wanted: Move) -> Option<bool>
     requires { IsWellFormed (position_of diagram.now) }
 {
@@ -227,7 +228,7 @@ fn is_harmless_under<R: Rules>(diagram: &Diagram, wanted: Move) -> Option<bool>
     None
 }
 
-// Whether the legal move from the position is told to be followed by no mate, or is not.
+// Returns whether threats rule out a mate after the legal move exactly if `wanted`.
 pub(crate) fn is_told_harmless(rule: Rule, position: &str, m: &str, wanted: bool) -> bool {
     let (Some(diagram), Some(m)) = (posed(position), move_of(m)) else {
         return false;
@@ -240,7 +241,7 @@ pub(crate) fn is_told_harmless(rule: Rule, position: &str, m: &str, wanted: bool
     told == Some(wanted)
 }
 
-// Whether a quiet step of the other king is seen to follow this move, if it is legal.
+// Returns whether `QuietSteps` sees a quiet step of the other king after this move, if it is legal.
 fn steps_under<R: Rules>(diagram: &Diagram, wanted: Move) -> Option<bool>
     requires { IsWellFormed (position_of diagram.now) }
 {
@@ -254,7 +255,7 @@ fn steps_under<R: Rules>(diagram: &Diagram, wanted: Move) -> Option<bool>
     None
 }
 
-// Whether such a step is seen to follow the legal move from the position, or is not.
+// Returns whether `QuietSteps` sees a quiet step after the legal move exactly if `wanted`.
 pub(crate) fn is_told_to_step(rule: Rule, position: &str, m: &str, wanted: bool) -> bool {
     let (Some(diagram), Some(m)) = (posed(position), move_of(m)) else {
         return false;

@@ -1,16 +1,16 @@
-//! Diagrams put together man by man, so that they stay well formed.
+//! Builds diagrams man by man, so that they stay well formed.
 use crate::draw::{Draw, Kinds};
 use crate::plain::{LINES, next};
 use chess_core::{Colour, Diagram, Kind, Man, Square};
 
-// A board without men, and a drawn side to move.
+// Returns a board without men and with a drawn side to move.
 pub(crate) fn board(draw: &mut Draw) -> Diagram {
     let mut diagram = Diagram::new();
     diagram.turn = draw.colour();
     diagram
 }
 
-// The rank that is so for White, and for Black as far from his own end.
+// Returns the rank as the colour counts it from its own side.
 pub(crate) fn rank_for(colour: Colour, rank: u8) -> u8 {
     match colour {
         Colour::White => rank,
@@ -18,12 +18,12 @@ pub(crate) fn rank_for(colour: Colour, rank: u8) -> u8 {
     }
 }
 
-// A man of this colour and kind.
+// Returns a man of this colour and kind.
 pub(crate) fn man(colour: Colour, kind: Kind) -> Man {
     Man { colour, kind }
 }
 
-// The square so many steps away.
+// Returns the square `count` steps away.
 pub(crate) fn steps(from: Square, way: (u8, u8), count: u8) -> Option<Square> {
     let mut at = from;
     for _step in 0..count {
@@ -32,13 +32,13 @@ pub(crate) fn steps(from: Square, way: (u8, u8), count: u8) -> Option<Square> {
     Some(at)
 }
 
-// The other direction on the same line.
+// Returns the opposite direction.
 pub(crate) fn back(way: (u8, u8)) -> (u8, u8) {
     (way.0.wrapping_neg(), way.1.wrapping_neg())
 }
 
-// Puts the man there if the square is on the board and empty, and the man may stand there: no pawn on the
-// first rank or the last, no second king.
+// Puts the man on the square and returns `true`, if the square is on the board and empty, and the man may
+// be there: no pawn on the first or last rank, and no second king.
 pub(crate) fn put(diagram: &mut Diagram, square: Option<Square>, man: Man) -> bool {
     let Some(square) = square else {
         return false;
@@ -52,19 +52,19 @@ pub(crate) fn put(diagram: &mut Diagram, square: Option<Square>, man: Man) -> bo
     diagram.put(square, man).is_ok()
 }
 
-// A square that isn't at the edge.
+// Returns a square that isn't at the edge.
 pub(crate) fn inner_square(draw: &mut Draw) -> Square {
     Square::new(2 + draw.below(6), 2 + draw.below(6)).unwrap_or_default()
 }
 
-// Puts a king on a drawn square, if it is empty, and answers the square.
+// Puts a king on a drawn square if it is empty, and returns the square.
 pub(crate) fn put_king(diagram: &mut Diagram, draw: &mut Draw, colour: Colour) -> Square {
     let at = draw.square();
     let _put = put(diagram, Some(at), man(colour, Kind::King));
     at
 }
 
-// Puts men of the other side's beside his king, on a square in three.
+// Puts men of the other side next to its king, on about a third of the squares.
 pub(crate) fn put_blockers(diagram: &mut Diagram, draw: &mut Draw, kinds: Kinds, king: Square) {
     let colour = diagram.turn.other();
     for way in &LINES {
@@ -75,7 +75,7 @@ pub(crate) fn put_blockers(diagram: &mut Diagram, draw: &mut Draw, kinds: Kinds,
     }
 }
 
-// Puts drawn men on drawn squares, as many as find theirs empty.
+// Puts drawn men on drawn squares; men whose square is taken are left out.
 pub(crate) fn scatter(diagram: &mut Diagram, draw: &mut Draw, kinds: Kinds, count: u8) {
     for _man in 0..count {
         let at = draw.square();
@@ -84,7 +84,7 @@ pub(crate) fn scatter(diagram: &mut Diagram, draw: &mut Draw, kinds: Kinds, coun
     }
 }
 
-// A rider along this direction.
+// Returns a kind that rides in this direction.
 pub(crate) fn rider(draw: &mut Draw, way: (u8, u8)) -> Kind {
     if way.0 == 2 || way.0 == 254 || way.1 == 2 || way.1 == 254 {
         Kind::Nightrider
@@ -93,7 +93,7 @@ pub(crate) fn rider(draw: &mut Draw, way: (u8, u8)) -> Kind {
     }
 }
 
-// Rook or bishop, whichever goes along the direction.
+// Returns rook or bishop, whichever rides in this direction.
 pub(crate) fn line_rider(way: (u8, u8)) -> Kind {
     if way.0 == 0 || way.1 == 0 {
         Kind::Rook
@@ -102,7 +102,7 @@ pub(crate) fn line_rider(way: (u8, u8)) -> Kind {
     }
 }
 
-// A battery on a target: a man in front of a rider, with empty squares between them as drawn.
+// Puts a battery on a target: a man in front of a rider, with drawn numbers of empty squares between.
 pub(crate) fn put_battery(
     diagram: &mut Diagram,
     draw: &mut Draw,
@@ -119,7 +119,7 @@ pub(crate) fn put_battery(
     rear_at.is_some() && put(diagram, at, front) && put(diagram, rear_at, man(rear, rider))
 }
 
-// A rider that sees the target.
+// Puts a rider that reaches the target.
 pub(crate) fn put_rider(
     diagram: &mut Diagram,
     draw: &mut Draw,
@@ -132,7 +132,7 @@ pub(crate) fn put_rider(
     put(diagram, steps(target, way, gap), man(colour, rider))
 }
 
-// The castling squares and who stands there unmoved.
+// The castling squares and the men that castle from them.
 const HOMES: [(u8, Colour, Kind); 6] = [
     (0, Colour::White, Kind::Rook),
     (4, Colour::White, Kind::King),
@@ -142,7 +142,7 @@ const HOMES: [(u8, Colour, Kind); 6] = [
     (63, Colour::Black, Kind::Rook),
 ];
 
-// Marks castling squares as unmoved where the men stand at home, most times.
+// Gives castling rights to men at home, most times.
 pub(crate) fn mark_homes(diagram: &mut Diagram, draw: &mut Draw) {
     for (number, colour, kind) in &HOMES {
         let at = Square::numbered(*number % 64);

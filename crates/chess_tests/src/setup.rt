@@ -1,4 +1,4 @@
-//! Positions and moves written down.
+//! Positions and moves from text.
 ghost use Rattle.std.specs.Prelude.{IfSome};
 ghost use Rattle.chess_core.specs.Diagrams.{position_of};
 ghost use Rattle.chess_core.specs.WellFormed.{IsWellFormed};
@@ -7,7 +7,7 @@ use crate::plain::Moves;
 use arrayvec::ArrayVec;
 use chess_core::{Colour, Diagram, Kind, Man, Move, Square};
 
-// The man of a letter, small for Black: S is the knight, G the grasshopper, N the nightrider.
+// Returns the man of a letter, lower case for Black: S is the knight, G the grasshopper, N the nightrider.
 fn man_of(letter: u8) -> Option<Man> {
     let colour = if letter.is_ascii_uppercase() {
         Colour::White
@@ -28,7 +28,8 @@ fn man_of(letter: u8) -> Option<Man> {
     Some(Man { colour, kind })
 }
 
-// The diagram of these rows, rank 8 first, with a digit for so many empty squares and White to move.
+// Returns the diagram of these rows, rank 8 first, with White to move; a digit is a number of empty
+// squares.
 fn diagram_of(rows: &str) -> Diagram {
     let mut diagram = Diagram::new();
     let mut file = 1u8;
@@ -51,8 +52,8 @@ fn diagram_of(rows: &str) -> Diagram {
     diagram
 }
 
-// The well-formed diagram of these rows and of words behind them: the unmoved castling squares, the crossed square, and
-// `b` where Black is to move.
+// Returns the diagram of these rows and the words after them, if it is well formed: castling squares with
+// rights, the en passant square, and `b` for Black to move.
 pub(crate) fn posed(position: &str) -> Option<Diagram>
     ensures { IfSome result (λ d. IsWellFormed (position_of d)) }
 {
@@ -74,12 +75,12 @@ pub(crate) fn posed(position: &str) -> Option<Diagram>
     }
 }
 
-// The square of these letters, a file and a rank.
+// Returns the square with these letters for file and rank.
 fn at(file: u8, rank: u8) -> Option<Square> {
     Square::new(file.wrapping_sub(b'a' - 1), rank.wrapping_sub(b'0'))
 }
 
-// The square of a name such as `e4`; none of a text that names none.
+// Returns the square with a name such as `e4`, or `None` if the text names no square.
 pub(crate) fn named(name: &str) -> Option<Square> {
     match name.as_bytes() {
         [file, rank] => at(*file, *rank),
@@ -87,7 +88,7 @@ pub(crate) fn named(name: &str) -> Option<Square> {
     }
 }
 
-// The move of a word: origin, arrival and the letter of what a pawn becomes.
+// Returns the move of a word: origin, arrival and the letter of the promotion.
 pub(crate) fn move_of(word: &str) -> Option<Move> {
     match word.as_bytes() {
         [a, b, c, d] => between(at(*a, *b), at(*c, *d), None),
@@ -99,7 +100,7 @@ pub(crate) fn move_of(word: &str) -> Option<Move> {
     }
 }
 
-// The move between these squares, if both are on the board.
+// Returns the move between these squares, if both are on the board.
 fn between(from: Option<Square>, to: Option<Square>, promo: Option<Kind>) -> Option<Move> {
     Some(Move {
         from: from?,
@@ -108,7 +109,7 @@ fn between(from: Option<Square>, to: Option<Square>, promo: Option<Kind>) -> Opt
     })
 }
 
-// The moves of these words, parted by blanks.
+// Returns the moves of these words, separated by blanks.
 pub(crate) fn moves_of(words: &str) -> Moves {
     let mut moves = ArrayVec::new();
     for word in words.split(' ') {

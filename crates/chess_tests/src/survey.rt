@@ -1,4 +1,4 @@
-//! Whole boards of positions of one family, compared and counted.
+//! Compares positions of one family with the plain rules, and counts motifs.
 ghost use Rattle.chess_core.specs.WellFormed.{IsWellFormed};
 
 use crate::case::Case;
@@ -10,8 +10,8 @@ use crate::plain::{Plain, Rule};
 use chess_core::{Board, Kind, Move, Square};
 use chess_rules::{Circe, Madrasi, Moves, Orthodox, Rules};
 
-// A position that is told otherwise than by the plain rules: its number in its family, the half-moves that
-// lead to it, and what is told otherwise.
+// A position where the chess crates and the plain rules differ: its number in the family, the half-moves
+// that lead to it, and the question.
 #[derive(Clone, Copy)]
 pub(crate) struct Unlike {
     pub(crate) number: u64,
@@ -19,20 +19,20 @@ pub(crate) struct Unlike {
     pub(crate) question: Question,
 }
 
-// More motifs than any survey asks for.
+// More motifs than any survey counts.
 pub(crate) const MOTIFS: usize = 16;
 
-// What a survey met.
+// The outcome of a survey.
 #[derive(Clone, Copy)]
 pub(crate) struct Survey {
-    // The first position that is told otherwise.
+    // The first position where the chess crates and the plain rules differ.
     pub(crate) unlike: Option<Unlike>,
-    // How many moves show each motif asked for.
+    // The number of moves that show each motif.
     pub(crate) shown: [u32; MOTIFS],
 }
 
 impl Survey {
-    // Counts the moves that show a motif.
+    // Counts the moves that show each motif.
     fn count(&mut self, plain: &Plain, rule: Rule, motifs: &[Motif]) {
         let moves = plain.moves_but_for_check(rule);
         for m in moves.as_slice() {
@@ -64,7 +64,7 @@ impl Survey {
     }
 }
 
-// The moves of a king to the castling squares.
+// Returns the castling moves of both kings.
 fn castlings() -> [Move; 4] {
     let to = |from: u8, to: u8| Move {
         from: Square::numbered(from),
@@ -74,7 +74,7 @@ fn castlings() -> [Move; 4] {
     [to(4, 2), to(4, 6), to(60, 58), to(60, 62)]
 }
 
-// Compares so many positions of the family, and one a half-move on from each.
+// Compares `count` positions of the family, and one position a half-move after each.
 pub(crate) fn surveyed(rule: Rule, family: Family, count: u64, motifs: &[Motif]) -> Survey {
     match rule {
         Rule::Orthodox => survey_under::<Orthodox>(rule, family, count, motifs),
@@ -103,7 +103,7 @@ fn survey_under<R: Rules>(rule: Rule, family: Family, count: u64, motifs: &[Moti
     survey
 }
 
-// The first position told otherwise, from the board's along a drawn line.
+// Returns the first position that differs, from the board's position along a drawn line.
 fn unlike_on_the_way<R: Rules>(
     board: &mut Board,
     rule: Rule,

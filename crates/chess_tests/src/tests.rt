@@ -1,4 +1,4 @@
-//! What is known from outside.
+//! Tests against knowledge from outside.
 mod agreements;
 mod by_hand;
 mod counts;

@@ -1,4 +1,4 @@
--- What the calls of the rules say in the words of the search.
+-- The contracts of the calls to chess_rules and chess_mates, in the terms of the search.
 use Rattle.pop_battle.proofs.Words.{Battle, Bool, Goal, LegalPlace, List, MatchOption, Mate, Move, Option, Position, RuleSet, [], arith, can_move, chess, cut_mates, cut_moves, false, filter, is_for_mate, is_goal_reached, is_mate, is_mating, is_nil, is_some, is_stalemate, length, length-append, list_any, mates_behind, mates_between, moves, moves_behind, moves_between, nat_tests, not, refl, rules, sum_by, sum_by-cons, true, value, walk_count, ℕ, ◌++◌, ◌&&◌, ◌-◌, ◌<◌, ◌∷◌, ◌≡◌, ◌≤◌, Some}
 use Rattle.pop_battle.specs.Game.{some_move as some_good}
 use Rattle.pop_battle.specs.ties.Calls.{Finds}
@@ -12,7 +12,7 @@ pub behind_start : (rule : RuleSet) (p : Position) → moves_behind rule p 0 ≡
 unfolding moves_behind moves
 behind_start rule p = refl
 
--- a goal told to be mate is mate
+-- a goal for which `is_for_mate` holds is mate
 pub for_mate : (goal : Goal) → is_for_mate goal ≡ true → goal ≡ Mate
 for_mate goal e = search rules
 
@@ -35,12 +35,12 @@ module _ (rule : RuleSet) (p : Position) where
   unfolding mates_behind
   some_mates b = grind (arith, any_mating (moves rule p), behind_start rule p, cut_mates rule p 0 b (omega arith))
 
-  -- a mate found behind the killer mates
+  -- a mate found after the killer mates
   pub mate_behind : (b next : ℕ) (o : Option Move) → MatchOption o (mates_behind rule p b ≡ []) (λ m. mates_behind rule p b ≡ m ∷ mates_behind rule p next)
       → true ≡ is_some o → true ≡ some_good (chess Mate rule) (is_goal_reached Mate rule) p
   mate_behind b next o found some = grind (arith, some_mates b, none_joined)
 
-  -- so does one found before it
+  -- a mate found before the killer mates
   pub mate_before : (a b next : ℕ) (q : Position) (o : Option Move)
       → MatchOption o (mates_between rule q a b ≡ []) (λ m. mates_between rule q a b ≡ m ∷ mates_between rule q next b)
       → a ≡ 0 → q ≡ p → true ≡ is_some o → true ≡ some_good (chess Mate rule) (is_goal_reached Mate rule) p

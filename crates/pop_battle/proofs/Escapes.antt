@@ -59,7 +59,7 @@ module _ (rule : RuleSet) (p : Position) (well : IsWellFormed p) (e : SomeFails 
   unfolding walk_count
   walk = omega (arith, many, each_one (moves rule) (position_after rule) p (moves rule p))
 
-  -- so White doesn't win, and two positions may be counted
+  -- where no move mates, White doesn't win, and two positions may be counted
   pub escapes : (opened count : ℕ) → count ≡ min (opened + 2) (2 ^ 64 - 1) → (false ≡ value Direct (chess Mate rule) 2 p)
       × (count ≤ opened + walk_count (moves rule) (position_after rule) 2 p) × HasCounted opened count (smallest_tree Direct (chess Mate rule) 2 p)
   escapes opened count is = (sym fails, omega (arith, is, walk), omega (arith, is, tree))

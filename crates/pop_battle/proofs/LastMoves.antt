@@ -1,4 +1,4 @@
--- The last half-moves where mate is the goal, tried without frames: their value, and how many positions they take.
+-- The last half-moves, for mate, tried without frames: their value, and how many positions count.
 use Rattle.pop_battle.proofs.Words.{AreTaken, Battle, Bool, Direct, HasCounted, IfSome, Killer, LegalPlace, List, Mate, Move, None, Option, Order, Passes, Position, RuleSet, Selfmate, Some, [], arith, can_move, chess, cond, eqb, false, filter, is_goal_reached, is_legal, is_mating, is_some, joined_value, length, list_all, list_any, mates_behind, min, moves, moves_ahead, moves_behind, must_reply_with_mate, nat_tests, not, position_after, refl, rules, seeks, smallest_below, smallest_tree, true, value, walk_count, ℕ, ◌&&◌, ◌++◌, ◌+◌, ◌-◌, ◌<◌, ◌^◌, ◌∷◌, ◌≡◌, ◌≤◌, suc, sym, walk_among, ◌∙◌, Aim}
 use Rattle.pop_battle.proofs.Boards.{behind_start, each_one, unreached, walk_count-some}
 use Rattle.pop_battle.proofs.SmallestTrees.{tree-one, trees-end, trees-next, trees-start}
@@ -14,7 +14,7 @@ none_mates : (test : Move → Bool) (ms : List Move) → filter test ms ≡ [] �
 none_mates test [] none = refl
 none_mates test (m ∷ ms) none = grind arith
 
--- nor where none does
+-- Black needn't mate where no move mates
 pub no_mates : (rule : RuleSet) (q : Position) → mates_behind rule q 0 ≡ [] → value Selfmate (chess Mate rule) 1 q ≡ false
 unfolding mates_behind
 no_mates rule q none = rw (value-forced Selfmate (chess Mate rule) q refl) (none_mates (is_mating rule q) (moves rule q) (rw (← behind_start rule q) none))
@@ -26,8 +26,8 @@ pub ruleset unforced = (one_quiet, no_mates)
 abbrev aim_of : Battle → Aim
 aim_of battle = record { battle = battle; goal = Mate }
 
--- these moves are still to be tried, with t half-moves left after each: joined their values are v, and with them so many
--- positions are counted, at least and at most
+-- these moves are still to be tried, with t half-moves left after each: v joins their values, and with them
+-- at least and at most this many positions are counted
 pub record AreTried (battle : Battle) (rule : RuleSet) (t : ℕ) (p : Position) (ahead : List Move) (v : Bool) (before least most counted : ℕ) : Type 0 where
   pub joined : cond (seeks battle (suc t)) (list_any (λ m. value battle (chess Mate rule) t (position_after rule p m)) ahead)
       (list_all (λ m. value battle (chess Mate rule) t (position_after rule p m)) ahead) ≡ v
@@ -54,7 +54,7 @@ module _ {battle : Battle} {rule : RuleSet} {t : ℕ} {p : Position} {v : Bool} 
       (a : AreTried battle rule t p ahead v before least most counted)
       (told : (count ≤ counted + walk_count (moves rule) (position_after rule) t (position_after rule p m))
       × HasCounted counted count (smallest_tree battle (chess Mate rule) t (position_after rule p m))) where
-    -- so is it at a move that decides
+    -- where a move decides, the count is right
     pub stops : value battle (chess Mate rule) t (position_after rule p m) ≡ seeks battle (suc t) → (count ≤ most) × HasCounted before count least
     stops e = grind (arith, trees-next battle (chess Mate rule) t p m later, walk-next rule (aim_of battle) t p ahead later m here)
 
@@ -106,7 +106,7 @@ module _ (battle : Battle) (rule : RuleSet) (p : Position) where
   unfolding joined_value
   begins t ahead before counted same long trees few one = grind arith
 
-  -- those of the last defence but one, where there is one
+  -- with a legal move, the value of the position joins the values of all moves
   whole : can_move (chess Mate rule) p ≡ true → value battle (chess Mate rule) 2 p ≡ joined_value battle (chess Mate rule) 2 p (moves rule p)
   whole some = value-open battle (chess Mate rule) 2 p (omega arith) some (unreached Mate rule p some)
 

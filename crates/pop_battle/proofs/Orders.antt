@@ -1,4 +1,4 @@
--- The moves of a position, stretch by stretch, are all its moves in another order.
+-- The moves of a position, stage by stage, are all its moves in another order.
 use Rattle.pop_battle.proofs.Words.{Aimed, Bool, Earlier, Killer, List, Move, Order, Others, Position, RuleSet, [], all_moves_of, ap, append-nil, arith, belongs, between-here, between-none, between-past, between-skip, cases_Bool, cases_lt, comes_early, cond, eqb, false, filter, filter_agree, inl, inr, is_at, moves_ahead, moves_behind, moves_behind-end, moves_behind-here, moves_behind-skip, moves_between, moves_here, moves_later, nat_tests, not, place_of_triple, refl, rules, suc, sym, true, zero, ℕ, ◌&&◌, ◌||◌, ◌++◌, ◌+◌, ◌-◌, ◌<◌, ◌∙◌, ◌∷◌, ◌≡◌, ◌≤◌, append_assoc, all_triples, legal_moves}
 use Rattle.chess_mates.specs.ties.Aims.{aims_at_king}
 use Rattle.pop_battle.specs.declared.frame.Early.TheVariants.{AimedMoves, NoMoves}
@@ -32,7 +32,7 @@ filter-none : (f : Move → Bool) (none : (m : Move) → f m ≡ false) → (ms 
 filter-none f none [] = refl
 filter-none f none (m ∷ ms) = rw (none m) (filter-none f none ms)
 
--- what stands behind a place, one place after another
+-- the moves after a cursor, one cursor after another
 ruleset places = (cases_lt, cases_Bool, moves_behind-end, moves_behind-here, moves_behind-skip, place_of_triple)
 
 -- the moves at one place
@@ -54,7 +54,7 @@ module _ (rule : RuleSet) (p : Position) (k : ℕ) where
   one_place = search (rules, ← behind_start, pass_all (k - 1) 0 (k - 1), here_alone)
 
 module _ (rule : RuleSet) (p : Position) (order : Order) where
-  -- the place before a stretch
+  -- the cursor before a stage
   pub before_killer : (place : ℕ) → place ≡ order.killer - 1 → moves_here rule p order Killer place ≡ all_moves_of rule p order Killer
   unfolding moves_here belongs
   before_killer place at = rw at (one_place rule p order.killer)
@@ -71,7 +71,7 @@ module _ (rule : RuleSet) (p : Position) (order : Order) where
   unfolding moves_here belongs
   behind_earlier place at same = search (rules, between-none, filter-none, nat_tests)
 
-  -- the stretches behind one
+  -- the stages after one
   pub later_aimed : order.early ≡ NoMoves → moves_later rule p order Earlier ≡ all_moves_of rule p order Others ++ moves_later rule p order Others
   unfolding moves_later belongs
   later_aimed none = search (rules, filter-none, append-nil)
@@ -89,15 +89,16 @@ module _ (rule : RuleSet) (p : Position) (order : Order) where
   same_start step g cons swap = ap (λ ms. g (ms ++ moves_later rule p order Killer)) (before_killer (order.killer - 1) refl)
       ∙ same_parted step g cons swap (is_at order.killer) (is_at order.earlier) (comes_early order.early p) (legal_moves rule p)
 
--- the aimed moves of a list, where these come first, are those that aim at the king and are no killers
+-- the aimed moves of a list, if these come early: the moves that give check or attack next to the king and
+-- are no killers
 pub aimed_filtered : (p : Position) (order : Order) → order.early ≡ AimedMoves → (ms : List Move)
     → filter (belongs p order Aimed) ms ≡ filter (λ m. not (is_at order.killer m || is_at order.earlier m)) (filter (aims_at_king p) ms)
 unfolding belongs
 aimed_filtered p order early [] = refl
 aimed_filtered p order early (m ∷ ms) = search (rules, aimed_filtered p order early ms, cases_Bool)
 
--- for `place_before`: what is ahead at the start of each stretch
+-- for `place_before`: what is ahead at the start of each stage
 pub ruleset first_place = (before_killer, before_earlier, behind_earlier, behind_start)
 
--- for `stretch_behind`: what is ahead behind each stretch
+-- for `stretch_behind`: what is ahead after each stage
 pub ruleset next_stretch = (later_aimed, append-nil)

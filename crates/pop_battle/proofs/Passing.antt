@@ -1,4 +1,4 @@
--- Moves that are passed over since no reply to them mates.
+-- Moves that are passed over, since no reply to them mates.
 use Rattle.pop_battle.proofs.Words.{IfSome, Bool, IsNextLeft, IsSifted, IsWellFormed, MatchOption, Move, None, Option, Position, RuleSet, Some, [], append-nil, append_assoc, arith, filter, from_map, is_legal, is_pseudo_legal-from_legal, length, min, moves_behind, moves_behind-end, moves_behind-here, place_of_triple, range_with_len, true, ℕ, ◌+◌, ◌-◌, ◌<◌, ◌^◌, ◌∷◌, ◌≡◌, rules, behind_cut, from_range, triples_numbered, all_triples, place_of, triple_at}
 use Rattle.chess_rules.proofs.listing_moves.Triples.{in_triples, made_is_triple}
 
@@ -10,12 +10,12 @@ module _ (rule : RuleSet) (p : Position) where
       let w = from_map triple_at (range_with_len 0 all_triples) m (rw triples_numbered at (in_triples m t.0 t.1 t.2)) in
       (w.0, omega (arith, from_range 0 all_triples w.0 w.1), w.2)
 
-  -- it stands behind the place before its own
+  -- after the cursor right before a move come the move and the moves after it
   pub behind_back : (m : Move) → IsWellFormed p → is_legal rule p m ≡ true
       → moves_behind rule p (place_of (Some m) - 1) ≡ m ∷ moves_behind rule p (place_of (Some m))
   behind_back m sound lawful = search (rules, numbered, place_of_triple, moves_behind-here)
 
-  -- what a sieve passes over is taken
+  -- a filter takes what it passes over
   pub sifted : (test : Move → Bool) (place next n before after : ℕ) (o : Option Move) → IsWellFormed p → next ≡ place_of o → IfSome o (λ m. is_legal rule p m ≡ true)
       → MatchOption o ((filter test (moves_behind rule p place) ≡ []) × (n ≡ length (moves_behind rule p place)))
       (λ m. IsSifted rule p test place next n m)
@@ -24,7 +24,7 @@ module _ (rule : RuleSet) (p : Position) where
   sifted test place next n before after (Some m) sound at lawful passed onward counted =
       grind (arith, behind_back m sound lawful, behind_cut rule p place next (omega (arith, onward)), append_assoc)
 
-  -- where nothing is told no move is passed over
+  -- without threats no move is passed over
   pub none_passed : (test : Move → Bool) (place next before : ℕ) (o : Option Move) → before < 2 ^ 64
       → MatchOption o (moves_behind rule p place ≡ []) (λ m. (moves_behind rule p place ≡ m ∷ moves_behind rule p next) × (is_legal rule p m ≡ true))
       → IsNextLeft rule p test place next before before o

@@ -50,11 +50,11 @@ module _ (rule : RuleSet) (aim : Aim) where
   unfolding pending_value
   delivered_value-some p below v some = search rules
 
-  -- the same of the positions that have to be tried
+  -- the least number of positions below, over the positions that have to be tried
   abbrev pub fewest : ℕ → Position → List Move → ℕ
   fewest left P ms = smallest_below aim.battle (chess aim.goal rule) left P ms
 
-  -- and at least as many positions below them
+  -- a position's smallest tree is at most one position more than the least number below it
   pub fewest-start : (t : ℕ) (q : Position) (o : Order) → smallest_tree aim.battle (chess aim.goal rule) t q ≤ 1 + fewest t q (first rule q o)
   unfolding smallest_below
   fewest-start t q o = search (rules, trees-start, sum-start, least-start)
@@ -78,7 +78,7 @@ module _ (rule : RuleSet) (aim : Aim) where
   unfolding work_among
   steps-next t P ms more m e = rw e (sum_by-cons (λ x. 1 + work_from rule t (position_after rule P x)) m more)
 
-  -- and as many lists of moves
+  -- a position's walk is one list of moves and the lists below each move to try
   pub walk_count-start : (t : ℕ) (q : Position) (o : Order) → 0 < t → walk_count (legal_moves rule) (position_after rule) t q
       ≡ 1 + walk_among rule t q (first rule q o)
   unfolding walk_count walk_among

@@ -1,4 +1,4 @@
--- The value of a position by what its tests say.
+-- The value of a position from the values after its moves.
 use Rattle.pop_battle.proofs.Words.{Battle, Game, Selfmate, arith, can_move, every_move, false, joined_value, refl, rules, seeks, some_move, true, value, ℕ, ◌%◌, ◌&&◌, ◌<◌, ◌≡◌, and_parts, nat_tests}
 use Rattle.pop_battle.specs.declared.aim.Battle.TheVariants.{Direct}
 use Rattle.std.specs.Prelude.{◌==◌}

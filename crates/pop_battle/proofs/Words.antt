@@ -1,4 +1,4 @@
--- Words and lemmas of the standard library and of the crates that most proofs name.
+-- Definitions and lemmas of the standard library and of other crates that most proofs use.
 pub use Rattle.std.proofs.Common.{Bool, IfNone, IfSome, List, MatchOption, None, Option, Some, [], ap, append_assoc, arith, cond, drop, eqb, false, filter, inl, inr, is_some, length, length-append, min, not, refl, reverse, rules, suc, sym, take, true, zero, ℕ, ◌%◌, ◌&&◌, ◌++◌, ◌+◌, ◌-◌, ◌<◌, ◌^◌, ◌||◌, ◌∙◌, ◌∷◌, ◌≡◌, ◌≤◌, ◌⊎◌}
 pub use Rattle.std.proofs.lemmas.Bool.{and_parts, cases_Bool, cases_lt}
 pub use Rattle.std.proofs.lemmas.Bool.Decides.{nat_tests}

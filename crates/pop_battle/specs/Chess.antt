@@ -20,10 +20,10 @@ abbrev pub chess : Goal → RuleSet → Game Position Move
 chess goal rule =
     record { moves = moves rule; after = position_after rule; goal = is_goal_reached goal rule }
 
--- the first position of set play (own): the other side is to move, and no square is crossed
+-- the first position of set play (own): the other side is to move, and there is no en passant square
 abbrev pub set_start : Position → Position
 set_start p = record p { turn = other p.turn; crossed = None }
 
--- whether it can't stand: the side that isn't to move is in check
+-- set play is impossible in the position: the side that isn't to move is in check
 unfoldable pub is_impossible : RuleSet → Position → Bool
 is_impossible rule p = in_check rule p.men (other p.turn)

@@ -1,5 +1,5 @@
--- A game of two sides, by what its solutions are made of: nothing here is chess. What a direct mate, a battle and a
--- helpmate ask for is as in the Codex for Chess Composition and the Popeye manual.
+-- An abstract game of two sides; nothing here is chess. Direct mate, selfmate and helpmate ask for what the
+-- Codex for Chess Composition and the Popeye manual say.
 use Rattle.std.specs.Prelude.{ℕ, zero, suc, ◌-◌, ◌==◌, Bool, false, not, ◌&&◌, ◌||◌, if◌then◌else◌, List, [], ◌∷◌, map, length}
 use Rattle.std.specs.List.{list_any, list_all, flat_map}
 
@@ -18,11 +18,12 @@ module _ {P M : Type 0} where
   abbrev pub some_move : Game P M → (P → Bool) → P → Bool
   some_move game test p = list_any (λ m. test (game.after p m)) (game.moves p)
 
-  -- every legal move does
+  -- every legal move leads to a position that passes the test
   abbrev pub every_move : Game P M → (P → Bool) → P → Bool
   every_move game test p = list_all (λ m. test (game.after p m)) (game.moves p)
 
-  -- Direct play. In q the goal is reached, or the other side reaches it within j further moves against every defence
+  -- Direct play: in q the goal is reached, or the other side reaches it within j further moves against
+  -- every defence
   unfoldable pub is_lost : Game P M → ℕ → P → Bool
   is_lost game zero q = game.goal q
   is_lost game (suc j) q = game.goal q || (can_move game q
@@ -33,26 +34,27 @@ module _ {P M : Type 0} where
   wins game zero p = false
   wins game (suc k) p = some_move game (is_lost game k) p
 
-  -- Selfmate. The side to move in p forces the other side to reach the goal within k moves
+  -- Selfmate: the side to move in p forces the other side to reach the goal within k moves
   unfoldable pub self_wins : Game P M → ℕ → P → Bool
   self_wins game zero p = false
   self_wins game (suc k) p =
       some_move game (λ q. can_move game q
       && every_move game (λ r. game.goal r || self_wins game k r) q) p
 
-  -- after a move of that side to q, j moves with it: there is a move, and each one reaches the goal or leaves a win
+  -- after a move by that side to q, which is one of its j moves: there is a reply, and each reply reaches
+  -- the goal or leaves a win
   unfoldable pub is_self_lost : Game P M → ℕ → P → Bool
   is_self_lost game j q = can_move game q && every_move game
       (λ r. game.goal r || self_wins game (j - 1) r) q
 
-  -- Help play. In the order of moves, all lists of h moves, each legal where it stands, after the
-  -- last of which the goal is reached
+  -- Help play: all lists of h moves, each legal in its position, after which the goal is reached; in the
+  -- order of moves
   unfoldable pub lines_to_goal : Game P M → ℕ → P → List (List M)
   lines_to_goal game zero p = if game.goal p then [] ∷ [] else []
   lines_to_goal game (suc h) p =
       flat_map (λ m. map (λ line. m ∷ line) (lines_to_goal game h (game.after p m))) (game.moves p)
 
-  -- those of a problem: with no half-move there is no line
+  -- the lines of a help problem: with no half-move there is no line
   unfoldable pub help_lines : Game P M → ℕ → P → List (List M)
   help_lines game zero p = []
   help_lines game (suc h) p = lines_to_goal game (suc h) p

@@ -5,7 +5,7 @@ use Rattle.pop_battle.specs.declared.aim.Battle.TheVariants.{Direct, Selfmate}
 use Rattle.pop_battle.specs.declared.aim.Play.{Play}
 use Rattle.pop_battle.specs.declared.aim.Play.TheVariants.{Help as HelpPlay, Battle as BattlePlay}
 
--- in help play both sides help; in a battle White seeks his aim against every defence
+-- in help play both sides help; in a battle White pursues an aim against every defence
 abbrev pub play_of : Form → Play
 play_of DirectForm = BattlePlay Direct
 play_of SelfMate = BattlePlay Selfmate

@@ -1,29 +1,29 @@
-//! What a search is after.
+//! What a search looks for: the battle and its goal.
 ghost use Rattle.std.specs.Prelude.{◌≡◌};
 ghost use Rattle.pop_battle.specs.Plays.{play_of};
 
 use pop_input::stipulation::{Form, Goal};
 
-/// Who is to reach the goal against the other's will (Codex).
+/// Who is to reach the goal against the other side's will (Codex).
 #[derive(Clone, Copy, PartialEq, Eq)]
 pub enum Battle {
-    /// White, against every defence.
+    /// White reaches it, against every defence.
     Direct,
-    /// Black, whom White forces to.
+    /// White forces Black to reach it.
     Selfmate,
 }
 
 /// How a stipulation is played (Codex).
 #[derive(Clone, Copy, PartialEq, Eq)]
 pub enum Play {
-    /// Both sides help.
+    /// Both sides help to reach the goal.
     Help,
-    /// White seeks his aim against every defence.
+    /// White pursues an aim against every defence.
     Battle(Battle),
 }
 
 impl Play {
-    /// How a form is played.
+    /// Returns how a form is played.
     pub fn of(form: Form) -> Play
         ensures { result ≡ play_of form }
     {
@@ -35,7 +35,7 @@ impl Play {
     }
 }
 
-/// What White seeks in a battle: the battle, and its goal.
+/// What White wants in a battle: the kind of battle, and its goal.
 #[derive(Clone, Copy)]
 pub struct Aim {
     pub battle: Battle,

@@ -1,4 +1,4 @@
-//! What the search does on the board.
+//! What the search does on the board: next moves, mates, goals, and moves as they are shown.
 ghost use Rattle.std.specs.Prelude.{◌≡◌, ◌∷◌, [], ◌&&◌, IfSome, MatchOption, is_some, false, true, Some};
 ghost use Rattle.chess_core.specs.Diagrams.{position_of};
 ghost use Rattle.chess_core.specs.Position.{Position};
@@ -30,7 +30,8 @@ use chess_rules::rules::{Rules, in_check};
 use pop_events::shown::{Mark, Shown, Side};
 use pop_input::stipulation::Goal;
 
-/// The place among the moves of the board's position, of which something may be known already.
+/// Returns the legal-move cursor of the board's position, moved to `place`; it starts from `known` if that
+/// is there.
 pub(crate) fn moves_at<R: Rules>(
     known: Option<LegalMoves<R>>,
     place: Moves<R>,
@@ -48,7 +49,7 @@ pub(crate) fn moves_at<R: Rules>(
     moves
 }
 
-/// The next legal move behind the place, in a position of which something is known.
+/// Returns the next legal move after the cursor, and moves the cursor to it.
 pub(crate) fn next_behind<R: Rules>(moves: &mut LegalMoves<R>, board: &mut Board) -> Option<Move>
     requires well_formed { IsWellFormed board.old }
     requires known { IsPlaceIn R.rule board.old moves.old }
@@ -60,8 +61,8 @@ pub(crate) fn next_behind<R: Rules>(moves: &mut LegalMoves<R>, board: &mut Board
     moves.next(board)
 }
 
-/// The next legal move behind the place, which moves on to it, or behind all moves; what is then known of the position's
-/// moves is kept.
+/// Returns the next legal move after `place` and moves `place` to it, or to the end if there is none.
+/// `known` keeps what is known of the position's moves from call to call. The board is unchanged.
 pub fn next_move<R: Rules>(
     known: &mut Option<LegalMoves<R>>,
     place: &mut Moves<R>,
@@ -89,7 +90,7 @@ pub fn next_move<R: Rules>(
     found
 }
 
-/// The next legal move behind the place that doesn't lie behind `end`.
+/// Returns the next legal move after the cursor and not after `end`, and moves the cursor to it.
 pub(crate) fn next_until<R: Rules>(
     moves: &mut LegalMoves<R>,
     end: Moves<R>,
@@ -104,7 +105,8 @@ pub(crate) fn next_until<R: Rules>(
     moves.next_until(end, board)
 }
 
-/// The moves of the board's position, if it has one; the killer is looked at first.
+/// Returns a legal-move cursor if the board's position has a legal move, otherwise `None`. It tests the
+/// killer first.
 #[tactic(auto, using(crate::proofs::Boards::some_move))]
 pub(crate) fn first_look<R: Rules>(killer: Moves<R>, board: &mut Board) -> Option<LegalMoves<R>>
     requires well_formed { IsWellFormed board.old }
@@ -124,7 +126,7 @@ pub(crate) fn first_look<R: Rules>(killer: Moves<R>, board: &mut Board) -> Optio
     None
 }
 
-/// The next legal move behind the place that mates.
+/// Returns the next legal move after `place` that mates, and moves `place` to it. The board is unchanged.
 pub fn next_mate<R: Rules>(place: &mut Moves<R>, board: &mut Board) -> Option<Move>
     requires well_formed { IsWellFormed board.old }
     ensures unchanged { board.new ≡ board.old }
@@ -135,8 +137,8 @@ pub fn next_mate<R: Rules>(place: &mut Moves<R>, board: &mut Board) -> Option<Mo
     chess_mates::mating_moves::next_mate::<R>(place, board)
 }
 
-/// The place on a legal move that mates, if there is one. Which one it is costs time alone: the killer is looked at first,
-/// then the moves behind it.
+/// Returns the place of a legal move that mates, or `None` if no move does. It may be any mating move: the
+/// search tries the killer and the moves after it first, which is faster.
 pub(crate) fn find_mate<R: Rules>(killer: Moves<R>, board: &mut Board) -> Option<Moves<R>>
     requires well_formed { IsWellFormed board.old }
     ensures unchanged { board.new ≡ board.old }
@@ -157,7 +159,8 @@ pub(crate) fn find_mate<R: Rules>(killer: Moves<R>, board: &mut Board) -> Option
     None
 }
 
-/// Whether the side to move has a legal move and each of its legal moves mates.
+/// Returns whether the side to move has a legal move and each of its legal moves mates. The board is
+/// unchanged.
 #[tactic(auto, using(crate::proofs::Boards::some_move))]
 pub(crate) fn must_mate<R: Rules>(board: &mut Board) -> bool
     requires well_formed { IsWellFormed board.old }
@@ -177,7 +180,8 @@ pub fn retract<R: Rules>(board: &mut Board, by: Move, undo: Undo)
     R::unplay(board, by, undo);
 }
 
-/// What a move has done to the side that is to move now.
+/// Returns what the last move did to the side to move: check, mate, stalemate or nothing. It looks for
+/// stalemate only if that is the goal.
 #[tactic(auto, unfolding(pop_events::specs::Shown::mark_of, chess_rules::specs::Legal::is_mate, chess_rules::specs::Legal::is_stalemate))]
 pub(crate) fn mark_of<R: Rules>(goal: Goal, board: &mut Board) -> Mark
     requires well_formed { IsWellFormed board.old }
@@ -198,14 +202,14 @@ pub(crate) fn mark_of<R: Rules>(goal: Goal, board: &mut Board) -> Mark
     }
 }
 
-/// What is known of the goal in a position.
+/// Whether the goal is known to be reached in a position.
 #[derive(Clone, Copy)]
 pub enum Reached {
     Surely,
     Perhaps,
 }
 
-/// The same where it may be known already that the goal is reached.
+/// Returns what the last move did to the side to move. It tests nothing if the goal is known to be reached.
 #[tactic(auto, unfolding(pop_events::specs::Shown::mark_of, chess_rules::specs::Legal::is_mate, chess_rules::specs::Legal::is_stalemate))]
 pub fn mark_after<R: Rules>(goal: Goal, reached: Reached, board: &mut Board) -> Mark
     requires well_formed { IsWellFormed board.old }
@@ -220,7 +224,7 @@ pub fn mark_after<R: Rules>(goal: Goal, reached: Reached, board: &mut Board) -> 
     }
 }
 
-/// Whether the goal is mate.
+/// Returns whether the goal is mate.
 pub fn is_for_mate(goal: Goal) -> bool
     ensures { result ≡ is_for_mate goal }
 {
@@ -230,7 +234,7 @@ pub fn is_for_mate(goal: Goal) -> bool
     }
 }
 
-/// Whether the goal is reached in the board's position.
+/// Returns whether the goal is reached in the board's position. The board is unchanged.
 pub fn reaches_goal<R: Rules>(goal: Goal, board: &mut Board) -> bool
     requires well_formed { IsWellFormed board.old }
     ensures unchanged { board.new ≡ board.old }
@@ -242,7 +246,7 @@ pub fn reaches_goal<R: Rules>(goal: Goal, board: &mut Board) -> bool
     }
 }
 
-/// Whether the goal is reached in the board's position, which has no legal move.
+/// Returns whether the goal is reached in the board's position, which has no legal move.
 #[tactic(auto, unfolding(chess_rules::specs::Legal::is_mate, chess_rules::specs::Legal::is_stalemate))]
 pub(crate) fn is_reached_without_move<R: Rules>(goal: Goal, board: &Board) -> bool
     requires { has_move (chess goal R.rule) board.now ≡ false }
@@ -251,7 +255,7 @@ pub(crate) fn is_reached_without_move<R: Rules>(goal: Goal, board: &Board) -> bo
     in_check::<R>(board, board.turn()) == is_for_mate(goal)
 }
 
-/// To which side the man castles, if it does.
+/// Returns the side to which the man castles by this move, or `None` if it doesn't castle.
 fn castling_side(man: Man, by: &Move) -> Option<Side>
     ensures { result ≡ castling_side man by.now }
 {
@@ -261,7 +265,7 @@ fn castling_side(man: Man, by: &Move) -> Option<Side>
     Some(if by.from < by.to { Side::H } else { Side::A })
 }
 
-/// The reborn man and his square, if he is reborn.
+/// Returns the reborn man and its square, if there are both.
 fn reborn_man(man: Option<Man>, square: Option<Square>) -> Option<(Man, Square)>
     ensures { result ≡ reborn_man man square }
 {
@@ -271,7 +275,8 @@ fn reborn_man(man: Option<Man>, square: Option<Square>) -> Option<(Man, Square)>
     }
 }
 
-/// The move of the man as it is shown, once it is played: `there` stood on the arrival before.
+/// Returns the move of `man` as it is shown, once it is played; `there` is the man that was on the
+/// arrival before.
 #[tactic(auto, unfolding(pop_events::specs::Shown::shown_of))]
 pub fn shown_of(man: Option<Man>, there: Option<Man>, by: &Move, undo: &Undo, mark: Mark) -> Shown
     ensures { result ≡ shown_of man there by.now undo.now mark }
@@ -293,7 +298,7 @@ pub fn shown_of(man: Option<Man>, there: Option<Man>, by: &Move, undo: &Undo, ma
     }
 }
 
-/// Gives the move to the other side, for set play.
+/// Gives the move to the other side and clears the en passant square, as set play begins.
 pub fn turn_over(board: &mut Board)
     ensures { board.new ≡ set_start board.old }
 {
@@ -301,7 +306,7 @@ pub fn turn_over(board: &mut Board)
     board.set_crossed(None);
 }
 
-/// Gives it back: the position is that of the diagram again.
+/// Restores the position of the diagram after set play.
 #[tactic(auto, unfolding(chess_core::specs::Diagrams::position_of))]
 pub fn turn_back(board: &mut Board, diagram: &Diagram)
     requires { board.old ≡ set_start (position_of diagram.now) }
@@ -311,7 +316,7 @@ pub fn turn_back(board: &mut Board, diagram: &Diagram)
     board.set_crossed(diagram.crossed);
 }
 
-/// Whether the position can't stand in set play: the side that isn't to move is in check.
+/// Returns whether set play is impossible in the position: the side that isn't to move is in check.
 #[tactic(auto, unfolding(crate::specs::Chess::is_impossible))]
 pub fn is_impossible<R: Rules>(board: &Board) -> bool
     ensures { result ≡ is_impossible R.rule board.now }

@@ -1,4 +1,4 @@
-//! Frames.
+//! Frames: the positions on the path of a search, with the moves tried from each.
 ghost use Rattle.std.specs.Prelude.{◌≡◌, ⊤};
 ghost use Rattle.pop_battle.specs.ties.Frames.{unordered};
 
@@ -10,30 +10,31 @@ use chess_rules::rules::Rules;
 use std::alloc::AllocError;
 use std::marker::Model;
 
-/// Which moves of a position a test tries, one stretch after another; each move belongs to one of them.
+/// A stage in the order in which a test tries the moves of a position. Each move belongs to exactly one
+/// stage.
 #[derive(Clone, Copy, PartialEq, Eq)]
 pub enum Stretch {
     /// The last killer.
     Killer,
-    /// The earlier killer, if it is another move.
+    /// The killer before it, if it is another move.
     Earlier,
-    /// The other moves whose man aims at the enemy's king, where these come first.
+    /// The other moves that attack next to the enemy king or give check, if the order has this stage.
     Aimed,
-    /// All that are in no stretch before.
+    /// All other moves.
     Others,
 }
 
-/// Which moves come first behind the killers.
+/// Which moves come right after the killers.
 #[derive(Clone, Copy)]
 pub enum Early {
-    /// Those whose man aims at the enemy's king.
+    /// Moves that give check or attack next to the enemy king.
     AimedMoves,
-    /// None: all others follow the killers.
+    /// None: all other moves follow in order.
     NoMoves,
 }
 
-/// How a test orders the moves of a position: the places on two killers, whatever stands there, and which moves come
-/// first behind them. Contracts see the record `Order` of the same fields.
+/// How a test orders the moves of a position: two killers, each any number of a triple, and which moves
+/// come right after them. Contracts see the record `Order` with the same fields.
 #[derive(Copy)]
 pub struct Order<R: Rules> {
     pub killer: Moves<R>,
@@ -62,7 +63,7 @@ impl<R: Rules> Clone for Order<R> {
 }
 
 impl<R: Rules> Order<R> {
-    /// All moves one after another.
+    /// Returns the order that tries all moves one after another.
     pub fn unordered() -> Order<R>
         ensures { result ≡ unordered }
     {
@@ -74,22 +75,22 @@ impl<R: Rules> Order<R> {
     }
 }
 
-/// A position on the way from a phase's first position, whose moves are tried in turn. Contracts see the record `Frame`
-/// of the same fields.
+/// A position on the path from a phase's first position, whose moves are tried in turn. Contracts see the
+/// record `Frame` with the same fields.
 #[derive(Copy)]
 pub struct Frame<R: Rules> {
-    // The largest fields first, as they stand in memory as they are written here.
-    /// What the move that led here destroyed.
+    // Fields lie in memory in this order: the largest come first.
+    /// What takes back the move that led here.
     pub undo: Undo,
-    /// The half-moves that are tried from here.
+    /// The number of half-moves to try from here.
     pub left: usize,
-    /// What is known of the legal moves of the position, once they have been looked for.
+    /// What is known of the position's legal moves, once they have been listed.
     pub known: Option<LegalMoves<R>>,
     /// The move that led here.
     pub by: Move,
-    /// The moves up to here have been tried.
+    /// The cursor: the moves up to it have been tried.
     pub place: Moves<R>,
-    /// In a test: the order of the moves, and the stretch on which `place` stands.
+    /// In a test: the order of the moves, and the stage of `place`.
     pub order: Order<R>,
     pub stretch: Stretch,
 }
@@ -136,7 +137,7 @@ impl<R: Rules> Default for Frame<R> {
 
     ghost is_default = { λ f. f ≡ no_frame };
 
-    // The frame of no position.
+    // Returns a frame of no position.
     #[tactic(auto, unfolding(chess_core::specs::Castling::none_unmoved))]
     fn default() -> Self {
         Frame {

@@ -1,10 +1,10 @@
-//! What a search remembers.
+//! What a search remembers from position to position.
 ghost use Rattle.std.specs.Prelude.{◌≡◌};
 
 use crate::killers::Killers;
 use chess_rules::rules::Rules;
 
-/// What a search remembers of its work: the moves that decided tests, and how many frames it has opened for a half-move, up
+/// What a search remembers: the moves that decided tests, and the number of positions that it has tried, up
 /// to the greatest u64.
 #[derive(Drop)]
 pub struct History<R: Rules> {
@@ -13,7 +13,7 @@ pub struct History<R: Rules> {
 }
 
 impl<R: Rules> History<R> {
-    /// Of a search that has opened nothing, whose tests begin with these killers.
+    /// Returns a new state: nothing tried, these killers.
     pub fn with(killers: Killers<R>) -> History<R>
         ensures killers { result.killers ≡ killers }
         ensures opened { result.opened ≡ 0 }

@@ -1,4 +1,4 @@
-//! The moves that decided tests, and the threats of the last position that was asked for them.
+//! The moves that decided tests, and the threats of one position.
 ghost use Rattle.std.specs.Prelude.{◌≡◌, ◌==◌, ◌<◌, ◌∷◌, [], IfSome, true, if◌then◌else◌, slice_index_or, slice_set};
 ghost use Rattle.std.specs.List.{copy_within, repeat};
 ghost use Rattle.chess_core.specs.WellFormed.{IsWellFormed};
@@ -15,9 +15,10 @@ use chess_mates::threats::Threats;
 use chess_rules::moves::Moves;
 use chess_rules::rules::Rules;
 
-/// For each number of half-moves below 32 the places on the last two moves that decided a position with so many
-/// half-moves left. In a direct mate they are tried first in the next such position; that any place may stand here costs
-/// time alone. In a selfmate moves are tried in order: there the last one that decided is no good guess.
+/// For each number of half-moves below 32, the last two moves that decided a position with that many
+/// half-moves left. A direct mate tries them first in the next position like it; a killer may be any number of
+/// a triple, since a bad guess only costs time. A selfmate tries moves in order: its last deciding move is
+/// no good guess.
 #[derive(Drop)]
 pub struct Killers<R: Rules> {
     places: [Moves<R>; 32],
@@ -26,7 +27,7 @@ pub struct Killers<R: Rules> {
 }
 
 impl<R: Rules> Killers<R> {
-    /// None yet: the places before all triples.
+    /// Returns killers that are all at the start, before the first triple.
     pub fn none() -> Killers<R>
         ensures last { result.places ≡ repeat 32 (0 ∷ []) }
         ensures earlier { result.earlier ≡ repeat 32 (0 ∷ []) }
@@ -38,7 +39,7 @@ impl<R: Rules> Killers<R> {
         }
     }
 
-    /// The place on the killer of a position with so many half-moves left.
+    /// Returns the killer for a position with `left` half-moves left; the start for a selfmate.
     pub fn of(&self, battle: Battle, left: usize) -> Moves<R>
         ensures { battle ≡ Direct → left < 32 → result ≡ slice_index_or self.now.places left 0 }
     {
@@ -49,7 +50,7 @@ impl<R: Rules> Killers<R> {
         }
     }
 
-    /// The place on the one before that was another move.
+    /// Returns the second killer for a position with `left` half-moves left; the start for a selfmate.
     pub fn earlier(&self, battle: Battle, left: usize) -> Moves<R>
         ensures { battle ≡ Direct → left < 32 → result ≡ slice_index_or self.now.earlier left 0 }
     {
@@ -60,7 +61,7 @@ impl<R: Rules> Killers<R> {
         }
     }
 
-    /// Takes the killers of so many half-moves as those of two more.
+    /// Shifts each killer two half-moves deeper.
     pub fn lengthen(&mut self)
         ensures last { self.new.places ≡ copy_within self.old.places 0 30 2 }
         ensures earlier { self.new.earlier ≡ copy_within self.old.earlier 0 30 2 }
@@ -69,7 +70,8 @@ impl<R: Rules> Killers<R> {
         self.earlier.copy_within(0..30, 2);
     }
 
-    /// Remembers another; the one so far is the earlier one then.
+    /// Records a killer for `left` half-moves; if it differs from the previous one, that becomes the
+    /// second.
     pub fn put(&mut self, left: usize, place: Moves<R>)
         ensures last { left < 32 → self.new.places ≡ slice_set self.old.places left place }
         ensures earlier { left < 32 → self.new.earlier
@@ -84,7 +86,8 @@ impl<R: Rules> Killers<R> {
         }
     }
 
-    /// Tells the threats in the board's position, if they are told at all, in place of those that were kept.
+    /// Computes the threats in the board's position and keeps them, or keeps none if the rules don't allow
+    /// it or the side to move has no king.
     pub fn renew_threats(&mut self, board: &Board)
         requires well_formed { IsWellFormed board.now }
         ensures { IfSome self.new.threats (λ t. AreThreatsOf R.rule board.now t) }
@@ -103,7 +106,7 @@ impl<R: Rules> Killers<R> {
         }
     }
 
-    /// Keeps the threats in the board's position, if they are told, and else none.
+    /// Makes sure that the kept threats belong to the board's position, if any are kept.
     pub fn tell_threats(&mut self, board: &Board)
         requires well_formed { IsWellFormed board.now }
         ensures { IfSome self.new.threats (λ t. AreThreatsOf R.rule board.now t) }
@@ -116,8 +119,8 @@ impl<R: Rules> Killers<R> {
         self.renew_threats(board);
     }
 
-    /// Whether no reply to this move mates, told by the threats in the board's position, which are kept for its other moves.
-    /// `false` says nothing.
+    /// Returns whether the threats in the board's position rule out that a reply to this move mates;
+    /// `false` says nothing. The threats are kept for the position's other moves.
     pub fn rule_out_mate(&mut self, board: &Board, m: &Move) -> bool
         requires well_formed { IsWellFormed board.now }
         requires legal { is_legal R.rule board.now m.now ≡ true }

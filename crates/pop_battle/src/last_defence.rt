@@ -1,4 +1,4 @@
-//! Black's last defences in a direct mate, after which White must mate at once.
+//! Black's last defence in a direct mate, after which White must mate at once.
 ghost use Rattle.std.specs.Prelude.{◌≡◌, ◌+◌, ◌-◌, ◌≤◌, IfSome, None, Some, false, true};
 ghost use Rattle.chess_core.specs.Position.{king_square};
 ghost use Rattle.chess_core.specs.WellFormed.{IsWellFormed};
@@ -33,8 +33,8 @@ use chess_rules::moves::Moves;
 use chess_rules::rules::Rules;
 use pop_input::stipulation::Goal;
 
-/// Whether White, who is to move, mates at once. The move that does is remembered for the next such position, until one has
-/// none.
+/// Returns whether White, to move, mates at once. The mating move becomes the killer; without one the
+/// killer is cleared.
 #[tactic(auto, using(crate::proofs::Values::last_half_move))]
 pub(crate) fn has_mate<R: Rules>(board: &mut Board, killers: &mut Killers<R>) -> bool
     requires well_formed { IsWellFormed board.old }
@@ -46,7 +46,7 @@ pub(crate) fn has_mate<R: Rules>(board: &mut Board, killers: &mut Killers<R>) ->
     found.is_some()
 }
 
-/// Whether White mates after this move of Black's; the position after it is counted.
+/// Returns whether White mates after this move by Black. Counts the position after it.
 #[tactic(auto, using(chess_rules::proofs::listing_moves::Calls::playing))]
 fn lets_mate<R: Rules>(by: Move, board: &mut Board, history: &mut History<R>) -> bool
     requires well_formed { IsWellFormed board.old }
@@ -64,8 +64,8 @@ fn lets_mate<R: Rules>(by: Move, board: &mut Board, history: &mut History<R>) ->
     mates
 }
 
-/// The next defence to try. What is known of the position's moves is told once the killer alone isn't enough: the stretches
-/// behind it follow.
+/// Returns the next defence to try. The first call after the killer sets up `moves`, which only later
+/// stages need.
 fn next_defence<R: Rules>(
     order: Order<R>,
     stretch: &mut Stretch,
@@ -88,7 +88,8 @@ fn next_defence<R: Rules>(
     next_tried::<R>(order, stretch, known, board)
 }
 
-/// The first defence to try: the killer, which is looked at alone, or the first one behind it.
+/// Returns the first defence to try: the killer, tested without listing the moves, or the first move after
+/// it.
 #[tactic(auto, unfolding(crate::specs::ties::Frames::moves_here))]
 fn first_defence<R: Rules>(
     order: Order<R>,
@@ -108,7 +109,7 @@ fn first_defence<R: Rules>(
     next_defence::<R>(order, stretch, moves, board)
 }
 
-/// The place on the defence that was found last.
+/// Returns the place of the defence that was found last.
 fn place_of_last<R: Rules>(order: Order<R>, moves: &Option<LegalMoves<R>>) -> Moves<R> {
     match moves {
         Some(known) => known.place(),
@@ -116,8 +117,8 @@ fn place_of_last<R: Rules>(order: Order<R>, moves: &Option<LegalMoves<R>>) -> Mo
     }
 }
 
-/// The value of a position with two half-moves left of a direct mate: Black's moves are tried in the order of a test. It is
-/// counted if it has a legal move, and so is each position after a move that is tried.
+/// Returns the value of a position with two half-moves left in a direct mate, by trying Black's moves in
+/// the order of a test. Counts the position if it has a legal move, and each position after a tried move.
 #[inline(always)]
 fn value_by_trial<R: Rules>(board: &mut Board, history: &mut History<R>) -> bool
     requires well_formed { IsWellFormed board.old }
@@ -146,8 +147,8 @@ fn value_by_trial<R: Rules>(board: &mut Board, history: &mut History<R>) -> bool
     true
 }
 
-// Whether Black has a legal move after which his king keeps a flight whatever is played. The other men are tried before the
-// king.
+// Returns whether Black surely has a legal move after which its king keeps a flight, whatever White plays;
+// `false` says nothing. It tries the king last.
 #[inline(never)]
 fn keeps_flight<R: Rules>(board: &mut Board, king: Square) -> bool
     requires well_formed { IsWellFormed board.old }
@@ -164,10 +165,12 @@ fn keeps_flight<R: Rules>(board: &mut Board, king: Square) -> bool
     known.has_taken(&mut flights, board, men) || known.has_taken(&mut flights, board, kings)
 }
 
-// The most attackers against whom kept flights are computed before any defence is tried. The limit costs time alone.
+// The most attackers against which kept flights are computed before any defence is tried. The limit affects
+// speed only.
 const MOST_ATTACKERS: u32 = 5;
 
-/// Whether Black surely has a defence, as his king keeps a flight after one of his moves; `false` says nothing.
+/// Returns whether Black surely has a defence, since its king keeps a flight after it; `false` says
+/// nothing.
 #[inline(always)]
 fn surely_escapes<R: Rules>(board: &mut Board) -> bool
     requires well_formed { IsWellFormed board.old }
@@ -185,8 +188,8 @@ fn surely_escapes<R: Rules>(board: &mut Board) -> bool
     keeps_flight::<R>(board, king)
 }
 
-/// The value of a position with two half-moves left of a direct mate. Where Black surely escapes it and one position after it
-/// are counted, and else what is tried.
+/// Returns the value of a position with two half-moves left in a direct mate. Counts two positions if Black
+/// surely escapes, otherwise the positions that it tries.
 #[inline(always)]
 pub(crate) fn value_of_last_defence<R: Rules>(board: &mut Board, history: &mut History<R>) -> bool
     requires well_formed { IsWellFormed board.old }

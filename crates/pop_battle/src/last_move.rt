@@ -1,4 +1,4 @@
-//! White's last move of a selfmate for mate, after which Black must mate.
+//! White's last move in a selfmate for mate, after which Black must mate.
 ghost use Rattle.std.specs.Prelude.{◌≡◌, ◌+◌, ◌≤◌, [], length, true};
 ghost use Rattle.chess_core.specs.WellFormed.{IsWellFormed};
 ghost use Rattle.chess_mates.specs.ties.QuietSteps.{must_reply_with_mate};
@@ -23,7 +23,8 @@ use chess_rules::legal_moves::LegalMoves;
 use chess_rules::rules::Rules;
 use pop_input::stipulation::Goal;
 
-/// Whether Black must mate after White's move. It isn't played where a quiet step of Black's king follows, or no mate.
+/// Returns whether Black must mate after this move by White. The move isn't played if Black's king then has
+/// a quiet step, or if no mate can follow.
 #[tactic(auto, using(chess_rules::proofs::listing_moves::Calls::playing, crate::proofs::LastMoves::unforced, crate::proofs::Values::last_half_move))]
 fn forces_mate<R: Rules>(
     steps: QuietSteps,
@@ -46,8 +47,8 @@ fn forces_mate<R: Rules>(
     forced
 }
 
-/// The next move behind the place after which Black's king has no quiet step, as far as they are told for all moves of a man.
-/// Those that are passed over are counted.
+/// Returns the next legal move after the cursor after which Black's king has no quiet step, as far as the
+/// filter knows. Adds the moves passed over to `counted`.
 #[tactic(auto, using(crate::proofs::Passing::none_passed))]
 fn next_unquiet<R: Rules>(
     steps: &mut QuietSteps,
@@ -72,7 +73,7 @@ fn next_unquiet<R: Rules>(
     sifted.found
 }
 
-/// Whether some move behind the place forces mate. Each one up to the first that does is counted.
+/// Returns whether some move after the cursor forces mate. Counts each move up to the first that does.
 fn some_forces_mate<R: Rules>(
     mut moves: LegalMoves<R>,
     board: &mut Board,
@@ -100,7 +101,8 @@ fn some_forces_mate<R: Rules>(
     false
 }
 
-/// The value of a position with two half-moves left of a selfmate for mate. It is counted if it has a legal move.
+/// Returns the value of a position with two half-moves left in a selfmate for mate. Counts the position if
+/// it has a legal move.
 pub(crate) fn value_of_last_move<R: Rules>(board: &mut Board, history: &mut History<R>) -> bool
     requires well_formed { IsWellFormed board.old }
     ensures unchanged { board.new ≡ board.old }

@@ -1,5 +1,37 @@
-//! Battle play: who reaches the goal against every defence. Chess as a game of two sides, and the value of a position, tested on one
-//! board and explicit frames.
+//! Battle play: whether White reaches a goal against every defence. Chess as a game of two sides, and the
+//! value of a position, computed on one board with explicit frames.
+//!
+//! ```rust
+//! use arrayvec::ArrayVec;
+//! use chess_core::{Board, Colour, Diagram, Kind, Man, Square};
+//! use chess_rules::Orthodox;
+//! use pop_battle::aim::{Aim, Battle};
+//! use pop_battle::frame::Frame;
+//! use pop_battle::history::History;
+//! use pop_battle::killers::Killers;
+//! use pop_battle::value::value_of;
+//! use pop_input::stipulation::Goal;
+//!
+//! // White Kg6 Ra1, Black Kg8: White mates in one half-move.
+//! let mut diagram = Diagram::new();
+//! for (number, colour, kind) in [
+//!     (46, Colour::White, Kind::King),
+//!     (0, Colour::White, Kind::Rook),
+//!     (62, Colour::Black, Kind::King),
+//! ] {
+//!     let _ = diagram.put(Square::numbered(number), Man { colour, kind });
+//! }
+//! if diagram.is_well_formed() {
+//!     let mut board = Board::of(&diagram);
+//!     let mut frames = ArrayVec::<Frame<Orthodox>, 2>::new();
+//!     let mut history = History::with(Killers::none());
+//!     let aim = Aim { battle: Battle::Direct, goal: Goal::Mate };
+//!     let mates = value_of::<Orthodox, 2>(aim, 1, &mut board, &mut frames, &mut history);
+//! }
+//! ```
+//!
+//! `value` is the interface; `aim`, `frame`, `history` and `killers` are its types. `chess` serves
+//! `pop_solve` and `pop_parts` too. No call allocates.
 #![tactic(auto)]
 
 pub mod aim;

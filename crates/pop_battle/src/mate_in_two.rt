@@ -1,4 +1,4 @@
-//! White's last move but one in a direct mate, after which he must mate against each last defence.
+//! White's last move but one in a direct mate, after which White must mate against each last defence.
 ghost use Rattle.std.specs.Prelude.{◌≡◌, ◌+◌, ◌≤◌, true};
 ghost use Rattle.chess_core.specs.WellFormed.{IsWellFormed};
 ghost use Rattle.chess_rules.specs.Legal.{is_legal, moves as legal_moves};
@@ -20,7 +20,7 @@ use chess_core::board::Board;
 use chess_core::man::Move;
 use chess_rules::rules::Rules;
 
-/// Whether White mates next after this move of his, whatever Black's defence.
+/// Returns whether White mates next after this move, whatever Black's defence.
 #[tactic(auto, using(chess_rules::proofs::listing_moves::Calls::playing))]
 fn leaves_no_defence<R: Rules>(by: Move, board: &mut Board, history: &mut History<R>) -> bool
     requires well_formed { IsWellFormed board.old }
@@ -39,8 +39,8 @@ fn leaves_no_defence<R: Rules>(by: Move, board: &mut Board, history: &mut Histor
     mates
 }
 
-/// Whether White, who is to move, mates in two moves at most: his moves are tried in the order of a test. The position is
-/// counted, also if it has no legal move.
+/// Returns whether White, to move, mates in at most two moves, trying the moves in the order of a test.
+/// Counts the position even if it has no legal move.
 pub(crate) fn mates_in_two<R: Rules>(board: &mut Board, history: &mut History<R>) -> bool
     requires well_formed { IsWellFormed board.old }
     ensures unchanged { board.new ≡ board.old }

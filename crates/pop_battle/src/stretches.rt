@@ -1,5 +1,5 @@
-//! In which order a test tries the moves of a position: killers first, then, where White has two moves or more left to
-//! mate, those that aim at the king.
+//! The order in which a test tries the moves of a position: killers first, then, if White has two or more
+//! moves left to mate, the moves that give check or attack next to the king.
 ghost use Rattle.chess_core.specs.Position.{Position};
 ghost use Rattle.chess_core.specs.WellFormed.{IsWellFormed};
 ghost use Rattle.chess_rules.specs.ties.Places.{IsPlaceIn, moves_behind, place_of};
@@ -20,8 +20,8 @@ use chess_rules::legal_moves::LegalMoves;
 use chess_rules::moves::Moves;
 use chess_rules::rules::Rules;
 
-/// Which moves of a position come first behind the killers: those that aim at the king, where White has two moves or
-/// more left to mate.
+/// Returns which moves come right after the killers: those that give check or attack next to the king, if
+/// White has two or more moves left to mate; otherwise none.
 fn early_moves(battle: Battle, left: usize) -> Early {
     if battle == Battle::Direct && left % 2 == 1 && left >= 3 {
         Early::AimedMoves
@@ -30,7 +30,7 @@ fn early_moves(battle: Battle, left: usize) -> Early {
     }
 }
 
-/// The order in which the moves of a position are tried with so many half-moves left.
+/// Returns the order in which to try the moves of a position with `left` half-moves left.
 pub(crate) fn order_of<R: Rules>(killers: &Killers<R>, battle: Battle, left: usize) -> Order<R> {
     Order {
         killer: killers.of(battle, left),
@@ -39,7 +39,7 @@ pub(crate) fn order_of<R: Rules>(killers: &Killers<R>, battle: Battle, left: usi
     }
 }
 
-/// Whether a move that is no killer comes before others.
+/// Returns whether a move that is no killer comes before other moves.
 fn comes_early(early: Early, by: &Move, board: &Board) -> bool
     ensures { result ≡ comes_early early board.now by.now }
 {
@@ -49,7 +49,7 @@ fn comes_early(early: Early, by: &Move, board: &Board) -> bool
     }
 }
 
-/// Whether a move, on which `place` stands, belongs to the stretch.
+/// Returns whether the move, whose place is `place`, belongs to the stage.
 #[tactic(auto, unfolding(crate::specs::ties::Frames::belongs))]
 fn belongs<R: Rules>(
     order: Order<R>,
@@ -74,7 +74,7 @@ fn belongs<R: Rules>(
     }
 }
 
-/// The next move behind the place that belongs to the stretch.
+/// Returns the next move after the cursor that belongs to the stage.
 fn next_of_stretch<R: Rules>(
     order: Order<R>,
     stretch: Stretch,
@@ -96,14 +96,14 @@ fn next_of_stretch<R: Rules>(
     None
 }
 
-/// Whether the place is one of the killers'.
+/// Returns whether the place is that of a killer.
 fn is_killer<R: Rules>(order: Order<R>, place: Moves<R>) -> bool
     ensures { result ≡ (place == order.killer || place == order.earlier) }
 {
     place.is(order.killer) || place.is(order.earlier)
 }
 
-/// The next move behind the place that belongs to the stretch of aimed moves: it aims at the king and is no killer.
+/// Returns the next move after the cursor that gives check or attacks next to the king and is no killer.
 #[tactic(auto, using(crate::proofs::Orders::aimed_filtered))]
 fn next_early<R: Rules>(
     order: Order<R>,
@@ -126,7 +126,7 @@ fn next_early<R: Rules>(
     None
 }
 
-/// The next move of the stretch on which the place stands.
+/// Returns the next move after the cursor in this stage.
 #[tactic(auto, unfolding(crate::specs::ties::Frames::moves_here))]
 fn next_here<R: Rules>(
     order: Order<R>,
@@ -150,7 +150,7 @@ fn next_here<R: Rules>(
     }
 }
 
-/// The stretch behind one, if there is one: that of aimed moves only where these come first.
+/// Returns the stage after this one, or `None` after the last. Without early moves their stage is skipped.
 #[tactic(auto, using(crate::proofs::Orders::next_stretch), unfolding(crate::specs::ties::Frames::moves_later))]
 fn stretch_behind<R: Rules>(order: Order<R>, stretch: Stretch) -> Option<Stretch>
     ensures later { (p : Position) → MatchOption result (moves_later R.rule p order stretch ≡ [])
@@ -166,7 +166,8 @@ fn stretch_behind<R: Rules>(order: Order<R>, stretch: Stretch) -> Option<Stretch
     }
 }
 
-/// The place before the first move of a stretch: where both killers are one, the earlier has none.
+/// Returns the cursor before the first move of a stage. If both killers are one move, the second killer's
+/// stage is empty.
 #[tactic(auto, using(crate::proofs::Orders::first_place), unfolding(crate::specs::ties::Frames::moves_here))]
 pub(crate) fn place_before<R: Rules>(order: Order<R>, stretch: Stretch) -> Moves<R>
     ensures { (p : Position) → moves_here R.rule p order stretch result
@@ -180,7 +181,7 @@ pub(crate) fn place_before<R: Rules>(order: Order<R>, stretch: Stretch) -> Moves
     }
 }
 
-/// The next move of a test, one stretch after another.
+/// Returns the next move of a test, one stage after another.
 pub(crate) fn next_tried<R: Rules>(
     order: Order<R>,
     stretch: &mut Stretch,

@@ -1,4 +1,4 @@
-//! The tests of battle play.
+//! The value of a position in battle play.
 ghost use Rattle.chess_rules.specs.Play.{position_after};
 ghost use Rattle.chess_rules.specs.Legal.{moves as legal_moves};
 ghost use Rattle.std.specs.Prelude.{◌≡◌, ◌+◌, ◌<◌, ◌≤◌, ◌%◌, [], ◌∷◌, ◌++◌, filter, IfSome, IfNone, true, false, Option, Some, None, not, MatchOption, MatchBool, ◌⊎◌, ◌&&◌, ◌==◌, ◌-◌};
@@ -39,7 +39,8 @@ use chess_rules::legal_moves::LegalMoves;
 use chess_rules::rules::Rules;
 use pop_input::stipulation::Goal;
 
-/// Whether one good move is enough with `left` half-moves left.
+/// Returns whether the side to move needs just one good move with `left` half-moves left, since it is White
+/// who moves.
 pub fn seeks(battle: Battle, left: usize) -> bool
     ensures { result ≡ seeks battle left }
 {
@@ -49,15 +50,15 @@ pub fn seeks(battle: Battle, left: usize) -> bool
     }
 }
 
-/// Whether White is to move with an odd number of half-moves left: the goal can't be reached before his move, so his
-/// moves decide, also if he has none.
+/// Returns whether White is to move with an odd number of half-moves left. The goal can't be reached before
+/// this move, so the value depends on White's moves only, even if there are none.
 fn is_free(battle: Battle, left: usize) -> bool
     ensures { result ≡ (left % 2 == 1 && seeks battle left) }
 {
     left % 2 == 1 && seeks(battle, left)
 }
 
-/// The value of a position without a legal move, with `left` half-moves left where a move counts.
+/// Returns the value of a position without a legal move, with `left` half-moves left.
 fn value_without_move<R: Rules>(goal: Goal, left: usize, board: &Board) -> bool
     requires { has_move (chess goal R.rule) board.now ≡ false }
     ensures { result ≡ ((left % 2 == 0) && (chess goal R.rule).goal board.now) }
@@ -65,7 +66,7 @@ fn value_without_move<R: Rules>(goal: Goal, left: usize, board: &Board) -> bool
     left % 2 == 0 && is_reached_without_move::<R>(goal, board)
 }
 
-/// The value of a position with one half-move left, where mate is the goal: White mates, or Black must.
+/// Returns the value of a position with one half-move left, for mate: White mates, or Black must mate.
 #[tactic(auto, using(crate::proofs::Values::last_half_move))]
 fn last_value<R: Rules>(battle: Battle, board: &mut Board, killers: &mut Killers<R>) -> bool
     requires well_formed { IsWellFormed board.old }
@@ -78,7 +79,7 @@ fn last_value<R: Rules>(battle: Battle, board: &mut Board, killers: &mut Killers
     }
 }
 
-/// The value of a position with two half-moves left, where mate is the goal.
+/// Returns the value of a position with two half-moves left, for mate.
 fn value_of_two<R: Rules>(battle: Battle, board: &mut Board, history: &mut History<R>) -> bool
     requires well_formed { IsWellFormed board.old }
     ensures unchanged { board.new ≡ board.old }
@@ -94,9 +95,9 @@ fn value_of_two<R: Rules>(battle: Battle, board: &mut Board, history: &mut Histo
     }
 }
 
-/// The value of a position, where it is known without a frame; else what is known of its moves, if they were looked for.
-/// The last half-moves need none where mate is the goal, and are counted as if they had: three of a direct mate, two of a
-/// selfmate.
+/// Returns the value of a position if it can be decided without a frame; otherwise `None`, with what is
+/// known of its moves in `known`. For mate, the last half-moves need no frame (three in a direct mate, two
+/// in a selfmate), and count as if they had one.
 #[tactic(auto, using(crate::proofs::Boards::settling, crate::proofs::SmallestTrees::shortest, crate::proofs::Values::free_moves))]
 #[inline(always)]
 fn value_at_once<R: Rules>(
@@ -147,7 +148,7 @@ fn value_at_once<R: Rules>(
     }
 }
 
-/// Whether the answer for its last move decides a position.
+/// Returns whether the value after the last move tried decides the position.
 fn is_decided(answer: Option<bool>, seek: bool) -> bool
     ensures { MatchBool result (answer ≡ Some seek) ((answer ≡ None) ⊎ (answer ≡ Some (not seek))) }
 {
@@ -157,7 +158,7 @@ fn is_decided(answer: Option<bool>, seek: bool) -> bool
     }
 }
 
-/// Closes a frame with the value of its position: the lowest gives the value of the test.
+/// Closes a frame with the value of its position. Returns that value if the frame is the test's lowest.
 fn close<R: Rules>(
     value: bool,
     floor: usize,
@@ -180,8 +181,8 @@ fn close<R: Rules>(
     None
 }
 
-/// Plays a move of the top frame, which `top` is once its place has moved on. A frame is opened where the
-/// moves of the position after it decide.
+/// Plays a move of the top frame, given as `top` with its new cursor. Opens a frame for the position after
+/// it, unless that position's value is known at once; then takes the move back and returns the value.
 #[tactic(auto, using(chess_rules::proofs::listing_moves::Calls::playing))]
 fn descend<R: Rules, const N: usize>(
     aim: Aim,
@@ -243,7 +244,8 @@ fn descend<R: Rules, const N: usize>(
     None
 }
 
-/// One turn of a test: the top frame is closed, or its next move is played.
+/// Takes one turn of a test: plays the next move of the top frame, or closes the frame. Returns the test's
+/// value at the end.
 fn turn<R: Rules, const N: usize>(
     aim: Aim,
     floor: usize,
@@ -290,7 +292,8 @@ fn turn<R: Rules, const N: usize>(
     None
 }
 
-/// The value of the board's position, whose `left` half-moves are tried on frames above those that are open.
+/// Returns the value of the board's position with `left` half-moves left. The test's frames go on top of
+/// those in use; board and frames are unchanged afterwards.
 pub fn value_of<R: Rules, const N: usize>(
     aim: Aim,
     left: usize,

@@ -1,4 +1,4 @@
--- A move as it is shown, and how it is shown (notation of the FIDE Laws, appendix C, with Circe's rebirth by the Popeye manual).
+-- What is shown of a move (notation of the FIDE Laws, appendix C; Circe's rebirth as in the Popeye manual).
 use Rattle.std.specs.Prelude.{ℕ, Bool, false, not, ◌&&◌, nat_lt, Option, Some, None, is_some, if◌then◌else◌}
 use Rattle.chess_core.specs.Position.{Position, man_on}
 use Rattle.chess_core.specs.declared.man.Colour.TheVariants.{White}
@@ -18,8 +18,8 @@ use Rattle.pop_events.specs.declared.shown.Mark.TheVariants.{Plain, Check, Mate,
 use Rattle.pop_events.specs.declared.shown.Side.{Side}
 use Rattle.pop_events.specs.declared.shown.Side.TheVariants.{A, H}
 
--- the man and its squares, whether it captures and whether en passant, what it is promoted to, to which side it
--- castles, the captured man that is reborn and where, and check or mate
+-- a move as shown: the man and its squares, whether it captures and whether en passant, its promotion, the side that it
+-- castles to, the captured man that is reborn and where, and the mark
 pub record Shown : Type 0 where
   pub man : Man
   pub from : ℕ
@@ -31,24 +31,24 @@ pub record Shown : Type 0 where
   pub rebirth : Option (Man × ℕ)
   pub mark : Mark
 
--- what a move has done to the side that is to move in q: stalemate is marked where it is the goal alone (own)
+-- the mark of a move that leads to position q: stalemate is marked only if it is the goal (own)
 unfoldable pub mark_of : Goal → RuleSet → Position → Mark
 mark_of goal rule q =
     if is_mate rule q then Mate
     else (if in_check rule q.men q.turn then Check
     else (if is_for_stalemate goal && is_stalemate rule q then Stalemate else Plain))
 
--- to which side the man castles, if it does
+-- the side that a man castles to, if the move is castling
 abbrev pub castling_side : Man → Move → Option Side
 castling_side x m = if is_castling x m then Some (if nat_lt m.from m.to then H else A) else None
 
--- the reborn man and his square, if he is reborn
+-- the captured man and its square of rebirth, if it is reborn
 abbrev pub reborn_man : Option Man → Option ℕ → Option (Man × ℕ)
 reborn_man (Some y) (Some r) = Some (y, r)
 reborn_man _ _ = None
 
--- the move of x, where `there` stands on the arrival before it, `lost` is what the move destroys and `mark` its mark:
--- en passant a man is captured, but not on the arrival
+-- the move m of the man x as shown: `there` is the man on the arrival square before the move, `lost` is what the move
+-- destroys; a capture is en passant if nobody is on the arrival square
 abbrev pub shown_by : Man → Option Man → Move → Undo → Mark → Shown
 shown_by x there m lost mark = record {
   man = x;
@@ -62,7 +62,7 @@ shown_by x there m lost mark = record {
   mark = mark;
 }
 
--- the move of no man, which never is shown
+-- a move of no man, which is never shown
 abbrev pub nothing_shown : Shown
 nothing_shown = record {
   man = record { colour = White; kind = King };
@@ -76,12 +76,12 @@ nothing_shown = record {
   mark = Plain;
 }
 
--- a move as it is shown, by the man on its origin, the one on its arrival, its undo, and its mark
+-- a move as shown, by the men on its origin and arrival square, its undo and its mark
 unfoldable pub shown_of : Option Man → Option Man → Move → Undo → Mark → Shown
 shown_of None there m lost mark = nothing_shown
 shown_of (Some x) there m lost mark = shown_by x there m lost mark
 
--- the move m as it is shown, read off the position before it and the position after it
+-- the move m as shown, by the positions before and after it
 unfoldable pub shown_move : Goal → RuleSet → Position → Move → Shown
 shown_move goal rule p m = shown_of (man_on p.men m.from) (man_on p.men m.to) m (undo_of rule p m)
     (mark_of goal rule (position_after rule p m))

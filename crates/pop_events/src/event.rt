@@ -1,33 +1,36 @@
-//! What a search gives.
+//! The events of a search.
 use crate::shown::Shown;
 use arrayvec::ArrayVec;
 
-/// A part of a problem that has solutions of its own: set play, in which the other side starts, or the play itself.
+/// A phase of a problem, which has its own solutions: set play, in which the other side starts, or the play.
 #[derive(Clone, Copy, PartialEq, Eq)]
 pub enum Phase {
+    /// Set play.
     Set,
+    /// The play.
     Play,
 }
 
-/// What a search gives, in order: for each phase its name; then that it isn't possible, or its solutions and their total.
+/// What a search returns, in order: for each phase its name, then `Impossible`, or its solutions and their total.
 #[derive(Drop)]
 pub enum Event {
     /// A phase begins.
     Phase(Phase),
-    /// A solution of help play: its moves, of which the first is the half-move `half`.
+    /// A solution of help play: its moves. `half` is the number of the first one's half-move, counted from 1.
     Line {
         half: u32,
         moves: ArrayVec<Shown, 32>,
     },
-    /// A move of battle play, the half-move `half`, which stands below `depth` other moves of its solution.
+    /// A move of battle play in the tree of a solution. `depth` is the number of moves above it; `half` is the number
+    /// of its half-move, counted from 1.
     Node {
         depth: u32,
         half: u32,
         shown: Shown,
     },
-    /// Set play isn't possible: the side that isn't to move would stand in check.
+    /// Set play isn't possible: the side that isn't to move would be in check.
     Impossible,
-    /// A phase ends: how many solutions it gave, and whether the limit of solutions was reached.
+    /// A phase ends: the number of its solutions, and whether the limit of solutions stopped it.
     Total {
         count: u32,
         stopped: bool,

@@ -1,4 +1,14 @@
-//! What a search for the solutions of a chess problem gives: its events, and moves as they are shown.
+//! The types of what a search returns: its events, and moves with all that their text says.
+//!
+//! ```rust
+//! use pop_events::Event;
+//!
+//! fn begins_solution(event: &Event) -> bool {
+//!     matches!(event, Event::Line { .. } | Event::Node { depth: 0, .. })
+//! }
+//! ```
+//!
+//! The interface is `Event`, `Phase`, `Shown`, `Mark` and `Side`. `specs/Shown.antt` defines what is shown of a move.
 #![tactic(auto)]
 
 pub mod event;

@@ -3,14 +3,14 @@ use chess_core::man::{Colour, Kind, Man};
 use chess_core::square::Square;
 use std::marker::Model;
 
-/// The side to which a king castles: the a-file or the h-file.
+/// The side that a king castles to: the a-file or the h-file.
 #[derive(Clone, Copy, PartialEq, Eq)]
 pub enum Side {
     A,
     H,
 }
 
-/// What a move does to the other side.
+/// What a move does to the opponent, as a report marks it.
 #[derive(Clone, Copy, PartialEq, Eq)]
 pub enum Mark {
     /// No check.
@@ -19,31 +19,30 @@ pub enum Mark {
     Check,
     /// Mate.
     Mate,
-    /// Stalemate, where that is the goal.
+    /// Stalemate. Marked only if stalemate is the goal (own).
     Stalemate,
 }
 
-/// A move as it is shown, with all that its text says. Contracts see the record `Shown` of the same fields, squares as
-/// their numbers.
+/// A move as shown, with all that its text says. Contracts see it as the record `Shown`, with squares as numbers.
 #[derive(Clone, Copy)]
 pub struct Shown {
     /// The man that moves, before a promotion.
     pub man: Man,
-    /// The origin.
+    /// The origin square.
     pub from: Square,
-    /// The arrival; for a pawn that captures en passant the crossed square.
+    /// The arrival square; for a capture en passant the en passant square.
     pub to: Square,
     /// Whether a man is captured.
     pub capture: bool,
-    /// Whether it is captured en passant.
+    /// Whether the capture is en passant.
     pub ep: bool,
-    /// What the man is promoted to.
+    /// The kind that the pawn is promoted to, if any.
     pub promo: Option<Kind>,
-    /// The side to which it castles.
+    /// The side that the king castles to, if the move is castling.
     pub castling: Option<Side>,
-    /// The captured man that is reborn, and where.
+    /// The captured man that is reborn and its square of rebirth, if any (Popeye manual, Circe).
     pub rebirth: Option<(Man, Square)>,
-    /// What it does to the other side.
+    /// What the move does to the opponent.
     pub mark: Mark,
 }
 
@@ -83,7 +82,7 @@ impl Default for Shown {
 
     ghost is_default = { λ s. s ≡ nothing_shown };
 
-    // The move of no man.
+    // Returns a move of no man, which is never shown.
     fn default() -> Shown {
         Shown {
             man: Man {

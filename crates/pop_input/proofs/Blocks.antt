@@ -4,7 +4,7 @@ use Rattle.pop_input.specs.declared.names.Command.TheVariants.{Next, Last}
 
 -- One more token.
 
--- the first fault behind one more word: an earlier one, or that of the word
+-- the first fault after one more word: an earlier fault, or the fault of the word
 fault_more : (draft : Draft) (done : List Token) (line : ℕ) (text : List ℕ)
     → first_fault draft (done ++ Word line text ∷ [])
     ≡ or_else (first_fault draft done) (at_line line (fault_of true (fold draft_after draft (words_in done)) text))
@@ -39,24 +39,24 @@ pub begun_word : (first : Bool) (done : List Token) (line : ℕ) (text : List �
 begun_word first [] line text = grind arith
 begun_word first (token ∷ done) line text = grind (arith, begun_word first done line text)
 
--- a text line begins none
+-- a text line begins no problem
 pub begun_line : (first : Bool) (done : List Token) (line : ℕ) (keyword text : List ℕ)
     → has_begun first (done ++ TextLine line keyword text ∷ []) ≡ has_begun first done
 begun_line first [] line keyword text = grind arith
 begun_line first (token ∷ done) line keyword text = grind (arith, begun_line first done line keyword text)
 
--- in a problem each token stands inside
+-- in a problem each token is inside
 pub inside_more : (first : Bool) (done : List Token) (token : Token) → has_begun first done ≡ true
     → tokens_inside first (done ++ token ∷ []) ≡ tokens_inside first done ++ token ∷ []
 inside_more first [] token h = grind arith
 inside_more first (other ∷ done) token h = grind (arith, inside_more first done token)
 
--- before the first problem none does
+-- before the first problem no token is inside
 pub inside_none : (first : Bool) (done : List Token) → has_begun first done ≡ false → tokens_inside first done ≡ []
 inside_none first [] h = grind arith
 inside_none first (token ∷ done) h = grind (arith, inside_none first done)
 
--- nor does the word that begins it
+-- the word that begins the first problem isn't inside
 pub inside_first : (first : Bool) (done : List Token) (token : Token) → has_begun first done ≡ false → tokens_inside first (done ++ token ∷ []) ≡ []
 inside_first first [] token h = grind arith
 inside_first first (other ∷ done) token h = grind (arith, inside_first first done token)
@@ -93,7 +93,7 @@ text_line wanted old (TextLine l k t ∷ done) line keyword text = text_line wan
 open_parts : (token : Token) (done : List Token) → list_all closes_none (token ∷ done) ≡ true → (closes_none token ≡ true) × (list_all closes_none done ≡ true)
 open_parts token done h = grind arith
 
--- open tokens stand in the first block
+-- open tokens are in the first block
 blocks_open : (done tokens : List Token) → list_all closes_none done ≡ true → (b : List Token) (bs : List (List Token)) → blocks_of tokens ≡ b ∷ bs
     → blocks_of (done ++ tokens) ≡ (done ++ b) ∷ bs
 blocks_open [] tokens h b bs e = e

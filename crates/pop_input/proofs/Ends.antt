@@ -87,7 +87,7 @@ module _ (first : Bool) (old new : Standing) (had left : Option (List ℕ)) (sta
     cut_with_fault fault (PastLimit line) is t later = fault_then_cut fault Long is t.0 t.1 refl later
     cut_with_fault fault (Device line) is t later = fault_then_cut fault Failing is t.0.0 t.0.1 refl later
 
-    -- and in one without
+    -- the input is cut off in a block without a fault
     cut_alone : (kind : FaultKind) (line : ℕ) (tail : Tail) → block.fault ≡ None → Takes (among mid) (among new.at) met left [] → IsOver new.at tail
         → line ≡ new.at.line → ((begun : Bool) → tail_fault begun tail ≡ kind) → new.next ≡ Nothing
         → NextItem old new had left (FaultyItem (fault_at kind line) Yes)
@@ -99,7 +99,7 @@ module _ (first : Bool) (old new : Standing) (had left : Option (List ℕ)) (sta
     cut_without_fault (PastLimit line) is t nothing = cut_alone InputTooLong line Long is t.0 t.1 t.2 (λ begun. grind arith) nothing
     cut_without_fault (Device line) is t nothing = cut_alone DeviceFailed line Failing is t.0.0 t.0.1 t.0.2 (λ begun. grind arith) nothing
 
-    -- a block that is cut tells its own fault first, and else how it was cut
+    -- a block that is cut reports its own fault first, else the cut
     pub cut_read : (f : Option Fault) (cut : ReadFault) → block.fault ≡ f → CutsOff mid new.at met left cut → new.next ≡ next_behind (told_of_cut f cut).1
         → NextItem old new had left (FaultyItem (told_of_cut f cut).0 (told_of_cut f cut).1)
     cut_read None cut is t behind = cut_without_fault cut is t behind

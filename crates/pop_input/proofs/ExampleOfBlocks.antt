@@ -8,7 +8,7 @@ line_holds_a_block : (block : ClosedBlock) × (tokens_at 4 (codes "beginproblem 
 unfolding command_of
 line_holds_a_block = (record { front = Word 4 (codes "beginproblem") ∷ []; line = 4; closer = codes "nextproblem"; plain = refl; closing = refl }, refl)
 
--- the first line holds one that EndProblem closes: an input of one problem
+-- the first line holds a block that EndProblem closes: an input of one problem
 only_line_holds_a_block : (block : ClosedBlock) × (tokens_at 1 (codes "beginproblem\tendproblem") ≡ tokens_in block)
 unfolding command_of
 only_line_holds_a_block = (

@@ -1,5 +1,4 @@
--- What the clauses exclude: bytes that an item doesn't use, a cut that isn't told, and words of which the definitions say otherwise than a wrong body
--- would.
+-- What the clauses exclude: using bytes after an item, hiding a cut, skipping a plain word, and reporting another fault.
 use Rattle.pop_input.proofs.Words.{Bool, Command, Diagram, EnPassantImpossible, Entry, Fault, Input, IsClosed, List, Long, MayFollow, NextItem, None, Option, Some, Standing, Draft, Stipulation, Takes, Token, Uses, Word, WordMisplaced, Words, Yes, [], among, ap, arith, closes_none, codes, command_of, diagram_fault, entries_by, entries_left, false, fault_at, first_fault, has_men, is_crossed_right, is_plain, last_of, length, length-append, list_all, list_all-append, nothing_said, onto_input, refl, section_of, sym, true, words_left, ℕ, ◌++◌, ◌<◌, ◌∙◌, ◌∷◌, ◌≡◌}
 use Rattle.std.proofs.lemmas.List.{append_cancel_right}
 use Rattle.pop_text.proofs.Excluded.{gap_or_word, same_bytes}
@@ -10,7 +9,7 @@ use Rattle.pop_input.specs.declared.fault_kind.FaultKind.TheVariants.{InputTooLo
 use Rattle.pop_input.specs.declared.item.Item.TheVariants.{Faulty}
 use Rattle.pop_input.specs.declared.item.Last.{Last}
 
--- Bytes behind the closing word.
+-- Bytes after the closing word.
 
 -- the last of bytes that end with a word belongs to the word
 ends_solid : (before word bytes : List ℕ) (b : ℕ) → before ++ word ≡ bytes ++ b ∷ [] → 0 < length word → list_all is_in_word word ≡ true
@@ -24,14 +23,14 @@ unfolding command_of section_of
 some_closer [] last is = cc
 some_closer (b ∷ word) last is = omega arith
 
--- a gap behind the word that closes an item isn't used
+-- a gap after the word that closes an item isn't used
 pub no_gap_behind : (old new : Standing) (had left bytes : List ℕ) (b : ℕ) → is_gap b ≡ true → Uses old.at new.at (Some had) (Some left) (bytes ++ b ∷ [])
     → IsClosed old new (Some had) (Some left) → ⊥
 no_gap_behind old new had left bytes b gap used c =
     let same = same_bytes old.at new.at had left (c.before ++ c.word) (bytes ++ b ∷ []) c.used.uses used in
     gap_or_word b gap (ends_solid c.before c.word bytes b same (some_closer c.word c.last c.closes) c.solid)
 
--- two ways to take tokens from a known source take the same
+-- two ways to take tokens from a known source take equal tokens
 same_tokens : (old new : Standing) (had left : List ℕ) (ts us : List Token) → Takes (among old.at) (among new.at) (Some had) (Some left) ts
     → Takes (among old.at) (among new.at) (Some had) (Some left) us → ts ≡ us
 same_tokens old new had left ts us p q =
@@ -52,7 +51,7 @@ closer_closes : (command : Option Command) (last : Last) (line : ℕ) (word : Li
     → closes_none (Word line word) ≡ false
 closer_closes command last line word is closes = grind arith
 
--- no word behind the one that closes an item is taken
+-- no word after the word that closes an item is taken
 pub no_word_behind : (old new : Standing) (had left : List ℕ) (front : List Token) (line : ℕ) (word : List ℕ) (last : Last) (more : List Token)
     → list_all closes_none front ≡ true → last_of (command_of word) ≡ Some last
     → Takes (among old.at) (among new.at) (Some had) (Some left) (front ++ Word line word ∷ more) → IsClosed old new (Some had) (Some left) → more ≡ []
@@ -63,12 +62,12 @@ no_word_behind old new had left front line word last more plain is taken c =
 
 -- Items.
 
--- behind the fault of a problem in which the input is cut the cut is an item of its own
+-- if the input is cut in a problem with a fault, the cut is an item of its own
 pub cut_is_an_item : (fault : Fault) (first : Bool) (line : ℕ) (block : List Token)
     → entries_by (Some fault) None first Long line block ≡ FaultyEntry fault ∷ FaultyEntry (fault_at InputTooLong line) ∷ []
 cut_is_an_item fault first line block = refl
 
--- so the fault isn't told as the last item while one more is to come
+-- so the fault isn't the last item
 pub cut_is_to_come : (old new : Standing) (had left : Option (List ℕ)) (fault : Fault) (did : NextItem old new had left (Faulty fault Yes)) (rest : Input)
     (other : Entry) (more : List Entry)
     → MayFollow new.at.end rest → entries_left old (onto_input did.0.bytes rest) ≡ FaultyEntry fault ∷ other ∷ more → ⊥
@@ -77,13 +76,13 @@ cut_is_to_come old new had left fault did rest other more may two =
     let none : entries_left new rest ≡ [] = rw did.1 refl in
     absurd (let one : FaultyEntry fault ∷ other ∷ more ≡ FaultyEntry fault ∷ [] = sym two ∙ begin ∙ ap (λ entries. FaultyEntry fault ∷ entries) none in cc)
 
--- a plain word of a sound problem may not be passed over: it is a fault
+-- a plain word of a sound problem may not be skipped: it is a fault
 pub plain_word_is_a_fault : (is_plain (Word 2 (codes "xx")) ≡ true)
     × (first_fault nothing_said (Word 2 (codes "xx") ∷ []) ≡ Some (fault_at WordMisplaced 2)) × (first_fault nothing_said [] ≡ None)
 unfolding command_of section_of
 plain_word_is_a_fault = (refl, refl, refl)
 
--- where men stand and no pawn can have passed the crossed square, this is the fault, and not that there are no men
+-- if there are men and no pawn can have passed over the en passant square, the fault is that, and not `NoMen`
 pub en_passant_is_told : (draft : Draft) (stipulation : Stipulation) (setup : Diagram) → has_men setup.men ≡ true
     → is_crossed_right setup.men setup.turn setup.crossed ≡ false → diagram_fault draft stipulation setup ≡ Some EnPassantImpossible
 en_passant_is_told draft stipulation setup some wrong = rw (some, wrong) refl

@@ -1,4 +1,4 @@
--- A block as far as it is read, and the item at its end.
+-- A block while it is read, and the item at its end.
 use Rattle.pop_input.proofs.Words.{Block, Bool, Command, IsNew, List, None, Option, Reading, ReadsWord, Some, Draft, Takes, TakesLine, TakesPart, TextLine, TextWord, Word, WordTooLong, [], among, ap, arith, at_line, block_fault, closes, closes_none, command_of, false, fault_at, fault_of, has_begun, inr, last_of, last_text, length, list_all, list_all-append, lt-ltb, no_short_form, noted_text, or_else, refl, section_of, sym, takes_none, text_of_line, text_word_of, tokens_inside, true, ℕ, ◌++◌, ◌<◌, ◌∙◌, ◌∷◌, ◌≡◌, ◌≤◌, ◌⊎◌}
 use Rattle.pop_text.specs.Words.{Token}
 use Rattle.pop_input.specs.declared.names.TextWord.TheVariants.{Title, Author}
@@ -22,15 +22,15 @@ pub record BlockSoFar (first : Bool) (old new : Reading) (had left : Option (Lis
   pub on : old.used ≤ new.used
   pub further : block.fault ≡ None ⊎ (old.used < new.used)
 
--- where a block begins no token of it is read
+-- when a block begins, no token of it is read
 pub block_starts : (first : Bool) (place : Reading) (had : Option (List ℕ)) (block : Block) → IsNew first block → BlockSoFar first place place had had block
 block_starts first place had block n = grind (arith, takes_none)
 
--- of two, where neither is there, the first isn't
+-- if neither of two values is there, the first isn't
 or_first : {A : Type 0} (a b : Option A) → or_else a b ≡ None → a ≡ None
 or_first a b h = grind arith
 
--- a word too long is no command
+-- a word that is too long is no command
 long_no_command : (text : List ℕ) → 160 < length text → command_of text ≡ None
 unfolding command_of section_of
 long_no_command text long = grind (arith, no_short_form)
@@ -38,7 +38,7 @@ long_no_command text long = grind (arith, no_short_form)
 long_fault : (begun : Bool) (draft : Draft) (text : List ℕ) → 160 < length text → fault_of begun draft text ≡ Some WordTooLong
 long_fault begun draft text long = rw (lt-ltb 160 (length text) long) refl
 
--- Texts behind one more token.
+-- The texts after one more token.
 
 title_line : (first : Bool) (done : List Token) (line : ℕ) (name rest : List ℕ) (keyword : TextWord) (text had : List ℕ) (begun : Bool)
     → begun ≡ has_begun first done → text_word_of name ≡ Some keyword → text ≡ text_of_line rest → had ≡ last_text Title [] (tokens_inside first done)

@@ -1,4 +1,4 @@
--- Names letter by letter.
+-- Keywords, letter by letter.
 use Rattle.pop_input.proofs.Words.{List, arith, drop, drop_all, drop_more, eq-eqb, false, get_or, length, length-map, longer, map, nat_eq, ne_eqb, refl, starts_with, to_ascii_lowercase, true, ℕ, ◌&&◌, ◌+◌, ◌<◌, ◌≡◌, ◌≤◌}
 
 -- a word in small letters

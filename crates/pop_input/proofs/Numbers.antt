@@ -46,7 +46,7 @@ word_small begun draft text = grind (arith, small_if, role_small)
 
 -- Faults.
 
--- the same of a fault with its line
+-- a fault with its line: no fault, or one numbered from 1 to 19
 abbrev pub SmallFault : Option Fault → Type 0
 SmallFault None = Unit {0}
 SmallFault (Some fault) = (1 ≤ fault.number) × (fault.number ≤ 19)
@@ -68,21 +68,21 @@ block_small true (TextLine line keyword text ∷ tokens) = block_small true toke
 
 -- Items.
 
--- an item with such a fault has a number that any place allows
+-- an item with a fault numbered from 1 to 19 is numbered in any state
 small_item : (place : Reading) (fault : Fault) (last : Last) → SmallFault (Some fault) → IsNumbered place (Faulty fault last)
 small_item place fault last p = grind arith
 
--- so has the item that a word closes
+-- the item that a word closes is numbered
 pub closed_numbered : (place : Reading) (f : Option Fault) (draft : Draft) (title author : List ℕ) (line : ℕ) (last : Last) → SmallFault f
     → IsNumbered place (item_of (judged_entry f draft title author line) last)
 unfolding posed_entry
 closed_numbered place f draft title author line last p = grind (arith, small_item)
 
--- so has one in which the input ends
+-- the item in which the input ends is numbered
 pub ended_numbered : (place : Reading) (block : Block) (line : ℕ) → SmallFault block.fault → IsNumbered place (ended_item block line)
 ended_numbered place block line p = grind arith
 
--- so has one that is cut: only a broken input has the last number
+-- the item that is cut is numbered: only a broken input has number 21
 pub cut_told : (old new : Reading) (had left : Option (List ℕ)) (f : Option Fault) (cut : ReadFault) → CutsOff old new had left cut → SmallFault f
     → IsNumbered new (Faulty (told_of_cut f cut).0 (told_of_cut f cut).1)
 cut_told old new had left f cut t p = grind arith

@@ -2,17 +2,17 @@
 use Rattle.pop_input.proofs.Words.{List, None, Option, Some, [], append_assoc, arith, before_squares, drop, drop_more, get_or, is_digit, length, list_all, map, most_solutions, refl, square_by, squares_from, stipulation_in_small_letters, to_ascii_lowercase, true, value_of, ℕ, ◌*◌, ◌++◌, ◌+◌, ◌<◌, ◌∷◌, ◌≡◌, ◌≤◌}
 use Rattle.std.proofs.Math.Seq.{drop-length}
 
--- squares before those of a text
+-- squares, followed by the squares of a text
 abbrev pub with_front : List ℕ → Option (List ℕ) → Option (List ℕ)
 with_front done None = None
 with_front done (Some squares) = Some (done ++ squares)
 
--- one square more before those of a text
+-- one more square, followed by the squares of a text
 pub front_more : (done : List ℕ) (square : ℕ) (squares : Option (List ℕ))
     → with_front done (before_squares (Some square) squares) ≡ with_front (done ++ square ∷ []) squares
 front_more done square squares = grind (arith, append_assoc)
 
--- This much of a number is read: it is known as far as it is no more than the greatest limit.
+-- The value of the digits so far: exact up to the greatest limit, above it only known to be greater.
 pub record DigitsSoFar (text : List ℕ) (value : ℕ) : Type 0 where
   pub digits : list_all is_digit text ≡ true
   pub same : value ≤ most_solutions → value ≡ value_of text

@@ -10,7 +10,7 @@ nobody zero s = refl
 nobody (suc n) zero = refl
 nobody (suc n) (suc s) = nobody n s
 
--- nobody stands on an empty board
+-- no man is on an empty board
 pub none_put : ArePut no_men
 none_put = record {
   size = refl;

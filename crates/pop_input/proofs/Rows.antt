@@ -34,7 +34,7 @@ unfolding limit awaited_of colour_of command_of condition_of kind_of option_of s
     some_square squares
 men_misplaced = (refl, refl, refl, refl)
 
--- a square given twice, a pawn on rank 8, a second king
+-- a square named twice, a pawn on rank 8, a second king
 squares_misplaced : (items (codes "BeginProblem\nPieces White Kg6 Rg6 Black Kg8\n") ≡ only_fault SquareTaken 2)
     × (items (codes "BeginProblem\nPieces White Pa8\n") ≡ only_fault PawnOnOuterRank 2)
     × (items (codes "BeginProblem\nPieces White Kg6h1\n") ≡ only_fault SecondKing 2)
@@ -42,7 +42,7 @@ unfolding limit awaited_of colour_of command_of condition_of kind_of option_of s
     some_square squares
 squares_misplaced = (refl, refl, refl)
 
--- a second stipulation, another word behind one, one out of range
+-- a second stipulation, another word after one, one out of range
 stipulations_misplaced : (items (codes "BeginProblem\nPieces White Kg6 Ra1 Black Kg8\nStipulation #1 #1\nEndProblem\n") ≡ only_fault SecondStipulation 3)
     × (items (codes "BeginProblem\nPieces White Kg6 Ra1 Black Kg8\nStipulation #1 foo\nEndProblem\n") ≡ only_fault WordMisplaced 3)
     × (items (codes "BeginProblem\nPieces White Kg6 Ra1 Black Kg8\nStipulation h#16.5\nEndProblem\n") ≡ only_fault BadStipulation 3)
@@ -79,7 +79,7 @@ unfolding limit awaited_of colour_of command_of condition_of kind_of option_of s
     some_square squares
 long_words = (refl, refl)
 
--- a source that fails in a problem, and behind a fault of one
+-- a source that fails in a problem, and after a problem's fault
 failing_source : (items_by Failed (codes "BeginProblem\nPieces White Kg6\nxx") ≡ only_fault DeviceFailed 3)
     × (items_by Failed (codes "BeginProblem\nxx\n") ≡ Faulty (fault_at WordMisplaced 2) ∷ only_fault DeviceFailed 3)
 unfolding limit awaited_of colour_of command_of condition_of kind_of option_of section_of text_word_of limit_of squares_named stipulation_of is_man_on has_man
@@ -104,7 +104,7 @@ man colour of = record { colour = colour; kind = of }
 abbrev three_men : List (Option Man)
 three_men = with_man (with_man (with_man no_men 46 (man White King)) 0 (man White Rook)) 62 (man Black King)
 
--- a title before the problem has no effect; the last author stands, without the blanks around it; a word in a text line is none
+-- a title before the problem has no effect; the last author counts, without the blanks around it; a keyword in a text line is text
 sound_problem : items
     (codes "Title early\nBeginProblem\nAuthor X\nPieces White Kg6 Remark EndProblem\nRa1 Black Kg8\naut  A. B. \nStipulation #1\nEndProblem foo\n")
     ≡ Sound (record {

@@ -1,4 +1,4 @@
--- Plain words behind a fault change nothing.
+-- Plain words after a fault change nothing.
 use Rattle.pop_input.proofs.Words.{Block, Bool, Fault, List, None, Option, Reading, Skips, Some, [], among, append-nil, append_assoc, arith, block_fault, closes, closes_none, codes, command_of, false, inl, inr, is_named, is_plain, is_short_form, list_all, list_all-append, plain_no_closing, refl, sym, true, ℕ, ◌++◌, ◌<◌, ◌∙◌, ◌∷◌, ◌≡◌, ◌⊎◌}
 use Rattle.pop_text.specs.Words.{Token}
 use Rattle.pop_input.proofs.Blocks.{block_more}
@@ -43,6 +43,6 @@ module _ (first : Bool) (old mid new : Reading) (had left : Option (List ℕ)) (
   by_fault : (fault : Option Fault) → block.fault ≡ fault → (block.fault ≡ None → new ≡ mid) → BlockSoFar first old new had left block
   by_fault fault is same = grind (arith, behind_fault)
 
-  -- behind a fault plain words may be skipped: what is known of the block stays
+  -- after a fault plain words may be skipped: the block doesn't change
   pub skip_read : (block.fault ≡ None → new ≡ mid) → BlockSoFar first old new had left block
   skip_read same = by_fault block.fault refl same

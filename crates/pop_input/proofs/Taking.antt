@@ -7,12 +7,12 @@ use Rattle.pop_text.specs.declared.scanner.End.TheVariants.{Open}
 use Rattle.pop_text.specs.declared.word.Word.{Word as Room}
 use Rattle.pop_input.specs.declared.token.ReadToken.TheVariants.{Line, Cut}
 
--- a source may go on somehow
+-- a source can always continue in some way
 pub some_rest : (end : End) → (rest : Input) × MayFollow end rest
 some_rest Open = (record { bytes = []; ending = Clean }, tt)
 some_rest end = grind arith
 
--- an input that begins with bytes and then with others
+-- bytes, and then other bytes, before an input
 after_both : (xs ys : List ℕ) (rest : Input) → onto_input (xs ++ ys) rest ≡ onto_input xs (onto_input ys rest)
 after_both xs ys rest = rw (append_assoc xs ys rest.bytes) refl
 
@@ -70,6 +70,6 @@ module _ (old mid new : Reading) (had met left : Option (List ℕ)) (room : Room
     rest.4,
   )
 
--- where no token is taken, the place stays within the limit
+-- if no token is taken, the scanner stays within the limit
 pub none_within : (old : Spot) (new : Reading) (had left : Option (List ℕ)) (fault : ReadFault) → TakesNone old new had left fault → new.used ≤ limit
 none_within old new had left fault none = grind arith

@@ -66,7 +66,7 @@ module _ (first : Bool) (old new : Standing) (mid : Reading) (had met left : Opt
     over = u.1;
   }
 
-  -- and of one in which the input ends, or is cut
+  -- the item of a block in which the input ends or is cut
   pub end_used : Takes (among mid) (among new.at) met left [] → UsesSome mid new.at met left → IsInputOver new.at → IsUnclosed old new had left
   end_used t u over = record {
     tokens = b.done;
@@ -80,13 +80,13 @@ module _ (first : Bool) (old new : Standing) (mid : Reading) (had met left : Opt
     over = over;
   }
 
--- the item of a closed block, where the reader stands behind the closing word, and nothing more was taken from the source
+-- the item of a closed block, if the reader is at the end of the closing word
 pub closed_item : (old new behind : Standing) (had left met : Option (List ℕ)) (entry : Entry) (last : Last) → IsClosed old behind had met
     → new ≡ behind → left ≡ met → UsesItem old new had left (item_of entry last)
 closed_item old new behind had left met (Sound problem) last is stays same = rw (stays, same) is
 closed_item old new behind had left met (Faulty fault) last is stays same = rw (stays, same) (inl is)
 
--- where a fault cuts the input, no token is taken
+-- if a fault cuts the input, no token is taken
 pub cut_takes : {old new : Reading} {had left : Option (List ℕ)} (cut : ReadFault) → CutsOff old new had left cut → Takes (among old) (among new) had left []
 cut_takes (TooLong line) t = absurd t
 cut_takes (InputTooLong line) t = t.0

@@ -1,4 +1,4 @@
--- What the definitions mean, for readers: theorems over every input.
+-- What the definitions mean, for readers: theorems that hold for every input.
 pub mod Entries
 pub mod Inputs
 pub mod FaultNumbers

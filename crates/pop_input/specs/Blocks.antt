@@ -1,4 +1,4 @@
--- The blocks of an input, and the entry of each (own; commands of the Popeye manual).
+-- The blocks of an input, and the entry of each block (own; commands of the Popeye manual).
 use Rattle.pop_input.specs.declared.fault_kind.FaultKind.{FaultKind}
 use Rattle.pop_input.specs.declared.fault_kind.FaultKind.TheVariants.{BeginProblemMissing, StipulationMissing, EndProblemMissing, InputTooLong, DeviceFailed}
 use Rattle.pop_input.specs.FaultKinds.{at_line, fault_at}
@@ -23,32 +23,33 @@ words_in [] = []
 words_in ((Word line text) ∷ tokens) = text ∷ words_in tokens
 words_in ((TextLine line keyword text) ∷ tokens) = words_in tokens
 
--- The words and text lines of a problem: those of its block, in the first block those after the first word, which is BeginProblem.
+-- The words and text lines of a problem. In the first block the problem begins after the first word, BeginProblem; in a
+-- later block it is the whole block.
 
--- whether a problem has begun when these tokens are over: in the first block a word has to come first
+-- whether a problem has begun after these tokens of a block: in the first block if a word is among them, later always
 abbrev pub has_begun : Bool → List Token → Bool
 has_begun false tokens = true
 has_begun true [] = false
 has_begun true ((Word line text) ∷ tokens) = true
 has_begun true ((TextLine line keyword text) ∷ tokens) = has_begun true tokens
 
--- the tokens of the problem itself
+-- the tokens of a block that belong to its problem
 abbrev pub tokens_inside : Bool → List Token → List Token
 tokens_inside false tokens = tokens
 tokens_inside true [] = []
 tokens_inside true ((Word line text) ∷ tokens) = tokens
 tokens_inside true ((TextLine line keyword text) ∷ tokens) = tokens_inside true tokens
 
--- The first fault of the words of a problem, and of those of a block.
+-- The first faulty word.
 
--- the first fault of tokens, where the words before them say this
+-- the first fault of tokens that follow the words of this draft
 abbrev pub first_fault : Draft → List Token → Option Fault
 first_fault draft [] = None
 first_fault draft ((Word line text) ∷ tokens) = or_else
     (at_line line (fault_of true draft text)) (first_fault (draft_after draft text) tokens)
 first_fault draft ((TextLine line keyword text) ∷ tokens) = first_fault draft tokens
 
--- the first fault of the tokens of a block, which is the first of the input or a later one
+-- the first fault of the tokens of a block, the first block or a later one
 abbrev pub block_fault : Bool → List Token → Option Fault
 block_fault false tokens = first_fault nothing_said tokens
 block_fault true [] = None
@@ -56,16 +57,16 @@ block_fault true ((Word line text) ∷ tokens) = or_else
     (at_line line (fault_of false nothing_said text)) (first_fault nothing_said tokens)
 block_fault true ((TextLine line keyword text) ∷ tokens) = block_fault true tokens
 
--- the command that a token is, if it is one
+-- the command that a token is, if any
 abbrev pub closing_of : Token → Option Command
 closing_of (Word line text) = command_of text
 closing_of (TextLine line keyword text) = None
 
--- a token that closes no block
+-- whether a token closes no block
 abbrev pub closes_none : Token → Bool
 closes_none token = not (closes (closing_of token))
 
--- a token before blocks, the first of which it may close
+-- the blocks of tokens, by the command that the first token is, if any, the first token, and the blocks of the others
 abbrev pub before_blocks : Option Command → Token → List (List Token) → List (List Token)
 before_blocks (Some Next) token blocks = (token ∷ []) ∷ blocks
 before_blocks (Some Last) token blocks = (token ∷ []) ∷ []
@@ -73,36 +74,36 @@ before_blocks (Some Begin) token blocks = onto_first token blocks
 before_blocks (Some (Enter section)) token blocks = onto_first token blocks
 before_blocks None token blocks = onto_first token blocks
 
--- cut after each NextProblem and EndProblem, up to the first EndProblem
+-- the blocks of tokens: cut after each NextProblem and EndProblem, up to the first EndProblem
 abbrev pub blocks_of : List Token → List (List Token)
 blocks_of [] = [] ∷ []
 blocks_of (token ∷ tokens) = before_blocks (closing_of token) token (blocks_of tokens)
 
--- the line in which a token stands
+-- the line of a token
 abbrev pub line_of : Token → ℕ
 line_of (Word line text) = line
 line_of (TextLine line keyword text) = line
 
--- a line, or none
+-- this line if the condition is true, else none
 abbrev pub line_if : Bool → ℕ → Option ℕ
 line_if true line = Some line
 line_if false line = None
 
--- the line of the word that closes a block
+-- the line of the word that closes a block, if one does
 abbrev pub closing_line : List Token → Option ℕ
 closing_line [] = None
 closing_line (token ∷ tokens) = or_else (closing_line tokens)
     (line_if (closes (closing_of token)) (line_of token))
 
--- The text lines of a problem.
+-- The title and the author.
 
--- the text behind a wanted text word, after one more text line
+-- the text of a wanted text word after one more text line
 abbrev pub text_after : TextWord → List ℕ → Option TextWord → List ℕ → List ℕ
 text_after Title old (Some Title) line = text_of_line line
 text_after Author old (Some Author) line = text_of_line line
 text_after _ old _ line = old
 
--- the last text behind such a text word, after another one
+-- the last text of a wanted text word in tokens, or the old text if there is none
 abbrev pub last_text : TextWord → List ℕ → List Token → List ℕ
 last_text wanted old [] = old
 last_text wanted old ((Word line text) ∷ tokens) = last_text wanted old tokens
@@ -116,47 +117,46 @@ pub data Entry : Type 0 where
   Sound : Posed → Entry
   Faulty : Fault → Entry
 
--- a problem, or its fault in its place
+-- a problem, or the fault in its place
 abbrev pub entry_of : Option Fault → Posed → Entry
 entry_of None problem = Sound problem
 entry_of (Some fault) problem = Faulty fault
 
--- what words without a fault pose by their stipulation, if they give one
+-- the entry of words without a fault, by their stipulation, if any
 abbrev pub stated_entry : Draft → Option Stipulation → List ℕ → List ℕ → ℕ → Entry
 stated_entry draft None title author line = Faulty (fault_at StipulationMissing line)
 stated_entry draft (Some stipulation) title author line = entry_of
     (at_line line (diagram_fault draft stipulation (diagram_of draft stipulation.form)))
     (posed_of draft stipulation title author)
 
--- the problem that words without a fault pose, or the fault at their end, in this line
+-- the entry of words without a fault: the problem that they pose, or the fault at its end, in this line
 unfoldable pub posed_entry : Draft → List ℕ → List ℕ → ℕ → Entry
 posed_entry draft title author line = stated_entry draft draft.stipulation title author line
 
--- the first fault of the words, if they have one, else what they pose
+-- the entry of words: their first fault, if any, else what they pose
 abbrev pub judged_entry : Option Fault → Draft → List ℕ → List ℕ → ℕ → Entry
 judged_entry (Some fault) draft title author line = Faulty fault
 judged_entry None draft title author line = posed_entry draft title author line
 
--- the entry of tokens that a word in this line closes
+-- the entry of the tokens of a problem that a word in this line closes
 abbrev pub closed_entry : Option Fault → ℕ → List Token → Entry
 closed_entry fault line tokens = judged_entry fault (draft_of (words_in tokens))
     (last_text Title [] tokens) (last_text Author [] tokens) line
 
--- the fault of a tail
+-- the fault of an input that ends in a block, by whether the block's problem has begun and how the input ends
 abbrev pub tail_fault : Bool → Tail → FaultKind
 tail_fault true End = EndProblemMissing
 tail_fault false End = BeginProblemMissing
 tail_fault begun Long = InputTooLong
 tail_fault begun Broken = DeviceFailed
 
--- what an input says behind its last block: that it was too long, or that its source failed
+-- the entries after the fault of a block that isn't closed: one if the input is too long or its source failed
 abbrev pub more_entries : Tail → ℕ → List Entry
 more_entries End line = []
 more_entries Long line = Faulty (fault_at InputTooLong line) ∷ []
 more_entries Broken line = Faulty (fault_at DeviceFailed line) ∷ []
 
--- the entries of a block, by the fault of its words and the line of the word that closes it; if none does, what the tail
--- says comes too
+-- the entries of a block, by the first fault of its words, if any, and the line of the word that closes it, if any
 abbrev pub entries_by : Option Fault → Option ℕ → Bool → Tail → ℕ → List Token → List Entry
 entries_by fault (Some line) first tail tail_line block = closed_entry fault line
     (tokens_inside first block) ∷ []
@@ -164,13 +164,13 @@ entries_by (Some fault) None first tail tail_line block = Faulty fault ∷ more_
 entries_by None None first tail tail_line block = Faulty
     (fault_at (tail_fault (has_begun first block) tail) tail_line) ∷ []
 
--- the entries of blocks, the first block of the input among them or not
+-- the entries of blocks, with the first block of the input or without it
 abbrev pub block_entries : Bool → Tail → ℕ → List (List Token) → List Entry
 block_entries first tail tail_line [] = []
 block_entries first tail tail_line (block ∷ blocks) =
     entries_by (block_fault first block) (closing_line block) first tail tail_line block
     ++ block_entries false tail tail_line blocks
 
--- the entries of words from the start of a block on, the first block or a later one
+-- the entries of the words from the start of a block on, the first block or a later one
 abbrev pub entries_of : Bool → Words → List Entry
 entries_of first words = block_entries first words.tail words.tail_line (blocks_of words.tokens)

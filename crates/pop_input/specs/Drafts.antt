@@ -1,4 +1,4 @@
--- What the words of a problem say, one after another (Popeye manual; the place of a word is own).
+-- What the words of a problem say, word by word (Popeye manual; the context of a word is own).
 use Rattle.std.specs.Prelude.{ℕ, List, [], ◌∷◌, true, false, if◌then◌else◌, Option, Some, None, is_some, unwrap_or, fold}
 use Rattle.std.specs.List.{repeat}
 use Rattle.chess_core.specs.Castling.{none_unmoved, with_unmoved}
@@ -24,14 +24,14 @@ use Rattle.pop_input.specs.declared.names.Awaited.TheVariants.{Number, OneSquare
 use Rattle.pop_input.specs.declared.stipulation.Stipulation.{Stipulation}
 use Rattle.pop_input.specs.declared.switches.Switches.{Switches}
 
--- The place of a word: the section, and what an option awaits.
+-- The context of a word: the open section, and the value that an option expects.
 
--- what a word that no option awaits is
+-- what a word is if no option expects it
 abbrev pub plain_role : Option Command → Option Section → Role
 plain_role (Some command) section = Control command
 plain_role None section = Within section
 
--- what a word at a place is, where an option awaits this
+-- what a word is in a context in which an option expects this value
 abbrev pub role_by : Option Awaited → Place → List ℕ → Role
 role_by (Some Number) place text = Limit
 role_by (Some OneSquare) place text = CrossedSquare
@@ -40,59 +40,59 @@ role_by (Some MoreSquares) place text = if is_some (squares_named text) then Bar
     else plain_role (command_of text) place.section
 role_by None place text = plain_role (command_of text) place.section
 
--- what a word at a place is: an awaited value, a command or a word of the section
+-- what a word is in its context: a value that an option expects, a command or a word of the section
 abbrev pub role_of : Place → List ℕ → Role
 role_of place text = role_by place.awaited place text
 
--- the section that is open behind a word
+-- the open section after a word
 abbrev pub section_after : Role → Option Section → Option Section
 section_after (Control (Enter opened)) old = Some opened
 section_after _ old = old
 
--- what an option awaits
+-- the value that an option expects
 abbrev pub awaited_by : Option OptionWord → Option Awaited
 awaited_by (Some (Awaits awaited)) = Some awaited
 awaited_by _ = None
 
--- what is awaited behind a word
+-- the value that is expected after a word
 abbrev pub awaited_after : Role → List ℕ → Option Awaited
 awaited_after BarredSquares text = Some MoreSquares
 awaited_after (Within (Some Options)) text = awaited_by (option_of text)
 awaited_after _ text = None
 
--- the place behind one more word
+-- the context after a word
 abbrev pub place_after : Role → Place → List ℕ → Place
 place_after role place text = record {
   section = section_after role place.section;
   awaited = awaited_after role text;
 }
 
--- What was given.
+-- What single words say.
 
--- the colour behind one more word: a command ends it
+-- the colour after a word: a command ends it
 abbrev pub colour_after : Role → List ℕ → Option Colour → Option Colour
 colour_after (Control command) text old = None
 colour_after (Within (Some Pieces)) text old = or_else (colour_of text) old
 colour_after _ text old = old
 
--- men put on squares in turn
+-- the men after putting a man on each of the squares in turn
 abbrev pub put_men : List (Option Man) → Man → List ℕ → List (Option Man)
 put_men men man [] = men
 put_men men man (square ∷ squares) = put_men (with_man men square man) man squares
 
--- the men with those that a colour, a letter and squares put, if all three are there
+-- the men after putting men of a colour and a kind on squares, if both are known
 abbrev pub put_kind : Option Colour → Option Kind → List ℕ → List (Option Man) → List (Option Man)
 put_kind (Some colour) (Some kind) squares men = put_men men
     (record { colour = colour; kind = kind }) squares
 put_kind _ _ squares men = men
 
--- the men with those that a word of a letter and squares puts
+-- the men after a word of the section Pieces: a colour, or a letter and squares
 abbrev pub put_word : Option Colour → List ℕ → List (Option Man) → List (Option Man)
 put_word colour [] men = men
 put_word colour (letter ∷ text) men = if is_some (colour_of (letter ∷ text)) then men
     else put_kind colour (kind_of letter) (unwrap_or (squares_named text) []) men
 
--- the men behind one more word
+-- the men after a word
 abbrev pub men_after : Role → Option Colour → List ℕ → List (Option Man) → List (Option Man)
 men_after (Within (Some Pieces)) colour text men = put_word colour text men
 men_after _ colour text men = men
@@ -101,17 +101,17 @@ men_after _ colour text men = men
 abbrev pub no_men : List (Option Man)
 no_men = repeat 64 (None ∷ [])
 
--- the stipulation behind one more word: the first counts
+-- the stipulation after a word: the first one counts
 abbrev pub stipulation_after : Role → List ℕ → Option Stipulation → Option Stipulation
 stipulation_after (Within (Some Stipulations)) text old = or_else old (stipulation_of text)
 stipulation_after _ text old = old
 
--- the condition behind one more word: the first counts
+-- the condition after a word: the first one counts
 abbrev pub condition_after : Role → List ℕ → Option Condition → Option Condition
 condition_after (Within (Some Conditions)) text old = or_else old (condition_of text)
 condition_after _ text old = old
 
--- the options that hold or do not
+-- the options without a value after an option
 abbrev pub switches_with : Option OptionWord → Switches → Switches
 switches_with (Some SetPlay) old = record old { set_play = true }
 switches_with (Some Variation) old = record old { variation = true }
@@ -119,31 +119,31 @@ switches_with (Some NoBoard) old = record old { no_board = true }
 switches_with (Some (Awaits awaited)) old = old
 switches_with None old = old
 
--- the options that hold behind one more word
+-- the options without a value after a word
 abbrev pub switches_after : Role → List ℕ → Switches → Switches
 switches_after (Within (Some Options)) text old = switches_with (option_of text) old
 switches_after _ text old = old
 
--- the limit of solutions behind one more word
+-- the limit of solutions after a word
 abbrev pub limit_after : Role → List ℕ → ℕ → ℕ
 limit_after Limit text old = unwrap_or (limit_of text) old
 limit_after _ text old = old
 
--- the crossed square behind one more word
+-- the en passant square after a word
 abbrev pub crossed_after : Role → List ℕ → Option ℕ → Option ℕ
 crossed_after CrossedSquare text old = or_else (only_square (squares_named text)) old
 crossed_after _ text old = old
 
--- the squares of NoCastling behind one more word
+-- the squares of NoCastling after a word
 abbrev pub barred_after : Role → List ℕ → Unmoved → Unmoved
 barred_after BarredSquares text old = fold with_unmoved old (unwrap_or (squares_named text) [])
 barred_after _ text old = old
 
--- All that words say.
+-- All that the words say.
 
--- the place behind them; the last colour since the last command; the men put so far, square by square;
--- the first stipulation and the first condition; the options that hold; the limit of the last
--- MaxSolutions; the square of the last EnPassant; the castling squares that NoCastling names
+-- the context of the next word; the last colour since the last command; the men put so far, square by square; the first
+-- stipulation and the first condition; the options without a value; the limit of the last MaxSolutions; the square of
+-- the last EnPassant; the castling squares that NoCastling names
 pub record Draft : Type 0 where
   pub place : Place
   pub colour : Option Colour
@@ -155,7 +155,7 @@ pub record Draft : Type 0 where
   pub crossed : Option ℕ
   pub barred : Unmoved
 
--- what no words say: an empty board, and the greatest limit of solutions
+-- the draft before any word: an empty board, and the greatest limit of solutions
 abbrev pub nothing_said : Draft
 nothing_said = record {
   place = record { section = None; awaited = None };
@@ -169,7 +169,7 @@ nothing_said = record {
   barred = none_unmoved;
 }
 
--- what is said with one more word, which has this role
+-- the draft after a word that has this role
 abbrev pub draft_by : Role → Draft → List ℕ → Draft
 draft_by role draft text = record {
   place = place_after role draft.place text;
@@ -183,10 +183,10 @@ draft_by role draft text = record {
   barred = barred_after role text draft.barred;
 }
 
--- what is said with one more word
+-- the draft after a word
 abbrev pub draft_after : Draft → List ℕ → Draft
 draft_after draft text = draft_by (role_of draft.place text) draft text
 
--- what words in order say
+-- the draft after all of the words
 abbrev pub draft_of : List (List ℕ) → Draft
 draft_of words = fold draft_after nothing_said words

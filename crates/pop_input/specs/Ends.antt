@@ -17,18 +17,19 @@ use Rattle.pop_input.specs.declared.stipulation.Stipulation.{Stipulation}
 
 -- The diagram.
 
--- whether a square counts as unmoved: the king or rook that castles from it stands there, and NoCastling does not name it (Codex)
+-- whether a square has castling rights: the king or rook that castles from it is there, and NoCastling doesn't name it
+-- (Codex)
 abbrev pub counts_as_unmoved : List (Option Man) → Unmoved → ℕ → Bool
 counts_as_unmoved men barred square =
     is_home (man_on men square) square && not (has_unmoved barred square)
 
--- the castling squares that count as unmoved
+-- the castling rights, as squares
 unfoldable pub unmoved_of : List (Option Man) → Unmoved → Unmoved
 unmoved_of men barred =
     fold (λ set square. mark_unmoved set square (counts_as_unmoved men barred square))
     none_unmoved castling_squares
 
--- the diagram that words pose: who starts is said by the form
+-- the diagram that words pose: the form says who starts
 abbrev pub diagram_of : Draft → Form → Diagram
 diagram_of draft form = record {
   men = draft.men;
@@ -37,7 +38,7 @@ diagram_of draft form = record {
   crossed = draft.crossed;
 }
 
--- the problem that words pose with this stipulation, a title and an author
+-- the problem that words pose, with a stipulation, a title and an author
 abbrev pub posed_of : Draft → Stipulation → List ℕ → List ℕ → Posed
 posed_of draft stipulation title author = record {
   diagram = diagram_of draft stipulation.form;
@@ -51,14 +52,14 @@ posed_of draft stipulation title author = record {
   author = author;
 }
 
--- The tests, in their order.
+-- The tests at the end of a problem, in their order.
 
--- no king to be mated, the side that isn't to move in check
+-- the fault of a position: the king to be mated is missing, or the side that isn't to move is in check
 abbrev pub position_fault : Bool → Bool → Option FaultKind
 position_fault has_king in_check = if not has_king then Some KingMissing
     else (if in_check then Some WaitingSideInCheck else None)
 
--- no men, en passant not possible, and the faults of the position
+-- the fault of a diagram: no men, en passant impossible, or a fault of its position
 abbrev pub diagram_fault : Draft → Stipulation → Diagram → Option FaultKind
 diagram_fault draft stipulation diagram =
     if not (has_men diagram.men) then Some NoMen
@@ -67,15 +68,15 @@ diagram_fault draft stipulation diagram =
     else position_fault (has_king_to_mate stipulation diagram.men)
     (in_check (rule_of draft.condition) diagram.men (other diagram.turn)))
 
--- What words without a fault keep.
+-- What holds of words without a fault.
 
--- the men put: at most one king a colour, and no pawn on ranks 1 and 8
+-- the men on the board: 64 squares, at most one king of each colour, and no pawn on ranks 1 and 8
 pub record ArePut (men : List (Option Man)) : Type 0 where
   pub size : length men ≡ 64
   pub kings : AtMostOneKing men
   pub pawns : (s : ℕ) → is_pawn_inside (man_on men s) s ≡ true
 
--- a stipulation, if there is one, that may stand
+-- whether a stipulation, if there is one, is in range
 abbrev pub is_stated : Option Stipulation → Bool
 is_stated None = true
 is_stated (Some stipulation) = is_in_range stipulation

@@ -1,4 +1,4 @@
--- The kinds of faults and their numbers (own). Their texts stand in pop_print.
+-- The kinds of faults and their numbers (own). Their texts are in pop_print.
 use Rattle.std.specs.Prelude.{ℕ, ◌==◌, List, [], ◌∷◌, find, Option, option_map}
 use Rattle.pop_input.specs.declared.item.Fault.{Fault}
 use Rattle.pop_input.specs.declared.fault_kind.FaultKind.{FaultKind}
@@ -41,7 +41,7 @@ number_of EndProblemMissing = 19
 number_of InputTooLong = 20
 number_of DeviceFailed = 21
 
--- the kind that has this number
+-- the kind with this number
 unfoldable pub kind_numbered : ℕ → Option FaultKind
 kind_numbered number = find (λ kind. number_of kind == number) fault_kinds
 
@@ -49,6 +49,6 @@ kind_numbered number = find (λ kind. number_of kind == number) fault_kinds
 abbrev pub fault_at : FaultKind → ℕ → Fault
 fault_at kind line = record { number = number_of kind; line = line }
 
--- a fault in a line, where there is one
+-- a fault in this line, if there is one
 abbrev pub at_line : ℕ → Option FaultKind → Option Fault
 at_line line fault = option_map (λ kind. fault_at kind line) fault

@@ -1,7 +1,7 @@
 -- Letters, digits and signs by their ASCII codes.
 use Rattle.std.specs.Prelude.{ℕ}
 
--- The small letters of men (Popeye manual: English letters; S is the knight, N the nightrider).
+-- The small letters of men (Popeye manual, English letters: S is the knight, N the nightrider).
 
 -- `k`
 abbrev pub king_letter : ℕ
@@ -35,7 +35,7 @@ grasshopper_letter = 103
 abbrev pub nightrider_letter : ℕ
 nightrider_letter = 110
 
--- What a stipulation is written with.
+-- The letters and signs of stipulations.
 
 -- `#`
 abbrev pub mate_sign : ℕ
@@ -57,7 +57,7 @@ help_letter = 104
 abbrev pub point : ℕ
 point = 46
 
--- Digits, and other letters: files begin with `a`, and colours are `w` and `b`.
+-- Digits, the letter of the first file, and the first letters of the colours.
 
 -- `0`
 abbrev pub digit_0 : ℕ

@@ -1,4 +1,4 @@
--- Named words (Popeye manual), and their short forms (own).
+-- Keywords (Popeye manual) and their short forms (own).
 use Rattle.std.specs.Prelude.{ℕ, ◌==◌, ◌&&◌, length, nat_le, nat_eq, List, [], ◌∷◌, Bool, true, false, codes, find, map, Option, Some, None, option_map, if◌then◌else◌}
 use Rattle.std.specs.Char.{to_ascii_lowercase}
 use Rattle.std.specs.List.{starts_with}
@@ -21,12 +21,12 @@ use Rattle.pop_input.specs.declared.names.Awaited.TheVariants.{Number, OneSquare
 use Rattle.pop_input.specs.declared.names.TextWord.{TextWord}
 use Rattle.pop_input.specs.declared.names.TextWord.TheVariants.{Title, Author, Origin, Remark}
 
--- the entry of a table of which the word is a short form
+-- the value of a word in a table of names, each in full or as a short form
 abbrev pub entry_named : {A : Type 0} → List (List ℕ × A) → List ℕ → Option A
 entry_named table text = option_map (λ entry. entry.1)
     (find (λ entry. is_short_form entry.0 text) table)
 
--- the first of two, if it is there
+-- the first of two values, if there is one, else the second
 abbrev pub or_else : {A : Type 0} → Option A → Option A → Option A
 or_else None later = later
 or_else (Some a) later = Some a
@@ -36,12 +36,12 @@ unfoldable pub section_of : List ℕ → Option Section
 section_of text = entry_named ((codes "pieces", Pieces) ∷ (codes "stipulation", Stipulation)
     ∷ (codes "condition", Conditions) ∷ (codes "option", Options) ∷ []) text
 
--- the command that a word is, if it is one
+-- the command that a word is, if any
 unfoldable pub command_of : List ℕ → Option Command
 command_of text = or_else (entry_named ((codes "beginproblem", Begin) ∷ (codes "nextproblem", Next)
     ∷ (codes "endproblem", Last) ∷ []) text) (option_map Enter (section_of text))
 
--- the text word that a word is, if it is one
+-- the text word that a word is, if any
 unfoldable pub text_word_of : List ℕ → Option TextWord
 text_word_of text = entry_named ((codes "title", Title) ∷ (codes "author", Author)
     ∷ (codes "origin", Origin) ∷ (codes "remark", Remark) ∷ []) text
@@ -50,7 +50,7 @@ text_word_of text = entry_named ((codes "title", Title) ∷ (codes "author", Aut
 unfoldable pub condition_of : List ℕ → Option Condition
 condition_of text = entry_named ((codes "circe", Circe) ∷ (codes "madrasi", Madrasi) ∷ []) text
 
--- what the options that await a value await
+-- the value that an option expects, by its word
 unfoldable pub awaited_of : List ℕ → Option Awaited
 awaited_of text = entry_named ((codes "maxsolutions", Number) ∷ (codes "enpassant", OneSquare)
     ∷ (codes "nocastling", Squares) ∷ []) text
@@ -60,7 +60,7 @@ unfoldable pub option_of : List ℕ → Option OptionWord
 option_of text = or_else (entry_named ((codes "setplay", SetPlay) ∷ (codes "variation", Variation)
     ∷ (codes "noboard", NoBoard) ∷ []) text) (option_map Awaits (awaited_of text))
 
--- one letter or more with which the colour's name begins, in capitals or not
+-- whether a word is one letter or more with which a colour's name begins, in capitals or not
 abbrev pub is_colour : List ℕ → List ℕ → Bool
 is_colour name text = nat_le 1 (length text)
     && starts_with nat_eq name (map to_ascii_lowercase text)
@@ -70,7 +70,7 @@ unfoldable pub colour_of : List ℕ → Option Colour
 colour_of text = if is_colour (codes "white") text then Some White
     else (if is_colour (codes "black") text then Some Black else None)
 
--- the kind of a man's letter, in capitals or not
+-- the kind of man with this letter, in capitals or not
 unfoldable pub kind_of : ℕ → Option Kind
 kind_of letter =
     let small = to_ascii_lowercase letter in

@@ -1,4 +1,4 @@
--- A problem as it is posed.
+-- A problem as posed.
 use Rattle.std.specs.Prelude.{◌≡◌, ◌≤◌, ℕ, Bool, true, false, List, Option, Some, None}
 use Rattle.chess_core.specs.Diagrams.{Diagram, position_of}
 use Rattle.chess_core.specs.Position.{other}
@@ -10,7 +10,7 @@ use Rattle.pop_input.specs.declared.condition.Condition.{Condition}
 use Rattle.pop_input.specs.declared.condition.Condition.TheVariants.{Circe, Madrasi}
 use Rattle.pop_input.specs.declared.stipulation.Stipulation.{Stipulation}
 
--- all that a problem says
+-- all that a problem states
 pub record Posed : Type 0 where
   pub diagram : Diagram
   pub stipulation : Stipulation
@@ -22,15 +22,15 @@ pub record Posed : Type 0 where
   pub title : List ℕ
   pub author : List ℕ
 
--- the rules under which a condition has a problem played
+-- the rules of a condition, or of chess without one
 abbrev pub rule_of : Option Condition → RuleSet
 rule_of None = orthodox
 rule_of (Some Circe) = circe
 rule_of (Some Madrasi) = madrasi
 
--- What holds of every problem that is read: a position to play from, the side to move and the number of moves as the
--- stipulation has them, a limit of solutions from 1 to 4,000,000,000 (own), a king of the side that is to be mated, and
--- no check to the side that isn't to move (FIDE Laws 3.9), under the problem's condition.
+-- What holds of every sound problem: its position may be played from; the side to move and the number of moves fit the
+-- stipulation; its limit of solutions is from 1 to 4,000,000,000 (own); the side to be mated has a king; and the side
+-- that isn't to move isn't in check (FIDE Laws 3.9), under the problem's condition.
 pub record IsSound (posed : Posed) : Type 0 where
   pub well_formed : IsWellFormed (position_of posed.diagram)
   pub turn : posed.diagram.turn ≡ starting_side posed.stipulation.form

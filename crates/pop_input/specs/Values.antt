@@ -1,4 +1,4 @@
--- Words that are values: squares, numbers, stipulations (Popeye manual; the ranges are own).
+-- Words that are values: squares, numbers and stipulations (Popeye manual; the ranges are own).
 use Rattle.std.specs.Prelude.{ℕ, ◌+◌, ◌-◌, ◌*◌, ◌==◌, ◌&&◌, nat_le, not, List, [], ◌∷◌, map, fold, Bool, if◌then◌else◌, Option, Some, None}
 use Rattle.std.specs.Char.{to_ascii_lowercase}
 use Rattle.std.specs.List.{list_all}
@@ -11,17 +11,17 @@ use Rattle.pop_input.specs.declared.stipulation.Goal.{Goal}
 use Rattle.pop_input.specs.declared.stipulation.Goal.TheVariants.{Mate, Stalemate}
 use Rattle.pop_input.specs.declared.stipulation.Stipulation.{Stipulation}
 
--- the square that a letter, in capitals or not, and a digit name: the first file is that of `a`
+-- the square that a letter, in capitals or not, and a digit name
 abbrev pub square_by : ℕ → ℕ → Option ℕ
 square_by letter digit = square_at (to_ascii_lowercase letter - (letter_a - 1)) (digit - digit_0)
 
--- a square before others, where it is one
+-- a square followed by squares, if all of them are squares
 abbrev pub before_squares : Option ℕ → Option (List ℕ) → Option (List ℕ)
 before_squares (Some square) (Some squares) = Some (square ∷ squares)
 before_squares (Some square) None = None
 before_squares None squares = None
 
--- the squares of pairs of a letter and a digit
+-- the squares of a text of pairs, each a letter and a digit
 abbrev pub squares_from : List ℕ → Option (List ℕ)
 squares_from [] = Some []
 squares_from (letter ∷ []) = None
@@ -32,53 +32,53 @@ unfoldable pub squares_named : List ℕ → Option (List ℕ)
 squares_named [] = None
 squares_named (b ∷ text) = squares_from (b ∷ text)
 
--- the one square of a word of a single square
+-- the square of a list of exactly one
 abbrev pub only_square : Option (List ℕ) → Option ℕ
 only_square (Some (square ∷ [])) = Some square
 only_square (Some []) = None
 only_square (Some (square ∷ other ∷ squares)) = None
 only_square None = None
 
--- a digit in ASCII
+-- whether a byte is a decimal digit
 abbrev pub is_digit : ℕ → Bool
 is_digit b = nat_le digit_0 b && nat_le b digit_9
 
--- the number that digits write
+-- the value of decimal digits
 abbrev pub value_of : List ℕ → ℕ
 value_of text = fold (λ value digit. 10 * value + (digit - digit_0)) 0 text
 
--- the most solutions that can be asked for (own)
+-- the greatest number that MaxSolutions takes (own)
 abbrev pub most_solutions : ℕ
 most_solutions = 4000000000
 
--- a limit of solutions, in digits
+-- the limit of solutions that decimal digits write
 unfoldable pub limit_of : List ℕ → Option ℕ
 limit_of text = if list_all is_digit text
     && (nat_le 1 (value_of text) && nat_le (value_of text) most_solutions) then Some (value_of text)
     else None
 
--- the goal that a sign names: `#` or `=`
+-- the goal of a sign, `#` or `=`
 abbrev pub goal_of : ℕ → Option Goal
 goal_of sign = if sign == mate_sign then Some Mate
     else (if sign == stalemate_sign then Some Stalemate else None)
 
--- the number that one digit writes
+-- the value of one digit
 abbrev pub one_digit : ℕ → Option ℕ
 one_digit a = if is_digit a then Some (a - digit_0) else None
 
--- the number that two digits write, of which the first isn't 0
+-- the value of two digits, the first of them not 0
 abbrev pub two_digits : ℕ → ℕ → Option ℕ
 two_digits a b = if (is_digit a && not (a == digit_0))
     && is_digit b then Some (10 * (a - digit_0) + (b - digit_0)) else None
 
--- a form with its goal and its number of moves, if it has both and may have the number
+-- a stipulation, if its goal and its number of moves are there and the number is in range
 abbrev pub stipulation_with : Form → Option Goal → Option ℕ → Option Stipulation
 stipulation_with form (Some goal) (Some n) = if may_have form n
     then Some (record { form = form; goal = goal; n = n }) else None
 stipulation_with form None _ = None
 stipulation_with form (Some goal) None = None
 
--- `#n`, `s#n`, `h#n` and `h#n.5`, and the same with `=`, in small letters
+-- the stipulation of a word in small letters: `#n`, `s#n`, `h#n` or `h#n.5`, with `#` or `=`
 abbrev pub stipulation_in_small_letters : List ℕ → Option Stipulation
 stipulation_in_small_letters [] = None
 stipulation_in_small_letters (a ∷ []) = None
@@ -98,6 +98,6 @@ stipulation_in_small_letters (a ∷ b ∷ m ∷ n ∷ c ∷ d ∷ []) =
     then stipulation_with HelpHalf (goal_of b) (two_digits m n) else None
 stipulation_in_small_letters (a ∷ b ∷ m ∷ n ∷ c ∷ d ∷ e ∷ text) = None
 
--- the stipulation that a word states
+-- the stipulation that a word states, in capitals or not
 unfoldable pub stipulation_of : List ℕ → Option Stipulation
 stipulation_of text = stipulation_in_small_letters (map to_ascii_lowercase text)

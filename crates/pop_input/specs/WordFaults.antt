@@ -1,4 +1,4 @@
--- The fault of a word: what the words before say decides (own).
+-- The fault of a word, by what the words before it say (own).
 use Rattle.pop_input.specs.declared.fault_kind.FaultKind.{FaultKind}
 use Rattle.pop_input.specs.declared.fault_kind.FaultKind.TheVariants.{BeginProblemMissing, WordMisplaced, WordTooLong, ColourMissing, SquareTaken, PawnOnOuterRank, SecondKing, BadStipulation, SecondStipulation, SecondCondition, BadLimit, SquareMissing, NoneCastlesThere}
 use Rattle.std.specs.Prelude.{ℕ, List, [], ◌∷◌, length, nat_le, nat_lt, not, ◌&&◌, ◌||◌, Bool, if◌then◌else◌, Option, Some, None, is_some}
@@ -25,60 +25,60 @@ use Rattle.pop_input.specs.declared.names.Command.{Command}
 use Rattle.pop_input.specs.declared.names.Command.TheVariants.{Begin, Enter, Next, Last}
 use Rattle.pop_input.specs.declared.stipulation.Stipulation.{Stipulation}
 
--- a fault where something holds
+-- this fault if the condition is true, else none
 abbrev pub fault_if : Bool → FaultKind → Option FaultKind
 fault_if holds kind = if holds then Some kind else None
 
--- of a word of NoCastling: no squares, or one from which none castles
+-- the fault of a word after NoCastling: no squares, or a square that isn't a castling square
 abbrev pub barred_fault : Option (List ℕ) → Option FaultKind
 barred_fault None = Some SquareMissing
 barred_fault (Some squares) = fault_if (not (list_all is_castling_square squares)) NoneCastlesThere
 
--- of a command: BeginProblem stands before the first problem alone
+-- the fault of a command in a problem: BeginProblem comes only before the first problem
 abbrev pub control_fault : Command → Option FaultKind
 control_fault Begin = Some WordMisplaced
 control_fault (Enter section) = None
 control_fault Next = None
 control_fault Last = None
 
--- a man stands there already, a pawn on rank 1 or 8, a second king
+-- the fault of a man on a square: the square is occupied, a pawn on rank 1 or 8, a second king of its colour
 abbrev pub man_fault : List (Option Man) → Man → ℕ → Option FaultKind
 man_fault men man square =
     if is_some (man_on men square) then Some SquareTaken
     else (if not (is_pawn_inside (Some man) square) then Some PawnOnOuterRank
     else fault_if (same_kind man.kind King && has_man men man.colour King) SecondKing)
 
--- the fault of squares on which a man is put in turn
+-- the first fault of putting a man on each of the squares in turn
 abbrev pub men_fault : List (Option Man) → Man → List ℕ → Option FaultKind
 men_fault men man [] = None
 men_fault men man (square ∷ squares) = or_else (man_fault men man square)
     (men_fault (with_man men square man) man squares)
 
--- of a word of men: no colour yet, no squares, or a fault of a man
+-- the fault of men of a kind: no colour yet, no squares, or a fault of a man
 abbrev pub put_fault : List (Option Man) → Option Colour → Kind → Option (List ℕ) → Option FaultKind
 put_fault men None man_kind squares = Some ColourMissing
 put_fault men (Some colour) man_kind None = Some SquareMissing
 put_fault men (Some colour) man_kind (Some squares) = men_fault men
     (record { colour = colour; kind = man_kind }) squares
 
--- two bytes or more, and no digit among them: such a word is none of a man and squares at all
+-- whether a text has two bytes or more and no digit: then its word isn't a letter and squares at all
 abbrev pub is_foreign : List ℕ → Bool
 is_foreign text = nat_le 2 (length text) && not (list_any is_digit text)
 
--- of a word of this letter in Pieces
+-- the fault of a word in Pieces that begins with a letter of this kind
 abbrev pub letter_fault : Draft → Option Kind → List ℕ → Option FaultKind
 letter_fault draft None text = Some WordMisplaced
 letter_fault draft (Some letter) text =
     if not (is_some (squares_named text)) && is_foreign text then Some WordMisplaced
     else put_fault draft.men draft.colour letter (squares_named text)
 
--- of a word in Pieces: a colour, or a letter and squares
+-- the fault of a word in Pieces: a colour, or a letter and squares
 abbrev pub pieces_fault : Draft → List ℕ → Option FaultKind
 pieces_fault draft [] = None
 pieces_fault draft (letter ∷ text) = if is_some (colour_of (letter ∷ text)) then None
     else letter_fault draft (kind_of letter) text
 
--- where one was given: a second one holds a goal's sign
+-- the fault of a word in Stipulation: after the first stipulation, a word with `#` or `=` is a second one
 abbrev pub stipulation_fault : Option Stipulation → List ℕ → Option FaultKind
 stipulation_fault None text = fault_if (not (is_some (stipulation_of text))) BadStipulation
 stipulation_fault (Some given) text =
@@ -86,12 +86,12 @@ stipulation_fault (Some given) text =
     || list_any (λ b. b == stalemate_sign) text then Some SecondStipulation
     else Some WordMisplaced
 
--- of a word in Condition: no condition, or a second one
+-- the fault of a word in Condition: no condition, or a second one
 abbrev pub condition_fault : Option Condition → List ℕ → Option FaultKind
 condition_fault given text = if not (is_some (condition_of text)) then Some WordMisplaced
     else fault_if (is_some given) SecondCondition
 
--- of a word in a section
+-- the fault of a word in a section
 abbrev pub section_fault : Draft → Option Section → List ℕ → Option FaultKind
 section_fault draft None text = Some WordMisplaced
 section_fault draft (Some Pieces) text = pieces_fault draft text
@@ -99,7 +99,7 @@ section_fault draft (Some Stipulations) text = stipulation_fault draft.stipulati
 section_fault draft (Some Conditions) text = condition_fault draft.condition text
 section_fault draft (Some Options) text = fault_if (not (is_some (option_of text))) WordMisplaced
 
--- of a word that is this
+-- the fault of a word that has this role
 abbrev pub role_fault : Draft → Role → List ℕ → Option FaultKind
 role_fault draft Limit text = fault_if (not (is_some (limit_of text))) BadLimit
 role_fault draft CrossedSquare text = fault_if (not (is_some (only_square (squares_named text))))
@@ -112,7 +112,7 @@ role_fault draft (Within section) text = section_fault draft section text
 abbrev pub fault_in : Draft → List ℕ → Option FaultKind
 fault_in draft text = role_fault draft (role_of draft.place text) text
 
--- and of the first word of the input, which has to be BeginProblem
+-- the fault of the first word of the input, which must be BeginProblem
 abbrev pub begin_fault : Option Command → Option FaultKind
 begin_fault (Some Begin) = None
 begin_fault (Some (Enter section)) = Some BeginProblemMissing
@@ -120,7 +120,7 @@ begin_fault (Some Next) = Some BeginProblemMissing
 begin_fault (Some Last) = Some BeginProblemMissing
 begin_fault None = Some BeginProblemMissing
 
--- the fault of a word, in a problem that has begun or before the first
+-- the fault of a word, in a problem that has begun or before the first problem
 abbrev pub fault_of : Bool → Draft → List ℕ → Option FaultKind
 fault_of begun draft text =
     if nat_lt 160 (length text) then Some WordTooLong

@@ -1,4 +1,4 @@
-//! A block as far as it is read: the words up to NextProblem or EndProblem.
+//! A block while it is read. A block is one problem's words, up to NextProblem or EndProblem.
 ghost use Rattle.std.specs.Prelude.{◌≡◌, ℕ, List, [], None, Some, not, true};
 ghost use Rattle.pop_input.specs.Names.{or_else};
 ghost use Rattle.pop_input.specs.FaultKinds.{at_line, fault_at};
@@ -13,23 +13,23 @@ use crate::names::{Command, TextWord};
 use crate::short_word::ShortWord;
 use pop_text::text::Text;
 
-/// What is known of a block: its first fault, whether its problem has begun, what its words say, and its texts.
+/// The part of a block that is read so far.
 #[derive(Drop)]
 pub struct Block {
-    /// Its first fault so far.
+    /// The first fault, if any.
     pub fault: Option<Fault>,
-    /// Whether the problem has begun.
+    /// Whether the problem has begun: in the first block it begins with the word BeginProblem.
     pub begun: bool,
-    /// What its words say.
+    /// What the words say.
     pub draft: Draft,
-    /// The last title, empty where there is none.
+    /// The last title, empty if there is none.
     pub title: Text,
-    /// The last author, empty where there is none.
+    /// The last author, empty if there is none.
     pub author: Text,
 }
 
 impl Block {
-    /// Nothing is read yet. In the first block the problem begins with BeginProblem.
+    /// Returns a block before its first token. `first` says whether it is the first block of the input.
     pub(crate) fn new(first: bool) -> Block
         ensures { IsNew first result }
     {
@@ -42,7 +42,7 @@ impl Block {
         }
     }
 
-    /// Reads a word that stands in this line, unless a fault has been met.
+    /// Reads a word in this line. Does nothing if the block already has a fault.
     pub(crate) fn read(&mut self, word: &ShortWord<'_>, line: u64)
         ensures { ReadsWord self.old self.new line word.now }
     {
@@ -53,7 +53,7 @@ impl Block {
         }
     }
 
-    // Takes a word, or answers its fault.
+    // Reads a word in a block without a fault, and returns the word's fault, if any.
     fn take(&mut self, word: &ShortWord<'_>) -> Option<FaultKind>
         ensures kind { result ≡ fault_of self.old.begun self.old.draft word.now }
         ensures begun { result ≡ None → self.new.begun ≡ true }
@@ -76,7 +76,7 @@ impl Block {
         }
     }
 
-    /// A word in this line was too long.
+    /// Notes that a word in this line is too long. An earlier fault stays.
     pub(crate) fn read_long(&mut self, line: u64)
         ensures fault { self.new.fault ≡ or_else self.old.fault (Some (fault_at WordTooLong line)) }
     {
@@ -86,7 +86,7 @@ impl Block {
         }
     }
 
-    /// Takes a text line, which has no effect before the first problem.
+    /// Takes the text after a text word. Has no effect before the first problem.
     pub(crate) fn note(&mut self, keyword: TextWord, text: &Text)
         ensures { TakesLine self.old self.new keyword text.now }
     {
@@ -99,7 +99,7 @@ impl Block {
         }
     }
 
-    /// The item, where a closing word stands in this line.
+    /// Returns the item of this block if a word in this line closes it.
     pub(crate) fn item_at_close(&self, line: u64, last: Last) -> Item
         ensures { result ≡ item_of (entry_now self.now line) last }
     {
@@ -109,7 +109,7 @@ impl Block {
         }
     }
 
-    /// The item, where the input ends in this line.
+    /// Returns the item of this block if the input ends in it, in this line.
     pub(crate) fn item_at_end(&self, line: u64) -> Item
         ensures { result ≡ ended_item self.now line }
     {

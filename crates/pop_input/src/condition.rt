@@ -1,10 +1,10 @@
-//! Fairy conditions.
+//! The fairy conditions.
 
-/// A condition under which a problem is played (Popeye manual).
+/// A fairy condition of a problem (Popeye manual, Circe and Madrasi).
 #[derive(Clone, Copy, PartialEq, Eq)]
 pub enum Condition {
-    /// Captured men are reborn on their first squares.
+    /// Circe: a captured man is reborn on its square of rebirth, if that is free.
     Circe,
-    /// A man that an enemy man of its kind attacks is paralysed.
+    /// Madrasi: a man that is attacked by an enemy man of its own kind is paralysed.
     Madrasi,
 }

@@ -1,4 +1,5 @@
-//! A problem as far as its words are read. Its modules say what words of each section do, and what its end tests.
+//! A problem while its words are read. One module for each section of the input, and `closing` for the tests at its
+//! end.
 ghost use Rattle.std.specs.Prelude.{◌≡◌, [], None, Some};
 ghost use Rattle.pop_input.specs.Drafts.{nothing_said, draft_after, draft_by};
 ghost use Rattle.pop_input.specs.WordFaults.{control_fault, fault_in, role_fault};
@@ -24,7 +25,7 @@ use chess_core::man::{Colour, Unmoved};
 use chess_core::square::Square;
 use std::marker::Model;
 
-/// What the words of a problem say so far. Contracts see the record of the same name in `specs/Drafts.antt`.
+/// What the words of a problem say so far. Contracts see it as the record `Draft` of `specs/Drafts.antt`.
 #[derive(Drop)]
 pub struct Draft {
     place: Place,
@@ -63,7 +64,7 @@ impl Model for Draft {
 }
 
 impl Draft {
-    /// Nothing is said yet.
+    /// Returns the draft before any word: an empty board, no stipulation, the greatest limit of solutions.
     pub(crate) fn new() -> Draft
         ensures { result ≡ nothing_said }
     {
@@ -87,7 +88,7 @@ impl Draft {
         }
     }
 
-    /// Takes a word, or answers its fault.
+    /// Reads a word, and returns its fault, if any.
     pub(crate) fn take(&mut self, word: &ShortWord<'_>) -> Option<FaultKind>
         ensures fault { result ≡ fault_in self.old word.now }
         ensures draft { result ≡ None → self.new ≡ draft_after self.old word.now }
@@ -101,7 +102,7 @@ impl Draft {
         }
     }
 
-    // A command.
+    // Reads a command, which ends the last colour and the value that an option expects.
     fn take_command(&mut self, command: Command) -> Option<FaultKind>
         ensures fault { result ≡ control_fault command }
         ensures draft { result ≡ None → self.new ≡ draft_by (Control command) self.old [] }
@@ -118,7 +119,7 @@ impl Draft {
         }
     }
 
-    // A word that is no command and no awaited value.
+    // Reads a word of a section: no command, and no value that an option expects.
     fn take_in(&mut self, section: Option<Section>, word: &ShortWord<'_>) -> Option<FaultKind>
         ensures fault { result ≡ role_fault self.old (Within section) word.now }
         ensures draft { result ≡ None → self.new ≡ draft_by (Within section) self.old word.now }

@@ -1,25 +1,25 @@
-//! The kinds of faults. What a report says of each stands in pop_print (`specs/Faults.antt`).
+//! The kinds of faults. Their texts in a report are in pop_print (`specs/Faults.antt`).
 ghost use Rattle.std.specs.Prelude.{◌≡◌, ◌≤◌};
 ghost use Rattle.pop_input.specs.FaultKinds.{kind_numbered, number_of};
 
-/// Why an item isn't sound (own), in the order of the numbers 1 to 21.
+/// Why an item isn't sound (own), in the order of their numbers 1 to 21.
 #[derive(Clone, Copy)]
 pub enum FaultKind {
-    /// 1: another word, or the end of the input, where the first BeginProblem is awaited.
+    /// 1: the first word isn't BeginProblem, or the input ends before any word.
     BeginProblemMissing,
-    /// 2: a word that is unknown, or misplaced.
+    /// 2: an unknown or misplaced word.
     WordMisplaced,
     /// 3: a word of more than 160 bytes.
     WordTooLong,
-    /// 4: men before a colour.
+    /// 4: men without a colour before them.
     ColourMissing,
-    /// 5: a man on a square on which one stands already.
+    /// 5: a man on a square that is already occupied.
     SquareTaken,
     /// 6: a pawn on rank 1 or 8.
     PawnOnOuterRank,
     /// 7: a second king of a colour.
     SecondKing,
-    /// 8: no stipulation where one is awaited, or its number out of range.
+    /// 8: a word in the section Stipulation that isn't one, or one whose number of moves is out of range.
     BadStipulation,
     /// 9: a second stipulation.
     SecondStipulation,
@@ -29,28 +29,28 @@ pub enum FaultKind {
     NoMen,
     /// 12: a second condition.
     SecondCondition,
-    /// 13: no number behind MaxSolutions, or none from 1 to 4,000,000,000.
+    /// 13: the word after MaxSolutions isn't a number from 1 to 4,000,000,000.
     BadLimit,
-    /// 14: no square where one is awaited, or no squares.
+    /// 14: no square or squares where a man's letter, EnPassant or NoCastling expects them.
     SquareMissing,
-    /// 15: the problem ends, and no pawn can have passed the square of EnPassant just now.
+    /// 15: at the end of the problem, no pawn can have just passed over the square of EnPassant.
     EnPassantImpossible,
-    /// 16: a square of NoCastling from which none castles.
+    /// 16: a square of NoCastling other than a1, e1, h1, a8, e8 and h8.
     NoneCastlesThere,
-    /// 17: the problem ends, its goal is mate, and the side to be mated has no king.
+    /// 17: at the end of a problem with the goal mate, the side to be mated has no king.
     KingMissing,
-    /// 18: the problem ends with the side in check that isn't to move.
+    /// 18: at the end of the problem, the side that isn't to move is in check.
     WaitingSideInCheck,
-    /// 19: the input ends in a problem.
+    /// 19: the input ends inside a problem.
     EndProblemMissing,
-    /// 20: a byte behind the first 2^30 of the input is needed.
+    /// 20: the reader needs a byte after the first 2^30 of the input.
     InputTooLong,
     /// 21: the source of the input has failed.
     DeviceFailed,
 }
 
 impl FaultKind {
-    /// Its number, 1 to 21.
+    /// Returns the number of this kind, 1 to 21.
     pub fn number(self) -> u8
         ensures value { result ≡ number_of self }
         ensures least { 1 ≤ result }
@@ -81,7 +81,7 @@ impl FaultKind {
         }
     }
 
-    /// The kind that has this number, if one has.
+    /// Returns the kind with this number, or `None` if there is none: 0, or 22 and more.
     #[tactic(auto, unfolding(crate::specs::FaultKinds::kind_numbered))]
     pub fn numbered(number: u8) -> Option<FaultKind>
         ensures { result ≡ kind_numbered number }

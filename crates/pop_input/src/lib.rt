@@ -1,7 +1,29 @@
-//! Problems of an input: what they ask for, and the faults in place of those that are not sound.
+//! A reader of chess problems: turns an input into problems and faults, one item a call.
 //!
-//! The definition cuts the words of the whole input into blocks and reads each off its words (`specs/Blocks.antt`). A
-//! `Problem` can be set up and solved by its type. No call of this crate takes memory.
+//! The input language is a part of Popeye's (Popeye manual); the faults are this project's own.
+//!
+//! ```rust
+//! use pop_input::{Item, Reader};
+//! use pop_text::ReadSource;
+//!
+//! let mut source = ReadSource::new(input);
+//! let mut reader = Reader::new();
+//! let mut found = (0u64, 0u64);
+//! loop {
+//!     match reader.next_problem(&mut source) {
+//!         Item::Sound(_problem, _) => found.0 += 1,
+//!         Item::Faulty(_fault, _) => found.1 += 1,
+//!         Item::End => break,
+//!     }
+//! }
+//! ```
+//!
+//! The interface is `reader` (`Reader`), `item` (`Item`, `Fault`, `Last`), `problem`, `stipulation`, `condition` and
+//! `fault_kind`. The other modules are internal: `block` holds one problem while it is read, `draft` what its words say
+//! so far, and `names` and `values` read single words.
+//!
+//! `specs/Blocks.antt` defines the items: it cuts all words of the input into blocks, one a problem, and reads each
+//! block by itself. A `Problem` can always be set up and solved. No call allocates.
 #![tactic(auto)]
 
 mod block;

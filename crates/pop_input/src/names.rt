@@ -1,4 +1,4 @@
-//! Words that are named, and their short forms: three letters or more, of a colour one or more.
+//! Keywords and their short forms: the first three letters or more, for a colour the first letter or more (own).
 ghost use Rattle.std.specs.Prelude.{◌≡◌, ◌<◌, ◌≤◌, map, length, is_some, nat_eq};
 ghost use Rattle.std.specs.List.{starts_with};
 ghost use Rattle.std.specs.Char.{to_ascii_lowercase};
@@ -8,20 +8,20 @@ ghost use Rattle.pop_input.specs.Names.{awaited_of, colour_of, command_of, condi
 use crate::condition::Condition;
 use chess_core::man::{Colour, Kind};
 
-/// A part of a problem, which a command opens.
+/// A section of a problem (Popeye manual). A command opens it.
 #[derive(Clone, Copy)]
 pub enum Section {
-    /// Colours, and men on squares.
+    /// Colours, and letters of men with their squares.
     Pieces,
     /// One stipulation.
     Stipulation,
     /// One condition.
     Condition,
-    /// Options, and the values that they await.
+    /// Options, and the values that they expect.
     Options,
 }
 
-/// A word that stands between sections.
+/// A word that opens a section, or begins or ends a problem.
 #[derive(Clone, Copy)]
 pub enum Command {
     /// BeginProblem, the first word of an input.
@@ -34,7 +34,7 @@ pub enum Command {
     Last,
 }
 
-/// What an option awaits.
+/// Which value an option expects.
 #[derive(Clone, Copy)]
 pub enum Awaited {
     /// The limit of MaxSolutions.
@@ -43,37 +43,37 @@ pub enum Awaited {
     OneSquare,
     /// The squares of NoCastling.
     Squares,
-    /// Behind a word of such squares: further ones, or another word.
+    /// More squares of NoCastling, or any other word.
     MoreSquares,
 }
 
-/// A word of the section of options.
+/// A word of the section Option.
 #[derive(Clone, Copy)]
 pub enum OptionWord {
-    /// Set play comes before the play.
+    /// Solve set play before the play.
     SetPlay,
-    /// Defences are shown, and what follows on them.
+    /// Show the defences and what follows them.
     Variation,
-    /// The board is left out.
+    /// Leave the board out of the report.
     NoBoard,
-    /// MaxSolutions, EnPassant or NoCastling: a value comes behind it.
+    /// MaxSolutions, EnPassant or NoCastling: a value follows.
     Awaits(Awaited),
 }
 
-/// The words that take the rest of their line.
+/// A text word. The rest of its line is text.
 #[derive(Clone, Copy)]
 pub enum TextWord {
-    /// The title: the last one stands in the head.
+    /// The title. The last one of a problem counts.
     Title,
-    /// The author: the last one stands in the head.
+    /// The author. The last one of a problem counts.
     Author,
-    /// The source, which is passed over.
+    /// The source. It is skipped.
     Origin,
-    /// A remark, which is passed over.
+    /// A remark. It is skipped.
     Remark,
 }
 
-// Whether the word is a short form of the name: three letters or more with which it begins, in capitals or not.
+// Returns whether the word is a short form of the name: its first three letters or more, in capitals or not.
 fn is_short(name: &[u8], word: &[u8]) -> bool
     requires { 0 < length name.now }
     ensures { result ≡ is_short_form name.now word.now }
@@ -81,7 +81,7 @@ fn is_short(name: &[u8], word: &[u8]) -> bool
     word.len() >= 3 && name[0] == word[0].to_ascii_lowercase() && begins(name, word)
 }
 
-// Whether the name begins with the word's letters, in capitals or not.
+// Returns whether the name begins with the word, in capitals or not.
 fn begins(name: &[u8], word: &[u8]) -> bool
     ensures { result ≡ starts_with nat_eq name.now (map to_ascii_lowercase word.now) }
 {
@@ -113,7 +113,7 @@ fn section_of(word: &[u8]) -> Option<Section>
     }
 }
 
-/// The command of which the word is a short form.
+/// Returns the command that the word is, in full or as a short form.
 #[tactic(auto, unfolding(crate::specs::Names::command_of))]
 pub(crate) fn command_of(word: &[u8]) -> Option<Command>
     ensures { result ≡ command_of word.now }
@@ -132,7 +132,7 @@ pub(crate) fn command_of(word: &[u8]) -> Option<Command>
     }
 }
 
-/// The text word of which the word is a short form.
+/// Returns the text word that the word is, in full or as a short form.
 #[tactic(auto, unfolding(crate::specs::Names::text_word_of))]
 pub(crate) fn text_word_of(word: &[u8]) -> Option<TextWord>
     ensures value { result ≡ text_word_of word.now }
@@ -151,7 +151,7 @@ pub(crate) fn text_word_of(word: &[u8]) -> Option<TextWord>
     }
 }
 
-/// The condition of which the word is a short form.
+/// Returns the condition that the word names, in full or as a short form.
 #[tactic(auto, unfolding(crate::specs::Names::condition_of))]
 pub(crate) fn condition_of(word: &[u8]) -> Option<Condition>
     ensures { result ≡ condition_of word.now }
@@ -180,7 +180,7 @@ fn awaited_of(word: &[u8]) -> Option<Awaited>
     }
 }
 
-/// The option of which the word is a short form.
+/// Returns the option that the word names, in full or as a short form.
 #[tactic(auto, unfolding(crate::specs::Names::option_of))]
 pub(crate) fn option_of(word: &[u8]) -> Option<OptionWord>
     ensures { result ≡ option_of word.now }
@@ -199,7 +199,7 @@ pub(crate) fn option_of(word: &[u8]) -> Option<OptionWord>
     }
 }
 
-/// The colour of which the word is a short form.
+/// Returns the colour that the word names, in full or as a short form.
 #[tactic(auto, unfolding(crate::specs::Names::colour_of))]
 pub(crate) fn colour_of(word: &[u8]) -> Option<Colour>
     ensures { result ≡ colour_of word.now }
@@ -215,7 +215,7 @@ pub(crate) fn colour_of(word: &[u8]) -> Option<Colour>
     }
 }
 
-/// The kind of men of which the byte is the letter.
+/// Returns the kind of man with this letter, in capitals or not.
 #[tactic(auto, unfolding(crate::specs::Names::kind_of))]
 pub(crate) fn kind_of(letter: u8) -> Option<Kind>
     ensures { result ≡ kind_of letter }

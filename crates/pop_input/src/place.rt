@@ -1,4 +1,4 @@
-//! What a word at a place is.
+//! What a word means where it is: a command, a value of an option, or a word of a section.
 ghost use Rattle.std.specs.Prelude.{◌≡◌};
 ghost use Rattle.pop_input.specs.Drafts.{role_of, plain_role};
 
@@ -6,32 +6,32 @@ use crate::names::{Awaited, Command, Section};
 use crate::short_word::ShortWord;
 use crate::values::squares_named;
 
-/// The section, and what an option awaits.
+/// The context of a word.
 #[derive(Clone, Copy)]
 pub struct Place {
-    /// The section that is open, none before the first.
+    /// The open section, `None` before the first.
     pub section: Option<Section>,
-    /// What the last option awaits, if it awaits something still.
+    /// The value that the last option still expects, if any.
     pub awaited: Option<Awaited>,
 }
 
-/// A value that an option awaits, a command, or another word in its section.
+/// What a word is in its context.
 #[derive(Clone, Copy)]
 pub enum Role {
-    /// The number of MaxSolutions.
+    /// The number after MaxSolutions.
     Limit,
-    /// The square of EnPassant.
+    /// The square after EnPassant.
     CrossedSquare,
-    /// Squares of NoCastling.
+    /// Squares after NoCastling.
     BarredSquares,
     /// A command.
     Control(Command),
-    /// Another word in this section, or before the first one.
+    /// A word of this section, or of none before the first section.
     Within(Option<Section>),
 }
 
 impl Place {
-    /// What the word is at this place.
+    /// Returns what the word is in this context.
     pub(crate) fn role_of(&self, word: &ShortWord<'_>) -> Role
         ensures { result ≡ role_of self.now word.now }
     {
@@ -50,7 +50,7 @@ impl Place {
         }
     }
 
-    // What it is where it is no awaited value.
+    // Returns what the word is if it isn't a value that an option expects.
     fn plain_role_of(&self, command: Option<Command>) -> Role
         ensures { result ≡ plain_role command self.now.section }
     {

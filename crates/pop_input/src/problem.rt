@@ -9,7 +9,7 @@ use chess_core::diagram::Diagram;
 use pop_text::text::Text;
 use std::marker::Model;
 
-/// The texts of a problem, each empty where there is none.
+/// The texts of a problem, each empty if there is none.
 #[derive(Clone, Copy)]
 pub(crate) struct Texts<'a> {
     /// The last title.
@@ -18,8 +18,9 @@ pub(crate) struct Texts<'a> {
     pub(crate) author: &'a Text,
 }
 
-/// A problem that was read without a fault: it can be set up and solved.
-/// Contracts see the record `Posed`, and `IsSound` holds of each.
+/// A problem that was read without a fault. It can be set up and solved.
+///
+/// Contracts see the record `Posed`, and `IsSound` holds for every problem (`specs/Posed.antt`).
 #[derive(Clone, Copy)]
 pub struct Problem {
     setup: Diagram,
@@ -72,7 +73,7 @@ impl Model for Problem {
 }
 
 impl Problem {
-    // What was read, where it is sound.
+    // Makes a problem of its parts. The caller shows that it is sound.
     pub(crate) fn new(
         diagram: &Diagram,
         stipulation: Stipulation,
@@ -115,7 +116,7 @@ impl Problem {
         }
     }
 
-    /// The men, the side that starts, the castling squares that count as unmoved, and the square that a pawn has just crossed.
+    /// Returns a copy of the diagram: the men, the side to move, the castling rights as squares, the en passant square.
     pub fn diagram(&self) -> Diagram
         ensures diagram { result ≡ self.now.diagram }
         ensures sound { IsSound self.now }
@@ -123,14 +124,14 @@ impl Problem {
         self.setup
     }
 
-    /// The same diagram where it lies, not copied.
+    /// Returns the diagram by reference.
     pub fn setup(&self) -> &Diagram
         ensures { result.now ≡ self.now.diagram }
     {
         &self.setup
     }
 
-    /// What is asked for.
+    /// Returns the stipulation.
     pub fn stipulation(&self) -> Stipulation
         ensures stipulation { result ≡ self.now.stipulation }
         ensures sound { IsSound self.now }
@@ -138,35 +139,36 @@ impl Problem {
         self.aim
     }
 
-    /// The condition, if there is one.
+    /// Returns the condition, if any.
     pub fn condition(&self) -> Option<Condition>
         ensures { result ≡ self.now.condition }
     {
         self.fairy
     }
 
-    /// Whether set play comes before the play.
+    /// Returns whether to solve set play before the play.
     pub fn set_play(&self) -> bool
         ensures { result ≡ self.now.set_play }
     {
         self.switches.set_play
     }
 
-    /// Whether the defences are shown, and what follows on them.
+    /// Returns whether to show the defences and what follows them.
     pub fn variation(&self) -> bool
         ensures { result ≡ self.now.variation }
     {
         self.switches.variation
     }
 
-    /// Whether the board is left out.
+    /// Returns whether to leave the board out of the report.
     pub fn no_board(&self) -> bool
         ensures { result ≡ self.now.no_board }
     {
         self.switches.no_board
     }
 
-    /// After how many solutions a phase ends: 1 to 4,000,000,000, the greatest where nothing was said.
+    /// Returns the number of solutions after which a phase ends: 1 to 4,000,000,000. Without MaxSolutions it is the
+    /// greatest.
     pub fn max_solutions(&self) -> u32
         ensures limit { result ≡ self.now.max_solutions }
         ensures sound { IsSound self.now }
@@ -174,14 +176,14 @@ impl Problem {
         self.limit
     }
 
-    /// The last title, empty where there is none.
+    /// The last title, empty if there is none.
     pub fn title(&self) -> &Text
         ensures { result.now ≡ self.now.title }
     {
         &self.named
     }
 
-    /// The last author, empty where there is none.
+    /// The last author, empty if there is none.
     pub fn author(&self) -> &Text
         ensures { result.now ≡ self.now.author }
     {

@@ -1,4 +1,4 @@
-//! Problems and faults, one after another.
+//! The reader of problems.
 ghost use Rattle.std.specs.Prelude.{◌≡◌, ◌≢◌, ◌<◌, ◌≤◌, ◌⊎◌, None, length, true};
 ghost use Rattle.pop_text.specs.Bytes.{greatest_count};
 ghost use Rattle.pop_text.specs.Words.{limit};
@@ -24,19 +24,20 @@ use pop_text::text::Text;
 use pop_text::word::Word;
 use std::marker::Model;
 
-/// Which block of the input is next: a block ends with NextProblem or EndProblem.
+/// Which block of the input is next. A block ends with NextProblem or EndProblem.
 #[derive(Clone, Copy)]
 pub enum Next {
-    /// The first, which has to begin with BeginProblem.
+    /// The first block, which must begin with BeginProblem.
     First,
-    /// A later one.
+    /// A later block.
     Later,
-    /// None: the last item was read.
+    /// No block: the last item was read.
     Nothing,
 }
 
-/// A place among the items of an input, which is read through a source that each call is handed: the same one throughout.
-/// The language is that of the Popeye manual, as far as it is served; its faults are this project's own.
+/// A reader of the items of one input. Pass the same source to every call.
+///
+/// The language is a part of that of the Popeye manual. The faults are this project's own.
 #[derive(Drop)]
 pub struct Reader {
     scanner: Scanner,
@@ -57,7 +58,7 @@ impl Model for Reader {
 }
 
 impl Reader {
-    /// The place before the first item.
+    /// Returns a reader before the first item.
     pub fn new() -> Reader
         ensures { result ≡ first_standing }
     {
@@ -67,17 +68,26 @@ impl Reader {
         }
     }
 
-    /// The next item: a problem that can be set up and solved, the first fault in place of one, or `End` behind the last item.
+    /// Reads and returns the next item: a problem that can be set up and solved, or the first fault in its place.
+    /// Returns `End` after the last item and on every later call.
     ///
-    /// `FaultKind` says when each fault comes. Of a problem's words the first fault is told, in the line of its word; where
-    /// none has one, that of its end, in the line of the word that closes it; where the input ends or is cut in a problem
-    /// without a fault, that, in the line where it does. Lines are counted from 1.
+    /// # Errors
     ///
-    /// Of the input exactly the bytes up to the end of the word that closes the item are used, and none behind it: the next
-    /// call begins there. Where the input ends or is cut in the item, all up to there are.
+    /// `FaultKind` says when each fault occurs. `Faulty` holds the first fault of a problem, with its line, counted
+    /// from 1:
     ///
-    /// Behind faults 1 to 18 words are skipped up to the end of the problem; 20 and 21 come there as items of their own.
-    /// Behind the last item the source isn't asked, and its count of failures may be any.
+    /// - the first faulty word, in that word's line;
+    /// - else the fault found at the end of the problem, in the line of the word that closes it;
+    /// - else, if the input ends or is cut inside the problem, that fault, in the line where this happens.
+    ///
+    /// After a fault of kind 1 to 18 the reader skips the rest of the problem. If the input is cut there, fault 20 or
+    /// 21 is the next item.
+    ///
+    /// # Bytes
+    ///
+    /// A call uses exactly the bytes up to the end of the word that closes the item, and the next call begins there. If
+    /// the input ends or is cut inside the item, a call uses all bytes up to there. After the last item it doesn't call
+    /// the source, whose count of failures may then have any value.
     pub fn next_problem<S: Source>(&mut self, source: &mut S) -> Item
         requires { self.old.next ≢ Next.Nothing → self.old.at.end ≡ End.Open
             → S.failures source.old < greatest_count }
@@ -128,7 +138,7 @@ impl Reader {
     }
 }
 
-// Reads a word in the block, and says whether it closes it: with the last item or not.
+// Reads a word in the block. If the word closes the block, returns whether its item is the last.
 fn read_word(block: &mut Block, word: &Word) -> Option<Last>
     ensures read { ReadsWord block.old block.new word.now.line word.now.bytes.items }
     ensures closes { result ≡ last_of (command_of word.now.bytes.items) }
@@ -138,7 +148,7 @@ fn read_word(block: &mut Block, word: &Word) -> Option<Last>
     closing_of(said.command())
 }
 
-// After a fault, uses words that say nothing.
+// After a fault, skips words that can neither close the block nor begin a text line.
 #[tactic(auto, using(pop_text::proofs::Plain::skips_none))]
 fn skip_on(scanner: &mut Scanner, fault: Option<Fault>)
     ensures skips { Skips scanner.old scanner.new }
@@ -149,7 +159,7 @@ fn skip_on(scanner: &mut Scanner, fault: Option<Fault>)
     }
 }
 
-// Whether the item that a closing word ends is the last.
+// Returns whether the item is the last, if the command closes it.
 fn closing_of(command: Option<Command>) -> Option<Last>
     ensures { result ≡ last_of command }
 {
@@ -169,7 +179,8 @@ fn next_behind(last: Last) -> Next
     }
 }
 
-// What is told where the input is cut. After a fault the cut is an item of its own, which the next call answers.
+// Returns the fault to report if the input is cut in a block with this fault or none, and whether it is the last. If
+// the block has a fault, the cut is an item of its own, which the next call returns.
 fn told_of_cut(fault: Option<Fault>, cut: ReadFault) -> (Fault, Last)
     ensures { result ≡ told_of_cut fault cut }
 {

@@ -1,4 +1,4 @@
-//! A word of an input, as it is handed on when it was read.
+//! A word of the input, with its command.
 ghost use Rattle.std.specs.Prelude.{◌≡◌, ◌≤◌, length};
 ghost use Rattle.pop_input.specs.Names.{command_of};
 
@@ -6,7 +6,7 @@ use crate::names::{Command, command_of};
 use pop_text::word::Word;
 use std::marker::Model;
 
-/// A word of at most 160 bytes, and the command that it is, if it is one. Contracts see the bytes.
+/// A word of at most 160 bytes, and the command that it is, if any. Contracts see the bytes.
 #[derive(Drop)]
 pub(crate) struct ShortWord<'a> {
     letters: &'a [u8],
@@ -25,7 +25,7 @@ impl<'a> Model for ShortWord<'a> {
 }
 
 impl<'a> ShortWord<'a> {
-    /// The word that was read.
+    /// Borrows a word, and looks its command up once.
     pub(crate) fn of(word: &'a Word) -> ShortWord<'a>
         ensures { result ≡ word.now.bytes.items }
     {
@@ -36,7 +36,7 @@ impl<'a> ShortWord<'a> {
         }
     }
 
-    /// Its bytes, as they were written.
+    /// Returns the bytes as written.
     pub(crate) fn bytes(&self) -> &'a [u8]
         ensures value { result.now ≡ self.now }
         ensures short { length result.now ≤ 160 }
@@ -44,7 +44,7 @@ impl<'a> ShortWord<'a> {
         self.letters
     }
 
-    /// The command that it is.
+    /// Returns the command that the word is, if any.
     pub(crate) fn command(&self) -> Option<Command>
         ensures value { result ≡ command_of self.now }
         ensures short { length self.now ≤ 160 }

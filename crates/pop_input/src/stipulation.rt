@@ -1,45 +1,46 @@
-//! What a problem asks for.
+//! Stipulations.
 ghost use Rattle.std.specs.Prelude.{◌≡◌};
 ghost use Rattle.pop_input.specs.Stipulations.{first_half, half_moves, is_for_stalemate, is_help, goal_side, starting_side};
 
 use chess_core::man::Colour;
 
-/// Who plays, and whom the goal is to befall (Codex; words of the Popeye manual). `#` stands for the goal.
+/// Who starts, who helps, and which side the goal is against (Codex; spelling of the Popeye manual). `#` stands for
+/// either goal.
 #[derive(Clone, Copy, PartialEq, Eq)]
 pub enum Form {
     /// `#n`: White starts and reaches the goal against every defence.
     Direct,
-    /// `s#n`: White starts and forces Black to reach it against White.
+    /// `s#n`: White starts and forces Black to reach the goal against White.
     SelfMate,
-    /// `h#n`: Black starts, both help, and White reaches it with his last move.
+    /// `h#n`: Black starts, both sides help, and White reaches the goal with the last move.
     Help,
-    /// `h#n.5`: as `h#n`, with one half-move of White more at its front.
+    /// `h#n.5`: help play of n moves, with one more half-move of White before them.
     HelpHalf,
 }
 
-/// What is to befall a side with the last move.
+/// What the last move must reach against the goal side.
 #[derive(Clone, Copy, PartialEq, Eq)]
 pub enum Goal {
-    /// `#`: mate, check without a legal move (FIDE Laws 5.1.1).
+    /// `#`: mate, which is check without a legal move (FIDE Laws 5.1.1).
     Mate,
-    /// `=`: stalemate, no check and no legal move (FIDE Laws 5.2.1).
+    /// `=`: stalemate, which is no check and no legal move (FIDE Laws 5.2.1).
     Stalemate,
 }
 
-/// The most moves of a stipulation (own).
+/// The greatest number of moves of a stipulation (own).
 pub const MOST_MOVES: u8 = 16;
 
-/// A form, its goal and its number of moves: 1 to 16, with `HelpHalf` 0 to 15.
+/// A form, a goal and a number of moves: 1 to 16, for `HelpHalf` 0 to 15.
 #[derive(Clone, Copy)]
 pub struct Stipulation {
     pub form: Form,
     pub goal: Goal,
-    /// The number of moves, as written before a `.5`.
+    /// The number of moves, without the `.5` of `h#n.5`.
     pub n: u8,
 }
 
 impl Goal {
-    /// Whether it is stalemate.
+    /// Returns whether the goal is stalemate.
     pub fn is_for_stalemate(self) -> bool
         ensures { result ≡ is_for_stalemate self }
     {
@@ -51,7 +52,7 @@ impl Goal {
 }
 
 impl Form {
-    /// Whether both sides help.
+    /// Returns whether both sides help.
     pub fn is_help(self) -> bool
         ensures { result ≡ is_help self }
     {
@@ -61,7 +62,8 @@ impl Form {
         }
     }
 
-    /// The number of the play's first half-move: 2 where Black's half of the first move is left out.
+    /// Returns the number of the first half-move: 1, or 2 if White starts help play and Black's half of the first move
+    /// is left out.
     pub fn first_half(self) -> u32
         ensures { result ≡ first_half self }
     {
@@ -71,7 +73,7 @@ impl Form {
         }
     }
 
-    /// The side that makes the first half-move of the play.
+    /// Returns the side that makes the first half-move.
     pub fn starting_side(self) -> Colour
         ensures { result ≡ starting_side self }
     {
@@ -81,7 +83,7 @@ impl Form {
         }
     }
 
-    /// The side against which the goal is reached.
+    /// Returns the side that is mated or stalemated.
     pub fn goal_side(self) -> Colour
         ensures { result ≡ goal_side self }
     {
@@ -93,7 +95,7 @@ impl Form {
 }
 
 impl Stipulation {
-    /// The half-moves of the play.
+    /// Returns the number of half-moves of the play.
     pub fn half_moves(self) -> usize
         ensures { result ≡ half_moves self }
     {

@@ -1,12 +1,12 @@
-//! Options that hold or do not.
+//! The options without a value.
 
 /// The options without a value (Popeye manual).
 #[derive(Clone, Copy)]
 pub struct Switches {
-    /// Set play comes before the play.
+    /// Solve set play before the play.
     pub set_play: bool,
-    /// Defences are shown, and what follows on them.
+    /// Show the defences and what follows them.
     pub variation: bool,
-    /// The board is left out.
+    /// Leave the board out of the report.
     pub no_board: bool,
 }

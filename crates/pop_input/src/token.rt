@@ -1,4 +1,4 @@
-//! Words and text lines of the source.
+//! The tokens of an input: words and text lines.
 ghost use Rattle.std.specs.Prelude.{◌≡◌, ◌<◌, ◌≤◌, length};
 ghost use Rattle.pop_text.specs.Words.{limit};
 ghost use Rattle.pop_text.specs.Bytes.{greatest_count};
@@ -13,22 +13,22 @@ use pop_text::source::Source;
 use pop_text::text::Text;
 use pop_text::word::Word;
 
-/// What comes next in the input. The numbers are those of lines, counted from 1.
+/// The kind of the next token. The numbers are line numbers, counted from 1.
 #[derive(Clone, Copy)]
 pub enum ReadToken {
     /// A word.
     Word,
     /// A word of more than 160 bytes.
     TooLong(u64),
-    /// A text word, and the text behind it.
+    /// A text word and the text after it.
     Line(TextWord),
-    /// The end of the input.
+    /// The end of the input, in this line.
     Ended(u64),
-    /// A fault that ends the input.
+    /// The input is cut: it is too long, or its source failed.
     Cut(ReadFault),
 }
 
-/// The next word or text line, put into the room of another one.
+/// Reads the next token, and stores it in `word` or `text`.
 pub(crate) fn next_token<S: Source>(
     scanner: &mut Scanner,
     source: &mut S,

@@ -1,4 +1,4 @@
-//! Words that are values: squares, numbers, stipulations.
+//! Words that are values: squares, numbers and stipulations.
 ghost use Rattle.std.specs.Prelude.{◌≡◌, ◌≤◌, ℕ, IfSome, length, map, option_map, true};
 ghost use Rattle.std.specs.Char.{to_ascii_lowercase};
 ghost use Rattle.pop_input.specs.Ends.{is_stated};
@@ -8,10 +8,10 @@ use crate::stipulation::{Form, Goal, MOST_MOVES, Stipulation};
 use arrayvec::ArrayVec;
 use chess_core::square::Square;
 
-/// The most solutions that can be asked for (own).
+/// The greatest number that MaxSolutions takes (own).
 pub const MOST_SOLUTIONS: u32 = 4_000_000_000;
 
-// The square that a letter and a digit name.
+// Returns the square that a letter, in capitals or not, and a digit name.
 fn square_by(letter: u8, digit: u8) -> Option<Square>
     ensures { result ≡ square_by letter digit }
 {
@@ -21,7 +21,7 @@ fn square_by(letter: u8, digit: u8) -> Option<Square>
     )
 }
 
-/// The squares of a word that is one or more squares and nothing else.
+/// Returns the squares of a word that is one or more squares and nothing else.
 #[tactic(auto, unfolding(crate::specs::Values::squares_named))]
 pub(crate) fn squares_named(word: &[u8]) -> Option<ArrayVec<Square, 80>>
     requires { length word.now ≤ 160 }
@@ -45,7 +45,7 @@ pub(crate) fn squares_named(word: &[u8]) -> Option<ArrayVec<Square, 80>>
     Some(squares)
 }
 
-/// The square of a word that is one square and nothing else.
+/// Returns the square of a word that is one square and nothing else.
 pub(crate) fn square_of(word: &[u8]) -> Option<Square>
     requires { length word.now ≤ 160 }
     ensures { result ≡ only_square (squares_named word.now) }
@@ -56,14 +56,14 @@ pub(crate) fn square_of(word: &[u8]) -> Option<Square>
     }
 }
 
-/// Whether the byte is a decimal digit.
+/// Returns whether the byte is a decimal digit.
 pub(crate) fn is_digit(byte: u8) -> bool
     ensures { result ≡ is_digit byte }
 {
     byte >= b'0' && byte <= b'9'
 }
 
-/// A limit of solutions in decimal digits, 1 to 4,000,000,000.
+/// Returns the limit of solutions that a word of decimal digits writes, 1 to 4,000,000,000.
 #[tactic(auto, unfolding(crate::specs::Values::limit_of))]
 pub(crate) fn limit_of(word: &[u8]) -> Option<u32>
     ensures value { result ≡ limit_of word.now }
@@ -85,7 +85,7 @@ pub(crate) fn limit_of(word: &[u8]) -> Option<u32>
     }
 }
 
-// The goal that the sign names.
+// Returns the goal of a sign, `#` or `=`.
 fn goal_of(sign: u8) -> Option<Goal>
     ensures { result ≡ goal_of sign }
 {
@@ -96,7 +96,7 @@ fn goal_of(sign: u8) -> Option<Goal>
     }
 }
 
-// The number that a digit writes.
+// Returns the value of a digit.
 fn one_digit(digit: u8) -> Option<u8>
     ensures value { result ≡ one_digit digit }
 {
@@ -107,7 +107,7 @@ fn one_digit(digit: u8) -> Option<u8>
     }
 }
 
-// The number that two digits write, of which the first isn't 0.
+// Returns the value of two digits, the first of them not 0.
 fn two_digits(tens: u8, ones: u8) -> Option<u8>
     ensures value { result ≡ two_digits tens ones }
 {
@@ -118,7 +118,7 @@ fn two_digits(tens: u8, ones: u8) -> Option<u8>
     }
 }
 
-// A form with its goal and its number of moves.
+// Makes a stipulation, if all its parts are there and its number of moves is in range.
 fn stipulation_with(form: Form, goal: Option<Goal>, n: Option<u8>) -> Option<Stipulation>
     ensures value { result ≡ stipulation_with form goal n }
     ensures range { is_stated result ≡ true }
@@ -140,7 +140,7 @@ fn stipulation_with(form: Form, goal: Option<Goal>, n: Option<u8>) -> Option<Sti
     }
 }
 
-/// The stipulation that the word states: `#n`, `s#n`, `h#n` or `h#n.5`, or one of these with `=`.
+/// Returns the stipulation that the word states: `#n`, `s#n`, `h#n` or `h#n.5`, with `#` or `=`, in capitals or not.
 #[tactic(auto, unfolding(crate::specs::Values::stipulation_of))]
 pub(crate) fn stipulation_of(word: &[u8]) -> Option<Stipulation>
     ensures value { result ≡ stipulation_of word.now }
@@ -152,7 +152,7 @@ pub(crate) fn stipulation_of(word: &[u8]) -> Option<Stipulation>
     stipulation_in_small_letters(small_letters(word).as_slice())
 }
 
-// The same of a word in small letters.
+// Returns the stipulation that a word in small letters states.
 fn stipulation_in_small_letters(letters: &[u8]) -> Option<Stipulation>
     ensures value { result ≡ stipulation_in_small_letters letters.now }
     ensures range { is_stated result ≡ true }
@@ -178,7 +178,7 @@ fn stipulation_in_small_letters(letters: &[u8]) -> Option<Stipulation>
     }
 }
 
-// A short word in small letters.
+// Returns a word of at most six bytes in small letters.
 fn small_letters(word: &[u8]) -> ArrayVec<u8, 6>
     requires { length word.now ≤ 6 }
     ensures { result.items ≡ map to_ascii_lowercase word.now }

@@ -1,5 +1,7 @@
--- What the clauses of a list and of parts exclude: text of parts that are refused, a failed sink told as another end or another end as a failed sink,
--- words used behind the item that is asked for, parts that are numbered from 0, and solutions in a part with whose moves they don't begin.
+-- What the clauses of lists and parts exclude: text of parts that don't exist, a failed sink reported as
+-- another end, or another end as a failed sink,
+-- words used after the requested item, parts numbered from 0, and solutions that don't begin with the
+-- part's moves.
 use Rattle.pop_parts.proofs.Words.{Appends, Bool, Entry, Faulty, Input, List, Lists, Move, None, Option, Phase, Posed, ReadsItems, RuleSet, Shows, Some, Sound, Word, [], ap, arith, begins_path, begins_so, closings, codes, entries_in, entry_numbered, eqb, false, list_any, outcome_at, part_numbered, parts, refl, slice_get, status_of, tells_failure, text_at, text_in, true, ℕ, ◌∷◌, ◌≡◌, ◌≢◌, ◌≤◌}
 unfoldable use Rattle.pop_input.specs.Names.{command_of}
 use Rattle.pop_run.specs.declared.status.Status.TheVariants.{OutputFailed as ListCut}
@@ -34,7 +36,7 @@ pub sound_sink_is_told : (asked : Asked) (input : Input) (before now : Option (L
 sound_sink_is_told asked input before now (written, told) =
     let items = entries_in input in not_cut asked (list_any tells_failure items) (entry_numbered items asked.item) told
 
--- nor is that of a list
+-- a sink that took a whole list isn't said to have failed
 pub sound_sink_of_a_list_is_told : (depth : ℕ) (input : Input) (before now : Option (List ℕ)) → Lists depth input before now false ListCut → ⊥
 unfolding status_of
 sound_sink_of_a_list_is_told depth input before now (written, told) = grind arith
@@ -53,7 +55,7 @@ module _ (rule : RuleSet) (problem : Posed) (phase : Phase) (depth : ℕ) where
   pub no_part_is_numbered_0 : part_numbered rule problem phase depth 0 ≡ None
   no_part_is_numbered_0 = refl
 
-  -- and 1 is the first, so the last bears the number of all
+  -- the first part is number 1, so the last has the number of all parts
   pub first_part_is_numbered_1 : (front : List Move) (fronts : List (List Move)) → parts rule problem phase depth ≡ front ∷ fronts
       → part_numbered rule problem phase depth 1 ≡ Some front
   first_part_is_numbered_1 front fronts are = ap (λ all. slice_get all 0) are
@@ -64,7 +66,7 @@ pub no_other_first_move : (m n : Move) (front path : List Move) (paths : List (L
 unfolding begins_path
 no_other_first_move m n front path paths other = rw other refl
 
--- nor one that is shorter than the part's moves
+-- a solution that is shorter than the part's moves isn't the part's
 pub no_shorter_path : (m : Move) (front : List Move) (paths : List (List Move)) → begins_so (m ∷ front) ([] ∷ paths) ≡ false
 unfolding begins_path
 no_shorter_path m front paths = refl

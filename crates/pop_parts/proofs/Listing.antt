@@ -45,7 +45,7 @@ listed_step depth old new number so_far had mid left before t now item entry p q
   reached = let t = took old new mid left item entry q u is in item_reached old new had mid left p.reached t.0 entry t.1;
 })
 
--- the list is whole behind the last item
+-- the list is whole after the last item
 pub list_ends : (depth : ℕ) (old new : Standing) (number : ℕ) (so_far : Status) (had mid left before t : Option (List ℕ)) (item : Item) (n m v w : ℕ)
     → Listed depth old number so_far had mid before t → NextItem old new mid left item → entry_in item ≡ None → IsSeen new.at.end left
     → m ≡ failures_after Open new.at.end n → w ≡ v → IfSome had (λ r. Lists depth (input_met (has_grown n m) r left) before t (has_grown v w) so_far)
@@ -74,7 +74,7 @@ list_cut depth old new number so_far (Some r) mid left before t now item entry n
       refl,
     )
 
--- a list stops behind the last item, or behind the one at which the sink fails
+-- a list stops after the last item, or after the one where the sink fails
 pub ends_stopped : (old new : Standing) (had mid left : Option (List ℕ)) (item : Item) → Reached old had mid → NextItem old new mid left item
     → UsesItem old new mid left item → entry_in item ≡ None → Stopped new had left
 ends_stopped old new had mid left item p q u is =
@@ -93,7 +93,7 @@ pub entry_there : (found : Option Entry) → not (is_some found) ≡ false → (
 entry_there None h = absurd (let no : true ≡ false = h in cc)
 entry_there (Some entry) h = (entry, refl)
 
--- where no item is told there is none
+-- an absent entry is `None`
 pub none_there : (found : Option Entry) → not (is_some found) ≡ true → found ≡ None
 none_there None h = refl
 none_there (Some entry) h = absurd (let no : false ≡ true = h in cc)

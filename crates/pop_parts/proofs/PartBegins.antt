@@ -1,4 +1,4 @@
--- How a part begins: behind its first moves stand its solutions.
+-- How a part begins: its solutions come after its first moves.
 use Rattle.pop_parts.proofs.Words.{AreKnown, BareEvent, Bool, Counts, Frame, Game, IsCounted, IsInPart, IsLinked, IsPartOpened, IsRoomy, IsSound, IsWalking, List, Move, Phase, Posed, Position, RuleSet, StandsInPart, [], after_well_formed, ap, append-nil, arith, begun_at, cut-at, eqb, events_left, false, false≢true, game_of, get_or, has_variations, help-play, inl, inr, is_followed, is_for_mate, is_given, is_help, is_legal, is_mate, is_pseudo_legal-from_legal, legal_moves, length, length-append, length-reverse, map, min, moves_behind, nat_tests, nil_from_length, part_events, part_left, part_paths, part_solutions, path, path-length, path-more, path_end, path_end-append, path_end-path, phase_half_moves, phase_paths, phase_start, plan_of, position, position-more, position_after, refl, reverse, rules, seeks_last, shown_paths, some-taken, suc, sym, take, to_come, to_open, true, undo_of, walk_count, walk_length, ℕ, ◌++◌, ◌+◌, ◌-◌, ◌<◌, ◌^◌, ◌∙◌, ◌∷◌, ◌≡◌, ◌≤◌}
 use Rattle.pop_solve.specs.declared.plan.Plan.{Plan}
 use Rattle.pop_battle.proofs.Boards.{behind_start, for_mate}
@@ -61,12 +61,12 @@ abbrev pub begins_at : Bool → PartStage
 begins_at true = First
 begins_at false = Within 0
 
--- behind its total a part has opened all that it had to
+-- after its total a part has tried all that it had to
 some-event : (xs : List BareEvent) (y : BareEvent) (ys : List BareEvent) → (xs ++ y ∷ ys) ≡ [] → ⊥
 some-event [] y ys e = cc
 some-event (x ∷ xs) y ys e = cc
 
--- behind its total a part of help play has opened all its positions
+-- after its total a part of help play has tried all its positions
 pub all-opened : (rule : RuleSet) (problem : Posed) (phase : Phase) (front : List Move) (stage : PartStage) (frames : List Frame) (board : Position)
     (opened : ℕ) → StandsInPart rule problem phase front stage frames board → IsPartOpened rule problem phase front frames opened
     → is_help problem.stipulation.form ≡ true → is_part_stopped rule problem phase front ≡ false → part_left rule problem phase stage frames ≡ []
@@ -124,7 +124,7 @@ module _ (rule : RuleSet) (problem : Posed) (sound : IsSound problem) (phase : P
   abbrev game : Game Position Move
   game = game_of rule problem
 
-  -- the half-moves left behind the part's first moves, the position there, and whether they are one
+  -- the half-moves left after the part's first moves, the position there, and whether these are one move
   abbrev left : ℕ
   left = h - n
 
@@ -191,7 +191,7 @@ module _ (rule : RuleSet) (problem : Posed) (sound : IsSound problem) (phase : P
   begun-passed opened passed = begun-none opened (rw passed refl) (λ help full.
       absurd (false≢true (sym passed ∙ follows-help plan game root left q (help-play problem.stipulation.form help))))
 
-  -- it is followed
+  -- the move is followed
   abbrev entered : List Frame
   entered = opened_frame m (undo_of rule board m) (walk_length plan.play (has_variations plan.tree) game left q) ∷ old
 

@@ -1,4 +1,4 @@
--- What a search of one part gives at a call, and what it opens.
+-- What a call of `PartSearch::next` returns, and what it counts.
 use Rattle.pop_parts.proofs.Words.{BareEvent, Bool, Frame, Gives, IsEnded, IsPartOpened, IsSound, IsWalking, List, Move, Opens, Phase, Posed, Position, RuleSet, StandsInPart, StandsOn, Walks, [], arith, beginning_count, beginning_count-next, begins_solution, cond, eqb, event_of, events_left, false, help-play, in_range, is_help, keep-next, kept_paths, length, length-reverse, nat_tests, part_left, part_paths, path, path-length, path_end-path, path_event, phase_half_moves, phase_paths, phase_start, plan_of, refl, reverse, rules, to_open, true, ℕ, ◌+◌, ◌-◌, ◌<◌, ◌||◌, ◌∷◌, ◌≡◌, ◌≤◌}
 use Rattle.pop_events.specs.declared.event.Event.{Event}
 use Rattle.pop_events.specs.declared.event.Event.TheVariants.{Total}
@@ -24,7 +24,7 @@ module _ (rule : RuleSet) (problem : Posed) (phase : Phase) where
   abbrev left_at : PartStage → List Frame → List BareEvent
   left_at stage frames = part_left rule problem phase stage (reverse frames)
 
-  -- how many solutions begin at the top of so many frames, and the same seen from the path
+  -- the solutions that begin at the top of these frames, and at the path to it
   abbrev more : ℕ → ℕ
   more depth = cond (help || eqb depth 2) 1 0
 
@@ -75,12 +75,12 @@ module _ (rule : RuleSet) (problem : Posed) (phase : Phase) where
     begun-first = beginning_count-next help _ _ _ _ refl (λ b. some)
 
     module _ (stand : Position) (stays : stand ≡ board) (next : ℕ) (n : next ≡ 0 + more (length frames)) where
-      -- then the part stands behind that path
+      -- once the part's own path is shown, the part is after that path
       pub first-stands : Stands front (Within next) frames stand
       unfolding StandsInPart part_paths
       first-stands = search (rules, first-asks, counts-next, kept-first, begun-first)
 
-      -- and the path's event is given
+      -- the path's event is emitted
       pub first-gives : (event : Event) → event ≡ event_of rule problem (path_event problem phase (top frames))
           → Gives rule problem (left_at First frames) (left_at (Within next) frames) event stand (length frames)
       unfolding part_left part_paths
@@ -96,7 +96,7 @@ module _ (rule : RuleSet) (problem : Posed) (phase : Phase) where
     Walked frames board given = Walks rule (plan_of problem) help (phase_half_moves problem phase) (phase_start problem phase) (problem.max_solutions - count)
         old frames board given
 
-    -- a path behind it; board and frames stand as they were left
+    -- a path after it; board and frames are as they were left
     module _ (frames : List Frame) (board : Position) (w : Walked (reverse frames) board true) where
       -- the path has a move
       pub deep-here : 2 ≤ length frames
@@ -106,25 +106,25 @@ module _ (rule : RuleSet) (problem : Posed) (phase : Phase) where
       pub room-here : more (length frames) ≤ problem.max_solutions - count
       room-here = grind (arith, path-length, length-reverse, deep-here, nat_tests)
 
-      -- it fits a line's room
+      -- the frames of a solution fit a line's room
       pub few-here : IsSound problem → length frames ≤ 33
       few-here s = few frames board s w.walking
 
       module _ (left : List Frame) (stand : Position) (same : left ≡ frames) (stays : stand ≡ board) where
-        -- the part stands behind it
+        -- the part is after the path
         pub given-stands : (front : List Move) → StandsInPart rule problem phase front (Within count) old from
             → (next : ℕ) → next ≡ count + more (length frames) → Stands front (Within next) left stand
         unfolding StandsInPart part_paths
         given-stands front s next n = rw (same, stays) (search (rules, room-here, most, counts-next, deep-here))
 
-        -- and its event is given
+        -- the event of the path is emitted
         pub given-gives : (next : ℕ) → next ≡ count + more (length frames) → (event : Event)
             → event ≡ event_of rule problem (path_event problem phase (top frames))
             → Gives rule problem (part_left rule problem phase (Within count) old) (left_at (Within next) left) event stand (length left)
         unfolding part_left part_paths
         given-gives next n event e = rw (same, stays) (search (rules, gives-next, deep-here))
 
-    -- its end
+    -- the end of the part
     module _ (mid : List Frame) (now : Position) (w : Walked mid now false) where
       -- the part's total is given
       pub ended-gives : (new : List Frame) (board : Position) (depth : ℕ) (event : Event) → event ≡ Total count (eqb count problem.max_solutions)
@@ -137,7 +137,7 @@ module _ (rule : RuleSet) (problem : Posed) (phase : Phase) where
         unfolding to_open StandsInPart part_paths
         nothing_open none = search rules
 
-        -- and its positions were all opened
+        -- at the end of the part its positions were all opened
         pub ended-opens : (new : List Frame) (before after : ℕ) → new ≡ []
             → Opens rule (plan_of problem) (phase_start problem phase) old mid before after
             → IsPartOpened rule problem phase front old before → IsPartOpened rule problem phase front (reverse new) after

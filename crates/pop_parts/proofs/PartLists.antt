@@ -1,4 +1,4 @@
--- Lists of moves that begin as a part does: each stands in one part, and the parts joined are all of them.
+-- Lists of moves that begin as a part does: each is in one part, and the parts joined are all of them.
 use Rattle.pop_parts.proofs.Words.{AllPairs, Bool, Contains, Game, IsPlayable, List, Move, Position, Precedes, StandsBefore, [], ap, append-nil, arith, beginnings, begins_path, begins_so, cond, eqb, false, filter, filter-append, first_in, flat_map, flat_map-append, from_flat_map, from_map, in_cases, in_flat_map, in_map, inr, later_in, length, lines_to_goal, map, map-append, map-id, nat_tests, none_in_nil, pairs_flat_map, pairs_map, pairs_nil, pairs_of, path_end, refl, rules, suc, sym, take, true, zero, ℕ, ◌&&◌, ◌++◌, ◌-◌, ◌<◌, ◌∙◌, ◌∷◌, ◌≡◌, ◌≤◌}
 use Rattle.std.proofs.lemmas.List.Folds.{flat_map-map}
 use Rattle.std.proofs.lemmas.Simd.{map-map}
@@ -36,7 +36,7 @@ module _ {A B : Type 0} where
   map-each f g [] same = refl
   map-each f g (x ∷ xs) same = rw (same x, map-each f g xs same) refl
 
--- of what is joined over moves in order, that of one, where that of every other is empty
+-- a list joined over moves in order is the list of one move, where every other move's is empty
 module _ {B : Type 0} (F : Move → List B) (m : Move) (apart : (x : Move) → eqb (order_number m) (order_number x) ≡ false → F x ≡ []) where
   behind-none : (ms : List Move) → ((x : Move) → Contains ms x → order_number m < order_number x) → flat_map F ms ≡ []
   behind-none [] less = refl
@@ -52,7 +52,8 @@ module _ {B : Type 0} (F : Move → List B) (m : Move) (apart : (x : Move) → e
       let later = pairs_later Precedes x ms order in
       grind (arith, in_cases, behind-none ms, first, later, append-nil, apart x, one-of ms, nat_tests)
 
--- a line behind a first move begins as a part does where that move is the part's first and the rest begins as the part goes on
+-- a line after a first move begins as a part does if that move is the part's first and the rest begins as
+-- the part goes on
 fronts-under : (m : Move) (front : List Move) (x : Move) (b : Bool) → eqb (order_number m) (order_number x) ≡ b → (lines : List (List Move))
     → filter (begins_path (m ∷ front)) (map (λ line. x ∷ line) lines) ≡ cond b (map (λ line. x ∷ line) (filter (begins_path front) lines)) []
 unfolding begins_path
@@ -68,7 +69,7 @@ front-all [] = refl
 front-all (line ∷ lines) = ap (λ ls. line ∷ ls) (front-all lines)
 
 module _ (game : Game Position Move) where
-  -- the lines that go on behind each of the beginnings
+  -- the lines that continue each of the lists of first moves
   pub beginnings-lines : (d h : ℕ) (p : Position) → d ≤ h
       → flat_map (λ front. map (λ line. front ++ line) (lines_to_goal game (h - length front) (path_end game.after p front))) (beginnings game d p)
       ≡ lines_to_goal game h p
@@ -93,7 +94,7 @@ module _ (game : Game Position Move) where
           let e : suc h - length (m ∷ rest) ≡ h - length rest = omega arith in
           rw e (sym (map-map (λ line. m ∷ line) (λ line. rest ++ line) (lines_to_goal game (h - length rest) (path_end game.after (game.after p m) rest))))
 
-  -- each of the beginnings can be played and has so many moves
+  -- each list of first moves can be played and has this number of moves
   pub beginnings-play : (d : ℕ) (p : Position) (front : List Move) → Contains (beginnings game d p) front
       → IsPlayable game p front × (length front ≡ d)
   unfolding beginnings
@@ -102,7 +103,7 @@ module _ (game : Game Position Move) where
       let w = from_flat_map (λ m. map (λ rest. m ∷ rest) (beginnings game d (game.after p m))) (game.moves p) front c in
       grind (arith, from_map (λ rest. w.0 ∷ rest) (beginnings game d (game.after p w.0)) front w.2, beginnings-play d (game.after p w.0))
 
-  -- and each such list is one of them
+  -- each list of this number of moves that can be played is one of them
   pub in-beginnings : (d : ℕ) (p : Position) (front : List Move) → IsPlayable game p front → length front ≡ d → Contains (beginnings game d p) front
   unfolding beginnings
   in-beginnings d p [] are long = grind (arith, first_in)
@@ -131,7 +132,7 @@ module _ (game : Game Position Move) (order : (p : Position) → AllPairs Preced
       ∙ ap (map (λ line. m ∷ line)) rest
       ∙ map-map (λ line. m ∷ line) (λ line. front ++ line) (lines_to_goal game (h - length front) (path_end game.after (game.after p m) front)))
 
-  -- they stand in the order of the moves
+  -- the beginnings stand in the order of the moves
   pub beginnings-stand : (d : ℕ) (p : Position) → AllPairs (StandsBefore Precedes) (beginnings game d p)
   unfolding beginnings
   beginnings-stand zero p = grind (arith, pairs_of, none_in_nil, pairs_nil)
@@ -144,7 +145,7 @@ module _ (game : Game Position Move) (order : (p : Position) → AllPairs Preced
       let y = from_map (λ rest. n ∷ rest) (beginnings game d (game.after p n)) b e in
       grind (arith, x, y))
 
-  -- of the beginnings a line that can be played begins with one alone
+  -- a line that can be played begins with exactly one of the beginnings
   pub beginnings-one : (d : ℕ) (p : Position) (line : List Move) → IsPlayable game p line → d ≤ length line
       → filter (λ front. begins_path front line) (beginnings game d p) ≡ take d line ∷ []
   unfolding beginnings begins_path
@@ -168,7 +169,7 @@ module _ (game : Game Position Move) (order : (p : Position) → AllPairs Preced
           → filter (λ rest. eqb (order_number x) (order_number x) && begins_path rest line) rests ≡ filter (λ rest. begins_path rest line) rests
       here rests = rw (same-number x) refl
 
--- solutions of battle play: those of one move of the root
+-- solutions of battle play: the solutions that begin with one move of the root
 pub root-part : (other : Move → Bool) (G : Move → List (List Move)) (m : Move) (ms : List Move) → AllPairs Precedes ms → Contains ms m
     → filter (begins_so (m ∷ [])) (map (λ x. (x ∷ []) ∷ G x) (filter other ms)) ≡ map (λ x. (x ∷ []) ∷ G x) (filter other (m ∷ []))
 unfolding begins_path
@@ -190,7 +191,7 @@ root-part other G m ms order c =
     alone : (b : Bool) → filter (begins_so (m ∷ [])) (cond b (((m ∷ []) ∷ G m) ∷ []) []) ≡ cond b (((m ∷ []) ∷ G m) ∷ []) []
     alone b = search (rules, same-number)
 
--- and these of all moves, one move after another
+-- the solutions of all moves, one move after another
 pub each-own : {B : Type 0} (other : Move → Bool) (N : Move → B) (ms : List Move)
     → flat_map (λ x. map N (filter other (x ∷ []))) ms ≡ map N (filter other ms)
 each-own other N [] = refl

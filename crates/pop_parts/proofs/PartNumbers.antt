@@ -1,8 +1,8 @@
--- The parts of a phase by their numbers, and how many there are.
+-- The parts of a phase by their numbers, and their number.
 use Rattle.pop_parts.proofs.Words.{Bool, Phase, Posed, Position, RuleSet, [], arith, beginnings, chess, eqb, false, half_moves, is_barred, not, part_depth, parts, phase_half_moves, phase_start, refl, true, ℕ, ◌||◌, ◌≡◌, ◌≤◌}
 use Rattle.pop_input.specs.declared.stipulation.Goal.{Goal}
 
--- the moves that tell parts apart are one or more, and no more than the half-moves
+-- the moves that distinguish parts are one or more, and at most the half-moves
 pub depth-fits : (problem : Posed) (phase : Phase) (depth : ℕ) → 1 ≤ depth → 1 ≤ phase_half_moves problem phase
     → (1 ≤ part_depth problem phase depth) × (part_depth problem phase depth ≤ phase_half_moves problem phase)
 depth-fits problem phase depth some more = grind arith

@@ -1,4 +1,4 @@
--- What the walk shows behind a part's first moves is the part's solutions.
+-- The walk shows after a part's first moves exactly the part's solutions.
 use Rattle.pop_parts.proofs.Words.{Bool, Contains, IsPlayable, IsSound, IsWellFormed, List, Move, Phase, Posed, Position, RuleSet, [], after_well_formed, ap, append-nil, append_assoc, arith, battle-form, begins_path, begins_so, chess, eqb, false, filter, game_of, help_lines, helps-form, is_help, is_help_play, is_pseudo_legal-from_legal, legal_moves, length, length-append, lines_to_goal, map, map-id, moves_are_the_legal_moves, moves_in_order, part_solutions, path_end, path_end-append, phase_half_moves, phase_start, plan_of, play_of, position_after, refl, set_tree, shown_paths, solutions, start_sound, subst, suc, sym, true, zero, ℕ, ◌++◌, ◌+◌, ◌-◌, ◌∙◌, ◌∷◌, ◌≡◌, ◌≤◌}
 use Rattle.pop_battle.specs.declared.aim.Battle.{Battle}
 use Rattle.pop_battle.specs.declared.aim.Play.{Play as PlayOfSides}
@@ -20,7 +20,7 @@ module _ (rule : RuleSet) (problem : Posed) where
       let rest = λ (w : IsWellFormed (position_after rule p m)). is_legal-playable (position_after rule p m) w ms in
       grind (arith, moves_are_the_legal_moves rule p m well, after, is_pseudo_legal-from_legal rule p m, rest)
 
-  -- help play: the lines that go on behind some moves
+  -- help play: the lines that continue some moves
   abbrev pub lines-behind : Phase → List Move → List (List Move)
   lines-behind phase front = map (λ line. front ++ line) (lines_to_goal (game_of rule problem) (phase_half_moves problem phase - length front)
       (path_end (position_after rule) (phase_start problem phase) front))
@@ -60,13 +60,13 @@ module _ (rule : RuleSet) (problem : Posed) where
   of-one battle Set h m c = root-part _ _ m (legal_moves rule (phase_start problem Set)) (moves_in_order rule (phase_start problem Set)) c
   of-one battle Play h m c = root-part _ _ m (legal_moves rule (phase_start problem Play)) (moves_in_order rule (phase_start problem Play)) c
 
-  -- those of a part are those that begin with its move
+  -- the solutions of a part are the solutions that begin with its move
   pub battle-part : (battle : Battle) → play_of problem.stipulation.form ≡ BattlePlay battle → (phase : Phase) (h : ℕ) → phase_half_moves problem phase ≡ suc h
       → (m : Move) → Contains (legal_moves rule (phase_start problem phase)) m → part_solutions rule problem phase (m ∷ []) ≡ battle-by battle phase h (m ∷ [])
   unfolding part_solutions
   battle-part battle fought phase h z m c = ap (filter (begins_so (m ∷ []))) (battle-solutions battle fought phase h z) ∙ of-one battle phase h m c
 
-  -- what the walk shows behind some moves in help play
+  -- what the walk shows after some moves in help play
   walked : play_of problem.stipulation.form ≡ HelpPlay → (start : Bool) (h : ℕ) (p : Position) (front : List Move) (m : Move) → length front + 1 ≤ h
       → map (λ line. front ++ line) (shown_paths (plan_of problem) (game_of rule problem) start (h - length front) (h - length front)
       (path_end (position_after rule) p front) (m ∷ []))
@@ -129,7 +129,7 @@ module _ (rule : RuleSet) (problem : Posed) where
       rw (battle-part battle fought phase h z m c.0) (with-none problem.max_solutions (phase_half_moves problem phase) h (phase_start problem phase) (m ∷ [])
       (battle-by battle phase h (m ∷ [])) z (one-cut battle fought phase h z m))
 
--- behind a part's first moves, the last of which is still to be made, the walk shows the part's solutions
+-- after a part's first moves, the last of which is still to be made, the walk shows the part's solutions
 pub part_cut : (rule : RuleSet) (problem : Posed) (sound : IsSound problem) (phase : Phase) (front : List Move) (m : Move)
     → length front + 1 ≤ phase_half_moves problem phase → (is_help problem.stipulation.form ≡ false → front ≡ [])
     → are_legal rule (phase_start problem phase) (front ++ m ∷ []) ≡ true

@@ -1,4 +1,4 @@
--- The parts of a phase joined are the phase, and each solution stands in one part.
+-- The parts of a phase joined are the phase, and each solution is in one part.
 use Rattle.pop_parts.proofs.Words.{AllPairs, Bool, Contains, IsPlayable, IsSound, List, Move, Phase, Posed, Precedes, RuleSet, StandsBefore, [], ap, arith, battle-form, beginnings, begins_so, cond, eqb, false, filter, flat_map, flat_map_single, from_filter, from_map, game_of, help-form, help_lines, is_barred, is_help, legal_moves, length, lines_to_goal, map, min, moves_in_order, nat_tests, none_in_nil, pairs_nil, part_depth, part_solutions, parts, phase_half_moves, phase_start, play_of, refl, set_tree, solutions, solutions_by, some_way, subst, suc, sym, true, zero, ℕ, ◌||◌, ◌↔◌, ◌∙◌, ◌∷◌, ◌≡◌, ◌≤◌}
 use Rattle.pop_battle.specs.declared.aim.Battle.{Battle}
 use Rattle.pop_battle.specs.declared.aim.Play.{Play as PlayOfSides}
@@ -29,7 +29,7 @@ module _ (rule : RuleSet) (problem : Posed) (phase : Phase) where
       → parts rule problem phase depth ≡ beginnings (game_of rule problem) 1 (phase_start problem phase)
   parts-battle depth free some battle = rw battle at (parts-some depth free some)
 
-  -- the parts are the lists of so many legal moves
+  -- the parts are the lists of this number of legal moves
   pub parts-are : (depth : ℕ) → is_barred rule problem phase ≡ false → (h : ℕ) → phase_half_moves problem phase ≡ h → (front : List Move)
       → Contains (parts rule problem phase depth) front
       ↔ ((1 ≤ phase_half_moves problem phase) × IsPlayable (game_of rule problem) (phase_start problem phase) front

@@ -1,7 +1,7 @@
--- Parts one behind another.
+-- Parts one after another.
 use Rattle.pop_parts.proofs.Words.{Appends, Begins, IsPrinting, List, Move, Option, Phase, Posed, RuleSet, Some, [], ap, arith, drop, flat_map, length, length-drop, part_text, printing_breaks_off, printing_goes_on, refl, slice_get, suc, take, text_if, zero, ℕ, ◌+◌, ◌-◌, ◌<◌, ◌∙◌, ◌∷◌, ◌≡◌, ◌≤◌}
 
--- what stands behind a place begins with what stands there
+-- what comes after an index begins with the element there
 first_behind : {A : Type 0} (xs : List A) (n : ℕ) → n < length xs → (x : A) × (slice_get xs n ≡ Some x) × (drop n xs ≡ x ∷ drop (n + 1) xs)
 first_behind [] n h = absurd (omega (arith, h))
 first_behind (x ∷ xs) zero h = (x, refl, refl)
@@ -12,14 +12,14 @@ first_behind (x ∷ xs) (suc n) h =
 take_first : {A : Type 0} (x : A) (xs : List A) (k : ℕ) → take (k + 1) (x ∷ xs) ≡ x ∷ take k xs
 take_first x xs k = grind arith
 
--- the first of some that stand behind a place, and the others
+-- the first of some elements after an index, and the others
 first_of_some : {A : Type 0} (xs : List A) (n k : ℕ) → n < length xs
     → (x : A) × (slice_get xs n ≡ Some x) × (take (k + 1) (drop n xs) ≡ x ∷ take k (drop (n + 1) xs))
 first_of_some xs n k h =
     let first = first_behind xs n h in
     (first.0, first.1, ap (take (k + 1)) first.2 ∙ take_first first.0 (drop (n + 1) xs) k)
 
--- of some parts, from the one with a number on, the first and those behind it
+-- from the part with a number on: the first part and the parts after it
 next_part : {A : Type 0} (xs : List A) (number left : ℕ) → 1 ≤ number → 0 < left → number + left ≤ length xs + 1
     → (x : A) × (slice_get xs (number - 1) ≡ Some x) × (take left (drop (number - 1) xs) ≡ x ∷ take (left - 1) (drop number xs))
 next_part xs number left counted some there =
@@ -45,7 +45,7 @@ module _ (rule : RuleSet) (posed : Posed) (phase : Phase) (all xs : List (List M
       let next = next_part xs number left counted some there in
       printing_breaks_off (part_text rule posed phase) all _ next.0 before mid now (rw next.2 at p) (rw next.1 at begun)
 
--- fewer parts are behind those that were passed
+-- fewer parts come after the parts that were passed
 pub parts_behind : (xs behind : List (List Move)) (number left : ℕ) → behind ≡ drop number xs → 0 < left → number + left ≤ length xs + 1
     → 1 + (left - 1) ≤ length behind + 1
 parts_behind xs behind number left passed some there = omega (arith, ap length passed, length-drop number xs, some, there)

@@ -11,7 +11,7 @@ pub item_read : (old new : Standing) (had left : Option (List ℕ)) (item : Item
     → entry_in item ≡ Some entry → Reads old new had left (entry ∷ [])
 item_read old new had left item entry p is = grind arith
 
--- the items of the input that was met are those read and others behind them
+-- the items of the input are the items read and others after them
 pub items_met : (now : Standing) (left : Option (List ℕ)) (r : List ℕ) (items : List Entry) → Reads first_standing now (Some r) left items
     → IsSeen now.at.end left → (more : List Entry) × (entries_in (input_met (is_broken now.at.end) r left) ≡ items ++ more)
 items_met now left r items all seen =
@@ -21,7 +21,7 @@ items_met now left r items all seen =
 none_behind : (place : Standing) (rest : Input) → place.next ≡ Nothing → entries_left place rest ≡ []
 none_behind place rest is = grind arith
 
--- behind the last item no other one is to come
+-- after the last item no other is to come
 pub all_met : (old now : Standing) (mid left : Option (List ℕ)) (r : List ℕ) (items : List Entry) (item : Item)
     → Reads first_standing old (Some r) mid items → NextItem old now mid left item → entry_in item ≡ None
     → IsSeen now.at.end left → entries_in (input_met (is_broken now.at.end) r left) ≡ items
@@ -33,11 +33,11 @@ all_met old now mid left r items NoItem all (nothing, same, over) none seen =
 all_met old now mid left r items (Sound posed last) all p none seen = absurd (let no : Some (SoundEntry posed) ≡ None = none in cc)
 all_met old now mid left r items (Faulty fault last) all p none seen = absurd (let no : Some (FaultyEntry fault) ≡ None = none in cc)
 
--- a count that stayed tells of no failure
+-- a count that stayed shows no failure
 pub kept_is_told : (n m : ℕ) → m ≡ n → has_grown n m ≡ false
 kept_is_told n m is = rw (is, grew_same) refl
 
--- one that grew tells of one
+-- a count that grew shows a failure
 pub failure_is_told : (n m : ℕ) → m ≡ n + 1 → has_grown n m ≡ true
 failure_is_told n m is = rw (is, grew_more) refl
 
@@ -50,7 +50,7 @@ took old new had left item entry p u is =
     let r = some_rest new.at.end in
     (still_more old new had left entry r.0 r.1 (item_read old new had left item entry p is), grind arith)
 
--- behind the last item nothing more is read
+-- after the last item nothing more is read
 pub last_read : (old new : Standing) (mid left : Option (List ℕ)) (item : Item) → NextItem old new mid left item → UsesItem old new mid left item
     → entry_in item ≡ None → (ends old.next ≡ true) × (new ≡ old) × (left ≡ mid)
 last_read old new mid left NoItem (nothing, same, over) u none = (rw nothing refl, same, u.1)
@@ -64,7 +64,7 @@ pub reads_as_a_run : (new : Standing) (had left : Option (List ℕ)) (n m : ℕ)
 reads_as_a_run new None left n m s seen few reads = tt
 reads_as_a_run new (Some r) left n m s seen few reads = rw (grew_broken new.at.end n m reads) (stopped_reads new r left s seen few)
 
--- and no further than an item, where no more of the words used close one
+-- a call that stops has read no further than an item, where no more of the words used close one
 pub reads_items : (number : ℕ) (new : Standing) (had left : Option (List ℕ)) (n m : ℕ) (s : Stopped new had left) → (1 ≤ number → closings s.tokens ≤ number)
     → IsSeen new.at.end left → length new.at.window ≤ 4096 → m ≡ failures_after Open new.at.end n
     → IfSome had (λ r. ReadsItems number (input_met (has_grown n m) r left) (taken_of r left))

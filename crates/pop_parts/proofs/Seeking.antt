@@ -1,4 +1,4 @@
--- The walk over beginnings: what a step leaves of those still to come.
+-- The walk over first moves: what a step leaves of the lists still to come.
 use Rattle.pop_parts.proofs.Words.{AreKnown, CameFrom, CameFromAt, Frame, IfSome, IsLinked, IsPlaceIn, IsRoomy, IsWalking, IsWellFormed, LegalPlace, List, Move, None, Option, Position, RuleSet, Some, Undo, [], after_well_formed, ap, append-nil, append_assoc, arith, beginnings, chess, drop, is_legal, is_pseudo_legal-from_legal, is_some, length, length-append, length-reverse, map, map-append, map-id, min, moves_behind, nil_from_length, path, position, position_after, refl, reverse, rules, slice_get, suc, sym, true, undo_of, walk_work, zero, ℕ, ◌++◌, ◌+◌, ◌-◌, ◌<◌, ◌^◌, ◌∙◌, ◌∷◌, ◌≡◌, ◌≢◌, ◌≤◌}
 use Rattle.std.proofs.Math.Seq.{drop-nil}
 use Rattle.pop_input.specs.declared.stipulation.Goal.{Goal}
@@ -109,7 +109,7 @@ module _ (rule : RuleSet) (h d : ℕ) (p : Position) (top : Frame) (old new : Li
     behind : moves_behind rule (position rule p (f ∷ reverse new)) f.place ≡ m ∷ moves_behind rule (position rule p (f ∷ reverse new)) place
     behind = rw (← known_top.board_at) next.0
 
-    -- its next move ends a beginning
+    -- the next move ends a beginning
     pub seeks-found : length mid ≡ d → Seeks rule h d p (reverse old) (reverse mid) now (Some m)
     unfolding are_idle walk_work position beginnings_to_come path
     seeks-found last =
@@ -119,7 +119,7 @@ module _ (rule : RuleSet) (h d : ℕ) (p : Position) (top : Frame) (old new : Li
         let falls = turns-found rule h p f place m (reverse new) in
         rw (at_top, at_mid, e) (search (rules, walking, idle_top, deep, s.room, found, at, falls, behind))
 
-    -- or leads on to a deeper frame
+    -- the next move leads on to a deeper frame
     pub seeks-deeper : (undo : Undo) (after : Position) (last : List Frame) → length mid ≢ d → undo ≡ undo_of rule now m → after ≡ position_after rule now m
         → last ≡ mid ++ opened_frame m undo 0 ∷ [] → Seeks rule h d p (reverse old) (reverse last) after None
     unfolding are_idle walk_work position beginnings_to_come path
@@ -140,7 +140,7 @@ pub record SeeksNumbered (rule : RuleSet) (h d : ℕ) (p : Position) (old new : 
   pub same : (goal : Goal) → slice_get (beginnings_to_come goal rule d p old) (number - 1) ≡ slice_get (beginnings_to_come goal rule d p new) (left - 1)
   pub behind : (goal : Goal) → drop number (beginnings_to_come goal rule d p old) ≡ drop left (beginnings_to_come goal rule d p new)
 
--- the same on the way to the last one, where `count` were found
+-- steps on the way to the last beginning, where `count` were found
 pub record CountsOn (rule : RuleSet) (h d : ℕ) (p : Position) (old new : List Frame) (board : Position) (count : ℕ) : Type 0 where
   pub seeking : IsSeeking rule h d p new board
   pub fewer : (goal : Goal) → length (beginnings_to_come goal rule d p new) ≤ length (beginnings_to_come goal rule d p old)
@@ -165,7 +165,7 @@ module _ (rule : RuleSet) (h d : ℕ) (p : Position) where
           behind = λ goal. s.behind goal ∙ rw (whole, x.come goal) refl;
         }
 
-  -- with no frame left there is no such beginning
+  -- with no frame left there is no list of first moves
   pub numbered-none : (old mid : List Frame) (board : Position) (number left : ℕ) → mid ≡ [] → SeeksNumbered rule h d p old mid board number left
       → FindsNumbered rule h d p old mid board number None
   unfolding beginnings_to_come
@@ -177,7 +177,7 @@ no-frames frames e = search (rules, nil_from_length)
 
 -- before all beginnings
 module _ (rule : RuleSet) (p : Position) (f : Frame) (left : f.left ≡ 0) where
-  -- the walk over beginnings stands on the root of the phase
+  -- the walk over first moves begins at the root of the phase
   pub seeking-begun : (h d : ℕ) (board : Position) → f.known ≡ None → 1 ≤ d → d ≤ h → board ≡ p → IsWellFormed board → IsSeeking rule h d p (f ∷ []) board
   unfolding IsLinked IsRoomy AreKnown position are_idle
   seeking-begun h d board unknown some room e sound = search rules

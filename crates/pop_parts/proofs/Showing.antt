@@ -1,4 +1,4 @@
--- The parts that are asked for, in the input that was met.
+-- The requested parts, in the input that was read.
 use Rattle.pop_parts.proofs.Words.{Appends, Begins, Bool, Entry, Faulty, IfSome, IsSeen, Item, List, NextItem, None, Open, Option, Reached, Reads, ReadsItems, Shows, Some, Sound, Standing, UsesItem, [], any_more, ap, arith, closings, entries_in, entry_in, entry_numbered, failures_after, false, first_standing, grew_broken, has_grown, input_met, is_failure, item_reached, item_stops, last_few, length, length-append, list_any, outcome_at, reached_few, reached_start, reads_then, refl, slice_get, start_few, stopped_last, stops_few, sym, taken_of, tells_failure, text_at, ℕ, ◌++◌, ◌+◌, ◌-◌, ◌<◌, ◌||◌, ◌∙◌, ◌∷◌, ◌≡◌, ◌≢◌, ◌≤◌}
 use Rattle.std.proofs.lemmas.Option.{slice_get_past}
 use Rattle.pop_text.proofs.Appending.{appends_none}
@@ -8,7 +8,8 @@ use Rattle.pop_parts.specs.declared.asked.Asked.{Asked}
 use Rattle.pop_parts.specs.declared.asked.Outcome.{Outcome}
 use Rattle.pop_parts.specs.declared.asked.Outcome.TheVariants.{OutputFailed}
 
--- From the beginning to now these items were read, none of which is the one with the number, and some of which tell of a failed device or not.
+-- These items were read so far: none has the requested number, and they report a failed device exactly if
+-- `failed`.
 pub record Passed (wanted : ℕ) (now : Standing) (number : ℕ) (failed : Bool) (had left : Option (List ℕ)) : Type 0 where
   pub items : List Entry
   pub reads : Reads first_standing now had left items
@@ -57,7 +58,7 @@ found_there : (items : List Entry) (entry : Entry) (more : List Entry) (wanted :
     → entry_numbered ((items ++ entry ∷ []) ++ more) wanted ≡ Some entry
 found_there items entry more wanted is = grind (arith, get_seam items entry more)
 
--- the input has no such item
+-- the input has no item of this number
 pub item_missing : (asked : Asked) (old new : Standing) (number : ℕ) (failed : Bool) (had mid left before : Option (List ℕ)) (item : Item) (answer : Outcome)
     (n m v w : ℕ) → Passed asked.item old number failed had mid → NextItem old new mid left item → entry_in item ≡ None → IsSeen new.at.end left
     → answer ≡ outcome_at asked failed None → m ≡ failures_after Open new.at.end n → w ≡ v

@@ -1,2 +1,2 @@
--- What the definitions mean, for readers: theorems over every game, every set of rules and every goal.
+-- What the definitions mean, for readers: theorems for every game, all sets of rules and both goals.
 pub mod Parts

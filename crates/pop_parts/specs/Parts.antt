@@ -1,4 +1,4 @@
--- The list of an input's parts, and the text of the parts that are asked for (own layout).
+-- The list of an input's parts, and the text of requested parts (own layout).
 use Rattle.std.specs.Prelude.{ℕ, ◌+◌, ◌-◌, ◌^◌, ◌==◌, nat_le, min, Bool, true, not, ◌&&◌, if◌then◌else◌, List, [], ◌∷◌, ◌++◌, map, take, drop, length, slice_get, codes, decimal, Option, Some, None}
 use Rattle.std.specs.List.{flat_map, list_any}
 use Rattle.chess_rules.specs.RuleSet.{RuleSet}
@@ -15,21 +15,21 @@ use Rattle.pop_parts.specs.declared.asked.Asked.{Asked}
 use Rattle.pop_parts.specs.declared.asked.Outcome.{Outcome}
 use Rattle.pop_parts.specs.declared.asked.Outcome.TheVariants.{Shown, NoItem, FaultyItem, NoPhase, NoPart, InputFailed}
 
--- how many parts are told of a phase, up to the greatest u64; none where it can't stand
+-- the number of parts of a phase, up to the greatest u64; none if the phase isn't possible
 abbrev pub told_count : RuleSet → Posed → Phase → ℕ → Option ℕ
 told_count rule posed phase depth = if is_barred rule posed phase then None
     else Some (min (length (parts rule posed phase depth)) (2 ^ 64 - 1))
 
--- the same of a problem, under its own condition
+-- the number of parts of a phase, under the problem's own condition
 unfoldable pub count_of : Posed → Phase → ℕ → Option ℕ
 count_of posed phase depth = told_count (rule_of posed.condition) posed phase depth
 
--- what is said of a phase
+-- the text of a part count
 abbrev pub count_text : Option ℕ → List ℕ
 count_text None = codes "not possible"
 count_text (Some count) = decimal count
 
--- set play, where the problem has it
+-- the text for set play, if the problem has it
 abbrev pub set_text : Posed → ℕ → List ℕ
 set_text posed depth =
     if posed.set_play then codes "set " ++ count_text (count_of posed Set depth) ++ codes ", "
@@ -60,7 +60,7 @@ abbrev pub has_phase : Posed → Phase → Bool
 has_phase posed Set = posed.set_play
 has_phase posed Play = true
 
--- the numbers asked for are those of parts of the phase, in order
+-- the phase has all requested parts
 abbrev pub has_parts : RuleSet → Asked → Posed → Bool
 has_parts rule asked posed = nat_le 1 asked.first && nat_le asked.first asked.last
     && nat_le asked.last (length (parts rule posed asked.phase asked.depth))
@@ -70,39 +70,39 @@ unfoldable pub part_text : RuleSet → Posed → Phase → Path → List ℕ
 part_text rule posed phase front = flat_map event_text
     (map (event_of rule posed) (part_events rule posed phase front))
 
--- the parts with the numbers asked for, in order
+-- the requested parts, in order
 abbrev pub parts_asked : RuleSet → Asked → Posed → List Path
 parts_asked rule asked posed = take (asked.last - asked.first + 1)
     (drop (asked.first - 1) (parts rule posed asked.phase asked.depth))
 
--- what comes of a sound problem
+-- the outcome for a sound problem
 abbrev pub outcome_in : RuleSet → Asked → Posed → Outcome
 outcome_in rule asked posed = if not (has_phase posed asked.phase) then NoPhase
     else (if has_parts rule asked posed then Shown else NoPart)
 
--- its text: that of the parts asked for, where it has them
+-- the text for a sound problem: its requested parts, if it has them
 unfoldable pub text_in : RuleSet → Asked → Posed → List ℕ
 text_in rule asked posed = if has_phase posed asked.phase && has_parts rule asked posed
     then flat_map (part_text rule posed asked.phase) (parts_asked rule asked posed) else []
 
--- what comes of an item, or where there is none, by whether the input's device failed
+-- the outcome for an item; if there is none, by whether the input's device failed
 abbrev pub outcome_at : Asked → Bool → Option Entry → Outcome
 outcome_at asked failed None = if failed then InputFailed else NoItem
 outcome_at asked failed (Some (Sound posed)) = outcome_in (rule_of posed.condition) asked posed
 outcome_at asked failed (Some (Faulty fault)) =
     if tells_failure (Faulty fault) then InputFailed else FaultyItem
 
--- the text of an item
+-- the text for an item
 abbrev pub text_at : Asked → Option Entry → List ℕ
 text_at asked None = []
 text_at asked (Some (Sound posed)) = text_in (rule_of posed.condition) asked posed
 text_at asked (Some (Faulty fault)) = []
 
--- what comes of an input
+-- the outcome for an input
 abbrev pub outcome_of : Asked → Input → Outcome
 outcome_of asked input = outcome_at asked (list_any tells_failure (entries_in input))
     (entry_numbered (entries_in input) asked.item)
 
--- its text: that of the parts asked for, none where they are refused
+-- the text for an input: the requested parts, or nothing if it doesn't have them
 abbrev pub text_of : Asked → Input → List ℕ
 text_of asked input = text_at asked (entry_numbered (entries_in input) asked.item)

@@ -1,4 +1,4 @@
--- The parts of a phase: its solutions shared out by the moves with which they begin, so that each part can be searched by
+-- The parts of a phase: its solutions divided by their first moves, so that each part can be searched by
 -- itself, on any machine (own).
 use Rattle.std.specs.Prelude.{ℕ, zero, suc, ◌-◌, ◌==◌, min, Bool, true, false, ◌&&◌, ◌||◌, if◌then◌else◌, List, [], ◌∷◌, ◌++◌, map, take, filter, length, Option, None, slice_get}
 use Rattle.std.specs.List.{flat_map}
@@ -12,20 +12,20 @@ use Rattle.pop_battle.specs.Game.{Game}
 use Rattle.pop_events.specs.declared.event.Phase.{Phase}
 
 module _ {P M : Type 0} where
-  -- all lists of d moves from p, each legal where it stands, in the order of moves
+  -- all lists of d moves from p, each legal in its position, in the order of moves
   unfoldable pub beginnings : Game P M → ℕ → P → List (List M)
   beginnings game zero p = [] ∷ []
   beginnings game (suc d) p =
       flat_map (λ m. map (λ rest. m ∷ rest) (beginnings game d (game.after p m))) (game.moves p)
 
--- how many moves tell the parts of a phase apart: one in battle play; in help play as many as are asked for, but no more
--- than it has half-moves
+-- the number of moves that distinguish the parts of a phase: one in battle play; in help play `depth`, but
+-- at most the half-moves of the phase
 abbrev pub part_depth : Posed → Phase → ℕ → ℕ
 part_depth problem phase depth =
     if is_help problem.stipulation.form then min depth (phase_half_moves problem phase) else 1
 
--- the parts of a phase, each told by its first moves, in the order of moves; none where the phase can't stand or has no
--- half-move
+-- the parts of a phase, each given by its first moves, in the order of moves; none if the phase isn't
+-- possible or has no half-move
 unfoldable pub parts : RuleSet → Posed → Phase → ℕ → List Path
 parts rule problem phase depth =
     if is_barred rule problem phase || (phase_half_moves problem phase == 0) then []
@@ -37,23 +37,23 @@ abbrev pub part_numbered : RuleSet → Posed → Phase → ℕ → ℕ → Optio
 part_numbered rule problem phase depth number =
     if number == 0 then None else slice_get (parts rule problem phase depth) (number - 1)
 
--- the path begins with these moves, which are told by their numbers in the order of moves
+-- the path begins with these moves; moves are compared by their order numbers
 unfoldable pub begins_path : Path → Path → Bool
 begins_path [] path = true
 begins_path (m ∷ front) [] = false
 begins_path (m ∷ front) (n ∷ path) = order_number m == order_number n && begins_path front path
 
--- the solution begins so: its first path does
+-- the solution's first path begins with these moves
 abbrev pub begins_so : Path → Solution → Bool
 begins_so front [] = false
 begins_so front (path ∷ paths) = begins_path front path
 
--- the solutions of a part: those of its phase that begin so
+-- the solutions of a part: the solutions of its phase that begin with its first moves
 unfoldable pub part_solutions : RuleSet → Posed → Phase → Path → List Solution
 part_solutions rule problem phase front =
     filter (begins_so front) (solutions rule problem phase)
 
--- how many solutions a part has, up to the limit
+-- the number of a part's solutions, up to the limit
 abbrev pub part_count : RuleSet → Posed → Phase → Path → ℕ
 part_count rule problem phase front =
     length (take problem.max_solutions (part_solutions rule problem phase front))

@@ -11,22 +11,24 @@ use Rattle.pop_parts.specs.declared.asked.Asked.{Asked}
 use Rattle.pop_parts.specs.declared.asked.Outcome.{Outcome}
 use Rattle.pop_parts.specs.declared.asked.Outcome.TheVariants.{OutputFailed}
 
--- The list of the input is written and its status answered. Where the sink failed, a beginning is written.
+-- The list of the input was written, and its status returned; if the sink failed, a beginning of the list
+-- was written.
 abbrev pub Lists : ℕ → Input → Option (List ℕ) → Option (List ℕ) → Bool → Status → Type 0
 Lists depth input before now false answer = Appends before now (list_text depth input)
     × (answer ≡ status input)
 Lists depth input before now true answer = Begins before now (list_text depth input)
     × (answer ≡ ListCut)
 
--- The text of the parts asked for is written, and what comes of the input answered. Where the sink failed, a beginning is written.
+-- The text of the requested parts was written, and the outcome returned; if the sink failed, a beginning of
+-- the text was written.
 abbrev pub Shows : Asked → Input → Option (List ℕ) → Option (List ℕ) → Bool → Outcome → Type 0
 Shows asked input before now false answer = Appends before now (text_of asked input)
     × (answer ≡ outcome_of asked input)
 Shows asked input before now true answer = Begins before now (text_of asked input)
     × (answer ≡ OutputFailed)
 
--- How far a call reads that took these bytes and was asked for the item with a number: as a run does, but no further than that item, which no more words
--- close than its number. No item has number 0.
+-- How far a call reads that took these bytes to find the item with a number: as a run does, and the words
+-- taken close at most `number` items. No item has number 0.
 pub record ReadsItems (number : ℕ) (input : Input) (taken : List ℕ) : Type 0 where
   pub reads : ReadsUpTo input taken
   pub few : 1 ≤ number → closings reads.tokens ≤ number

@@ -1,32 +1,32 @@
-//! What is asked of the parts of a phase, and what comes of it.
+//! A request for parts of a phase, and its outcome.
 use pop_events::event::Phase;
 
-/// Parts of a phase of an item: those with the numbers from `first` to `last`. Items and parts are counted from 1.
+/// A request: the parts `first` to `last` of a phase of an item. Items and parts are numbered from 1.
 #[derive(Clone, Copy)]
 pub struct Asked {
     pub item: u64,
     pub phase: Phase,
     pub first: u64,
     pub last: u64,
-    /// How many moves tell the parts of help play apart.
+    /// The number of moves that distinguish the parts of help play.
     pub depth: usize,
 }
 
-/// What comes of it.
+/// The outcome of a request.
 #[derive(Clone, Copy)]
 pub enum Outcome {
     /// The parts were printed.
     Shown,
-    /// The input has no such item.
+    /// The input has no item of this number.
     NoItem,
     /// The item is faulty.
     FaultyItem,
-    /// The problem has no such phase.
+    /// The problem has no set play.
     NoPhase,
-    /// The phase has no such part.
+    /// The phase has no part of one of these numbers.
     NoPart,
     /// The input device failed before the item was read.
     InputFailed,
-    /// The output can't be written.
+    /// The output device failed.
     OutputFailed,
 }

@@ -1,5 +1,5 @@
-//! The beginnings of the parts of a phase, one after another in the order of moves. They are walked over on frames at
-//! which no half-move is left, so that nothing more is tried from these once a part begins.
+//! The first moves of each part of a phase, in the order of moves. The walk over them uses frames with no
+//! half-moves left, so nothing is tried below a part's first moves.
 ghost use Rattle.std.specs.Prelude.{◌≡◌, ◌+◌, ◌-◌, ◌<◌, ◌≤◌, ◌==◌, ◌^◌, ◌||◌, ℕ, min, not, [], ◌∷◌, ◌++◌, length, reverse, slice_get, true, false, MatchOption, None, Some};
 ghost use Rattle.arrayvec.specs.ArrayVec.{array_vec_len};
 ghost use Rattle.chess_core.specs.Position.{Position};
@@ -27,7 +27,8 @@ use pop_input::problem::Problem;
 use pop_solve::phases::{phase_half_moves, set_up};
 use pop_solve::walk::step_back;
 
-/// How many moves tell the parts of a phase apart.
+/// Returns the number of moves that distinguish the parts of a phase: `depth`, but at most the half-moves
+/// of the phase, in help play; otherwise one.
 pub(crate) fn part_depth(problem: &Problem, phase: Phase, depth: usize) -> usize
     ensures { result ≡ depth_of_parts problem.now phase depth }
 {
@@ -38,7 +39,7 @@ pub(crate) fn part_depth(problem: &Problem, phase: Phase, depth: usize) -> usize
     }
 }
 
-/// The frame of a position that a move has reached, from which nothing is tried.
+/// Returns the frame of a position that a move has reached, from which nothing is tried.
 fn idle<R: Rules>(by: Move, undo: Undo) -> Frame<R>
     ensures { result ≡ opened_frame by undo 0 }
 {
@@ -53,8 +54,8 @@ fn idle<R: Rules>(by: Move, undo: Undo) -> Frame<R>
     }
 }
 
-/// One step of the walk over beginnings of `depth` moves: the next move of the top frame is played or found as the last one
-/// of the next beginning, or the frame is closed.
+/// Takes one step of the walk over lists of `depth` moves: plays the next move of the top frame, or closes
+/// the frame. Returns the move instead, unplayed, if it completes a list.
 fn seek<R: Rules, const N: usize>(
     depth: usize,
     board: &mut Board,
@@ -92,8 +93,8 @@ fn seek<R: Rules, const N: usize>(
     None
 }
 
-/// Puts a phase's first position on the board and its frame on the others, from which no move has been taken; or finds
-/// that the phase has no part.
+/// Puts a phase's first position on the board and its frame on the empty stack. Returns `false`, with
+/// nothing changed, if the phase has no part.
 pub(crate) fn set_out<R: Rules, const N: usize>(
     problem: &Problem,
     phase: Phase,
@@ -126,8 +127,8 @@ pub(crate) fn set_out<R: Rules, const N: usize>(
     true
 }
 
-/// Goes to the beginning with a number, counted from 1 among those still to come, and answers its last move, which isn't
-/// played yet.
+/// Walks to the part with this number, counted from 1 among the parts still to come. Returns its last first
+/// move, unplayed, or `None` if there are fewer parts.
 pub(crate) fn seek_numbered<R: Rules, const N: usize>(
     problem: &Problem,
     phase: Phase,
@@ -157,7 +158,7 @@ pub(crate) fn seek_numbered<R: Rules, const N: usize>(
     None
 }
 
-/// How many beginnings of `depth` moves are to come, up to the greatest u64.
+/// Returns how many parts of `depth` first moves are still to come, up to the greatest u64.
 fn count_to_come<R: Rules, const N: usize>(
     problem: &Problem,
     phase: Phase,
@@ -180,8 +181,9 @@ fn count_to_come<R: Rules, const N: usize>(
     count
 }
 
-/// How many parts a phase has that `depth` moves tell apart, up to the greatest u64. `N` is at least the half-moves of the
-/// play plus one, and no more than 33, and `R` are the rules of the problem's condition.
+/// Returns the number of parts of a phase, up to the greatest u64. `depth` moves distinguish the parts of
+/// help play. `N` must be more than the half-moves of the play and at most 33, and `R` must be the rules of
+/// the problem's condition.
 pub fn count_parts<R: Rules, const N: usize>(problem: &Problem, phase: Phase, depth: usize) -> u64
     requires room { half_moves problem.now.stipulation < N }
     requires few { N ≤ 33 }

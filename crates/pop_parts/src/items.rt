@@ -1,4 +1,4 @@
-//! Items, and what is known of them.
+//! What a call needs to know of an item.
 ghost use Rattle.std.specs.Prelude.{◌≡◌, ◌==◌, is_some, not, true};
 ghost use Rattle.pop_input.specs.FaultKinds.{number_of};
 ghost use Rattle.pop_input.specs.declared.fault_kind.FaultKind.TheVariants.{DeviceFailed};
@@ -9,7 +9,7 @@ use pop_input::fault_kind::FaultKind;
 use pop_input::item::{Fault, Item};
 use pop_run::status::Status;
 
-/// Whether no item is left.
+/// Returns whether no item is left.
 pub(crate) fn is_end(item: &Item) -> bool
     ensures { result ≡ not (is_some (entry_in item.now)) }
 {
@@ -19,7 +19,7 @@ pub(crate) fn is_end(item: &Item) -> bool
     }
 }
 
-/// Whether the item tells of a failed device.
+/// Returns whether the item reports a failed device.
 pub(crate) fn tells_failure(item: &Item) -> bool
     ensures { result ≡ is_failure (entry_in item.now) }
 {
@@ -29,14 +29,14 @@ pub(crate) fn tells_failure(item: &Item) -> bool
     }
 }
 
-/// Whether the fault is that the device failed.
+/// Returns whether the fault is that the device failed.
 pub(crate) fn is_device_failure(fault: &Fault) -> bool
     ensures { result ≡ (fault.now.number == number_of DeviceFailed) }
 {
     fault.number == FaultKind::DeviceFailed.number()
 }
 
-/// The status with one more item.
+/// Returns the status after one more item.
 pub(crate) fn status_after(so_far: Status, item: &Item) -> Status
     ensures { result ≡ with_item so_far (entry_in item.now) }
 {
@@ -46,7 +46,7 @@ pub(crate) fn status_after(so_far: Status, item: &Item) -> Status
     }
 }
 
-// The status with one more fault, which is a failed device's or not.
+// Returns the status after one more fault; `failed`: the device failed.
 fn status_with_fault(so_far: Status, failed: bool) -> Status
     ensures { result ≡ status_with so_far failed true }
 {

@@ -1,4 +1,15 @@
-//! The parts of the phases of an input's problems: their numbers, and the solutions of those that are asked for.
+//! The parts of the phases of an input's problems: how many there are, and the solutions of chosen ones.
+//!
+//! ```rust
+//! use pop_parts::list::list_parts;
+//!
+//! // Writes a line such as `1: set 3, play 20` for each item of the source; two moves
+//! // distinguish the parts of help play.
+//! let status = list_parts(2, &mut source, &mut sink);
+//! ```
+//!
+//! `list` and `show` are the interface, with the types of `asked` and, for a search of one part,
+//! `part_search`.
 #![tactic(auto)]
 
 pub mod asked;

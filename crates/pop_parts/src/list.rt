@@ -24,12 +24,12 @@ use pop_run::status::Status;
 use pop_text::sink::{Sink, SinkFault};
 use pop_text::source::Source;
 
-/// Reads all items of the source and writes into the sink how many parts the phases of each have, one line an item;
-/// `depth` moves tell the parts of help play apart.
+/// Reads all items of the source and writes one line for each: the number of parts of its phases. `depth`
+/// moves distinguish the parts of help play. Returns the status of the input.
 ///
-/// What is written is exactly the list of the input, or a beginning of it where the sink fails; then the status is
-/// `OutputFailed`, and nothing more is written. It takes at most 4,096 bytes behind the first EndProblem, which
-/// are not used. Of the calls of each, source and sink, at most one fails.
+/// It writes exactly the list of the input. If the sink fails, it has written a beginning of the list,
+/// writes nothing more and returns `OutputFailed`. It takes at most 4,096 bytes after the first EndProblem,
+/// and doesn't use them. At most one call to the source and one call to the sink fail.
 pub fn list_parts<S: Source, W: Sink>(depth: usize, source: &mut S, sink: &mut W) -> Status
     requires depth { 1 ≤ depth }
     requires source { S.failures source.old < greatest_count }
@@ -62,7 +62,7 @@ pub fn list_parts<S: Source, W: Sink>(depth: usize, source: &mut S, sink: &mut W
     }
 }
 
-// Writes the line of an item, in one write.
+// Writes the line of an item, in one call to the sink.
 fn print_item<W: Sink>(
     sink: &mut W,
     number: u64,
@@ -112,7 +112,7 @@ fn add_sound<const N: usize>(line: &mut LineBuffer<N>, number: u64, depth: usize
     line.add(b"\n");
 }
 
-// Adds what is said of set play, where the problem has it.
+// Adds the part count of set play, if the problem has it.
 fn add_set<const N: usize>(line: &mut LineBuffer<N>, depth: usize, problem: &Problem)
     requires depth { 1 ≤ depth }
     requires room { length line.old + 26 ≤ N }
@@ -126,7 +126,7 @@ fn add_set<const N: usize>(line: &mut LineBuffer<N>, depth: usize, problem: &Pro
     }
 }
 
-// Adds what is said of a phase that has so many parts.
+// Adds the part count of a phase, or `not possible` for `None`.
 fn add_count<const N: usize>(line: &mut LineBuffer<N>, count: Option<u64>)
     requires { length line.old + 20 ≤ N }
     ensures text { line.new ≡ line.old ++ count_text count }
@@ -138,7 +138,7 @@ fn add_count<const N: usize>(line: &mut LineBuffer<N>, count: Option<u64>)
     }
 }
 
-// How many parts a phase has, up to the greatest u64; none where it can't stand.
+// Returns the number of parts of a phase, up to the greatest u64; `None` if the phase isn't possible.
 #[tactic(auto, unfolding(crate::specs::Parts::count_of))]
 fn count_in(problem: &Problem, phase: Phase, depth: usize) -> Option<u64>
     requires { 1 ≤ depth }
@@ -151,7 +151,7 @@ fn count_in(problem: &Problem, phase: Phase, depth: usize) -> Option<u64>
     }
 }
 
-// The same under the rules of the problem's condition.
+// Returns the number of parts of a phase under the rules of the problem's condition.
 fn count_under<R: Rules>(problem: &Problem, phase: Phase, depth: usize) -> Option<u64>
     requires depth { 1 ≤ depth }
     requires rules { R.rule ≡ rule_of problem.now.condition }
@@ -164,7 +164,8 @@ fn count_under<R: Rules>(problem: &Problem, phase: Phase, depth: usize) -> Optio
     }
 }
 
-// Whether the phase can't stand: the side that isn't to move would be in check.
+// Returns whether the phase isn't possible: it is set play, and the side that isn't to move would be in
+// check.
 #[tactic(auto, unfolding(pop_battle::specs::Chess::is_impossible, chess_core::specs::Diagrams::position_of))]
 fn is_barred<R: Rules>(problem: &Problem, phase: Phase) -> bool
     ensures { result ≡ barred R.rule problem.now phase }

@@ -1,4 +1,4 @@
-//! Searches of one part of a phase.
+//! The search of one part of a phase.
 ghost use Rattle.std.specs.Prelude.{◌≡◌, ◌+◌, ◌-◌, ◌<◌, ◌≤◌, ◌==◌, ◌^◌, ℕ, [], ◌∷◌, ◌++◌, length, reverse, true, false, min};
 ghost use Rattle.arrayvec.specs.ArrayVec.{array_vec_len};
 ghost use Rattle.chess_core.specs.WellFormed.{IsWellFormed};
@@ -32,19 +32,19 @@ use pop_solve::plan::Plan;
 use pop_solve::walk::{ends_with_mate, enter};
 use std::marker::Model;
 
-/// Where a search of a part stands.
+/// How far the search of a part has come.
 #[derive(Clone, Copy)]
 pub enum PartStage {
-    /// Before the path of the part's first moves themselves.
+    /// Before the path of the part's first moves.
     First,
-    /// Among the paths behind it, of which `count` solutions have begun.
+    /// After that path; `count` solutions of the part have begun.
     Within { count: u32 },
-    /// Behind the total.
+    /// After the total.
     Behind,
 }
 
-/// Whether a legal move may lead to a path, where `left` half-moves are left behind it: where each path ends with it and mates,
-/// only if it mates.
+/// Returns whether a path may begin with this legal move, after which `left` half-moves are left: if each
+/// path ends with it and mates, only if it mates.
 #[tactic(auto, using(chess_rules::proofs::listing_moves::Calls::playing))]
 fn may_lead<R: Rules>(plan: Plan, left: usize, by: Move, board: &mut Board) -> bool
     requires well_formed { IsWellFormed board.old }
@@ -65,7 +65,7 @@ fn may_lead<R: Rules>(plan: Plan, left: usize, by: Move, board: &mut Board) -> b
     mates
 }
 
-/// The moves to the top frame, with one behind them.
+/// Returns the moves that lead to the top frame, and then `by`.
 fn front_of<R: Rules, const N: usize>(frames: &ArrayVec<Frame<R>, N>, by: Move) -> ArrayVec<Move, N>
     requires open { 0 < array_vec_len frames.now }
     ensures { result.items ≡ path (reverse frames.now.items) ++ by ∷ [] }
@@ -81,7 +81,7 @@ fn front_of<R: Rules, const N: usize>(frames: &ArrayVec<Frame<R>, N>, by: Move) 
     front
 }
 
-/// Begins the part of which `by` is the last of its first moves and the path to the top frame has those before it.
+/// Begins the part whose first moves lead to the top frame and end with `by`.
 fn begin<R: Rules, const N: usize>(
     problem: &Problem,
     phase: Phase,
@@ -119,7 +119,7 @@ fn begin<R: Rules, const N: usize>(
     PartStage::Within { count: 0 }
 }
 
-/// Gives the path of the part's first moves themselves: answers the stage behind it, and its event.
+/// Returns the event of the path of the part's first moves, with the stage after it.
 fn give_first<R: Rules>(
     problem: &Problem,
     phase: Phase,
@@ -144,7 +144,7 @@ fn give_first<R: Rules>(
     (stage, event_at::<R>(problem, walk, frames, board))
 }
 
-/// Goes on within a part, of which `count` solutions have begun. Answers the stage behind the event and the event.
+/// Returns the next event of a part, of which `count` solutions have begun, with the stage after it.
 fn go_on_in_part<R: Rules, const N: usize>(
     problem: &Problem,
     phase: Phase,
@@ -182,8 +182,9 @@ fn go_on_in_part<R: Rules, const N: usize>(
     (PartStage::Behind, total(problem, count))
 }
 
-/// A search for the solutions of one part of a phase, those that begin with given moves; it gives their events one by one and
-/// goes on from its frames, as `Search` does of all. Contracts see the record `PartSeen`.
+/// The search for the solutions of one part of a phase: those that begin with the part's first moves. It
+/// returns their events one by one, as `Search` does for a whole problem. Contracts see the record
+/// `PartSeen`.
 #[derive(Drop)]
 pub struct PartSearch<R: Rules, const N: usize> {
     problem: Problem,
@@ -239,10 +240,10 @@ impl<R: Rules, const N: usize> PartSearch<R, N> {
     ghost use Rattle.pop_parts.specs.ties.PartsSeen.{is_part_stopped, part_walk};
     ghost use Rattle.pop_solve.specs.ties.Seen.{StandsOn};
 
-    /// A search of the part with a number, counted from 1 in the order of moves, among the parts of a phase that `depth` moves
-    /// tell apart; `None` where the phase has fewer. `N` is at least the half-moves of the play plus one, and no more than
-    /// 33, and `R` are the rules of the problem's condition. The killers cost time alone: those of another part make tests
-    /// quicker.
+    /// Returns a search of the part with this number, counted from 1 in the order of moves; `None` if the
+    /// phase has fewer parts. `depth` moves distinguish the parts of help play. `N` must be more than the
+    /// half-moves of the play and at most 33, and `R` must be the rules of the problem's condition. The
+    /// killers affect speed only: killers from another part make tests quicker.
     pub fn of(
         problem: &Problem,
         phase: Phase,
@@ -267,7 +268,7 @@ impl<R: Rules, const N: usize> PartSearch<R, N> {
         parts.search(number, killers)
     }
 
-    /// A search of the part of which `by` is the last of its first moves and the path to the top frame has those before it.
+    /// Returns a search of the part whose first moves lead to the top frame and end with `by`.
     pub(crate) fn at(
         problem: &Problem,
         phase: Phase,
@@ -304,8 +305,8 @@ impl<R: Rules, const N: usize> PartSearch<R, N> {
         }
     }
 
-    /// The next event; `None` behind the last, and then for good. After a line or node the board stands where its path
-    /// leads; behind the last it stands on the play's first position.
+    /// Returns the next event, or `None` after the last one and on every later call. After a line or node
+    /// the board has the position to which its path leads; after `None` it has the play's first position.
     pub fn next(&mut self) -> Option<Event>
         ensures event { result ≡ option_map (event_of R.rule self.old.problem)
             (slice_get self.old.left 0) }
@@ -347,7 +348,7 @@ impl<R: Rules, const N: usize> PartSearch<R, N> {
         }
     }
 
-    /// The moves that decided its tests last, for the search of another part.
+    /// Returns the moves that last decided tests, for the search of another part.
     pub fn into_killers(self) -> Killers<R>
         ensures { result ≡ self.killers }
     {
@@ -355,8 +356,9 @@ impl<R: Rules, const N: usize> PartSearch<R, N> {
         history.killers
     }
 
-    /// The frames opened for a half-move so far, the beginnings and the test of mate apart, up to the greatest u64. In help
-    /// play, once nothing is left to give, and if no limit ended the part, these are exactly those of its part.
+    /// Returns the number of positions tried so far, up to the greatest u64, without the first moves and a
+    /// test whether they mate. In help play, after the last event and if no limit stopped the part, it is
+    /// the part's walk count.
     pub fn opened(&self) -> u64
         ensures opened { result ≡ self.now.opened }
         ensures all { is_help self.now.problem.stipulation.form ≡ true

@@ -1,4 +1,4 @@
-//! The parts of a phase one behind another: the walk goes on to each from the one before it.
+//! The parts of a phase one after another: the walk to each continues from the one before it.
 ghost use Rattle.std.specs.Prelude.{◌≡◌, ◌≤◌};
 ghost use Rattle.arrayvec.specs.ArrayVec.{array_vec_len};
 
@@ -50,7 +50,8 @@ impl<R: Rules, const N: usize> PartsLeft<R, N> {
     ghost use Rattle.pop_input.specs.Stipulations.{half_moves};
     ghost use Rattle.pop_parts.specs.PhaseParts.{part_events, parts};
 
-    /// All parts of a phase that `depth` moves tell apart; `None` where it has none.
+    /// Returns all parts of a phase, or `None` if it has none; `depth` moves distinguish the parts of help
+    /// play.
     pub(crate) fn of(problem: &Problem, phase: Phase, depth: usize) -> Option<Self>
         requires room { half_moves problem.now.stipulation < N }
         requires few { N ≤ 33 }
@@ -73,8 +74,8 @@ impl<R: Rules, const N: usize> PartsLeft<R, N> {
         })
     }
 
-    /// A search of the part with a number, counted from 1 among those still to come; those up to it are passed. `None`
-    /// where they are fewer. The killers cost time alone.
+    /// Returns a search of the part with this number, counted from 1 among the parts still to come, and
+    /// passes all parts up to it; `None` if there are fewer. The killers affect speed only.
     pub(crate) fn search(&mut self, number: u64, killers: Killers<R>) -> Option<PartSearch<R, N>>
         requires few { N ≤ 33 }
         requires number { 1 ≤ number }
@@ -99,7 +100,7 @@ impl<R: Rules, const N: usize> PartsLeft<R, N> {
     }
 }
 
-/// The same frames once more.
+/// Returns a copy of the frames.
 fn copy_of<R: Rules, const N: usize>(frames: &ArrayVec<Frame<R>, N>) -> ArrayVec<Frame<R>, N>
     requires few { N ≤ 33 }
     ensures { result.items ≡ frames.now.items }

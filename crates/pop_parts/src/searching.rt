@@ -1,4 +1,4 @@
-//! Counts of parts, with a frame for each half-move of the longest stipulation and one behind the last.
+//! Part counts for problems of any length: with frames for the longest stipulation.
 ghost use Rattle.std.specs.Prelude.{◌≡◌, ◌≤◌, ◌-◌, ◌^◌, length, min};
 ghost use Rattle.pop_input.specs.Posed.{rule_of};
 ghost use Rattle.pop_parts.specs.PhaseParts.{parts};
@@ -8,13 +8,14 @@ use chess_rules::rules::Rules;
 use pop_events::event::Phase;
 use pop_input::problem::Problem;
 
-/// How many parts a phase has, up to the greatest u64.
+/// Returns the number of parts of a phase, up to the greatest u64; `depth` moves distinguish the parts of
+/// help play.
 pub(crate) fn parts_in<R: Rules>(problem: &Problem, phase: Phase, depth: usize) -> u64
     requires depth { 1 ≤ depth }
     requires rules { R.rule ≡ rule_of problem.now.condition }
     ensures { result ≡ min (length (parts R.rule problem.now phase depth)) (2 ^ 64 - 1) }
 {
-    // For the proof: a stipulation that was read has at most 32 half-moves.
+    // For the proof: the stipulation of a problem that was read has at most 32 half-moves.
     let _aim = problem.stipulation();
     count_parts::<R, 33>(problem, phase, depth)
 }

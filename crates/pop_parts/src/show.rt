@@ -1,4 +1,4 @@
-//! The solutions of the parts that are asked for.
+//! The solutions of requested parts.
 ghost use Rattle.std.specs.Prelude.{◌≡◌, ◌<◌, ◌≤◌, ◌==◌, IfOk, IfSome, false, if◌then◌else◌, is_some, map, true, take, drop, length, slice_get, ◌+◌, ◌-◌};
 ghost use Rattle.std.specs.List.{flat_map};
 ghost use Rattle.pop_text.specs.Bytes.{Writes, count_after, greatest_count};
@@ -29,11 +29,13 @@ use pop_print::print_event;
 use pop_text::sink::{Sink, SinkFault};
 use pop_text::source::Source;
 
-/// Reads items of the source up to the one that is asked for and writes the solutions of its parts into the sink.
+/// Reads items of the source up to the requested one and writes the solutions of its requested parts.
+/// Returns the outcome.
 ///
-/// What is written is exactly the text of the parts in the input, none where they are refused, or a beginning of it
-/// where the sink fails; then the outcome is `OutputFailed`, and nothing more is written. Behind the item that is asked
-/// for it takes at most 4,096 bytes, which are not used. Of the calls of each, source and sink, at most one fails.
+/// It writes exactly the text of the parts, or nothing if the input doesn't have them. If the sink fails, it
+/// has written a beginning of the text, writes nothing more and returns `OutputFailed`. It takes at most
+/// 4,096 bytes after the requested item, and doesn't use them. At most one call to the source and one call
+/// to the sink fail.
 pub fn show_parts<S: Source, W: Sink>(asked: &Asked, source: &mut S, sink: &mut W) -> Outcome
     requires depth { 1 ≤ asked.now.depth }
     requires source { S.failures source.old < greatest_count }
@@ -68,7 +70,7 @@ pub fn show_parts<S: Source, W: Sink>(asked: &Asked, source: &mut S, sink: &mut 
     }
 }
 
-// What comes of an input without the item, by whether its device failed.
+// Returns the outcome for an input without the item; `failed`: its device failed.
 fn outcome_without_item(failed: bool) -> Outcome
     ensures { result ≡ (if failed then InputFailed else NoItem) }
 {
@@ -79,7 +81,7 @@ fn outcome_without_item(failed: bool) -> Outcome
     }
 }
 
-// Prints the parts of the item that is asked for.
+// Prints the requested parts of the item.
 fn show_item<W: Sink>(sink: &mut W, asked: &Asked, item: &Item) -> Result<Outcome, SinkFault>
     requires depth { 1 ≤ asked.now.depth }
     requires sink { W.failures sink.old < greatest_count }
@@ -96,7 +98,7 @@ fn show_item<W: Sink>(sink: &mut W, asked: &Asked, item: &Item) -> Result<Outcom
     }
 }
 
-// What comes of a faulty item.
+// Returns the outcome for a faulty item.
 fn outcome_of_fault(fault: &Fault) -> Outcome
     ensures { result ≡ (if fault.now.number == number_of DeviceFailed then InputFailed
         else FaultyItem) }
@@ -108,7 +110,7 @@ fn outcome_of_fault(fault: &Fault) -> Outcome
     }
 }
 
-// Prints the parts of a sound problem, where it has the phase.
+// Prints the requested parts of a sound problem, if it has the phase and the parts.
 fn show_sound<W: Sink>(sink: &mut W, asked: &Asked, problem: &Problem) -> Result<Outcome, SinkFault>
     requires depth { 1 ≤ asked.now.depth }
     requires sink { W.failures sink.old < greatest_count }
@@ -125,7 +127,7 @@ fn show_sound<W: Sink>(sink: &mut W, asked: &Asked, problem: &Problem) -> Result
     }
 }
 
-// The same under the rules of the problem's condition.
+// Prints the requested parts of a sound problem under the rules of its condition.
 #[tactic(auto, unfolding(crate::specs::Parts::text_in))]
 fn show_under<R: Rules, W: Sink>(
     sink: &mut W,
@@ -151,7 +153,7 @@ fn show_under<R: Rules, W: Sink>(
     Ok(Outcome::Shown)
 }
 
-// Whether the problem has the phase.
+// Returns whether the problem has the phase.
 fn has_phase(problem: &Problem, phase: Phase) -> bool
     ensures { result ≡ has_the_phase problem.now phase }
 {
@@ -161,7 +163,7 @@ fn has_phase(problem: &Problem, phase: Phase) -> bool
     }
 }
 
-// Whether the numbers asked for are those of parts of the phase.
+// Returns whether the phase has all requested parts.
 fn has_parts<R: Rules>(asked: &Asked, problem: &Problem) -> bool
     requires depth { 1 ≤ asked.now.depth }
     requires rules { R.rule ≡ rule_of problem.now.condition }
@@ -172,7 +174,7 @@ fn has_parts<R: Rules>(asked: &Asked, problem: &Problem) -> bool
         && asked.last <= parts_in::<R>(problem, asked.phase, asked.depth)
 }
 
-// Prints the parts asked for, one after another.
+// Prints the requested parts, one after another.
 fn print_parts<R: Rules, W: Sink>(
     sink: &mut W,
     asked: &Asked,
@@ -187,7 +189,7 @@ fn print_parts<R: Rules, W: Sink>(
         (parts_asked R.rule asked.now problem.now)) result }
     ensures counted { W.failures sink.new ≡ count_after result (W.failures sink.old) }
 {
-    // For the proof: a stipulation that was read has at most 32 half-moves.
+    // For the proof: the stipulation of a problem that was read has at most 32 half-moves.
     let _aim = problem.stipulation();
     match PartsLeft::<R, 33>::of(problem, asked.phase, asked.depth) {
         None => Ok(()),
@@ -200,8 +202,8 @@ fn print_parts<R: Rules, W: Sink>(
     }
 }
 
-// Prints so many of the parts still to come, from the one with a number on; each goes on with the killers of the one
-// before.
+// Prints `count` of the parts still to come, from part `first` on. The search of each part starts with the
+// killers of the part before it.
 fn print_behind<R: Rules, W: Sink>(
     sink: &mut W,
     first: u64,
@@ -227,7 +229,8 @@ fn print_behind<R: Rules, W: Sink>(
     Ok(())
 }
 
-// Prints the part with a number among those still to come, and answers the killers of its tests, which begin with these.
+// Prints the part with this number among the parts still to come. Its search starts with these killers;
+// returns its own at the end.
 #[tactic(auto, unfolding(crate::specs::Parts::part_text))]
 fn print_part<R: Rules, W: Sink>(
     sink: &mut W,
@@ -254,7 +257,7 @@ fn print_part<R: Rules, W: Sink>(
     }
 }
 
-// Prints the events that a search still has to give, each as it is found.
+// Prints the events still to come of a search, each as it is found.
 fn print_events<R: Rules, W: Sink>(
     sink: &mut W,
     search: &mut PartSearch<R, 33>,

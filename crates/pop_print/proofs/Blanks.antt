@@ -1,4 +1,4 @@
--- Blanks that are written one part after another.
+-- Blanks that are written in parts.
 use Rattle.std.proofs.Common.{◌≡◌, ◌<◌, ◌≤◌, ℕ, ◌+◌, ◌-◌, ◌*◌, List, [], ◌∷◌, ◌++◌, replicate, codes, append_assoc, arith, Option}
 use Rattle.std.proofs.lemmas.List.{replicate-append-replicate, replicate_more}
 use Rattle.pop_text.specs.Bytes.{Appends, Begins}
@@ -11,12 +11,12 @@ use Rattle.pop_events.specs.Shown.{Shown}
 blanks_cut : (part whole : ℕ) → part ≤ whole → replicate {A = ℕ} whole 32 ≡ replicate part 32 ++ replicate (whole - part) 32
 blanks_cut part whole within = grind (arith, replicate-append-replicate)
 
--- a node whose first blanks stand apart
+-- a node whose first blanks are written apart
 pub node_cut : (apart depth half : ℕ) (shown : Shown) → apart ≤ 2 * depth
     → node_text depth half shown ≡ replicate apart 32 ++ (replicate (2 * depth - apart) 32 ++ prefix_text half ++ move_text shown ++ codes "\n")
 node_cut apart depth half shown within = grind (arith, blanks_cut apart (2 * depth) within, append_assoc)
 
--- a row of blanks of which one more was begun
+-- a row of blanks, and a beginning of one more
 pub blanks_begin : (a b c : Option (List ℕ)) (done count : ℕ) → done < count → Appends a b (replicate done 32) → Begins b c (32 ∷ [])
     → Begins a c (replicate count 32)
 blanks_begin a b c done count more p q =

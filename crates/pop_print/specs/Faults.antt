@@ -1,4 +1,4 @@
--- How faults are written (own).
+-- The text of faults (own).
 use Rattle.std.specs.Prelude.{ℕ, List, [], ◌++◌, codes, decimal, Option, Some, None}
 use Rattle.pop_print.specs.Heads.{item_line}
 use Rattle.pop_input.specs.FaultKinds.{kind_numbered}
@@ -32,12 +32,12 @@ message_of EndProblemMissing = codes "input ended before EndProblem"
 message_of InputTooLong = codes "input too long"
 message_of DeviceFailed = codes "input device failed"
 
--- the same, where there is a kind
+-- the text of a kind of fault, or no text without a kind
 abbrev pub message_if : Option FaultKind → List ℕ
 message_if None = []
 message_if (Some kind) = message_of kind
 
--- a faulty item: its number, the fault with its line, an empty line
+-- the text of a faulty item: its number, the fault with its line, an empty line
 unfoldable pub fault_text : ℕ → Fault → List ℕ
 fault_text number fault =
     item_line number ++ codes "line " ++ decimal fault.line ++ codes ": fault "

@@ -1,4 +1,4 @@
--- How the head of a sound problem is written: all up to the stipulation (own layout; words of the Popeye manual).
+-- The text of a sound problem's head: all up to its stipulation (own layout; words of the Popeye manual).
 use Rattle.std.specs.Prelude.{ℕ, ◌+◌, ◌*◌, List, [], ◌∷◌, ◌++◌, map, Bool, ◌||◌, if◌then◌else◌, Option, Some, None, codes, decimal}
 use Rattle.std.specs.List.{flat_map}
 use Rattle.chess_core.specs.Position.{man_on}
@@ -16,40 +16,40 @@ use Rattle.pop_input.specs.declared.condition.Condition.TheVariants.{Circe, Madr
 use Rattle.pop_input.specs.Letters.{digit_0, point}
 use Rattle.pop_print.specs.Notation.{blank, letter_of, small_letter}
 
--- a man's letter on the board: a capital one for White, the small one for Black
+-- the letter of a man on the board: the capital one for White, the small one for Black
 abbrev pub cell_by : Colour → ℕ → ℕ
 cell_by White letter = letter
 cell_by Black letter = small_letter letter
 
--- a square of the board: its man, or a point where it is empty
+-- the text of a square: its man, or a point if it is empty
 abbrev pub cell_of : Option Man → ℕ
 cell_of None = point
 cell_of (Some man) = cell_by man.colour (letter_of man.kind)
 
--- a rank, counted from 0: its digit, a blank, its eight squares
+-- the text of a rank, counted from 0: its digit, a blank, its eight squares
 unfoldable pub rank_text : List (Option Man) → ℕ → List ℕ
 rank_text men rank =
     (digit_0 + 1 + rank) ∷ blank ∷ map (λ file. cell_of (man_on men (8 * rank + file)))
     (0 ∷ 1 ∷ 2 ∷ 3 ∷ 4 ∷ 5 ∷ 6 ∷ 7 ∷ []) ++ codes "\n"
 
--- the board: rank 8 first, and the line of the files
+-- the text of the board: rank 8 first, then the line of the files
 abbrev pub board_text : List (Option Man) → List ℕ
 board_text men = flat_map (rank_text men) (7 ∷ 6 ∷ 5 ∷ 4 ∷ 3 ∷ 2 ∷ 1 ∷ 0 ∷ [])
     ++ codes "  abcdefgh\n"
 
--- a title or an author behind its label, where there is one
+-- the text of a title or an author, after its label, or no text if it is empty
 abbrev pub labelled_text : List ℕ → List ℕ → List ℕ
 labelled_text label [] = []
 labelled_text label (byte ∷ text) = label ++ (byte ∷ text) ++ codes "\n"
 
--- what stands before the goal's sign in the stipulation's word
+-- what comes before the goal's sign in the word of a stipulation
 abbrev pub form_text : Form → List ℕ
 form_text Direct = []
 form_text SelfMate = codes "s"
 form_text Help = codes "h"
 form_text HelpHalf = codes "h"
 
--- what stands behind its number of moves
+-- what comes after the number of moves in the word of a stipulation
 abbrev pub half_text : Form → List ℕ
 half_text Direct = []
 half_text SelfMate = []
@@ -61,13 +61,13 @@ abbrev pub goal_text : Goal → List ℕ
 goal_text Mate = codes "#"
 goal_text Stalemate = codes "="
 
--- the stipulation's word
+-- the word of a stipulation
 abbrev pub stipulation_text : Stipulation → List ℕ
 stipulation_text stipulation =
     form_text stipulation.form ++ goal_text stipulation.goal ++ decimal stipulation.n
     ++ half_text stipulation.form
 
--- the condition's word behind a blank
+-- a blank and the word of the condition, or no text without a condition
 abbrev pub condition_text : Option Condition → List ℕ
 condition_text None = []
 condition_text (Some Circe) = codes " Circe"
@@ -77,23 +77,23 @@ condition_text (Some Madrasi) = codes " Madrasi"
 unfoldable pub item_line : ℕ → List ℕ
 item_line number = codes "problem " ++ decimal number ++ codes "\n"
 
--- title and author
+-- the lines of the title and the author
 unfoldable pub names_text : Posed → List ℕ
 names_text posed = labelled_text (codes "title: ") posed.title
     ++ labelled_text (codes "author: ") posed.author
 
--- the line of the stipulation
+-- the line of the stipulation and the condition
 unfoldable pub task_line : Posed → List ℕ
 task_line posed = stipulation_text posed.stipulation ++ condition_text posed.condition ++ codes "\n"
 
--- the head of a sound item, with its board unless the problem or the settings leave it out
+-- the text of a sound item's head, with the board unless the problem or the settings leave it out
 unfoldable pub head_text : ℕ → Posed → Bool → List ℕ
 head_text number posed no_board =
     item_line number ++ names_text posed
     ++ (if no_board || posed.no_board then [] else board_text posed.diagram.men)
     ++ task_line posed
 
--- a sound item whose solutions aren't asked for: its head, that it is sound, an empty line
+-- the text of a sound item that is only tested: its head, the line `sound`, an empty line
 abbrev pub checked_text : ℕ → Posed → Bool → List ℕ
 checked_text number posed no_board = head_text number posed no_board ++ codes "sound\n"
     ++ codes "\n"

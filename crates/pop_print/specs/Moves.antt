@@ -1,4 +1,4 @@
--- How moves are written (own layout; Popeye manual: English letters, ep.; Circe's rebirth in brackets).
+-- The text of moves (own layout; Popeye manual: English letters, ep., Circe's rebirth in brackets).
 use Rattle.std.specs.Prelude.{ℕ, List, [], ◌∷◌, ◌++◌, Bool, true, false, Option, Some, None, codes}
 use Rattle.chess_core.specs.declared.man.Man.{Man}
 use Rattle.chess_core.specs.declared.man.Kind.{Kind}
@@ -9,52 +9,52 @@ use Rattle.pop_events.specs.declared.shown.Mark.TheVariants.{Plain, Check, Mate,
 use Rattle.pop_events.specs.Shown.{Shown}
 use Rattle.pop_print.specs.Notation.{colour_letter, letter_of, man_text, square_text}
 
--- castling to the h side or to the a side
+-- the text of castling to a side
 abbrev pub castling_text : Side → List ℕ
 castling_text H = codes "0-0"
 castling_text A = codes "0-0-0"
 
--- between origin and arrival: a capture or none
+-- the sign between origin and arrival square, by whether the move captures
 abbrev pub step_text : Bool → List ℕ
 step_text true = codes "*"
 step_text false = codes "-"
 
--- a capture en passant
+-- the text of a capture en passant
 abbrev pub en_passant_text : Bool → List ℕ
 en_passant_text true = codes " ep."
 en_passant_text false = []
 
--- the man that a pawn becomes
+-- the text of a promotion
 abbrev pub promotion_text : Option Kind → List ℕ
 promotion_text None = []
 promotion_text (Some kind) = codes "=" ++ letter_of kind ∷ []
 
--- the reborn man and its square
+-- the text of a rebirth: the reborn man and its square
 abbrev pub rebirth_text : Option (Man × ℕ) → List ℕ
 rebirth_text None = []
 rebirth_text (Some reborn) =
     codes "[+" ++ colour_letter reborn.0.colour ∷ letter_of reborn.0.kind ∷ []
     ++ square_text reborn.1 ++ codes "]"
 
--- the goal reached, be it mate or stalemate, a check that isn't mate, or nothing
+-- the text of a mark: mate, stalemate, a check that isn't mate, or nothing
 abbrev pub mark_text : Mark → List ℕ
 mark_text Mate = codes "#"
 mark_text Stalemate = codes "="
 mark_text Check = codes "+"
 mark_text Plain = []
 
--- a move that isn't castling, without its mark
+-- the text of a move that isn't castling, without its mark
 abbrev pub going_text : Shown → List ℕ
 going_text shown =
     man_text shown.man.kind ++ square_text shown.from ++ step_text shown.capture
     ++ square_text shown.to
     ++ en_passant_text shown.ep ++ promotion_text shown.promo ++ rebirth_text shown.rebirth
 
--- a move without its mark
+-- the text of a move without its mark
 abbrev pub unmarked_text : Option Side → Shown → List ℕ
 unmarked_text (Some side) shown = castling_text side
 unmarked_text None shown = going_text shown
 
--- a move
+-- the text of a move
 unfoldable pub move_text : Shown → List ℕ
 move_text shown = unmarked_text shown.castling shown ++ mark_text shown.mark

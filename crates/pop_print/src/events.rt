@@ -1,4 +1,4 @@
-//! Events as they are written.
+//! The text of events.
 ghost use Rattle.std.specs.Prelude.{◌≡◌, ◌<◌, ◌≤◌, ◌+◌, ◌++◌, [], ◌∷◌, ◌^◌, length, replicate, codes, true};
 ghost use Rattle.pop_text.specs.Bytes.{Writes, count_after, greatest_count};
 ghost use Rattle.pop_print.specs.Moves.{move_text};
@@ -10,10 +10,16 @@ use pop_events::event::{Event, Phase};
 use pop_events::shown::Shown;
 use pop_text::sink::{Sink, SinkFault, put_all};
 
-// Room for a node of battle play, with the blanks before it, or for a total (own).
+// The room for a total, or for a node of battle play with at most 64 blanks before it (own).
 const NODE: usize = 128;
 
-/// Writes an event: one line, in one write.
+/// Writes an event as one line.
+///
+/// Hands the line to the sink at once; only blanks beyond the 64th before a node go one by one.
+///
+/// # Errors
+///
+/// `SinkFault` if the sink fails: a beginning of the line is then written.
 #[tactic(auto, unfolding(crate::specs::Events::event_text))]
 pub fn print_event<W: Sink>(sink: &mut W, event: &Event) -> Result<(), SinkFault>
     requires { W.failures sink.old < greatest_count }
@@ -30,7 +36,7 @@ pub fn print_event<W: Sink>(sink: &mut W, event: &Event) -> Result<(), SinkFault
     }
 }
 
-// The moves of a help line.
+// Writes a line of help play.
 fn print_line<W: Sink>(sink: &mut W, half: u32, moves: &[Shown]) -> Result<(), SinkFault>
     requires sink { W.failures sink.old < greatest_count }
     requires room { length moves.now ≤ 32 }
@@ -42,7 +48,8 @@ fn print_line<W: Sink>(sink: &mut W, half: u32, moves: &[Shown]) -> Result<(), S
     line.put(sink)
 }
 
-// A node of battle play. Blanks past those of any problem's deepest node are written apart.
+// Writes a node of battle play. No node of a problem has more than 64 blanks before it. Blanks beyond these are for the
+// prover alone, to which `depth` is any number.
 fn print_node<W: Sink>(sink: &mut W, depth: u32, half: u32, shown: &Shown) -> Result<(), SinkFault>
     requires { W.failures sink.old < greatest_count }
     ensures bytes { Writes (W.taken sink.old) (W.taken sink.new) (node_text depth half shown.now)
@@ -86,7 +93,7 @@ fn stopped_text(stopped: bool) -> &'static [u8]
 }
 
 impl<const N: usize> LineBuffer<N> {
-    // Adds the number of a half-move.
+    // Adds the number of a half-move: `1.` for White's first, `1...` for Black's first.
     fn add_prefix(&mut self, half: u64)
         requires room { length self.old + 23 ≤ N }
         requires half { half < 2 ^ 33 }
@@ -102,7 +109,7 @@ impl<const N: usize> LineBuffer<N> {
         }
     }
 
-    // Adds what stands before a move of a line.
+    // Adds what comes before a move of a line: the first move and each White move have their number.
     fn add_lead(&mut self, first: bool, half: u64)
         requires room { length self.old + 24 ≤ N }
         requires half { half < 2 ^ 33 }
@@ -119,7 +126,7 @@ impl<const N: usize> LineBuffer<N> {
         }
     }
 
-    // Adds the moves of a line, the first of which is the half-move `half`.
+    // Adds the moves of a line. `half` is the number of the first one's half-move.
     fn add_moves(&mut self, half: u64, moves: &[Shown])
         requires room { length self.old + 1408 ≤ N }
         requires moves { length moves.now ≤ 32 }
@@ -147,7 +154,7 @@ impl<const N: usize> LineBuffer<N> {
         self.add(b"\n");
     }
 
-    // Adds a node of battle play behind so many blanks.
+    // Adds a node of battle play, after `blanks` blanks.
     fn add_node(&mut self, blanks: u64, half: u32, shown: &Shown)
         requires { length self.old + blanks + 44 ≤ N }
         ensures { self.new ≡ self.old ++ (replicate blanks blank ++ prefix_text half

@@ -1,4 +1,4 @@
-//! Faults as they are written.
+//! The text of faults.
 ghost use Rattle.std.specs.Prelude.{◌≡◌, ◌<◌, ◌≤◌, ◌+◌, ◌++◌, length};
 ghost use Rattle.pop_text.specs.Bytes.{Writes, count_after, greatest_count};
 ghost use Rattle.pop_print.specs.Faults.{fault_text, message_if as text_if, message_of as text_of_kind};
@@ -8,7 +8,11 @@ use pop_input::fault_kind::FaultKind;
 use pop_input::item::Fault;
 use pop_text::sink::{Sink, SinkFault};
 
-/// Writes a faulty item, in one write: its number, the fault with its line, and an empty line.
+/// Writes a faulty item: its number, the fault with its line, and an empty line. Hands all of it to the sink at once.
+///
+/// # Errors
+///
+/// `SinkFault` if the sink fails: a beginning of the text is then written.
 pub fn print_fault<W: Sink>(sink: &mut W, number: u64, fault: &Fault) -> Result<(), SinkFault>
     requires sink { W.failures sink.old < greatest_count }
     requires known { (1 ≤ fault.now.number) × (fault.now.number ≤ 21) }
@@ -21,7 +25,7 @@ pub fn print_fault<W: Sink>(sink: &mut W, number: u64, fault: &Fault) -> Result<
     lines.put(sink)
 }
 
-/// What is said of a fault of this kind.
+/// Returns the text of a kind of fault.
 pub(crate) fn message_of(kind: FaultKind) -> &'static [u8]
     ensures text { result.now ≡ text_of_kind kind }
     ensures short { length result.now ≤ 40 }
@@ -51,7 +55,7 @@ pub(crate) fn message_of(kind: FaultKind) -> &'static [u8]
     }
 }
 
-// What is said of a fault of this kind, nothing where there is none.
+// Returns the text of a kind of fault, or no text without a kind. Every fault of an item has a kind.
 fn message_if(kind: Option<FaultKind>) -> &'static [u8]
     ensures text { result.now ≡ text_if kind }
     ensures short { length result.now ≤ 40 }

@@ -1,4 +1,4 @@
-//! The head of a sound problem as it is written.
+//! The text of a sound problem's head.
 ghost use Rattle.std.specs.Prelude.{◌≡◌, ◌<◌, ◌≤◌, ◌+◌, ◌++◌, ◌||◌, List, ℕ, [], length, codes, if◌then◌else◌};
 ghost use Rattle.chess_core.specs.Position.{man_on};
 ghost use Rattle.pop_text.specs.Bytes.{Writes, count_after, greatest_count};
@@ -15,8 +15,12 @@ use pop_input::stipulation::{Form, Goal, Stipulation};
 use pop_text::sink::{Sink, SinkFault};
 use pop_text::text::Text;
 
-/// Writes the head of a sound item, in one write: its number, title and author where there are any, the board unless
-/// the problem or `no_board` leaves it out, and the stipulation with its condition.
+/// Writes the head of a sound item: its number, its title and author if there are any, the board unless the problem or
+/// `no_board` leaves it out, and the stipulation with the condition. Hands all of it to the sink at once.
+///
+/// # Errors
+///
+/// `SinkFault` if the sink fails: a beginning of the head is then written.
 pub fn print_head<W: Sink>(
     sink: &mut W,
     number: u64,
@@ -33,7 +37,12 @@ pub fn print_head<W: Sink>(
     lines.put(sink)
 }
 
-/// Writes a sound item whose solutions aren't asked for, in one write: its head, that it is sound, and an empty line.
+/// Writes a sound item that is only tested: its head, the line `sound`, and an empty line. Hands all of it to the sink
+/// at once.
+///
+/// # Errors
+///
+/// `SinkFault` if the sink fails: a beginning of the text is then written.
 pub fn print_checked<W: Sink>(
     sink: &mut W,
     number: u64,
@@ -63,7 +72,7 @@ impl<const N: usize> LineBuffer<N> {
         self.add_task(problem);
     }
 
-    // Adds the head, that the problem is sound, and an empty line.
+    // Adds the head, the line `sound` and an empty line.
     fn add_checked(&mut self, number: u64, problem: &Problem, no_board: bool)
         requires { length self.old + 700 ≤ N }
         ensures { self.new ≡ self.old ++ checked_text number problem.now no_board }
@@ -85,7 +94,7 @@ impl<const N: usize> LineBuffer<N> {
         self.add(b"\n");
     }
 
-    // Adds title and author.
+    // Adds the lines of the title and the author.
     #[tactic(auto, unfolding(crate::specs::Heads::names_text))]
     fn add_names(&mut self, problem: &Problem)
         requires { length self.old + 417 ≤ N }
@@ -96,7 +105,7 @@ impl<const N: usize> LineBuffer<N> {
         self.add_labelled(b"author: ", problem.author());
     }
 
-    // Adds the line of the stipulation.
+    // Adds the line of the stipulation and the condition.
     #[tactic(auto, unfolding(crate::specs::Heads::task_line))]
     fn add_task(&mut self, problem: &Problem)
         requires { length self.old + 33 ≤ N }
@@ -108,7 +117,7 @@ impl<const N: usize> LineBuffer<N> {
         self.add(b"\n");
     }
 
-    // Adds a title or an author, where there is one.
+    // Adds a label and its text, or nothing if the text is empty.
     fn add_labelled(&mut self, label: &[u8], text: &Text)
         requires { length self.old + length label.now + 201 ≤ N }
         ensures text { self.new ≡ self.old ++ labelled_text label.now text.now }
@@ -133,7 +142,7 @@ impl<const N: usize> LineBuffer<N> {
         }
     }
 
-    // Adds the board, rank 8 first.
+    // Adds the board, rank 8 first, and the line of the files.
     fn add_board(&mut self, diagram: &Diagram)
         requires { length self.old + 99 ≤ N }
         ensures text { self.new ≡ self.old ++ board_text diagram.now.men }
@@ -150,7 +159,7 @@ impl<const N: usize> LineBuffer<N> {
         self.add(b"  abcdefgh\n");
     }
 
-    // Adds a rank, counted from 0.
+    // Adds a rank. `rank` is counted from 0.
     fn add_rank(&mut self, diagram: &Diagram, rank: u8)
         requires room { length self.old + 11 ≤ N }
         requires rank { rank < 8 }
@@ -160,7 +169,7 @@ impl<const N: usize> LineBuffer<N> {
         self.add(&rank_line(diagram, rank));
     }
 
-    // Adds the stipulation's word.
+    // Adds the word of the stipulation.
     fn add_stipulation(&mut self, stipulation: Stipulation)
         requires { length self.old + 24 ≤ N }
         ensures text { self.new ≡ self.old ++ stipulation_text stipulation }
@@ -173,7 +182,7 @@ impl<const N: usize> LineBuffer<N> {
     }
 }
 
-// What stands before the goal's sign.
+// Returns what comes before the goal's sign.
 fn form_text(form: Form) -> &'static [u8]
     ensures text { result.now ≡ text_of_form form }
     ensures short { length result.now ≤ 1 }
@@ -185,7 +194,7 @@ fn form_text(form: Form) -> &'static [u8]
     }
 }
 
-// The goal's sign.
+// Returns the goal's sign.
 fn goal_text(goal: Goal) -> &'static [u8]
     ensures text { result.now ≡ text_of_goal goal }
     ensures short { length result.now ≤ 1 }
@@ -196,7 +205,7 @@ fn goal_text(goal: Goal) -> &'static [u8]
     }
 }
 
-// What stands behind the number.
+// Returns what comes after the number of moves.
 fn half_text(form: Form) -> &'static [u8]
     ensures text { result.now ≡ text_of_half form }
     ensures short { length result.now ≤ 2 }
@@ -224,7 +233,7 @@ fn is_left_out(no_board: bool, problem: &Problem) -> bool
     no_board || problem.no_board()
 }
 
-// A rank, counted from 0.
+// Returns the line of a rank. `rank` is counted from 0.
 #[tactic(auto, unfolding(crate::specs::Heads::rank_text))]
 fn rank_line(diagram: &Diagram, rank: u8) -> [u8; 11]
     requires { rank < 8 }
@@ -256,7 +265,7 @@ fn cell(diagram: &Diagram, number: u8) -> u8
     }
 }
 
-// A capital letter for a white man, a small one for a black man.
+// Returns the letter of a man, a capital one for White, a small one for Black.
 fn coloured_letter(man: Man) -> u8
     ensures { result ≡ letter_on (Some man) }
 {

@@ -1,4 +1,4 @@
-//! Fixed room in which lines are put together.
+//! A buffer of fixed size for lines.
 ghost use Rattle.std.specs.Prelude.{◌≡◌, ◌<◌, ◌≤◌, ◌+◌, ◌++◌, [], ◌∷◌, length, decimal};
 ghost use Rattle.pop_text.specs.Bytes.{Writes, count_after, greatest_count};
 
@@ -7,10 +7,10 @@ use itoa::Buffer;
 use pop_text::sink::{Sink, SinkFault, put_all};
 use std::marker::Model;
 
-/// Room for the longest line or head of any problem (own).
+/// The size of a buffer for the longest line or head of any problem, in bytes (own).
 pub const LONGEST: usize = 1536;
 
-/// Text of at most N bytes that is put together piece by piece and then written at once. Contracts see the bytes.
+/// A text of at most N bytes that is put together piece by piece and then written at once. Contracts see the bytes.
 #[derive(Drop)]
 pub struct LineBuffer<const N: usize> {
     text: ArrayVec<u8, N>,
@@ -25,7 +25,7 @@ impl<const N: usize> Model for LineBuffer<N> {
 }
 
 impl<const N: usize> LineBuffer<N> {
-    /// Room without text.
+    /// Returns an empty buffer.
     pub fn new() -> LineBuffer<N>
         ensures { result ≡ [] }
     {
@@ -34,16 +34,16 @@ impl<const N: usize> LineBuffer<N> {
         }
     }
 
-    /// Adds bytes.
+    /// Adds bytes. The caller shows that they fit.
     pub fn add(&mut self, piece: &[u8])
         requires { length self.old + length piece.now ≤ N }
         ensures { self.new ≡ self.old ++ piece.now }
     {
-        // It always fits: the call asks for the room.
+        // The bytes always fit: `requires` says so.
         let _fits = self.text.try_extend_from_slice(piece);
     }
 
-    /// Adds one byte.
+    /// Adds one byte. The caller shows that it fits.
     pub fn add_byte(&mut self, byte: u8)
         requires { length self.old < N }
         ensures { self.new ≡ self.old ++ byte ∷ [] }
@@ -51,7 +51,7 @@ impl<const N: usize> LineBuffer<N> {
         self.text.push(byte);
     }
 
-    /// Adds a number in decimal digits, at most twenty.
+    /// Adds a number as 1 to 20 decimal digits.
     pub fn add_number(&mut self, number: u64)
         requires { length self.old + 20 ≤ N }
         ensures text { self.new ≡ self.old ++ decimal number }
@@ -61,7 +61,11 @@ impl<const N: usize> LineBuffer<N> {
         self.add(digits.format(number).as_bytes());
     }
 
-    /// Writes the text, or a beginning of it at a fault.
+    /// Writes the text to the sink.
+    ///
+    /// # Errors
+    ///
+    /// `SinkFault` if the sink fails: a beginning of the text is then written.
     pub fn put<W: Sink>(&self, sink: &mut W) -> Result<(), SinkFault>
         requires { W.failures sink.old < greatest_count }
         ensures bytes { Writes (W.taken sink.old) (W.taken sink.new) self.now result }

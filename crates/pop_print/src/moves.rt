@@ -1,4 +1,4 @@
-//! Moves as they are written.
+//! The text of moves.
 ghost use Rattle.std.specs.Prelude.{◌≡◌, ◌≤◌, ◌+◌, ◌++◌, [], ◌∷◌, length};
 ghost use Rattle.pop_print.specs.Moves.{castling_text as text_of_castling, en_passant_text as text_of_en_passant, mark_text as text_of_mark, move_text, promotion_text, rebirth_text, step_text as text_of_step, going_text};
 
@@ -44,7 +44,7 @@ fn en_passant_text(ep: bool) -> &'static [u8]
 }
 
 impl<const N: usize> LineBuffer<N> {
-    /// Adds a move, in at most twenty bytes, as `Ra1*a8[+bBc8]`.
+    /// Adds a move in at most 20 bytes, such as `Ra1*a8[+bBc8]`.
     #[tactic(auto, unfolding(crate::specs::Moves::move_text))]
     pub(crate) fn add_move(&mut self, shown: &Shown)
         requires { length self.old + 20 ≤ N }

@@ -1,4 +1,4 @@
-//! Squares and men as they are written.
+//! The text of squares and men.
 ghost use Rattle.std.specs.Prelude.{◌≡◌, ◌<◌, ◌≤◌, ◌+◌, ◌++◌, [], ◌∷◌, length};
 ghost use Rattle.pop_print.specs.Notation.{colour_letter as letter_of_colour, letter_of as letter_of_kind, man_text, square_text};
 
@@ -6,7 +6,7 @@ use crate::line::LineBuffer;
 use chess_core::man::{Colour, Kind};
 use chess_core::square::Square;
 
-/// The capital letter of a kind of man; S is the knight.
+/// Returns the capital letter of a kind of man (Popeye manual, English letters: S is the knight, N the nightrider).
 pub(crate) fn letter_of(kind: Kind) -> u8
     ensures { result ≡ letter_of_kind kind }
 {
@@ -22,7 +22,7 @@ pub(crate) fn letter_of(kind: Kind) -> u8
     }
 }
 
-/// The letter of a colour: w or b.
+/// Returns the letter of a colour, `w` or `b`.
 pub(crate) fn colour_letter(colour: Colour) -> u8
     ensures { result ≡ letter_of_colour colour }
 {
@@ -33,7 +33,7 @@ pub(crate) fn colour_letter(colour: Colour) -> u8
 }
 
 impl<const N: usize> LineBuffer<N> {
-    /// Adds a square, as `a1`.
+    /// Adds a square, such as `a1`.
     pub(crate) fn add_square(&mut self, square: Square)
         requires { length self.old + 2 ≤ N }
         ensures text { self.new ≡ self.old ++ square_text square }
@@ -42,7 +42,7 @@ impl<const N: usize> LineBuffer<N> {
         self.add(&[b'a' - 1 + square.file(), b'0' + square.rank()]);
     }
 
-    /// Adds the letter of a man that moves: none for a pawn.
+    /// Adds the letter of the man that moves. A pawn has none.
     pub(crate) fn add_man(&mut self, kind: Kind)
         requires { length self.old + 1 ≤ N }
         ensures text { self.new ≡ self.old ++ man_text kind }

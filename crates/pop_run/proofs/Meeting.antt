@@ -8,7 +8,7 @@ is_broken Open = false
 is_broken Ended = false
 is_broken Broken = true
 
--- of the bytes that a source had, those it no longer has were taken
+-- the bytes that a source no longer has were taken
 pub taken_front : (bytes ys : List ℕ) → take (length (bytes ++ ys) - length ys) (bytes ++ ys) ≡ bytes ++ []
 taken_front bytes ys = grind (arith, length-append bytes ys, take-append_seam bytes ys, append-nil bytes)
 

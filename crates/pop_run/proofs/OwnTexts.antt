@@ -1,4 +1,4 @@
--- The text of an item is read off its own block: a law over the blocks of an input, each by its index.
+-- The text of an item depends on its own block: a law over the blocks of an input, each by its index.
 use Rattle.pop_run.proofs.Basics.{Bool, Entry, List, None, Option, Some, [], ap, arith, entries_in, entry_text, false, inl, refl, suc, sym, true, ℕ, ◌++◌, ◌+◌, ◌∙◌, ◌∷◌, ◌≡◌}
 use Rattle.std.proofs.Common.{inr, zero, ◌⊎◌}
 use Rattle.std.proofs.lemmas.Option.{none-some, same_Some}
@@ -42,7 +42,7 @@ blocks_closed : (tokens : List Token) → AreClosed (blocks_of tokens)
 blocks_closed [] = tt
 blocks_closed (token ∷ tokens) = before_closed (closing_of token) token (blocks_of tokens) refl (blocks_closed tokens)
 
--- whether the block at an index is the input's first, if that at 0 is so
+-- whether the block at an index is the input's first
 abbrev first_at : Bool → ℕ → Bool
 first_at first zero = first
 first_at first (suc index) = false
@@ -54,7 +54,7 @@ entry_in_front fault (Some l) first tail line block more = refl
 entry_in_front (Some f) None first tail line block more = refl
 entry_in_front None None first tail line block more = refl
 
--- a closed one has no other
+-- a closed block has no other entry
 one_entry : (fault : Option Fault) (closing : Option ℕ) (first : Bool) (tail : Tail) (line : ℕ) (block : List Token) (more : List Entry) (index : ℕ)
     → is_some closing ≡ true → slice_get (entries_by fault closing first tail line block ++ more) (suc index) ≡ slice_get more index
 one_entry fault (Some l) first tail line block more index closed = refl
@@ -70,7 +70,7 @@ entry_at first tail line (b ∷ []) (suc index) block are at = absurd (none-some
 entry_at first tail line (b ∷ next ∷ blocks) (suc index) block are at = one_entry _ _ first tail line b _ index are.0
     ∙ entry_at false tail line (next ∷ blocks) index block are.1 at ∙ grind arith
 
--- of a closed block it doesn't depend on how the input ends
+-- the entry of a closed block doesn't depend on how the input ends
 same_entry : (fault : Option Fault) (closing : Option ℕ) (first : Bool) (tail other : Tail) (line further : ℕ) (block : List Token)
     → (is_some closing ≡ true) ⊎ ((tail ≡ other) × (line ≡ further)) → (entry : Entry)
     × (slice_get (entries_by fault closing first tail line block) 0 ≡ Some entry)

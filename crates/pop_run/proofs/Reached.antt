@@ -61,7 +61,7 @@ none_close (token ∷ tokens) h = grind (arith, none_close tokens)
 both_close : (ts us : List Token) → closings (ts ++ us) ≡ closings ts + closings us
 both_close ts us = sum_by-append _ ts us
 
--- of an item's words no more than one closes it
+-- at most one of an item's words closes it
 one_closes : (ts front : List Token) (token : Token) → list_all closes_none front ≡ true → closings (ts ++ (front ++ token ∷ [])) ≤ closings ts + 1
 one_closes ts front token plain =
     let last : closings (token ∷ []) ≤ 1 = grind arith in
@@ -69,18 +69,19 @@ one_closes ts front token plain =
 
 -- Items.
 
--- what a run used where it stops: the bytes up to a closing word's end, or up to the end of the input
+-- what a run has used when it stops: the bytes up to a closing word's end, or up to the end of the input
 abbrev pub Stops : Reading → List ℕ → List Token → Type 0
 Stops place bytes tokens = EndsWithItem bytes tokens ⊎ ((list_all is_no_end_problem_token tokens ≡ true) × IsInputOver place)
 
--- From the beginning to now these bytes were used and these words taken, and a run may stop there.
+-- From the beginning to now these bytes were used and these words taken, and a run may stop now.
 pub record Stopped (now : Standing) (had left : Option (List ℕ)) : Type 0 where
   pub bytes : List ℕ
   pub tokens : List Token
   pub used : UsesTokens first_reading now.at had left bytes tokens
   pub stops : Stops now.at bytes tokens
 
--- The same where items are still to come, and EndProblem wasn't read; behind the last item a run may stop.
+-- From the beginning to now these bytes were used and these words taken. If items are still to come, EndProblem wasn't read; after the last item a run
+-- may stop.
 pub record Reached (now : Standing) (had left : Option (List ℕ)) : Type 0 where
   pub bytes : List ℕ
   pub tokens : List Token
@@ -103,11 +104,11 @@ pub start_few : (had : Option (List ℕ)) → closings (reached_start had).token
 unfolding reached_start
 start_few had = omega arith
 
--- behind the last item a run may stop
+-- after the last item a run may stop
 pub stopped_last : {now : Standing} {had left : Option (List ℕ)} → Reached now had left → ends now.next ≡ true → Stopped now had left
 stopped_last p over = record { bytes = p.bytes; tokens = p.tokens; used = p.used; stops = p.stops over }
 
--- where it has used the same words
+-- `stopped_last` doesn't change which words are used
 pub last_few : {now : Standing} {had left : Option (List ℕ)} (p : Reached now had left) (over : ends now.next ≡ true)
     → closings (stopped_last p over).tokens ≡ closings p.tokens
 unfolding stopped_last
@@ -139,7 +140,7 @@ module _ (old new : Standing) (had mid left : Option (List ℕ)) (p : Reached ol
     stops = inr (both_go_on p.tokens c.tokens (p.goes more) (all_go_on c.tokens c.plain), c.over);
   }
 
-  -- a run may stop behind each item
+  -- a run may stop after each item
   pub item_stops : (entry : Entry) → UsesEntry old new mid left entry → Stopped new had left
   item_stops (SoundEntry posed) c = closed_stops c
   item_stops (FaultyEntry fault) (inl c) = closed_stops c
@@ -173,21 +174,21 @@ module _ (old new : Standing) (had mid left : Option (List ℕ)) (p : Reached ol
   item_reached (FaultyEntry fault) (inl c) = closed_reached c
   item_reached (FaultyEntry fault) (inr c) = unclosed_reached c
 
-  -- of the words of each no more than one closes an item
+  -- at most one of each item's words closes an item
   pub stops_few : (entry : Entry) (c : UsesEntry old new mid left entry) → closings (item_stops entry c).tokens ≤ closings p.tokens + 1
   unfolding item_stops closed_stops unclosed_stops
   stops_few (SoundEntry posed) c = one_closes p.tokens c.front (Word c.line c.word) c.plain
   stops_few (FaultyEntry fault) (inl c) = one_closes p.tokens c.front (Word c.line c.word) c.plain
   stops_few (FaultyEntry fault) (inr c) = omega (arith, both_close p.tokens c.tokens, none_close c.tokens c.plain)
 
-  -- the same where the run goes on behind the item
+  -- a run that continues after an item
   pub reached_few : (entry : Entry) (c : UsesEntry old new mid left entry) → closings (item_reached entry c).tokens ≤ closings p.tokens + 1
   unfolding item_reached closed_reached unclosed_reached closed_stops unclosed_stops
   reached_few (SoundEntry posed) c = one_closes p.tokens c.front (Word c.line c.word) c.plain
   reached_few (FaultyEntry fault) (inl c) = one_closes p.tokens c.front (Word c.line c.word) c.plain
   reached_few (FaultyEntry fault) (inr c) = omega (arith, both_close p.tokens c.tokens, none_close c.tokens c.plain)
 
--- where an item was read one was still to come
+-- if an item was read, one was still to come
 pub still_more : (old new : Standing) (had left : Option (List ℕ)) (entry : Entry) (rest : Input) → MayFollow new.at.end rest
     → Reads old new had left (entry ∷ []) → ends old.next ≡ false
 still_more old new had left entry rest may r = by_next old.next refl
@@ -201,7 +202,7 @@ still_more old new had left entry rest may r = by_next old.next refl
 at_beginning : (input : Input) → words_left None first_reading input ≡ words_of input
 at_beginning input = grind arith
 
--- what stands behind the bytes used
+-- the input after the bytes used
 module _ (place : Reading) (taken bytes : List ℕ) (rest : Input) (unread : taken ≡ bytes ++ place.window) where
   whole : taken ++ rest.bytes ≡ bytes ++ (place.window ++ rest.bytes)
   whole = grind (arith, append_assoc)
@@ -264,14 +265,14 @@ module _ (new : Standing) (r ys : List ℕ) (s : Stopped new (Some r) (Some ys))
         q,
       )
 
--- a run that stops has read up to an item's end or the input's, and at most a window more; what holds of the words used is said of these
+-- a run that stops has read up to an item's end or the input's, and at most a window more, with what holds of the words used
 pub stopped_reads_words : (Q : List Token → Type 0) (new : Standing) (r : List ℕ) (left : Option (List ℕ)) (s : Stopped new (Some r) left) → Q s.tokens
     → IsSeen new.at.end left → length new.at.window ≤ 4096
     → (w : ReadsUpTo (input_met (is_broken new.at.end) r left) (taken_of r left)) × Q w.tokens
 stopped_reads_words Q new r None s q seen few = absurd s.used.uses.consumed
 stopped_reads_words Q new r (Some ys) s q seen few = reads_known new r ys s Q q seen few
 
--- the same of how far it has read alone
+-- how far a run that stops has read
 pub stopped_reads : (new : Standing) (r : List ℕ) (left : Option (List ℕ)) → Stopped new (Some r) left → IsSeen new.at.end left
     → length new.at.window ≤ 4096 → ReadsUpTo (input_met (is_broken new.at.end) r left) (taken_of r left)
 stopped_reads new r left s seen few = (stopped_reads_words (λ _. Unit {0}) new r left s tt seen few).0

@@ -11,7 +11,7 @@ use Rattle.pop_run.specs.Run.{ReadsUpTo}
 use Rattle.pop_run.specs.declared.status.Status.{Status}
 use Rattle.pop_run.specs.ties.Sessions.{ends}
 
--- an item that was read and printed so is what a step answers of it
+-- the result of a step that read an item and printed it
 pub item_done : {A : Type 0} (old new : RunState) (had left before now : Option (List ℕ)) (entry : Entry) (printed : Result A SinkFault)
     → TakesItem old new had left entry → new.stopped ≡ is_err printed → Writes before now (entry_text old.choice old.number entry) printed
     → Steps old new had left before now (step_of printed (not (is_faulty entry)))
@@ -28,18 +28,18 @@ pub record Progress (choice : Choice) (now : RunState) (had left before taken : 
   pub running : now.stopped ≡ false
   pub reached : Reached now.at had left
 
--- one read after another
+-- items read one after another
 pub reads_then : (a b c : Standing) (had mid left : Option (List ℕ)) (xs ys : List Entry) → Reads a b had mid xs → Reads b c mid left ys
     → Reads a c had left (xs ++ ys)
 reads_then a b c had mid left xs ys p q = grind (arith, consumes_then had mid left p.bytes q.bytes p.taken q.taken, append_assoc, length-append p.bytes q.bytes)
 
--- the report of items and others behind them is that of the first, and then that of the others
+-- the report of two lists of items joined is the report of the first, then the report of the second
 pub report-append : (choice : Choice) (n : ℕ) (xs ys : List Entry) → report_from choice n (xs ++ ys) ≡ report_from choice n xs
     ++ report_from choice (n + length xs) ys
 report-append choice n [] ys = ap (λ k. report_from choice k ys) (omega arith)
 report-append choice n (x ∷ xs) ys = grind (arith, append_assoc, report-append choice (n + 1) xs ys)
 
--- a test of a list with one more at its end
+-- a test of a list with one more element at its end
 pub any_more : (test : Entry → Bool) (xs : List Entry) (x : Entry) → list_any test (xs ++ x ∷ []) ≡ (list_any test xs || test x)
 any_more test [] x = grind arith
 any_more test (y ∷ xs) x = rw (any_more test xs x) (grind arith)
@@ -63,7 +63,7 @@ progress_start choice had before = record {
   reached = reached_start had;
 }
 
--- where an item was read one was still to come
+-- if an item was read, one was still to come
 more_left : (old new : RunState) (had left : Option (List ℕ)) (entry : Entry) → TakesItem old new had left entry → ends old.at.next ≡ false
 more_left old new had left entry t = let r = some_rest new.at.at.end in still_more old.at new.at had left entry r.0 r.1 t.reads
 
@@ -81,7 +81,7 @@ progress_step choice old new had mid left before t now sound p q = record {
   reached = item_reached old.at new.at had mid left p.reached (more_left old new mid left q.0 q.1) q.0 q.1.used;
 }
 
--- before all items, those that are still to come are all of the input's
+-- before the first item, all items of the input are still to come
 pub all_to_come : (rest : Input) → entries_left first_standing rest ≡ entries_in rest
 unfolding entries_in
 all_to_come rest = grind arith
@@ -132,7 +132,7 @@ progress_cut choice old new mid left before t now r fault p q seen =
     ap entries_in m.2 ∙ sym (all_to_come _) ∙ all.begin m.0 m.1 in
     (rw items (cut_begins choice p.items q.0 _ before t now p.written (rw (p.number, p.choice_is) at q.2)), refl)
 
--- a count that stays hasn't grown
+-- an unchanged count hasn't grown
 pub grew_same : (n : ℕ) → has_grown n n ≡ false
 grew_same n = grind arith
 
@@ -166,7 +166,7 @@ taken_most : (new : Standing) (r : List ℕ) (left : Option (List ℕ)) (items :
 unfolding limit
 taken_most new r left items p within waits = grind (arith, length-append, length-take)
 
--- a source that has failed is not asked again
+-- a source that has failed isn't called again
 pub failed_once : (e : End) (n m : ℕ) → m ≡ failures_after Open e n → m ≤ n + 1
 failed_once e n m is = grind arith
 
@@ -178,7 +178,7 @@ ended_most choice old new None mid left before t now answer p q within waits = t
 ended_most choice old new (Some r) mid left before t now answer p q within waits =
     taken_most new.at r left _ (last_reads choice old new (Some r) mid left before t now answer p q) within waits
 
--- so does one whose sink fails
+-- a run whose sink fails takes at most the limit and one window
 pub cut_most : (choice : Choice) (old new : RunState) (had mid left before t now : Option (List ℕ)) (fault : SinkFault) → Progress choice old had mid before t
     → Steps old new mid left t now (Err fault) → new.at.at.used ≤ limit → length new.at.at.window ≤ 4096
     → IfSome had (λ r. length (taken_of r left) ≤ 2 ^ 30 + 4096)
@@ -197,7 +197,7 @@ ended_reads choice old new None mid left before t now answer n m p q seen few re
 ended_reads choice old new (Some r) mid left before t now answer n m p q seen few reads =
     rw (grew_broken new.at.at.end n m reads) (stopped_reads new.at r left (last_stops choice old new (Some r) mid left before t now answer p q) seen few)
 
--- so does one whose sink fails
+-- a run whose sink fails reads up to an item's end or the input's, and at most a window more
 pub cut_reads : (choice : Choice) (old new : RunState) (had mid left before t now : Option (List ℕ)) (fault : SinkFault) (n m : ℕ)
     → Progress choice old had mid before t → Steps old new mid left t now (Err fault) → IsSeen new.at.at.end left → length new.at.at.window ≤ 4096
     → m ≡ failures_after Open new.at.at.end n → IfSome had (λ r. ReadsUpTo (input_met (has_grown n m) r left) (taken_of r left))

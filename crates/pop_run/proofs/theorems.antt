@@ -1,2 +1,2 @@
--- What the definitions mean, for readers: theorems over every input and all settings.
+-- What the definitions mean, for readers: theorems that hold for every input and all settings.
 pub mod Report

@@ -4,16 +4,16 @@ use Rattle.pop_text.specs.Words.{Input, Token, words_of}
 use Rattle.pop_input.specs.Blocks.{blocks_of, closing_line}
 use Rattle.pop_run.specs.Report.{Choice, entries_in, entry_text}
 
--- the block at an index of an input, the first at 0: its words and text lines, each with the number of its line
+-- the block at an index of an input, counted from 0: its words and text lines, each with the number of its line
 abbrev pub block_at : Input → ℕ → Option (List Token)
 block_at input index = slice_get (blocks_of (words_of input).tokens) index
 
--- the text of the item at an index: the report of the input is these texts joined
+-- the text of the item at an index, counted from 0: the report of the input is these texts joined
 abbrev pub text_at : Choice → Input → ℕ → Option (List ℕ)
 text_at choice input index = option_map (λ entry. entry_text choice (index + 1) entry)
     (slice_get (entries_in input) index)
 
--- NextProblem or EndProblem closes the block
+-- whether NextProblem or EndProblem closes the block
 abbrev pub is_closed : List Token → Bool
 is_closed block = is_some (closing_line block)
 

@@ -15,28 +15,28 @@ pub use Rattle.pop_run.specs.declared.choice.Choice.{Choice}
 use Rattle.pop_run.specs.declared.status.Status.{Status}
 use Rattle.pop_run.specs.declared.status.Status.TheVariants.{Sound, Faulty, InputFailed}
 
--- what a report takes of the settings: whether problems are only tested, and whether boards are left out
+-- the settings that a report depends on: whether problems are only tested, and whether boards are left out
 abbrev pub choice_of : Settings → Choice
 choice_of settings = record { check = settings.check; no_board = settings.no_board }
 
--- what stands behind the head of a sound problem: its solutions, or that it is sound where problems are tested alone
+-- what follows the head of a sound problem: its solutions, or that it is sound if problems are only tested
 abbrev pub findings : Bool → Posed → List ℕ
 findings true posed = codes "sound\n"
 findings false posed = flat_map event_text (events_of posed)
 
--- the text of an item
+-- the text of an item with this number
 unfoldable pub entry_text : Choice → ℕ → Entry → List ℕ
 entry_text choice number (SoundEntry posed) = head_text number posed choice.no_board
     ++ findings choice.check posed ++ codes "\n"
 entry_text choice number (FaultyEntry fault) = fault_text number fault
 
--- the texts of items, the first with this number
+-- the joined texts of items, the first with this number
 abbrev pub report_from : Choice → ℕ → List Entry → List ℕ
 report_from choice number [] = []
 report_from choice number (entry ∷ entries) = entry_text choice number entry
     ++ report_from choice (number + 1) entries
 
--- all items of an input
+-- the entries of an input
 unfoldable pub entries_in : Input → List Entry
 entries_in input = entries_of true (words_of input)
 
@@ -44,17 +44,17 @@ entries_in input = entries_of true (words_of input)
 abbrev pub report : Choice → Input → List ℕ
 report choice input = report_from choice 1 (entries_in input)
 
--- whether an item tells of a failed device
+-- whether an item is the fault that the input device failed
 abbrev pub tells_failure : Entry → Bool
 tells_failure (SoundEntry posed) = false
 tells_failure (FaultyEntry fault) = fault.number == number_of DeviceFailed
 
--- the entry is a fault
+-- whether an item is a fault
 abbrev pub is_faulty : Entry → Bool
 is_faulty (SoundEntry posed) = false
 is_faulty (FaultyEntry fault) = true
 
--- the status of items
+-- the status of items: a failed device outweighs other faults
 unfoldable pub status_of : List Entry → Status
 status_of entries = if list_any tells_failure entries then InputFailed
     else (if list_any is_faulty entries then Faulty else Sound)

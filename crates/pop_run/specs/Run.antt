@@ -11,26 +11,26 @@ use Rattle.pop_run.specs.Report.{Choice, report, status}
 use Rattle.pop_run.specs.declared.status.Status.{Status}
 use Rattle.pop_run.specs.declared.status.Status.TheVariants.{OutputFailed}
 
--- the bytes that a source had and no longer has
+-- the bytes that were taken from a source
 abbrev pub taken_of : List ℕ → Option (List ℕ) → List ℕ
 taken_of had None = []
 taken_of had (Some left) = take (length had - length left) had
 
--- The input that a run met: where the source's count of failures didn't grow, all bytes with the clean ending, else
--- those that were taken before the failure with the failed one.
+-- the input that a run meets: all bytes with a clean end; or, if the source failed, the bytes taken before with a failed
+-- end
 abbrev pub input_met : Bool → List ℕ → Option (List ℕ) → Input
 input_met true had left = record { bytes = taken_of had left; ending = Failed }
 input_met false had left = record { bytes = had; ending = Clean }
 
--- at most one call has failed, by the counts of failures before and after
+-- at most one call failed, by the counts of failures before and after
 abbrev pub FailsOnce : ℕ → ℕ → Type 0
 FailsOnce before now = now ≤ before + 1
 
--- whether a count grew
+-- whether a count of failures has grown
 abbrev pub has_grown : ℕ → ℕ → Bool
 has_grown old new = nat_lt old new
 
--- whether a command is another one than EndProblem, or none
+-- whether a command, or no command, isn't EndProblem
 abbrev pub is_no_end_problem : Option Command → Bool
 is_no_end_problem (Some Last) = false
 is_no_end_problem (Some Next) = true
@@ -38,15 +38,16 @@ is_no_end_problem (Some Begin) = true
 is_no_end_problem (Some (Enter section)) = true
 is_no_end_problem None = true
 
--- a token that is no EndProblem
+-- whether a token isn't EndProblem
 abbrev pub is_no_end_problem_token : Token → Bool
 is_no_end_problem_token token = is_no_end_problem (closing_of token)
 
--- how many of these words close an item
+-- how many tokens close an item
 abbrev pub closings : List Token → ℕ
 closings tokens = count_by (λ token. closes (closing_of token)) tokens
 
--- The bytes used end where a word does that closes an item: it is the last of these words and text lines, and none before it is EndProblem.
+-- The bytes used end with a word that closes an item. It is the last of these tokens, and no token before it is
+-- EndProblem.
 pub record EndsWithItem (used : List ℕ) (tokens : List Token) : Type 0 where
   pub before : List ℕ
   pub word : List ℕ
@@ -57,18 +58,19 @@ pub record EndsWithItem (used : List ℕ) (tokens : List Token) : Type 0 where
   pub closes_one : closes (command_of word) ≡ true
   pub none : list_all is_no_end_problem_token front ≡ true
 
--- The bytes used are all of the input, up to its limit, and none of these words is EndProblem.
+-- The bytes used are all bytes of the input, up to its limit, and none of these tokens is EndProblem.
 pub record EndsWithInput (input : Input) (used : List ℕ) (tokens : List Token) : Type 0 where
   pub all : used ≡ take limit input.bytes
   pub none : list_all is_no_end_problem_token tokens ≡ true
 
--- the words of what stands behind bytes of an input
+-- the words of an input after these bytes
 abbrev pub words_behind : List ℕ → Input → Words
 words_behind used input = words_from None (limit - length used) (1 + count_by is_line_end used)
     (record { bytes = drop (length used) input.bytes; ending = input.ending })
 
--- How far a run reads that took these bytes. It uses those up to the end of the word that closes the last item it reads, which is the first EndProblem
--- unless the sink failed before, or where no word closes it up to the end of the input. Of what stands behind it takes at most 4,096 bytes more, which wait.
+-- How far a run reads. The bytes that it takes are those that it uses, and at most 4,096 more that wait in the window.
+-- The bytes that it uses end with the word that closes the last item: the first EndProblem, unless the sink fails
+-- before. If no word closes that item, the run uses all bytes of the input.
 pub record ReadsUpTo (input : Input) (taken : List ℕ) : Type 0 where
   pub used : List ℕ
   pub waiting : List ℕ
@@ -78,7 +80,8 @@ pub record ReadsUpTo (input : Input) (taken : List ℕ) : Type 0 where
   pub words : (words_of input).tokens ≡ tokens ++ (words_behind used input).tokens
   pub stops : EndsWithItem used tokens ⊎ EndsWithInput input used tokens
 
--- The report of the input is written and its status answered. Where the sink failed, a beginning is written.
+-- A run writes the report of the input and returns its status. If the sink fails, it writes a beginning of the report
+-- and returns `OutputFailed`.
 abbrev pub Runs : Choice → Input → Option (List ℕ) → Option (List ℕ) → Bool → Status → Type 0
 Runs choice input before now false answer = Appends before now (report choice input)
     × (answer ≡ status input)

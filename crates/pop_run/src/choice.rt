@@ -1,15 +1,15 @@
-//! What a report takes of the settings.
+//! The settings that a report depends on.
 ghost use Rattle.std.specs.Prelude.{◌≡◌};
 ghost use Rattle.pop_run.specs.Report.{choice_of};
 
 use run_settings::Settings;
 
-/// What a report takes of the settings: their two flags. It owns no text, so a caller without an allocator can make one.
+/// The settings that a report depends on: two flags. It owns no text, so callers without an allocator can make one.
 #[derive(Clone, Copy)]
 pub struct Choice {
-    /// Whether problems are only read and tested, not solved.
+    /// Whether to only read and test the problems, and not solve them.
     pub check: bool,
-    /// Whether boards are left out.
+    /// Whether to leave the boards out.
     pub no_board: bool,
 }
 

@@ -1,4 +1,21 @@
-//! Runs: all items of an input, and their report.
+//! Runs: reads all problems of an input and writes their report.
+//!
+//! ```rust
+//! use pop_run::{Choice, Status, report};
+//! use pop_text::{TrialSink, TrialSource};
+//!
+//! let choice = Choice { check: true, no_board: true };
+//! let text = b"BeginProblem Pieces White Kg6 Ra1 Black Kg8 Stipulation #1 EndProblem\n";
+//! let mut source = TrialSource::new(text, 4096, None);
+//! let mut sink = TrialSink::<64>::new(64, None);
+//! let status = report(choice, &mut source, &mut sink);
+//! assert!(rt; status == Status::Sound);
+//! assert!(rt; sink.text() == b"problem 1\n#1\nsound\n\n");
+//! ```
+//!
+//! The interface is `run`, `report` and `Session`, which reports one item a call, with `Settings`, `Choice`, `Status` and
+//! `Step`. The module `solutions` is internal. `specs/Report.antt` defines the report, `specs/Run.antt` what a run does.
+//! No call allocates.
 #![tactic(auto)]
 
 pub mod choice;

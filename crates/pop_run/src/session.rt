@@ -1,4 +1,4 @@
-//! Sessions: one item in, its report out.
+//! Sessions: runs that report one item a call.
 ghost use Rattle.std.specs.Prelude.{◌≡◌, ◌==◌, ◌<◌, ◌≤◌, ◌+◌, ◌⊎◌, ◌||◌, IsErr, false, true, is_err, length};
 ghost use Rattle.pop_text.specs.Words.{limit};
 ghost use Rattle.pop_text.specs.Bytes.{count_after, greatest_count};
@@ -22,7 +22,7 @@ use pop_text::source::Source;
 use run_settings::Settings;
 use std::marker::Model;
 
-/// A run over the items of an input. Contracts see its place among them.
+/// A run over the items of one input. Contracts see it as a `RunState`.
 #[derive(Drop)]
 pub struct Session {
     reader: Reader,
@@ -55,7 +55,7 @@ impl Model for Session {
 }
 
 impl Session {
-    /// Returns a session before its first item. It keeps the two flags of the settings; `file` it leaves to its caller.
+    /// Returns a session before its first item. Only the two flags of the settings matter; `file` is for the caller.
     pub fn new(settings: &Settings) -> Session
         ensures { result ≡ first_state (choice_of settings.now) }
     {
@@ -77,13 +77,13 @@ impl Session {
         }
     }
 
-    /// Reads the next item and writes its report. It uses the input's bytes up to the end of the word that closes the item,
-    /// and none after it. After the last item it calls neither source nor sink and returns the status of all items.
+    /// Reads the next item and writes its report. Uses the input's bytes up to the end of the word that closes the item, and
+    /// none after it. After the last item calls neither source nor sink, and returns the status of all items.
     ///
     /// # Errors
     ///
-    /// `SinkFault` if the sink fails: a beginning of the item's report is then written. Every later call returns
-    /// `SinkFault` and calls neither source nor sink.
+    /// `SinkFault` if the sink fails: a beginning of the item's report is then written. Every later call returns `SinkFault`
+    /// and calls neither source nor sink.
     pub fn step<S: Source, W: Sink>(
         &mut self,
         source: &mut S,
@@ -135,7 +135,7 @@ impl Session {
         }
     }
 
-    // Stops where the sink failed.
+    // Returns the step of an item, by whether it was printed and is sound. If the sink failed, stops the session.
     fn answer(&mut self, printed: Result<(), SinkFault>, sound: bool) -> Result<Step, SinkFault>
         ensures step { result ≡ step_of printed sound }
         ensures place { self.new ≡ record self.old {
@@ -153,7 +153,7 @@ impl Session {
     }
 }
 
-// The status with one more fault.
+// Returns the status after one more fault.
 fn status_with(so_far: Status, fault: &Fault) -> Status
     ensures { result ≡ with_item so_far (fault.now.number == number_of DeviceFailed) true }
 {

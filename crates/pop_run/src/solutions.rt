@@ -1,4 +1,4 @@
-//! What is printed of a sound problem.
+//! The report of a sound problem.
 ghost use Rattle.std.specs.Prelude.{◌≡◌, ◌<◌, ◌++◌, codes, false};
 ghost use Rattle.std.specs.List.{flat_map};
 ghost use Rattle.pop_text.specs.Bytes.{Writes, count_after, greatest_count};
@@ -16,7 +16,7 @@ use pop_print::{print_checked, print_event, print_head};
 use pop_solve::search::Search;
 use pop_text::sink::{Sink, SinkFault, put_all};
 
-// All that is told of a sound problem; where problems are tested alone in one write.
+// Writes the report of a sound problem: its solutions, or that it is sound if problems are only tested.
 #[tactic(auto, unfolding(crate::specs::Report::entry_text))]
 pub(crate) fn print_sound<W: Sink>(
     sink: &mut W,
@@ -36,7 +36,7 @@ pub(crate) fn print_sound<W: Sink>(
     }
 }
 
-// Head and solutions, and an empty line.
+// Writes the head, the solutions and an empty line.
 #[tactic(auto, unfolding(crate::specs::Report::entry_text))]
 fn print_solved<W: Sink>(
     sink: &mut W,
@@ -55,7 +55,7 @@ fn print_solved<W: Sink>(
     put_all(sink, b"\n")
 }
 
-// The solutions of a problem, under the rules of its condition.
+// Writes the solutions of a problem, by the rules of its condition.
 fn print_play<W: Sink>(sink: &mut W, problem: &Problem) -> Result<(), SinkFault>
     requires { W.failures sink.old < greatest_count }
     ensures bytes { Writes (W.taken sink.old) (W.taken sink.new) (findings false problem.now)
@@ -69,7 +69,7 @@ fn print_play<W: Sink>(sink: &mut W, problem: &Problem) -> Result<(), SinkFault>
     }
 }
 
-// The events of a problem, each as it is found.
+// Writes the events of a problem, each as soon as the search finds it.
 fn print_solutions<R: Rules, W: Sink>(sink: &mut W, problem: &Problem) -> Result<(), SinkFault>
     requires sink { W.failures sink.old < greatest_count }
     requires rules { R.rule ≡ rule_of problem.now.condition }
@@ -78,20 +78,20 @@ fn print_solutions<R: Rules, W: Sink>(sink: &mut W, problem: &Problem) -> Result
     ensures counted { W.failures sink.new ≡ count_after result (W.failures sink.old) }
 {
     let mut search = start_search::<R>(problem);
-    // An event is lent from where it stands: taken out of its `Some` it would be copied.
+    // The event is borrowed: moved out of its `Some` it would be copied.
     while let Some(event) = &search.next() {
         print_event(sink, event)?;
     }
     Ok(())
 }
 
-// A search with a frame for each half-move of the longest stipulation, and one behind the last.
+// Returns a search with a frame for each half-move of the longest stipulation, 32, and one after the last.
 fn start_search<R: Rules>(problem: &Problem) -> Search<R, 33>
     requires { R.rule ≡ rule_of problem.now.condition }
     ensures problem { result.problem ≡ problem.now }
     ensures left { result.left ≡ events R.rule problem.now }
 {
-    // For the proof: a stipulation that was read has at most 32 half-moves.
+    // For the prover alone: the call shows that the stipulation has at most 32 half-moves.
     let _aim = problem.stipulation();
     Search::new(problem)
 }

@@ -1,4 +1,4 @@
-//! What a run comes to.
+//! How runs and steps end.
 
 /// How a run ends.
 #[derive(Clone, Copy, PartialEq, Eq)]
@@ -9,15 +9,15 @@ pub enum Status {
     Faulty,
     /// The input device failed.
     InputFailed,
-    /// The output can't be written. `run` alone answers it.
+    /// The output can't be written. Only `run` and `report` return it.
     OutputFailed,
 }
 
 /// What a step of a session did.
 #[derive(Clone, Copy, PartialEq, Eq)]
 pub enum Step {
-    /// One item was read and reported; a sound one was solved, or tested alone.
+    /// One item was read and reported. A sound one was solved, or only tested.
     Problem { sound: bool },
-    /// No item was left. The status is that of all items.
+    /// No item was left. Holds the status of all items.
     Finished(Status),
 }

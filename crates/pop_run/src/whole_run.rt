@@ -1,4 +1,4 @@
-//! A whole run.
+//! Whole runs.
 ghost use Rattle.std.specs.Prelude.{◌<◌, ◌≤◌, ◌+◌, ◌^◌, IfSome, length};
 ghost use Rattle.pop_text.specs.Bytes.{greatest_count};
 ghost use Rattle.pop_run.specs.Report.{choice_of};
@@ -11,12 +11,13 @@ use pop_text::sink::Sink;
 use pop_text::source::Source;
 use run_settings::Settings;
 
-/// Reads all items of the source, writes their report into the sink and returns the status.
+/// Reads all items of the source, writes their report to the sink and returns the status.
 ///
-/// It writes exactly the report of the input, which settings and input alone decide. If the sink fails, it has written a
-/// beginning of the report, writes nothing more and returns `OutputFailed`. It takes at most 2^30 + 4,096 bytes from the
-/// source, of which at most 4,096 come after the first EndProblem, and uses none of these. At most one source call and one
-/// sink call fail. `file` it leaves to its caller.
+/// Writes exactly the report of the input, which depends on the settings and the input alone. If the sink fails, a
+/// beginning of the report is written and the status is `OutputFailed`.
+///
+/// Takes at most 2^30 + 4,096 bytes from the source. At most 4,096 of them come after the first EndProblem, and none of
+/// these is used. At most one source call and one sink call fail. `settings.file` is for the caller.
 pub fn run<S: Source, W: Sink>(settings: &Settings, source: &mut S, sink: &mut W) -> Status
     requires source { S.failures source.old < greatest_count }
     requires sink { W.failures sink.old < greatest_count }
@@ -37,7 +38,7 @@ pub fn run<S: Source, W: Sink>(settings: &Settings, source: &mut S, sink: &mut W
     report(Choice::of(settings), source, sink)
 }
 
-/// Does what `run` does, for callers that have the flags alone.
+/// Does what `run` does, for callers that have only the flags.
 pub fn report<S: Source, W: Sink>(choice: Choice, source: &mut S, sink: &mut W) -> Status
     requires source { S.failures source.old < greatest_count }
     requires sink { W.failures sink.old < greatest_count }

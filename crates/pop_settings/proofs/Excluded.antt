@@ -1,4 +1,5 @@
--- What the clauses of the settings exclude: settings that others' words choose, flags that weren't given, and a refusal of words that are right.
+-- What the clauses of the settings exclude: settings of other words, flags that aren't there, and refusing words that
+-- are right.
 use Rattle.pop_settings.proofs.Basics.{List, None, Some, Text, [], codes, false, inl, inr, matches_of, refl, sym, takes, true, ◌∙◌, ◌≡◌}
 use Rattle.std.specs.Prelude.{is_some, ◌∷◌}
 use Rattle.clap.specs.Walk.{Row, first_of}
@@ -14,16 +15,16 @@ use Rattle.pop_settings.specs.declared.pops_part.wanted.Settings.{Settings as Pa
 use Rattle.pop_settings.specs.declared.pops_part.wanted.Wanted.{Wanted}
 use Rattle.pop_settings.specs.declared.pops_part.wanted.Wanted.TheVariants.{List as ListOf, Parts}
 
--- `pops`: a flag is set exactly where it was given
+-- `pops`: a flag is set exactly if it is there
 pub no_other_flag : (words : List Text) (s : PopsSettings) → first_of (codes "check") (matches_of pops.command words) ≡ None
     → first_of (codes "no-board") (matches_of pops.command words) ≡ Some (codes "true") → pops.IsSettings words s → (s.check ≡ false) × (s.no_board ≡ true)
 no_other_flag words s absent given is = (is.check ∙ rw absent refl, is.no_board ∙ rw given refl)
 
--- words that the command takes aren't told as wrong
+-- words that the command takes don't get the fault `Usage`
 pub taken_words_are_right : (words : List Text) → takes pops.command words ≡ true → pops.IsMemoryIfTaken words Usage → ⊥
 taken_words_are_right words right told = let wrong = told right in cc
 
--- words aren't told as wrong without a cause
+-- words don't get the fault `Usage` without a cause
 pub refused_words_are_wrong : (words : List Text) → pops.refusals words ≡ [] → pops.IsUsageIfRefused words Usage → ⊥
 refused_words_are_wrong words none told = absurd (told refl none)
 
@@ -36,7 +37,7 @@ nothing_else_wanted words s wanted chosen is = let same : Some s.wanted ≡ Some
 abbrev given : Text → Text → Row
 given name text = record { id = name; values = text ∷ []; count = None; source = None; reading = AsWritten }
 
--- they choose the parts that are named, told apart by one move where nothing is said
+-- the matches choose the parts that are named, which fix one move without `--depth`
 parts_wanted : (wanted_by (given (codes "item") (codes "2") ∷ given (codes "phase") (codes "set") ∷ given (codes "part") (codes "3..5") ∷ [])
     ≡ Some (Parts (record { item = 2; phase = Set; first = 3; last = 5; depth = 1 })))
     × (wanted_by
@@ -45,7 +46,7 @@ parts_wanted : (wanted_by (given (codes "item") (codes "2") ∷ given (codes "ph
 unfolding wanted_by depth_in number_in phase_in range_in
 parts_wanted = (refl, refl)
 
--- or a list, beside which no parts are named
+-- the matches choose a list if no parts are named
 list_wanted : (wanted_by (given (codes "list") (codes "true") ∷ []) ≡ Some (ListOf 1))
     × (wanted_by (given (codes "list") (codes "true") ∷ given (codes "depth") (codes "2") ∷ []) ≡ Some (ListOf 2))
     × (wanted_by (given (codes "list") (codes "true") ∷ given (codes "part") (codes "1") ∷ []) ≡ None)
@@ -53,12 +54,12 @@ list_wanted : (wanted_by (given (codes "list") (codes "true") ∷ []) ≡ Some (
 unfolding wanted_by depth_in number_in phase_in range_in
 list_wanted = (refl, refl, refl, refl)
 
--- words of one of the forms that the command takes aren't told as wrong
+-- words that the command takes and that have one of its forms don't get the fault `Usage`
 pub words_of_a_form_are_right : (words : List Text) → takes part.command words ≡ true → is_some (wanted_by (matches_of part.command words)) ≡ true
     → part.IsMemoryIfTaken words Usage → ⊥
 words_of_a_form_are_right words right meant told = let wrong = told right meant in cc
 
--- nor are any words without a cause
+-- words for `pops-part` don't get the fault `Usage` without a cause
 pub words_of_no_form_are_wrong : (words : List Text) (wanted : Wanted) → part.refusals words ≡ []
     → wanted_by (matches_of part.command words) ≡ Some wanted → part.IsUsageIfRefused words Usage → ⊥
 words_of_no_form_are_wrong words wanted none meant told = elim (told refl) [
@@ -66,7 +67,7 @@ words_of_no_form_are_wrong words wanted none meant told = elim (told refl) [
   | inr neither ↦ absurd (let wrong : Some wanted ≡ None = sym meant ∙ neither in cc)
 ]
 
--- numbers, ranges, depths and phases as they are written
+-- examples of numbers, ranges, depths and phases
 numbers : (number_in (codes "0") ≡ Some 0) × (number_in (codes "007") ≡ Some 7) × (number_in (codes "999999999999999999") ≡ Some 999999999999999999)
 unfolding number_in
 numbers = (refl, refl, refl)

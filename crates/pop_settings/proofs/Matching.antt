@@ -1,4 +1,4 @@
--- What clap says of words by the command that it was given, said of the command that this is.
+-- What clap's contracts say of the commands of this crate.
 use Rattle.pop_settings.proofs.Basics.{IfOk-weaker, List, Text, is_simple, matches_of, takes, true, ◌≡◌}
 use Rattle.std.proofs.Common.{Result, subst}
 use Rattle.std.specs.Prelude.{IfErr, IfOk}
@@ -18,12 +18,12 @@ module _ (r : Result ArgMatches Error) (given command : App) (words : List Text)
       → IfOk r (λ m. rows_of (found_of m) ≡ matches_of command words)
   matched_rows is simple h = IfOk-weaker r _ _ (λ m has. (has simple).0) (subst (λ a. IfOk r (HasMatchesOf a words)) is h)
 
-  -- words that the command takes fail only for want of memory
+  -- words that the command takes fail only for lack of memory
   pub matched_passes : given ≡ command → IfErr r (λ e. takes given words ≡ true → kind_of e ≡ OutOfMemory)
       → IfErr r (λ e. takes command words ≡ true → kind_of e ≡ OutOfMemory)
   matched_passes is h = subst (λ a. IfErr r (λ e. takes a words ≡ true → kind_of e ≡ OutOfMemory)) is h
 
-  -- clap fails as the command says of these words
+  -- clap fails with a kind of error that the command's definition allows for these words
   pub matched_kinds : given ≡ command → is_simple_and_free command ≡ true → (is_simple_and_free given ≡ true → FailsBy (fault_of given words) r)
       → FailsBy (fault_of command words) r
   matched_kinds is free h = subst (λ a. is_simple_and_free a ≡ true → FailsBy (fault_of a words) r) is h free

@@ -3,7 +3,7 @@ use Rattle.std.proofs.Common.{List, ◌≡◌, ◌≤◌, ◌<◌, ◌*◌, ◌+
 use Rattle.std.specs.List.{list_all}
 use Rattle.pop_settings.specs.pops_part.Numbers.{greatest_number, is_digit, value_of}
 
--- This much of a number is read: it is known as far as it isn't greater than the greatest one.
+-- The value of the digits so far: exact up to the greatest number, above it only known to be greater.
 pub record DigitsSoFar (text : List ℕ) (value : ℕ) : Type 0 where
   pub digits : list_all is_digit text ≡ true
   pub same : value ≤ greatest_number → value ≡ value_of text

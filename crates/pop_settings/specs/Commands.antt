@@ -1,4 +1,4 @@
--- The options of a command, and the fault of words that clap refuses (own).
+-- The options of a command line, and the fault of words that clap refuses (own).
 use Rattle.std.specs.Prelude.{Bool, List, Some, codes, false}
 use Rattle.std.specs.Option.{option_map_or}
 use Rattle.std.specs.Str.{bytes_eq}
@@ -18,7 +18,7 @@ flag name = record (new_rule name) { long = Some name; action = Some SetTrue }
 abbrev pub option_with_value : Text → Rule
 option_with_value name = record (new_rule name) { long = Some name }
 
--- a flag is set: clap's matches have the text `true` for it
+-- whether a flag is set: clap's matches then have the text `true` for it
 abbrev pub is_set : Text → List Row → Bool
 is_set name rows = option_map_or (bytes_eq (codes "true")) (first_of name rows) false
 

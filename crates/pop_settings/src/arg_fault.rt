@@ -1,4 +1,4 @@
-//! Why the words of a command line give no settings.
+//! The faults of command lines.
 ghost use Rattle.std.specs.Prelude.{◌≡◌};
 ghost use Rattle.clap.specs.Values.{kind_of};
 ghost use Rattle.pop_settings.specs.Commands.{told_of};
@@ -6,16 +6,16 @@ ghost use Rattle.pop_settings.specs.Commands.{told_of};
 use clap::Error;
 use clap::error::ErrorKind;
 
-/// Why the words of a command line give no settings.
+/// Why a command line has no settings.
 #[derive(Clone, Copy)]
 pub enum ArgFault {
-    /// They are of no form that the program has.
+    /// The command line has no form that the program knows.
     Usage,
-    /// There was no memory to read them.
+    /// There was no memory to read the command line.
     Memory,
 }
 
-// Why there are no settings, where clap refuses the words.
+// Returns the fault of a command line that clap refuses with this error.
 pub(crate) fn fault_told(error: &Error) -> ArgFault
     ensures { result ≡ told_of (kind_of error.now) }
 {

@@ -1,4 +1,4 @@
-//! Options and values of a command.
+//! The options and values of a command line.
 ghost use Rattle.std.specs.Prelude.{◌≡◌, IfOk, false, option_map};
 ghost use Rattle.clap.specs.Simple.{App, app_of, new_rule, with_rule};
 ghost use Rattle.clap.specs.Matches.{found_of};
@@ -8,7 +8,7 @@ ghost use Rattle.pop_settings.specs.Commands.{flag, is_set, option_with_value};
 use clap::{Arg, ArgAction, ArgMatches, Command};
 use std::alloc::{AllocError, Global};
 
-// The command with one more argument, where there was memory for it so far.
+// Adds an argument to a command. Passes on the error if memory was short before.
 fn with<'a>(
     command: Result<Command<'a>, AllocError>,
     argument: Arg<'a>,
@@ -22,7 +22,7 @@ fn with<'a>(
     }
 }
 
-// The command with one more option that takes no value.
+// Adds an option without a value.
 pub(crate) fn with_flag<'a>(
     command: Result<Command<'a>, AllocError>,
     alloc: Global,
@@ -35,7 +35,7 @@ pub(crate) fn with_flag<'a>(
     with(command, option)
 }
 
-// The command with one more option that takes a value.
+// Adds an option with a value.
 pub(crate) fn with_option<'a>(
     command: Result<Command<'a>, AllocError>,
     alloc: Global,
@@ -48,7 +48,7 @@ pub(crate) fn with_option<'a>(
     with(command, option)
 }
 
-// The command with one more value that no option announces.
+// Adds a value without an option.
 pub(crate) fn with_value<'a>(
     command: Result<Command<'a>, AllocError>,
     alloc: Global,
@@ -61,14 +61,14 @@ pub(crate) fn with_value<'a>(
     with(command, value)
 }
 
-// Returns the text of the value `name`, or `None` if none was given.
+// Returns the text of the value `name`, or `None` if it isn't there.
 pub(crate) fn text_of<'a>(matches: &ArgMatches<'a>, name: &str) -> Option<&'a str>
     ensures { option_map (λ s. s.now) result ≡ first_of name.now (rows_of (found_of matches.now)) }
 {
     matches.get_str(name)
 }
 
-// Whether the flag `name` was given.
+// Returns whether the flag `name` is set.
 pub(crate) fn is_set(matches: &ArgMatches<'_>, name: &str) -> bool
     ensures { result ≡ is_set name.now (rows_of (found_of matches.now)) }
 {

@@ -1,4 +1,16 @@
-//! What the words of a command line choose, as `clap` matches them: the settings of `pops`, at the root, and those of `pops-part`.
+//! The command lines of `pops` and `pops-part`: reads their settings with `clap`.
+//!
+//! ```rust
+//! use pop_settings::settings;
+//!
+//! let settings = settings(alloc, &["pops", "--check", "mate.pop"])?;
+//! assert!(rt; settings.check && !settings.no_board);
+//! assert!(rt; settings.file.is_some());
+//! ```
+//!
+//! The interface is `settings` with `Settings` and `ArgFault` for `pops`, and the module `pops_part` for `pops-part`.
+//! The module `commands` is internal. `specs/` define the command lines by clap's own definitions. Only `settings`
+//! allocates.
 #![tactic(auto)]
 
 pub mod arg_fault;

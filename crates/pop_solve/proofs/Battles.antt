@@ -18,7 +18,7 @@ module _ {P M : Type 0} (game : Game P M) where
   unfolding wins value
   value-wins k p = search (rules, value-is_lost)
 
-  -- of a selfmate, with an even number: White wins, or has been brought to the goal
+  -- a selfmate with an even number of half-moves left: White wins, or the goal is reached
   pub value-self_wins : (k : ℕ) (r : P) → value Selfmate game (2 * k) r ≡ (game.goal r || self_wins game k r)
   unfolding self_wins value
   value-self_wins zero r = grind (arith, value-zero)

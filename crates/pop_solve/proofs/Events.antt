@@ -1,4 +1,4 @@
--- What a call gives.
+-- What a call of `next` returns.
 use Rattle.pop_solve.proofs.Words.{Before, Frame, IsRoomy, IsSound, List, Phase, Play, Posed, Position, RuleSet, Walks, Within, [], append_assoc, arith, cond, drop, eqb, events_from, false, flat_map, half_moves, is_barred, phase_count, Walk, walk_of, is_help_play, Bool, ap, ◌<◌, ◌∙◌, beginning_count, is_help, is_set, kept_paths, left_of, length, length-reverse, nat_tests, opening, phase_events, phase_half_moves, phase_paths, phase_start, plan_of, refl, reverse, rules, solutions, take, total, true, ℕ, ◌+◌, ◌-◌, ◌||◌, ◌∷◌, ◌≡◌, ◌≤◌, drop-drop}
 use Rattle.pop_solve.proofs.Sound.{helps-form, in_range}
 use Rattle.pop_solve.proofs.Paths.{path-length}
@@ -19,7 +19,7 @@ module _ (problem : Posed) (walk : Walk) (is : walk ≡ walk_of problem walk.pha
   pub half_moves-are : walk.half_moves ≡ phase_half_moves problem walk.phase
   half_moves-are = ap (λ (w : Walk). w.half_moves) is
 
-  -- no more than those of the play
+  -- a phase has at most the half-moves of the play
   pub half_moves-fit : (n : ℕ) → half_moves problem.stipulation < n → walk.half_moves < n
   half_moves-fit n lt = grind arith
 

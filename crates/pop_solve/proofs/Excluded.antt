@@ -1,4 +1,5 @@
--- What the clauses of a search exclude: events given after the board was taken back or given twice, totals that say the wrong thing or come too early,
+-- What the clauses of a search exclude: events emitted after the board was taken back, or twice; totals
+-- that are wrong or come too early,
 -- mates passed over, and counts of events and frames that begin or grow otherwise.
 use Rattle.pop_solve.proofs.Words.{ArrayVec, BareEvent, Barred, Before, Bool, Event, Frame, Gives, GoesTo, IsGiven, IsOpened, Line, List, Move, Node, Plan, Posed, Position, RuleSet, Shown, Total, Within, [], allows_mate, ap, arith, eqb, event_of, false, filter, filter-append, first_phase, is_help_play, is_help, is_mating, is_walked_once, kept_paths, left_of, length, length-append, map, min, moves_behind, path_event, phase_paths, rest_open, total, true, ℕ, ◌++◌, ◌+◌, ◌-◌, ◌^◌, ◌<◌, ◌∷◌, ◌≡◌, ◌⊎◌, Walk}
 use Rattle.pop_input.specs.declared.stipulation.Goal.TheVariants.{Stalemate}
@@ -8,7 +9,7 @@ module _ (rule : RuleSet) (problem : Posed) (old new : List BareEvent) (board : 
   pub no_line_without_frames : (half : ℕ) (moves : ArrayVec Shown) → Gives rule problem old new (Line half moves) board 0 → ⊥
   no_line_without_frames half moves g = grind arith
 
-  -- nor is a node
+  -- no node is given with no frame in use
   pub no_node_without_frames : (depth half : ℕ) (move : Shown) → Gives rule problem old new (Node depth half move) board 0 → ⊥
   no_node_without_frames depth half move g = grind arith
 
@@ -38,26 +39,26 @@ module _ (rule : RuleSet) (problem : Posed) (event : Event) (board : Position) (
   pub no_event_stays : (left : List BareEvent) → Gives rule problem left left event board depth → ⊥
   no_event_stays left g = absurd (omega (arith, ap length g.left))
 
-  -- so set play is said to be impossible once
+  -- set play is said to be impossible once only
   pub impossible_is_given_once : (old new : List Frame)
       → Gives rule problem (left_of rule problem Barred old) (left_of rule problem Barred new) event board depth → ⊥
   unfolding left_of
   impossible_is_given_once old new g = no_event_stays _ g
 
 module _ (rule : RuleSet) (problem : Posed) where
-  -- each event given counts one
+  -- each event counts one
   pub one_event_is_counted : (bare : BareEvent) (left : List BareEvent) (before after : ℕ) → IsGiven rule problem (bare ∷ left) before
       → IsGiven rule problem left after → after ≡ min (before + 1) (2 ^ 64 - 1)
   one_event_is_counted bare left before after g h = omega (arith, g.counts, h.counts, g.within)
 
-  -- a search that has given nothing has opened nothing, where no line of moves is walked twice
+  -- a search before its first event has tried nothing, if no line of moves is walked twice
   pub nothing_is_opened_at_first : (frames : List Frame) (opened : ℕ) → is_walked_once problem ≡ true
       → IsOpened rule problem (Before (first_phase problem)) frames opened → opened ≡ 0
   unfolding rest_open
   nothing_is_opened_at_first frames opened once o = omega (arith, o.most once)
 
 module _ (rule : RuleSet) (plan : Plan) (p : Position) (place before after : ℕ) (rest : List Move) where
-  -- with one half-move left no mate behind the place is passed over
+  -- with one half-move left no mate after the cursor is passed over
   pub no_mate_is_passed_over : GoesTo rule plan 1 p place rest before after
       → filter (is_mating rule p) (moves_behind rule p place) ≡ filter (is_mating rule p) rest
   no_mate_is_passed_over t = grind (arith, filter-append)
@@ -67,7 +68,7 @@ module _ (rule : RuleSet) (plan : Plan) (p : Position) (place before after : ℕ
       → filter (allows_mate rule p) (moves_behind rule p place) ≡ filter (allows_mate rule p) rest
   no_move_before_a_mate_is_passed_over t = grind (arith, filter-append)
 
-  -- and those that are passed over are counted, each once
+  -- with two half-moves left, the moves that are skipped are counted, each once
   pub moves_passed_over_count_once : before < 2 ^ 64 → GoesTo rule plan 2 p place rest before after
       → after ≡ min (before + (length (moves_behind rule p place) - length rest)) (2 ^ 64 - 1)
   moves_passed_over_count_once range t = grind (arith, length-append t.over)
@@ -77,7 +78,7 @@ module _ (rule : RuleSet) (plan : Plan) (p : Position) (place before after : ℕ
       → GoesTo rule plan left p place rest before after → moves_behind rule p place ≡ rest
   none_is_passed_over left early t = grind arith
 
--- so where the next move mates, it is the next solution
+-- with one half-move left, the next move, if it mates, is the next solution
 pub first_mate_is_next : (rule : RuleSet) (plan : Plan) (p : Position) (place before after : ℕ) (m n : Move) (more rest : List Move)
     → moves_behind rule p place ≡ m ∷ more → is_mating rule p m ≡ true → is_mating rule p n ≡ true → GoesTo rule plan 1 p place (n ∷ rest) before after → n ≡ m
 first_mate_is_next rule plan p place before after m n more rest here mates too t =

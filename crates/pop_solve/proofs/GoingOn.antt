@@ -1,7 +1,7 @@
--- How many half-moves a line goes on below a move, and what is reached where it ends.
+-- For how many half-moves a line goes on after a move, and what is reached at its end.
 use Rattle.pop_solve.proofs.Words.{Battle, BattlePlay, Bool, Game, HelpPlay, Plan, PlayOfSides, arith, cond, ends_at_goal, eqb, false, fewest_half_moves, least_length_from, is_followed, walk_length, inl, inr, nat_tests, shown_length, refl, rules, seeks, suc, true, value, has_variations, zero, ℕ, ◌*◌, ◌+◌, ◌-◌, ◌/◌, ◌||◌, ◌≡◌, ◌≤◌, ◌⊎◌, is_given}
 
--- a test by its two answers
+-- a test by its two results
 pub cases : (b : Bool) → (b ≡ false) ⊎ (b ≡ true)
 cases b = search rules
 
@@ -26,12 +26,12 @@ module _ {P M : Type 0} (game : Game P M) where
       → cond (z || goal) 0 (cond s (least_length_from battle game q ((t - fewest_half_moves battle) / 2) (fewest_half_moves battle)) t) ≤ t
   length_most battle t q z s goal e u = search (rules, least_length_from-most, nat_tests)
 
-  -- so is that with which the walk goes on
+  -- the length with which the walk goes on is at most what is left
   pub walk_length-most : (play : PlayOfSides) (variation : Bool) (t : ℕ) (q : P) → walk_length play variation game t q ≤ t
   unfolding walk_length shown_length
   walk_length-most play variation t q = search (rules, length_most)
 
-  -- nor less than the first that is tried
+  -- the shortest length isn't less than the first that is tried
   pub least_length_from-least : (battle : Battle) (q : P) (n a : ℕ) → a ≤ least_length_from battle game q n a
   unfolding least_length_from
   least_length_from-least battle q zero a = search rules
@@ -54,7 +54,7 @@ module _ {P M : Type 0} (plan : Plan) (game : Game P M) where
   unfolding walk_length
   walk_length-help t q help = rw help refl
 
-  -- it follows each move of help play
+  -- in help play the walk follows each move
   pub follows-help : (root : Bool) (t : ℕ) (q : P) → plan.play ≡ HelpPlay → is_followed plan.play game root t q ≡ true
   unfolding is_followed
   follows-help root t q help = rw help refl

@@ -1,4 +1,4 @@
--- The lists of help play.
+-- The lists of moves in help play.
 use Rattle.pop_solve.proofs.Words.{AllPairs, Contains, Game, List, [], arith, false≢true, first_in, from_flat_map, from_map, in_cases, in_flat_map, in_map, inr, length, lines_to_goal, map, none_in_nil, pairs_flat_map, pairs_map, pairs_nil, pairs_of, path_end, refl, suc, true, zero, ℕ, ◌∷◌, ◌≡◌}
 use Rattle.pop_solve.proofs.theorems.Lists.{IsPlayable, StandsBefore}
 
@@ -12,7 +12,7 @@ module _ {P M : Type 0} (game : Game P M) where
       let w = from_flat_map (λ m. map (λ line. m ∷ line) (lines_to_goal game h (game.after p m))) (game.moves p) line c in
       grind (arith, from_map (λ line. w.0 ∷ line) (lines_to_goal game h (game.after p w.0)) line w.2, from_lines h (game.after p w.0))
 
-  -- any such line is in the list
+  -- any line with these properties is in the list
   pub in_lines : (h : ℕ) (p : P) (line : List M) → length line ≡ h → IsPlayable game p line → game.goal (path_end game.after p line) ≡ true
       → Contains (lines_to_goal game h p) line
   unfolding lines_to_goal

@@ -1,15 +1,15 @@
--- The first solutions of a phase, by the paths that begin them.
+-- The first solutions of a phase, from the paths that begin them.
 use Rattle.pop_solve.proofs.Words.{Battle, BattlePlay, Bool, Frame, Game, IsWalking, List, Plan, PlayOfSides, Position, RuleSet, Steps, Walks, [], append-nil, arith, beginning_count, begins_solution, chess, cond, eqb, false, is_help_play, kept_paths, length, moves_behind, nat_tests, is_given, path, position, refl, rules, shown_paths, suc, to_come, true, zero, ℕ, ◌&&◌, ◌+◌, ◌-◌, ◌<◌, ◌||◌, ◌∷◌, ◌≡◌, ◌⊎◌, and_parts, HelpPlay, map-id, nil_from_length}
 use Rattle.pop_solve.proofs.Paths.{path-length}
 
 module _ {M : Type 0} where
-  -- the next path is kept, and of the others those of the solutions that may still begin
+  -- the next path is kept, and of the others the paths of the solutions that may still begin
   pub keep-next : (help : Bool) (n : ℕ) (x : List M) (xs : List (List M)) (b : Bool) → begins_solution help x ≡ b → (b ≡ true → 0 < n)
       → kept_paths help n (x ∷ xs) ≡ x ∷ kept_paths help (n - cond b 1 0) xs
   unfolding kept_paths
   keep-next help n x xs b e some = search rules
 
-  -- the solutions that begin with it and behind it
+  -- the solutions that begin with this path and after it
   pub beginning_count-next : (help : Bool) (n : ℕ) (x : List M) (xs : List (List M)) (b : Bool) → begins_solution help x ≡ b → (b ≡ true → 0 < n)
       → beginning_count help n (x ∷ xs) ≡ cond b 1 0 + beginning_count help (n - cond b 1 0) xs
   unfolding beginning_count

@@ -27,18 +27,19 @@ module _ {P M : Type 0} (game : Game P M) (q : P) where
   unfolding first_number wins
   zero_loses n = refl
 
-  -- the half-moves of the first test that holds are those of the least number of moves
+  -- the half-moves of the first successful test match the least number of moves
   pub least_moves-direct : (n : ℕ) → least_length_from Direct game q n 1 + 1 ≡ 2 * least_moves Direct game (suc n) q
   least_moves-direct n = search (rules, first_number, by_twos n 0, first_number-shift, first_number-is, zero_loses n)
 
-  -- the same in selfmates, where the goal isn't reached
+  -- in a selfmate where the goal isn't reached, the half-moves of the first successful test match the least
+  -- number of moves
   module _ (open_yet : game.goal q ≡ false) where
     by_twos_self : (n k : ℕ) → least_length_from Selfmate game q n (2 * k) ≡ 2 * (first_number (λ i. self_wins game i q) n k)
     unfolding least_length_from first_number
     by_twos_self zero k = search rules
     by_twos_self (suc n) k = grind (arith, by_twos_self n (k + 1), value-self_wins)
 
-    -- the same of a selfmate
+    -- in a selfmate the shortest length in half-moves is twice the least number of moves
     pub least_moves-selfmate : (n : ℕ) → least_length_from Selfmate game q n 2 ≡ 2 * least_moves Selfmate game (suc n) q
     unfolding first_number self_wins
     least_moves-selfmate n = search (rules, by_twos_self n 1, first_number-is)

@@ -1,4 +1,4 @@
--- One more move never harms.
+-- A win within n moves is a win within n + 1.
 use Rattle.pop_solve.proofs.Words.{Bool, Game, List, [], arith, can_move, cases_lt, every_move, fails_before_first, false, is_lost, is_self_lost, list_all, list_any, passes_at_first, position_or_len, prefix_len-le-length, range_with_len, rules, self_wins, suc, true, wins, zero, ℕ, ◌&&◌, ◌-◌, ◌<◌, ◌||◌, ◌∷◌, ◌≡◌, ◌≤◌}
 use Rattle.std.proofs.lemmas.List.FromFn.{get_or-range_with_len, length-range_with_len}
 
@@ -28,13 +28,13 @@ module _ {P M : Type 0} (game : Game P M) where
       → (can_move game q && every_move game (λ r. game.goal r || f r) q) ≡ true → (can_move game q && every_move game (λ r. game.goal r || g r) q) ≡ true
   won-more f g w q h = search (rules, all_weaker)
 
-  -- the same of a selfmate
+  -- in a selfmate White also wins in one move more
   pub self_wins-more : (k : ℕ) (p : P) → self_wins game k p ≡ true → self_wins game (suc k) p ≡ true
   unfolding self_wins
   self_wins-more zero p h = absurd cc
   self_wins-more (suc k) p h = search (rules, any_weaker, all_weaker, self_wins-more k)
 
-  -- and after a move of White's
+  -- in a selfmate Black also loses in one move more
   pub is_self_lost-more : (j : ℕ) (q : P) → is_self_lost game j q ≡ true → is_self_lost game (suc j) q ≡ true
   unfolding is_self_lost
   is_self_lost-more zero q h = h
@@ -57,6 +57,6 @@ module _ (test : ℕ → Bool) (n : ℕ) where
   pub first_is_first : (k : ℕ) → k < position_or_len test (range_with_len 0 n) → test k ≡ false
   first_is_first k less = search (rules, get_or-range_with_len, length-range_with_len, fails_before_first test (range_with_len 0 n) k 0, first_at_most)
 
-  -- it passes itself, if the count does
+  -- the first number that passes does pass, if the count does
   pub first_passes : test n ≡ true → test (position_or_len test (range_with_len 0 n)) ≡ true
   first_passes h = search (rules, cases_lt, get_or-range_with_len, length-range_with_len, passes_at_first test (range_with_len 0 n) 0, first_at_most)

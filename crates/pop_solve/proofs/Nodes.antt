@@ -63,7 +63,8 @@ module _ {M : Type 0} where
 in_unless : {X : Type 0} (g : Bool) (xs : List X) (x : X) → Contains (cond g [] xs) x ↔ ((g ≡ false) × Contains xs x)
 in_unless g xs x = search rules
 
--- Q holds of no paths, and of nodes of moves that are Ok, as those of a position are, over lists of which it holds: so it holds of trees
+-- Q holds of no paths, and of nodes of moves that are Ok (a position's moves are) over lists for which it
+-- holds: so it holds of trees
 pub record HoldsOfTrees {P M : Type 0} (game : Game P M) (Ok : List M → Type 0) (Q : List (List M) → Type 0) : Type 0 where
   pub moves : (p : P) → Ok (game.moves p)
   pub some : (test : M → Bool) (ms : List M) → Ok ms → Ok (filter test ms)
@@ -121,7 +122,7 @@ module _ {P M : Type 0} (battle : Battle) (game : Game P M) (n : ℕ) where
     unfolding set_tree below_set
     set_tree_paths h p = flat_map-map (λ s. s) (λ d. node d (below_set h p d)) (set_moves p)
 
-  -- so what holds of trees holds of all of them
+  -- a property of trees holds of all of a game's trees
   module _ {Ok : List M → Type 0} {Q : List (List M) → Type 0} (holds : HoldsOfTrees game Ok Q) where
     unless : (g : Bool) (paths : List (List M)) → Q paths → Q (cond g [] paths)
     unless g paths h = search (rules, holds.none)
@@ -147,26 +148,26 @@ module _ {P M : Type 0} (battle : Battle) (game : Game P M) (n : ℕ) where
     below_set_holds true h p d = (trees_hold h).1 (game.after p d)
     below_set_holds false h p d = unless (game.goal (game.after p d)) _ (singles_hold _ (holds.some _ _ (holds.moves (game.after p d))))
 
-    -- of a play
+    -- it holds of a play
     pub play_holds : (variation : Bool) (h : ℕ) (p : P) → Q (flat_map (λ s. s) (tree battle game variation n h p))
     play_holds variation h p = rw (tree_paths variation h p) (holds.nodes _ (kept p) (holds.some _ _ (holds.moves p)) (below_key_holds variation h p))
 
-    -- of set play
+    -- it holds of set play
     pub set_play_holds : (variation : Bool) (h : ℕ) (p : P) → Q (flat_map (λ s. s) (set_tree battle game variation n h p))
     unfolding set_tree
     set_play_holds variation zero p = holds.none
     set_play_holds variation (suc h) p =
         rw (set_tree_paths variation h p) (holds.nodes _ (set_moves p) (holds.some _ _ (holds.moves p)) (below_set_holds variation h p))
 
-    -- of their first solutions, where all moves are Ok
+    -- it holds of the first solutions, where all moves are Ok
     module _ (ok : (ms : List M) → Ok ms) (k : ℕ) (variation : Bool) where
-      -- of a play
+      -- it holds of a play's first solutions
       pub first_play_holds : (h : ℕ) (p : P) → Q (flat_map (λ s. s) (take k (tree battle game variation n h p)))
       unfolding below_key
       first_play_holds h p =
           rw (joined_first (λ m. node m (below_key variation h p m)) k (kept p)) (holds.nodes _ (take k (kept p)) (ok _) (below_key_holds variation h p))
 
-      -- of set play
+      -- it holds of set play's first solutions
       pub first_set_play_holds : (h : ℕ) (p : P) → Q (flat_map (λ s. s) (take k (set_tree battle game variation n h p)))
       unfolding set_tree below_set
       first_set_play_holds zero p = rw (take-nil k) holds.none

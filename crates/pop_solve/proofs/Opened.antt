@@ -1,4 +1,4 @@
--- How many frames a search opens.
+-- How many positions a search counts.
 use Rattle.pop_solve.proofs.Words.{BareEvent, Before, Behind, Frame, IsCounted, IsGiven, IsKeys, IsNarrow, IsOpened, IsSound, are_whites, List, Opens, OpensOn, Phase, Plan, Play, Posed, RuleSet, Stage, Tries, Within, [], arith, cond, drop, eqb, false, fewest_left, inl, inr, HelpPlay, Walk, walk_of, and_parts, is_barred, is_set, is_stop, is_unstopped, min, not, phase_half_moves, phase_start, phase_walk, plan_of, play_of, position, rest_fewest, rest_open, rules, suc, to_open, total, true, zero, ℕ, ◌+◌, ◌-◌, ◌<◌, ◌^◌, ◌∷◌, ◌≡◌, ◌≤◌, ◌⊎◌}
 use Rattle.pop_battle.proofs.Boards.{behind_start}
 use Rattle.pop_solve.proofs.Sound.{some_way}

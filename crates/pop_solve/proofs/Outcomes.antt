@@ -1,4 +1,4 @@
--- The outcomes of a step, for frames listed from the top down.
+-- The outcomes of a step, with frames listed from the top down.
 use Rattle.pop_solve.proofs.Words.{AreKnown, Bool, CameFrom, CameFromAt, Counts, Frame, GoesTo, HelpPlay, IfSome, IsCounted, IsLinked, IsPlaceIn, IsRoomy, IsWalking, are_whites, LegalPlace, List, Move, Option, Plan, Position, RuleSet, Steps, [], after_well_formed, ap, arith, chess, eqb, false, fewest_left, fewest_walked, shown_paths, is_followed, is_given, walk_length, inl, inr, is_legal, is_pseudo_legal-from_legal, length, min, moves_behind, opened_frame, path, position, refl, rules, suc, to_come, to_open, true, walk_work, undo_of, has_variations, walk_behind, ℕ, ◌+◌, ◌-◌, ◌<◌, ◌^◌, ◌∷◌, ◌≡◌, ◌⊎◌, position_after}
 use Rattle.pop_battle.specs.ties.Frames.{learned, moved}
 use Rattle.pop_battle.proofs.Tests.{came_from}
@@ -23,7 +23,7 @@ module _ (rule : RuleSet) (h : ℕ) (p : Position) where
   unfolding IsLinked IsRoomy AreKnown position
   walking-learned f known below board r w = search rules
 
-  -- or once its place has moved on
+  -- the walk stays where it is once the top frame's place has moved on
   pub walking-moved : (f : Frame) (next : ℕ) (below : List Frame) (board after : Position) → IsWalking rule h p (f ∷ below) board → after ≡ board
       → IsWalking rule h p (moved f next ∷ below) after
   unfolding IsRoomy IsLinked AreKnown position
@@ -53,7 +53,7 @@ module _ (rule : RuleSet) (plan : Plan) (h : ℕ) (p : Position) (f : Frame) (be
     unfolding IsRoomy
     fuel = omega (arith, r.roomy.0, left)
 
-    -- its next move is passed over
+    -- the top frame's next move is skipped
     pub steps-pass : (after : Position) (opened opened2 : ℕ)
         → is_followed plan.play (chess plan.goal rule) (eqb (length below) 0) t (position_after rule board m) ≡ false → after ≡ board
         → Counts rule plan (eqb (length below) 0) t (position_after rule board m) opened opened2
@@ -67,7 +67,7 @@ module _ (rule : RuleSet) (plan : Plan) (h : ℕ) (p : Position) (f : Frame) (be
         let opens = open-next rule plan h p f next m below _ t fuel left here in
         search (rules, walking, come, falls, tries, opens, follows-help, after_here, no_zero)
 
-    -- its next move is followed
+    -- the top frame's next move is followed
     pub steps-enter : (after : Position) (opened opened2 : ℕ) → is_legal rule board m ≡ true
         → is_followed plan.play (chess plan.goal rule) (eqb (length below) 0) t (position_after rule board m) ≡ true → after ≡ position_after rule board m
         → Counts rule plan (eqb (length below) 0) t (position_after rule board m) opened opened2

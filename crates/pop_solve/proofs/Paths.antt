@@ -1,4 +1,4 @@
--- The path to the top frame, and what is shown of it.
+-- The path to the top frame, and how it is shown.
 use Rattle.pop_solve.proofs.Words.{CameFrom, CameFromAt, Frame, Goal, IsEnded, IsLinked, IsWalking, List, Move, Plan, Position, RuleSet, [], ap, arith, chess, cond, drop, ends_at_goal, get_or, is_legal, left_at_top, length, length-append, length-reverse, length-take, path, path_end, position, refl, reverse, reverse-append, rules, moves_shown, last_shown, shown_move, subst, sym, take, take-append-drop, take_all, take_more, true, has_variations, ℕ, ◌++◌, ◌+◌, ◌-◌, ◌<◌, ◌∙◌, ◌∷◌, ◌≡◌, ◌≤◌, position_after}
 use Rattle.pop_solve.proofs.Outcomes.{CameFrom-deep, walking-close}
 use Rattle.pop_battle.specs.declared.chess.Reached.{Reached}
@@ -25,7 +25,7 @@ cut-at frames n k f e at less = rw e (take_more frames k f less) ∙ ap (λ x. t
 pub some-taken : (frames : List Frame) (k : ℕ) → 0 < k → k ≤ length frames → 0 < length (take k frames)
 some-taken frames k some most = omega (arith, length-take k frames, some, most)
 
--- a frame stands on others
+-- a frame on top of others
 pub record IsTopped (upper lower : List Frame) (f : Frame) : Type 0 where
   pub cut : upper ≡ lower ++ f ∷ []
   pub some : 0 < length lower
@@ -72,7 +72,7 @@ module _ (goal : Goal) (rule : RuleSet) where
   path_end-path p (f ∷ (g ∷ below)) = search (rules, path_end-append, path_end-path p (g ∷ below))
 
 module _ (rule : RuleSet) where
-  -- and leads to its position
+  -- the path with one frame more leads on by that frame's move
   pub position-more : (p : Position) (f : Frame) (fs : List Frame) → 0 < length fs → position rule p (f ∷ fs) ≡ position_after rule (position rule p fs) f.by
   unfolding position
   position-more p f fs some = search rules
@@ -86,7 +86,7 @@ module _ (rule : RuleSet) where
   pub linked-take : (p : Position) (frames : List Frame) (n : ℕ) → IsLinked rule p (reverse frames) → IsLinked rule p (reverse (take n frames))
   linked-take p frames n l = grind (arith, take-append-drop n frames, reverse-append (take n frames) (drop n frames), linked-cut)
 
-  -- a frame and those that it stands on
+  -- a frame and the frames below it
   module _ {upper lower : List Frame} {f : Frame} (top : IsTopped upper lower f) where
     stacked : reverse upper ≡ f ∷ reverse lower
     stacked = popped upper lower f top.cut
@@ -100,7 +100,7 @@ module _ (rule : RuleSet) where
     unfolding IsLinked
     forth-is_legal p l = search (rules, stacked, length-reverse)
 
-    -- and leads to its own
+    -- played again from its position, the move leads to the upper frames' position
     pub forth-position : (p : Position) → position rule p (reverse upper) ≡ position_after rule (position rule p (reverse lower)) f.by
     forth-position p = grind (arith, stacked, position-more, length-reverse)
 
@@ -109,7 +109,7 @@ module _ (rule : RuleSet) where
         → before ≡ position rule p (reverse lower) → position_after rule before f.by ≡ board
     forth-again h p board before frames e r at = search (rules, forth-position)
 
-    -- it is the last of the moves that are shown
+    -- the move is the last of the moves that are shown
     pub forth-along : (goal : Goal) (p : Position) → moves_shown goal rule p (path (reverse upper))
         ≡ moves_shown goal rule p (path (reverse lower)) ++ shown_move goal rule (position rule p (reverse lower)) f.by ∷ []
     forth-along goal p = search (rules, stacked, length-reverse, path-more, along-append, path_end-path)
@@ -117,7 +117,7 @@ module _ (rule : RuleSet) where
     -- once its move was taken back
     module _ (h : ℕ) (p board after : Position) (r : IsWalking rule h p (reverse upper) board)
         (before : (q : Position) → CameFromAt rule f board q → after ≡ q) where
-      -- the walk stands on the frames below
+      -- the walk on the frames below
       pub back-walking : IsWalking rule h p (reverse lower) after
       back-walking = let r2 = rw stacked at r in search (rules, walking-close rule h p f (reverse lower) board after r2, length-reverse)
 
@@ -125,21 +125,21 @@ module _ (rule : RuleSet) where
       pub back-is_legal : is_legal rule after f.by ≡ true
       back-is_legal = rw back-walking.board_at (forth-is_legal p r.linked)
 
-      -- it leads back
+      -- the move leads back to the board
       pub back-again : position_after rule after f.by ≡ board
       back-again = forth-again h p board after upper refl r back-walking.board_at
 
-      -- and to the goal, where it ends with that
+      -- the move leads to the goal, where it ends with the goal
       pub back-ended : (plan : Plan) → IsEnded rule plan (reverse upper) board → (b : Reached)
           → b ≡ cond (ends_at_goal plan.play (has_variations plan.tree) f.left) Surely Perhaps → b ≡ Surely
           → (chess plan.goal rule).goal (position_after rule after f.by) ≡ true
       back-ended plan ended b e here = search (rules, back-again, stacked)
 
-      -- it is shown as the last of the path
+      -- the move is shown as the last of the path
       pub back-shown : (goal : Goal) → shown_move goal rule after f.by ≡ last_shown goal rule p (path (reverse upper))
       back-shown goal = search (rules, back-walking, stacked, length-reverse, path-more, last-append, path_end-path)
 
-  -- the lowest frame stands on the first position
+  -- the lowest frame is at the first position
   pub first-position : (p : Position) (frames : List Frame) (k : ℕ) → k ≤ 1 → position rule p (reverse (take k frames)) ≡ p
   unfolding position
   first-position p frames k few = search (rules, length-reverse)

@@ -1,4 +1,4 @@
--- What is to come from the root frame of a phase is the phase's solutions.
+-- The paths to come from the root frame of a phase are the phase's solutions.
 use Rattle.pop_solve.proofs.Words.{Battle, BattlePlay, Bool, Form, Frame, Game, HelpPlay, IsSound, List, Phase, Plan, Play, PlayOfSides, Posed, RuleSet, Set, [], continuations, ap, arith, beginning_count, best_moves, cond, false, filter, flat_map, game_of, half_moves_of, help_lines, is_help_play, is_help, kept_paths, keeps_win, length, list_all, map, moves_behind, nat_tests, node, nodes_below, phase_half_moves, phase_paths, phase_start, plan_of, play_of, refl, rules, seeks, is_in_set_play, set_tree, shown_paths, has_variations, solutions, solutions_by, suc, sym, take, tree_with, true, value, zero, ℕ, ◌++◌, ◌+◌, ◌-◌, ◌∙◌, ◌∷◌, ◌≡◌, legal_moves, list_all-append}
 use Rattle.pop_solve.proofs.Sound.{helps-form, some_way}
 use Rattle.pop_solve.proofs.Battles.{value-wins, value-self_wins}
@@ -57,7 +57,7 @@ module _ {P M : Type 0} (game : Game P M) (plan : Plan) where
   shown_paths-full root (suc k) (suc t) p [] = search rules
   shown_paths-full root (suc k) (suc t) p (m ∷ ms) = search (rules, list_all-append, all-over, shown_paths-full root (suc k) (suc t) p ms)
 
-  -- the root in battle play: those of its moves that pass the test, each with what stands below it
+  -- the root in battle play: its moves that pass the test, each with the nodes below it
   root-cut : (battle : Battle) (fought : plan.play ≡ BattlePlay battle) (h n : ℕ) (p : P) (ms : List M) (other : M → Bool) (G : M → List (List M))
       → ((m : M) → value battle game h (game.after p m) ≡ other m)
       → ((m : M) → value battle game h (game.after p m) ≡ true → beneath game plan battle fought h h (game.after p m) ≡ G m)
@@ -80,7 +80,7 @@ module _ {P M : Type 0} where
   tree_by battle game variation n h p ms =
       map (λ m. node m (cond variation (nodes_below battle game n (h - 1) (game.after p m)) [])) (filter (λ m. keeps_win battle game n (game.after p m)) ms)
 
-  -- the same in set play
+  -- the solutions of set play that begin with some moves of the root
   abbrev pub set_by : Battle → Game P M → Bool → ℕ → ℕ → P → List M → List (List (List M))
   set_by battle game variation n h p ms =
       map (λ d. node d (cond variation (continuations battle game n h (game.after p d))

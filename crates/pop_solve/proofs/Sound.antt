@@ -1,11 +1,11 @@
--- What a sound problem's play rests on, and how the sides play.
+-- What a sound problem guarantees, and how its sides play.
 use Rattle.pop_solve.proofs.Words.{Battle, BattlePlay, Form, HelpPlay, arith, false, is_help_play, is_help, play_of, rules, IsSound, IsWellFormed, Phase, Posed, half_moves, is_crossed_right, phase_start, sym, ap, true, ◌≡◌, ◌≤◌, ◌∙◌}
 
 -- a problem has 1 to 32 half-moves
 pub some_way : (problem : Posed) → IsSound problem → 1 ≤ half_moves problem.stipulation
 some_way problem s = grind arith
 
--- nor has it more than 32
+-- a problem has at most 32 half-moves
 pub in_range : (problem : Posed) → IsSound problem → half_moves problem.stipulation ≤ 32
 in_range problem s = grind arith
 
@@ -14,7 +14,7 @@ pub start_sound : (problem : Posed) → IsSound problem → (phase : Phase) → 
 unfolding is_crossed_right
 start_sound problem s phase = search rules
 
--- help play and battles, told by the form
+-- help play and battles, by the form
 pub helps-form : (form : Form) → is_help_play (play_of form) ≡ is_help form
 helps-form form = search rules
 
@@ -22,7 +22,7 @@ helps-form form = search rules
 pub help-play : (form : Form) → is_help form ≡ true → play_of form ≡ HelpPlay
 help-play form e = search rules
 
--- and no other form is
+-- only the form of help play is played as help play
 pub help-form : (form : Form) → play_of form ≡ HelpPlay → is_help form ≡ true
 help-form form e = sym (helps-form form) ∙ ap is_help_play e
 
@@ -30,7 +30,7 @@ help-form form e = sym (helps-form form) ∙ ap is_help_play e
 pub battle-play : (form : Form) → is_help form ≡ false → (battle : Battle) × (play_of form ≡ BattlePlay battle)
 battle-play form e = search rules
 
--- and no battle is help play
+-- a form that is played as a battle isn't help play
 pub battle-form : (form : Form) (battle : Battle) → play_of form ≡ BattlePlay battle → is_help form ≡ false
 battle-form form battle e = sym (helps-form form) ∙ ap is_help_play e
 

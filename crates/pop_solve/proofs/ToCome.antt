@@ -1,4 +1,4 @@
--- What the moves still to come say of paths, turns and counts: the next move, and those passed over.
+-- What the moves still to come mean for paths, turns and counts: the next move, and the moves passed over.
 use Rattle.pop_solve.proofs.Words.{Battle, BattlePlay, Bool, Frame, GoesTo, HelpPlay, are_whites, List, Mate, Move, Plan, Position, RuleSet, Steps, Undo, [], ap, append_assoc, append-nil, allows_mate, arith, chess, cond, eqb, false, fewest_for, fewest_left, fewest_walked, filter, is_followed, is_given, walk_length, is_mating, length, length-append, map, map-append, mates_behind, moves_behind, opened_frame, path, position, refl, rules, seeks_last, shown_paths, smallest_tree, work_from, work_behind, suc, sum_by-append, sum_by-cons, to_come, to_open, true, walk_work, value, has_variations, walk_behind, walk_count, zero, ℕ, ◌++◌, ◌+◌, ◌-◌, ◌<◌, ◌∙◌, ◌∷◌, ◌≡◌, ◌≤◌, ◌⊎◌, position_after, legal_moves}
 use Rattle.pop_battle.proofs.Boards.{behind_start, each_one, none_of}
 use Rattle.pop_battle.specs.ties.Frames.{moved}
@@ -14,7 +14,7 @@ passed-over f test skip (m ∷ over) ms none = search (rules, cases (test m), sk
 abbrev pub given_path : Bool → List Move → List (List Move)
 given_path b L = cond b (L ∷ []) []
 
--- a line behind a path and a move
+-- a line after a path and a move
 pub map-path : (L : List Move) (m : Move) (xs : List (List Move)) → map (λ line. L ++ line) (map (λ line. m ∷ line) xs) ≡ map (λ line. (L ++ m ∷ []) ++ line) xs
 map-path L m [] = refl
 map-path L m (x ∷ xs) = rw (append_assoc L (m ∷ []) x, map-path L m xs)
@@ -94,7 +94,7 @@ module _ (rule : RuleSet) (plan : Plan) where
     unfolding walk_work position
     turns-pass = rw (fuel, work_behind-next rule k (position rule p (f ∷ below)) f.place next m e) (omega arith)
 
-    -- so does following it
+    -- following a move takes a turn
     pub turns-enter : (undo : Undo) (tried : ℕ) → walk_work rule h p (opened_frame m undo tried ∷ (moved f next ∷ below)) < walk_work rule h p (f ∷ below)
     unfolding walk_work position
     turns-enter undo tried = search (rules, work_behind-next rule k (position rule p (f ∷ below)) f.place next m e, steps-start rule k q)
@@ -112,7 +112,7 @@ module _ (rule : RuleSet) (plan : Plan) where
   unfolding to_come shown_paths
   come-close h p f below e = search rules
 
-  -- nor does it open anything
+  -- a frame without moves opens nothing
   pub open-close : (p : Position) (f : Frame) (below : List Frame) → (f.left ≡ 0) ⊎ (moves_behind rule (position rule p (f ∷ below)) f.place ≡ [])
       → to_open rule p (f ∷ below) ≡ to_open rule p below
   unfolding to_open walk_behind
@@ -142,7 +142,7 @@ module _ (rule : RuleSet) (plan : Plan) where
     unfolding walk_behind
     nothing k place e = rw e (none_of (legal_moves rule) (position_after rule) P (moves_behind rule P place))
 
-  -- the last but one of help play, settled
+  -- the last half-move but one of help play, after moves to which no reply mates
   module _ (help : plan.play ≡ HelpPlay) (for : plan.goal ≡ Mate) where
     -- where no move mates no path is left
     mateless : (P : Position) (fuel : ℕ) → mates_behind rule P 0 ≡ [] → shown_paths plan (chess plan.goal rule) false fuel 1 P (legal_moves rule P) ≡ []
@@ -165,7 +165,7 @@ module _ (rule : RuleSet) (plan : Plan) where
     abbrev later : List Frame
     later = moved f g.mid ∷ below
 
-    -- what such moves count nothing in is the same from the later place on
+    -- a count to which these moves add nothing is the same from the later cursor on
     same-later : {A : Type 0} (F : ℕ → List Move → A) → (seeks_last plan.play ≡ true → plan.goal ≡ Mate → (m : Move) (ms : List Move)
         → is_mating rule P m ≡ false → F 1 (m ∷ ms) ≡ F 1 ms) → (plan.play ≡ HelpPlay → plan.goal ≡ Mate → (m : Move) (ms : List Move)
         → allows_mate rule P m ≡ false → F 2 (m ∷ ms) ≡ F 2 ms) → F f.left (moves_behind rule P f.place) ≡ F f.left (moves_behind rule P g.mid)

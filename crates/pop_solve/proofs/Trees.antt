@@ -1,11 +1,11 @@
--- What the walk shows is the tree that the definitions name.
+-- The walk shows exactly the tree of the definitions.
 use Rattle.pop_solve.proofs.Words.{Battle, BattlePlay, Bool, Direct, Game, HelpPlay, List, Plan, Selfmate, [], continuations, ap, append-nil, arith, best_moves, cond, eqb, every_move, false, fewest_half_moves, filter, least_length_from, flat_map, flat_map_single, is_followed, is_given, walk_length, keeps_win, least_moves, lines_to_goal, list_all, map, nat_tests, node, nodes_below, not, shown_length, refl, rules, seeks, shown_paths, suc, sym, true, value, has_variations, zero, ℕ, ◌%◌, ◌*◌, ◌++◌, ◌+◌, ◌-◌, ◌/◌, ◌<◌, ◌||◌, ◌∙◌, ◌∷◌, ◌≡◌, ◌≤◌, inl, inr}
 use Rattle.pop_solve.proofs.Battles.{value-is_lost, value-is_self_lost, value-zero}
 use Rattle.pop_solve.proofs.Lengths.{length-more}
 use Rattle.pop_solve.proofs.GoingOn.{length_most, walk_length-keys, given-battle, walk_length-help, cases, least_length_from-least}
 use Rattle.pop_solve.proofs.Least.{least_moves-direct, least_moves-selfmate}
 
--- the half-moves of a battle of so many moves
+-- the half-moves of a battle with this number of moves
 abbrev pub halves : Battle → ℕ → ℕ
 halves Direct k = 2 * k - 1
 halves Selfmate k = 2 * k
@@ -48,7 +48,7 @@ module _ {P M : Type 0} (game : Game P M) where
     shown_paths-moves root zero p ms = grind (arith, flat-same, by_move, append-nil)
     shown_paths-moves root (suc k) p ms = search (rules, flat-same, by_move, walk_length-help, nat_tests, shown_paths-moves false k)
 
-    -- so from all moves of a position
+    -- by all moves of a position
     pub shown_paths-help : (root : Bool) (k : ℕ) (p : P) → shown_paths plan game root (suc k) (suc k) p (game.moves p) ≡ lines_to_goal game (suc k) p
     unfolding lines_to_goal
     shown_paths-help root k p = shown_paths-moves root k p (game.moves p)

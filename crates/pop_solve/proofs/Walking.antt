@@ -1,4 +1,5 @@
--- The outcomes of a step for frames listed from the bottom up, as the code holds them, and what its calls hand on.
+-- The outcomes of a step, with frames listed from the bottom up, as the code holds them, and what its calls
+-- return.
 use Rattle.pop_solve.proofs.Words.{all_triples, AreKnown, Bool, CameFrom, CameFromAt, Counts, Frame, GoesTo, IfSome, IsNextMate, IsNextOf, IsPlaceIn, IsRoomy, IsWalking, LegalPlace, List, MatchOption, Mate, Option, Plan, Position, RuleSet, Steps, [], ap, append-nil, arith, chess, eqb, false, is_followed, is_given, walk_length, inl, inr, is_legal, length, length-append, length-reverse, get_or, take, mates_behind, nat_tests, moves_behind, moves_behind-end, position, refl, reverse, reverse-append, rules, seeks_last, suc, sym, true, undo_of, has_variations, ℕ, ◌++◌, ◌+◌, ◌-◌, ◌<◌, ◌∙◌, ◌∷◌, ◌≡◌, ◌≤◌, ◌⊎◌, Move, position_after, opened_frame, nil_from_length}
 use Rattle.std.proofs.lemmas.List.{same_from_push, take_all, take_more}
 use Rattle.pop_battle.specs.ties.Frames.{learned, moved}
@@ -34,7 +35,7 @@ depth_below old new x n e all = omega (arith, all, below_top old new x e)
 pub at_root : (n depth : ℕ) → n ≡ depth + 1 → eqb n 1 ≡ eqb depth 0
 at_root n depth e = grind (arith, nat_tests)
 
--- the same outcomes, for frames listed from the bottom up, as the code holds them
+-- outcomes for frames listed from the bottom up, as the code holds them
 module _ (rule : RuleSet) (plan : Plan) (h : ℕ) (top : Frame) (old new : List Frame) (taken : old ≡ new ++ top ∷ []) where
   depth_is : length (reverse new) ≡ length new
   depth_is = length-reverse new
@@ -124,13 +125,13 @@ module _ (rule : RuleSet) (h : ℕ) (top : Frame) (old new : List Frame) (taken 
   pub back_asks : (p board : Position) (depth : ℕ) → IsWalking rule h p (reverse old) board → depth ≡ length new → 0 < depth → CameFrom rule top board
   back_asks p board depth r d deep = CameFrom-deep rule h p top (reverse new) board (grind (arith, popped)) (omega (arith, length-reverse new, d, deep))
 
-  -- it leaves the walk on the frames below
+  -- once the top frame is closed, the walk is on the frames below
   pub back_walking : (p board after : Position) (depth : ℕ) → IsWalking rule h p (reverse old) board → depth ≡ length new → (depth ≡ 0 → after ≡ board)
       → ((q : Position) → 0 < depth → CameFromAt rule top board q → after ≡ q) → IsWalking rule h p (reverse new) after
   back_walking p board after depth r d lowest before =
       let r2 = rw (popped old new top taken) at r in search (rules, walking-close rule h p top (reverse new) board after r2, length-reverse)
 
--- with no frame left the board stands on the first position
+-- with no frame left the board has the first position
 pub walking_back : (rule : RuleSet) (h : ℕ) (p board : Position) (frames : List Frame) → IsWalking rule h p (reverse frames) board → length frames ≡ 0
     → board ≡ p
 unfolding position
@@ -143,7 +144,7 @@ pub taken_off : (rule : RuleSet) (plan : Plan) (board : Position) (old mid new :
 taken_off rule plan board old mid new before after o x on e =
     let same = same_from_push on.below new _ x (sym on.stands ∙ e) in (rw same.0 at on.stood, sym same.1)
 
--- it has as many half-moves left as the last frame
+-- a top frame that has moved on has as many half-moves left as before
 pub left_is : (rule : RuleSet) (plan : Plan) (board : Position) (old mid below : List Frame) (before after : ℕ) (o : Option Move)
     → (on : MovesOn rule plan board old mid before after o) (x : Frame) → old ≡ below ++ x ∷ [] → x.left ≡ on.top.left
 left_is rule plan board old mid below before after o on x e = ap (λ f. f.left) (same_from_push below on.below x on.top (sym e ∙ on.stood)).1

@@ -1,4 +1,4 @@
--- What the definitions mean, for readers: theorems over every game, every set of rules and every goal.
+-- What the definitions mean, for readers: theorems for every game, all sets of rules and both goals.
 pub mod Lengths
 pub mod Lists
 pub mod HelpLines

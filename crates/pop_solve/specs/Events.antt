@@ -1,5 +1,5 @@
--- The events of a problem: its phases, their solutions and their totals. Set play, the limit of solutions and the order
--- of events are this project's own; half-moves are numbered as in the Popeye manual.
+-- The events of a problem: its phases, their solutions and their totals. Set play, the limit of solutions
+-- and the order of events are own; half-moves are numbered as in the Popeye manual.
 use Rattle.pop_battle.specs.Plays.{play_of}
 use Rattle.pop_battle.specs.declared.aim.Play.{Play as PlayOfSides}
 use Rattle.pop_battle.specs.declared.aim.Play.TheVariants.{Help as HelpPlay, Battle as BattlePlay}
@@ -24,15 +24,15 @@ pub use Rattle.pop_events.specs.declared.shown.Mark.{Mark}
 pub use Rattle.pop_events.specs.declared.shown.Side.{Side}
 use Rattle.pop_events.specs.declared.event.Phase.TheVariants.{Set, Play}
 
--- moves one after another: a line, or those that lead to a node of a tree
+-- moves one after another: a line, or the moves that lead to a node of a tree
 abbrev pub Path : Type 0
 Path = List Move
 
--- a line, or a node with all below it
+-- a line, or a node with all nodes below it
 abbrev pub Solution : Type 0
 Solution = List Path
 
--- an event before it is shown: its path in place of moves, with its phase
+-- an event before it is shown: a path in place of shown moves, with its phase
 pub data BareEvent : Type 0 where
   opening : Phase → BareEvent
   impossible : BareEvent
@@ -58,16 +58,16 @@ abbrev pub phase_start : Posed → Phase → Position
 phase_start problem phase =
     if is_set phase then set_start (play_start problem) else play_start problem
 
--- its half-moves: set play drops the first
+-- the number of half-moves in a phase: set play drops the first one
 abbrev pub phase_half_moves : Posed → Phase → ℕ
 phase_half_moves problem phase = if is_set phase then half_moves problem.stipulation - 1
     else half_moves problem.stipulation
 
--- the game that a problem asks for
+-- the game of a problem
 abbrev pub game_of : RuleSet → Posed → Game Position Move
 game_of rule problem = chess problem.stipulation.goal rule
 
--- the solutions of a phase: in help play its lines, in a battle its tree
+-- the solutions of a phase: its lines in help play, its tree in a battle
 abbrev pub solutions_by : PlayOfSides → RuleSet → Posed → Phase → List Solution
 solutions_by HelpPlay rule problem phase =
     map (λ path. path ∷ []) (help_lines (game_of rule problem) (phase_half_moves problem phase)
@@ -79,25 +79,26 @@ solutions_by (BattlePlay battle) rule problem Play =
     tree battle (game_of rule problem) problem.variation problem.stipulation.n
     (phase_half_moves problem Play) (phase_start problem Play)
 
--- those that the stipulation asks for
+-- the solutions of a phase, by the problem's form
 unfoldable pub solutions : RuleSet → Posed → Phase → List Solution
 solutions rule problem phase =
     solutions_by (play_of problem.stipulation.form) rule problem phase
 
--- a phase with set play's first position is barred where that can't stand
+-- the phase is set play, and its first position is impossible
 abbrev pub is_barred : RuleSet → Posed → Phase → Bool
 is_barred rule problem phase = is_set phase && is_impossible rule (set_start (play_start problem))
 
--- a path as an event
+-- the event of a path
 abbrev pub path_event : Posed → Phase → Path → BareEvent
 path_event problem phase path = if is_help problem.stipulation.form then line phase path
     else tree_node phase path
 
--- how many solutions a phase has, up to the limit
+-- the number of a phase's solutions, up to the limit
 abbrev pub phase_count : RuleSet → Posed → Phase → ℕ
 phase_count rule problem phase = length (take problem.max_solutions (solutions rule problem phase))
 
--- a phase: its name; then that it is barred, or its first solutions, whole, and their number
+-- the events of a phase: its name; then either that it is impossible, or its first solutions, whole, and
+-- their number
 unfoldable pub phase_events : RuleSet → Posed → Phase → List BareEvent
 phase_events rule problem phase =
     opening phase ∷ (if is_barred rule problem phase then impossible ∷ []

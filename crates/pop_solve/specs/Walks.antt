@@ -1,4 +1,4 @@
--- How many positions a search of a problem may try at most: one for each list of moves that it walks (own).
+-- The most positions that the search of a problem may try: one for each list of moves that it walks (own).
 use Rattle.std.specs.Prelude.{ℕ, ◌+◌, Bool, false, not, ◌&&◌, ◌||◌, if◌then◌else◌, List}
 use Rattle.std.specs.List.{list_all}
 use Rattle.chess_rules.specs.Legal.{moves as legal_moves}
@@ -11,8 +11,8 @@ use Rattle.pop_events.specs.declared.event.Phase.{Phase}
 use Rattle.pop_events.specs.declared.event.Phase.TheVariants.{Set, Play}
 use Rattle.pop_solve.specs.Events.{BareEvent, events, first_phase, impossible, is_barred, is_set, line, opening, phase_half_moves, phase_start, total, tree_node}
 
--- the walk count of a phase: the number of lists of fewer moves than its half-moves, each legal when it is played; 0 if
--- the phase isn't possible
+-- the walk count of a phase: the number of lists of fewer moves than its half-moves, each legal when it is
+-- played; 0 if the phase is impossible
 abbrev pub phase_walk : RuleSet → Posed → Phase → ℕ
 phase_walk rule problem phase =
     if is_barred rule problem phase then 0
@@ -29,7 +29,7 @@ walk_from rule problem phase =
 abbrev pub whole_walk : RuleSet → Posed → ℕ
 whole_walk rule problem = walk_from rule problem (first_phase problem)
 
--- problems in whose search no line of moves is walked twice: help play, and battle play of which only keys are shown
+-- the search of the problem walks no line of moves twice: help play, and battle play that shows only keys
 abbrev pub is_walked_once : Posed → Bool
 is_walked_once problem = is_help problem.stipulation.form
     || (not problem.variation && not problem.set_play)
@@ -42,7 +42,7 @@ is_stop (line phase path) = false
 is_stop (tree_node phase path) = false
 is_stop (total count stopped) = stopped
 
--- no event of these says so
+-- no event of the list says that the limit of solutions stopped a phase
 abbrev pub is_unstopped : List BareEvent → Bool
 is_unstopped left = list_all (λ bare. not (is_stop bare)) left
 

@@ -1,4 +1,5 @@
-//! Guesses at the moves that decide a test, from tests with fewer half-moves. They cost time alone: contracts don't see them.
+//! Guesses at the moves that decide a test, from tests with fewer half-moves. They affect speed only:
+//! contracts don't see them.
 ghost use Rattle.std.specs.Prelude.{◌≡◌, ◌≤◌, is_some, not, false, true};
 ghost use Rattle.chess_core.specs.WellFormed.{IsWellFormed};
 ghost use Rattle.chess_rules.specs.Legal.{is_legal};
@@ -22,8 +23,8 @@ use pop_battle::killers::Killers;
 use pop_battle::value::value_of;
 use std::mem;
 
-/// Whether killers are guessed for a test with `left` half-moves: in a direct mate, with Black to move. Selfmates keep
-/// no killers, and help play has no tests.
+/// Returns whether to guess killers for a test with `left` half-moves: in a direct mate with Black to move.
+/// Selfmates keep no killers, and help play has no tests.
 fn wants_guess(play: Play, left: usize) -> bool
     ensures help { play ≡ HelpPlay → result ≡ false }
     ensures selfmate { play ≡ BattlePlay Selfmate → result ≡ false }
@@ -31,7 +32,8 @@ fn wants_guess(play: Play, left: usize) -> bool
     play == Play::Battle(Battle::Direct) && left % 2 == 0
 }
 
-/// Whether White wins with `left` half-moves, and how many frames that test opens, on a board of its own.
+/// Returns whether White reaches the goal with `left` half-moves, and how many positions that test tries.
+/// It works on a copy of the board.
 fn cost_of_test<R: Rules>(
     aim: Aim,
     left: usize,
@@ -54,7 +56,8 @@ fn cost_of_test<R: Rules>(
     (wins, opened)
 }
 
-/// How many frames it takes to find that a defence holds, with `left` half-moves left behind it; none where it fails.
+/// Returns how many positions it takes to find that a defence holds, with `left` half-moves left after it;
+/// `None` if it fails.
 #[tactic(auto, using(chess_rules::proofs::listing_moves::Calls::playing))]
 fn cost_of_defence<R: Rules>(
     aim: Aim,
@@ -75,7 +78,7 @@ fn cost_of_defence<R: Rules>(
     if wins { None } else { Some(opened) }
 }
 
-/// The place on the defence that is found to hold at the least cost, if one holds.
+/// Returns the place of the defence that is found to hold at the least cost, or `None` if no defence holds.
 fn cheapest_defence<R: Rules>(
     aim: Aim,
     left: usize,
@@ -101,7 +104,7 @@ fn cheapest_defence<R: Rules>(
     best
 }
 
-/// The cheapest defence becomes the killer of a test of the position with `left` half-moves.
+/// Makes the cheapest defence the killer of a test of the position with `left` half-moves.
 fn choose_killer<R: Rules>(aim: Aim, left: usize, board: &Board, killers: &mut Killers<R>)
     requires well_formed { IsWellFormed board.now }
     requires few { left ≤ 32 }
@@ -111,9 +114,10 @@ fn choose_killer<R: Rules>(aim: Aim, left: usize, board: &Board, killers: &mut K
     }
 }
 
-/// Guesses the killers for the test of a direct mate's move, with `left` half-moves left behind it, by tests of rising
-/// length. Of all but the longest the cheapest defence becomes the killer: the first that is found may take long to be seen
-/// to hold, also where more half-moves are left. In help play and selfmates the killers stay.
+/// Guesses the killers for the test of a direct mate's move, with `left` half-moves left after it, by tests
+/// of rising length. In all but the longest test the cheapest defence becomes the killer: the first one
+/// found may take long to refute, also with more half-moves left. In help play and selfmates the killers
+/// stay unchanged.
 #[tactic(auto, using(chess_rules::proofs::listing_moves::Calls::playing))]
 pub fn guess_killers<R: Rules>(
     plan: Plan,

@@ -1,4 +1,4 @@
-//! The phases of a search.
+//! The phases of a search: set play and the play.
 ghost use Rattle.std.specs.Prelude.{◌≡◌, ◌+◌, ◌<◌, ◌≤◌, ℕ, [], ◌∷◌, length, reverse, true, false, if◌then◌else◌, MatchOption, Some, None, not, ◌&&◌, ◌||◌, ◌==◌, ◌-◌};
 ghost use Rattle.arrayvec.specs.ArrayVec.{array_vec_len};
 ghost use Rattle.chess_core.specs.Position.{Position};
@@ -26,7 +26,7 @@ use pop_battle::history::History;
 use pop_events::event::{Event, Phase};
 use pop_input::problem::Problem;
 
-/// How a phase is walked: what is walked of the problem, and with how many half-moves.
+/// How a phase is walked: the phase, its plan, and its number of half-moves.
 #[derive(Clone, Copy)]
 pub struct Walk {
     pub phase: Phase,
@@ -34,20 +34,20 @@ pub struct Walk {
     pub half_moves: usize,
 }
 
-/// Where a search stands among its phases; a phase is set play or the play.
+/// How far a search has come in its phases, set play and the play.
 #[derive(Clone, Copy)]
 pub enum Stage {
-    /// Before a phase.
+    /// Before this phase.
     Before { phase: Phase },
-    /// In set play, which isn't possible.
+    /// After the start of set play, which isn't possible.
     Barred,
-    /// Within a phase, walked so, of which `count` solutions have begun.
+    /// In a phase; `count` of its solutions have begun.
     Within { walk: Walk, count: u32 },
-    /// Behind the last.
+    /// After the last phase.
     Behind,
 }
 
-/// The phase with which a problem begins.
+/// Returns the phase with which a problem begins.
 pub(crate) fn first_phase(problem: &Problem) -> Phase
     ensures { result ≡ first_phase problem.now }
 {
@@ -58,7 +58,7 @@ pub(crate) fn first_phase(problem: &Problem) -> Phase
     }
 }
 
-/// The half-moves of a phase: set play drops the first.
+/// Returns the number of half-moves in a phase: set play drops the first one.
 pub fn phase_half_moves(problem: &Problem, phase: Phase) -> usize
     ensures { result ≡ half_moves_of_phase problem.now phase }
 {
@@ -70,7 +70,7 @@ pub fn phase_half_moves(problem: &Problem, phase: Phase) -> usize
 }
 
 impl Walk {
-    /// How a phase of a problem is walked.
+    /// Returns how to walk a phase of a problem.
     pub fn of(problem: &Problem, phase: Phase) -> Walk
         ensures { result ≡ walk_of problem.now phase }
     {
@@ -82,7 +82,7 @@ impl Walk {
     }
 }
 
-/// The number of a phase's first half-move.
+/// Returns the number of a phase's first half-move.
 fn phase_half(problem: &Problem, phase: Phase) -> u32
     ensures { result ≡ half_of_phase problem.now phase }
 {
@@ -93,14 +93,16 @@ fn phase_half(problem: &Problem, phase: Phase) -> u32
     }
 }
 
-/// Whether a phase ends before another solution begins: so many have begun, and none is on the way.
+/// Returns whether a phase ends before another solution begins: `limit` more may begin, and none is under
+/// way.
 fn is_full(plan: Plan, depth: usize, limit: u32) -> bool
     ensures { result ≡ ((limit == 0) && (is_help_play plan.play || (depth == 1))) }
 {
     limit == 0 && (plan.play == aim::Play::Help || depth == 1)
 }
 
-/// Walks on to the next path that is given, in a phase of which `count` solutions have begun. Answers whether there is one.
+/// Walks to the next path to emit, in a phase of which `count` solutions have begun. Returns whether there
+/// is one.
 pub fn walk_on<R: Rules, const N: usize>(
     problem: &Problem,
     walk: Walk,
@@ -133,7 +135,7 @@ pub fn walk_on<R: Rules, const N: usize>(
     false
 }
 
-/// Closes all frames.
+/// Closes all frames and takes their moves back.
 fn close_all<R: Rules, const N: usize>(board: &mut Board, frames: &mut ArrayVec<Frame<R>, N>)
     requires walking { (h : ℕ) × (p : Position) × IsWalking R.rule h p (reverse frames.old.items)
         board.old }
@@ -146,8 +148,8 @@ fn close_all<R: Rules, const N: usize>(board: &mut Board, frames: &mut ArrayVec<
     }
 }
 
-/// The solution of help play that leads to the top frame; its first move is the half-move `half`. Apart from `event_at`,
-/// whose other events would else pay for the room of its moves.
+/// Returns the event of the line of help play that leads to the top frame; `half` is the number of its
+/// first half-move. Out of line: it keeps the room for its moves out of `event_at`.
 fn line_at<R: Rules>(plan: Plan, half: u32, frames: &[Frame<R>], board: &mut Board) -> Event
     requires shallow { length frames.now ≤ 33 }
     requires walking { (h : ℕ) × (p : Position)
@@ -165,7 +167,7 @@ fn line_at<R: Rules>(plan: Plan, half: u32, frames: &[Frame<R>], board: &mut Boa
     }
 }
 
-/// The event of the path to the top frame, where the board stands.
+/// Returns the event of the path to the top frame, whose position the board has.
 pub fn event_at<R: Rules>(
     problem: &Problem,
     walk: Walk,
@@ -194,7 +196,8 @@ pub fn event_at<R: Rules>(
     }
 }
 
-/// Puts the first position of a phase on the board, or finds that it isn't possible and leaves the board.
+/// Puts the first position of a phase on the board and returns `true`; returns `false` if that is
+/// impossible and leaves the board unchanged.
 pub fn set_up<R: Rules>(problem: &Problem, phase: Phase, board: &mut Board) -> bool
     requires { board.old ≡ play_start problem.now }
     ensures possible { result ≡ not (is_barred R.rule problem.now phase) }
@@ -212,7 +215,7 @@ pub fn set_up<R: Rules>(problem: &Problem, phase: Phase, board: &mut Board) -> b
     false
 }
 
-/// Begins a phase, or finds that it isn't possible.
+/// Begins a phase with one frame, or finds that the phase is impossible.
 #[tactic(auto, unfolding(crate::specs::ties::Phases::IsStanding))]
 fn begin<R: Rules, const N: usize>(
     problem: &Problem,
@@ -248,7 +251,8 @@ fn begin<R: Rules, const N: usize>(
     Stage::Within { walk, count: 0 }
 }
 
-/// Ends a phase: closes its frames and puts the first position of the play on the board.
+/// Ends a phase: closes its frames and puts the first position of the play on the board. Returns the next
+/// stage.
 pub fn end<R: Rules, const N: usize>(
     problem: &Problem,
     phase: Phase,
@@ -272,7 +276,7 @@ pub fn end<R: Rules, const N: usize>(
     }
 }
 
-/// How many solutions of a phase may still begin, once `count` have begun.
+/// Returns how many solutions of a phase may still begin after `count`.
 pub fn still_to_begin(problem: &Problem, count: u32) -> u32
     requires { count ≤ problem.now.max_solutions }
     ensures { result ≡ problem.now.max_solutions - count }
@@ -280,7 +284,7 @@ pub fn still_to_begin(problem: &Problem, count: u32) -> u32
     problem.max_solutions() - count
 }
 
-/// The event of the end of a phase that gave `count` solutions: the limit stopped it where they are as many.
+/// Returns the event that ends a phase with `count` solutions: `stopped` if they are as many as the limit.
 pub fn total(problem: &Problem, count: u32) -> Event
     ensures { result ≡ Total count (count == problem.now.max_solutions) }
 {
@@ -290,7 +294,8 @@ pub fn total(problem: &Problem, count: u32) -> Event
     }
 }
 
-/// The count of solutions, with one that begins at a path to the top of so many frames.
+/// Returns the count of solutions after a path to the top of `depth` frames is emitted; it may begin a
+/// solution.
 pub fn count_with(problem: &Problem, depth: usize, count: u32) -> u32
     requires sound { IsSound problem.now }
     requires begins { (if is_help problem.now.stipulation.form || (depth == 2) then 1 else 0)
@@ -306,7 +311,8 @@ pub fn count_with(problem: &Problem, depth: usize, count: u32) -> u32
     }
 }
 
-/// Puts the next event of a search in its place, and moves the stage on. Answered it would be copied by each caller.
+/// Writes the next event of a search to `event`, or `None` after the last, and updates the stage. It takes
+/// `event` by reference: a returned event would be copied by each caller.
 #[tactic(auto, unfolding(crate::specs::ties::Phases::IsStanding, crate::specs::ties::Phases::left_of))]
 pub(crate) fn advance<R: Rules, const N: usize>(
     problem: &Problem,

@@ -1,4 +1,4 @@
-//! What is walked.
+//! What a search walks and shows.
 ghost use Rattle.std.specs.Prelude.{◌≡◌};
 ghost use Rattle.pop_solve.specs.ties.Plans.{plan_of, has_variations, tree_with};
 
@@ -9,23 +9,23 @@ use pop_input::stipulation::Goal;
 /// What is shown of a battle.
 #[derive(Clone, Copy)]
 pub enum Tree {
-    /// Its keys alone.
+    /// Its keys only.
     Keys,
     /// Its keys with their variations.
     Variations,
 }
 
-/// What is walked: help play or a battle, its goal, and what is shown of a battle.
+/// What a search walks: help play or a battle, the goal, and what is shown of a battle.
 #[derive(Clone, Copy)]
 pub struct Plan {
     pub play: Play,
     pub goal: Goal,
-    /// What is shown of a battle; it says nothing in help play.
+    /// What is shown of a battle; without meaning in help play.
     pub tree: Tree,
 }
 
 impl Tree {
-    /// What is shown with variations or without.
+    /// Returns what is shown with variations or without.
     fn with(variation: bool) -> Tree
         ensures { result ≡ tree_with variation }
     {
@@ -36,7 +36,7 @@ impl Tree {
         }
     }
 
-    /// Whether variations are shown.
+    /// Returns whether variations are shown.
     pub(crate) fn has_variations(self) -> bool
         ensures { result ≡ has_variations self }
     {
@@ -48,7 +48,7 @@ impl Tree {
 }
 
 impl Plan {
-    /// What is walked of a problem.
+    /// Returns the plan of a problem.
     pub fn of(problem: &Problem) -> Plan
         ensures { result ≡ plan_of problem.now }
     {

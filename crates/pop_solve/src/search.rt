@@ -1,4 +1,4 @@
-//! Searches.
+//! The search: an iterator over the events of a problem.
 use crate::phases::{Stage, advance, first_phase};
 use arrayvec::ArrayVec;
 use chess_core::board::Board;
@@ -10,10 +10,10 @@ use pop_events::event::Event;
 use pop_input::problem::Problem;
 use std::marker::Model;
 
-/// A search for the solutions of a problem, which gives its events one by one and goes on from its frames. It holds one
-/// board, played and taken back, one frame a half-move with one for the position behind the last, and the moves that
-/// decided tests last; it may be dropped at any time. Contracts see the record `Seen`: the problem, the events still to
-/// come, the board's position, and counts.
+/// A search for the solutions of a problem, which returns its events one by one and may be dropped at any
+/// time. It holds one board on which it makes moves and takes them back, at most one frame for each
+/// half-move and one more, and the moves that last decided tests. Contracts see the record `Seen`: the
+/// problem, the events still to come, the board's position, and counts.
 #[derive(Drop)]
 pub struct Search<R: Rules, const N: usize> {
     problem: Problem,
@@ -61,8 +61,9 @@ impl<R: Rules, const N: usize> Search<R, N> {
     ghost use Rattle.pop_solve.specs.Walks.{is_never_stopped, is_walked_once, whole_walk};
     ghost use Rattle.pop_solve.specs.ties.Seen.{fewest_tried, StandsOn};
 
-    /// Returns a search before its first event: the play's first position is on its board, and no frame is in use. `N` is at
-    /// least the half-moves of the play plus one, and `R` are the rules of the problem's condition.
+    /// Returns a search before its first event: its board has the play's first position, and no frame is in
+    /// use. `N` must be more than the half-moves of the play, and `R` must be the rules of the problem's
+    /// condition.
     pub fn new(problem: &Problem) -> Self
         requires room { half_moves problem.now.stipulation < N }
         requires rule { R.rule ≡ rule_of problem.now.condition }
@@ -84,8 +85,8 @@ impl<R: Rules, const N: usize> Search<R, N> {
         }
     }
 
-    /// Returns the next event, or `None` after the last one and on every later call. After a line or node the board has the
-    /// position to which its path leads; after `None` it has the play's first position.
+    /// Returns the next event, or `None` after the last one and on every later call. After a line or node
+    /// the board has the position to which its path leads; after `None` it has the play's first position.
     pub fn next(&mut self) -> Option<Event>
         ensures event { result ≡ option_map (event_of R.rule self.old.problem)
             (slice_get self.old.left 0) }
@@ -132,15 +133,18 @@ impl<R: Rules, const N: usize> Search<R, N> {
         self.given
     }
 
-    /// Returns the number of positions tried so far, with or without a frame, up to the greatest u64. A position counts when
-    /// the search tries its moves; the test whether the goal is reached counts nothing.
+    /// Returns the number of positions tried so far, with or without a frame, up to the greatest u64 (own).
+    /// A position counts when the search tries its moves; the test whether the goal is reached doesn't
+    /// count.
     ///
-    /// Direct mates try the last moves of both sides without frames, selfmates White's last move. Selfmates and help play
-    /// decide some positions before the last half-move without playing the move that leads there. All these count.
+    /// Direct mates try the last moves of both sides without frames, selfmates White's last move. Selfmates
+    /// and help play decide some positions before the last half-move without playing the move that leads
+    /// there. All these positions count.
     ///
-    /// In help play, and if only keys are shown, it is at most the walk count, which has each list of moves once. After the
-    /// last event, if no limit stopped a phase, it is the walk count in help play; in direct mates and selfmates it is at
-    /// least the number of positions in a smallest tree for each tested move. Counts are own.
+    /// In help play, and if only keys are shown, the number is at most the walk count, which counts each
+    /// list of moves once. After the last event, if no limit stopped a phase, it is the walk count in help
+    /// play; in direct mates and selfmates it is at least the number of positions in a smallest tree for
+    /// each tested move.
     pub fn opened(&self) -> u64
         ensures opened { result ≡ self.now.opened }
         ensures most { is_walked_once self.now.problem ≡ true

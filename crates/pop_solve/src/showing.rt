@@ -1,5 +1,5 @@
-//! The moves that lead to the top frame as they are shown: they are taken back on the board and
-//! played again.
+//! The moves that lead to the top frame, as they are shown: they are taken back on the board and played
+//! again.
 ghost use Rattle.chess_core.specs.Position.{Position};
 ghost use Rattle.chess_core.specs.WellFormed.{IsWellFormed};
 ghost use Rattle.chess_rules.specs.Legal.{is_legal};
@@ -32,8 +32,8 @@ fn take_back<R: Rules>(frame: &Frame<R>, board: &mut Board)
     retract::<R>(board, frame.by, frame.undo);
 }
 
-/// What is known of the goal at the frame that a given path leads to: in help play it is reached, and in direct play with
-/// variations where a variation ends.
+/// Returns whether the goal is known to be reached at the frame where an emitted path ends: in help play
+/// always, in direct play with variations where a variation ends.
 fn reached_at<R: Rules>(plan: Plan, frame: &Frame<R>) -> Reached
     ensures { result ≡ if ends_at_goal plan.play (has_variations plan.tree) frame.now.left
         then Surely else Perhaps }
@@ -46,7 +46,8 @@ fn reached_at<R: Rules>(plan: Plan, frame: &Frame<R>) -> Reached
     }
 }
 
-/// What is known of it at frame `k` of a given path: below the top frame nothing.
+/// Returns whether the goal is known to be reached at frame `k` of an emitted path: never below the top
+/// frame.
 #[tactic(auto, using(crate::proofs::Paths::left_last))]
 fn reached_along<R: Rules>(plan: Plan, frames: &[Frame<R>], k: usize) -> Reached
     requires { k < length frames.now }
@@ -60,7 +61,8 @@ fn reached_along<R: Rules>(plan: Plan, frames: &[Frame<R>], k: usize) -> Reached
     reached_at::<R>(plan, &frames[k])
 }
 
-/// Plays the move of a frame again, and answers it as it is shown. It may be known that it reaches the goal.
+/// Plays the move of a frame again and returns it as it is shown. `reached` says whether it is known to
+/// reach the goal.
 #[tactic(auto, using(chess_rules::proofs::listing_moves::Calls::playing), unfolding(pop_events::specs::Shown::shown_move))]
 fn play_shown<R: Rules>(goal: Goal, reached: Reached, frame: &Frame<R>, board: &mut Board) -> Shown
     requires well_formed { IsWellFormed board.old }
@@ -94,7 +96,7 @@ fn take_all_back<R: Rules>(frames: &[Frame<R>], board: &mut Board)
     }
 }
 
-/// The moves that lead to the top frame, by a given path of help play.
+/// Returns the moves that lead to the top frame, as they are shown: a line of help play.
 pub(crate) fn line<R: Rules>(
     plan: Plan,
     frames: &[Frame<R>],
@@ -117,7 +119,7 @@ pub(crate) fn line<R: Rules>(
     line
 }
 
-/// The last of them.
+/// Returns the last move that leads to the top frame, as it is shown.
 pub(crate) fn last_shown<R: Rules>(plan: Plan, frames: &[Frame<R>], board: &mut Board) -> Shown
     requires deep { 2 ≤ length frames.now }
     requires walking { (h : ℕ) × (p : Position)

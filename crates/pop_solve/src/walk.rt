@@ -36,7 +36,7 @@ use pop_battle::frame::{Frame, Order, Stretch};
 use pop_battle::history::History;
 use pop_battle::value::{seeks, value_of};
 
-/// The fewest half-moves with which a move of White is tried.
+/// Returns the fewest half-moves with which a move by White is tried.
 fn fewest_half_moves(battle: Battle) -> usize
     ensures { result ≡ fewest_half_moves battle }
 {
@@ -46,7 +46,8 @@ fn fewest_half_moves(battle: Battle) -> usize
     }
 }
 
-/// The least number of half-moves, by rising lengths, with which White to move reaches his aim; the last, `left`, untried.
+/// Returns the least number of half-moves with which White, to move, reaches the aim, trying rising
+/// lengths; the longest, `left`, needs no try.
 #[tactic(auto, using(crate::proofs::Lengths::next_length), unfolding(crate::specs::ties::Walk::least_length_from))]
 fn least_length<R: Rules, const N: usize>(
     aim: Aim,
@@ -72,7 +73,8 @@ fn least_length<R: Rules, const N: usize>(
     tried
 }
 
-/// With how many half-moves the moves of the board's position are shown in battle play, where `left` are left.
+/// Returns the number of half-moves for which the moves of the board's position are shown in battle play,
+/// with `left` half-moves left; 0 if they aren't shown.
 #[tactic(auto, unfolding(crate::specs::ties::Walk::shown_length))]
 fn shown_length<R: Rules, const N: usize>(
     aim: Aim,
@@ -96,7 +98,8 @@ fn shown_length<R: Rules, const N: usize>(
     least_length::<R, N>(aim, left, board, frames, history)
 }
 
-/// With how many half-moves the walk goes on from the board's position, where `left` are left.
+/// Returns the number of half-moves for which the walk goes on from the board's position, with `left`
+/// half-moves left.
 #[tactic(auto, unfolding(crate::specs::ties::Walk::walk_length))]
 fn walk_length<R: Rules, const N: usize>(
     plan: Plan,
@@ -129,8 +132,8 @@ fn walk_length<R: Rules, const N: usize>(
     shown_length::<R, N>(aim, left, board, frames, history)
 }
 
-/// The battle in which a move is tested before it is followed, where `left` half-moves are left with it: the moves of White
-/// and those of the phase's first position are.
+/// Returns the battle in which a move is tested before the walk follows it, with `left` half-moves left
+/// including the move: White's moves and the moves of a phase's first position are tested.
 fn tested_in(play: Play, root: bool, left: usize) -> Option<Battle>
     ensures { MatchOption result ((battle : Battle) → play ≡ BattlePlay battle
         → (root || seeks battle left) ≡ false)
@@ -142,7 +145,8 @@ fn tested_in(play: Play, root: bool, left: usize) -> Option<Battle>
     }
 }
 
-/// Whether the side that makes the last half-move seeks the goal: each side in help play, and White in direct play.
+/// Returns whether the side that makes the last half-move wants the goal: each side in help play, White in
+/// direct play.
 fn seeks_last(play: Play) -> bool
     ensures { result ≡ seeks_last play }
 {
@@ -152,8 +156,8 @@ fn seeks_last(play: Play) -> bool
     }
 }
 
-/// Whether each path that is given ends with the next half-move, which mates: the last one of play for mate, by a side
-/// that seeks it.
+/// Returns whether each path ends with the next half-move, which must mate: the last half-move of play for
+/// mate, by a side that wants mate.
 pub fn ends_with_mate(plan: Plan, left: usize) -> bool
     ensures { IsTrue result ↔ ((is_for_mate plan.goal ≡ true) × (seeks_last plan.play ≡ true)
         × (left ≡ 1)) }
@@ -161,8 +165,8 @@ pub fn ends_with_mate(plan: Plan, left: usize) -> bool
     is_for_mate(plan.goal) && left == 1 && seeks_last(plan.play)
 }
 
-/// The value of the position that a move has reached, with `left` half-moves left there. It isn't looked at again where
-/// the move was the last one and is known to mate.
+/// Returns the value of the position that a move has reached, with `left` half-moves left. It tests nothing
+/// if the move was the last one and is known to mate.
 fn value_after<R: Rules, const N: usize>(
     aim: Aim,
     left: usize,
@@ -183,8 +187,8 @@ fn value_after<R: Rules, const N: usize>(
     value_of::<R, N>(aim, left, board, frames, history)
 }
 
-/// Whether the path to the board's position is given, with `left` half-moves left there. The last half-move of help play
-/// for mate mated.
+/// Returns whether the path to the board's position is emitted, with `left` half-moves left. In help play
+/// for mate the last half-move is known to mate.
 #[tactic(auto, unfolding(crate::specs::ties::Walk::is_given))]
 fn is_given<R: Rules>(plan: Plan, left: usize, board: &mut Board) -> bool
     requires well_formed { IsWellFormed board.old }
@@ -198,8 +202,8 @@ fn is_given<R: Rules>(plan: Plan, left: usize, board: &mut Board) -> bool
     }
 }
 
-/// The count of opened frames once a frame has been opened that has `tried` half-moves below it. One with none isn't
-/// counted, and one that a test has opened was counted there.
+/// Returns the count of tried positions after a frame with `tried` half-moves has been opened. A frame
+/// without half-moves doesn't count, and a tested position has counted in its test.
 pub(crate) fn opened_after(opened: u64, tried: usize, tested: bool) -> u64
     ensures more { 0 < tried → tested ≡ false → result ≡ min (opened + 1) (2 ^ 64 - 1) }
     ensures none { tried ≡ 0 → result ≡ opened }
@@ -212,9 +216,9 @@ pub(crate) fn opened_after(opened: u64, tried: usize, tested: bool) -> u64
     }
 }
 
-/// Plays a legal move, after which `left` half-moves are left, and opens the frame of the position after it where the
-/// walk follows the move. Answers whether its path is given. It is called for each move, and without the attribute the
-/// compiler wouldn't inline it.
+/// Plays a legal move, after which `left` half-moves are left, and opens a frame for the position after it
+/// if the walk follows the move; otherwise takes it back. Returns whether its path is emitted. Inlined: it
+/// is called for each move, and the compiler alone wouldn't.
 #[tactic(auto, using(chess_rules::proofs::listing_moves::Calls::playing), unfolding(crate::specs::ties::Walk::is_followed, crate::specs::ties::Walk::walk_length))]
 #[inline(always)]
 pub fn enter<R: Rules, const N: usize>(
@@ -273,7 +277,8 @@ pub fn enter<R: Rules, const N: usize>(
     is_given::<R>(plan, left, board)
 }
 
-/// Whether moves are passed over that no reply mates: in help play for mate, with two half-moves left.
+/// Returns whether the search passes over moves to which no reply mates: in help play for mate with two
+/// half-moves left.
 #[tactic(auto, using(pop_battle::proofs::Boards::for_mate))]
 fn may_settle(plan: Plan, left: usize) -> bool
     ensures { result ≡ true → (plan.play ≡ HelpPlay) × (plan.goal ≡ Mate) × (left ≡ 2) }
@@ -281,8 +286,8 @@ fn may_settle(plan: Plan, left: usize) -> bool
     left == 2 && plan.play == Play::Help && is_for_mate(plan.goal)
 }
 
-/// The next move behind the place that some reply may mate, as far as the threats say. Those that are passed over are
-/// counted, each as the frame that it would have opened.
+/// Returns the next move after `place` to which a reply may mate, as far as the threats know. Adds the
+/// moves passed over to `opened`, each as the position that it would have reached.
 fn next_risky<R: Rules>(
     threats: &mut Threats,
     known: &mut Option<LegalMoves<R>>,
@@ -311,7 +316,7 @@ fn next_risky<R: Rules>(
     sifted.found
 }
 
-/// The next move behind the place that isn't settled: each where no threats are told.
+/// Returns the next move after `place` to which a reply may mate; without threats each move.
 #[tactic(auto, using(pop_battle::proofs::Passing::none_passed))]
 fn next_unsettled<R: Rules>(
     known: &mut Option<LegalMoves<R>>,
@@ -340,8 +345,9 @@ fn next_unsettled<R: Rules>(
     }
 }
 
-/// The next move behind a place, in a position from which `left` half-moves are tried: the next mate, where play ends
-/// with it; with two half-moves left in help play for mate the next one that isn't settled.
+/// Returns the next move to try after `place`, in a position with `left` half-moves left: the next mate, if
+/// the path ends with it; with two half-moves left in help play for mate, the next move to which a reply
+/// may mate; otherwise the next legal move.
 fn next_of<R: Rules>(
     plan: Plan,
     left: usize,
@@ -371,7 +377,7 @@ fn next_of<R: Rules>(
     next_move::<R>(known, place, board)
 }
 
-/// Takes back the move of a frame that is closed, unless it is the lowest.
+/// Takes back the move of a closed frame, unless it is the lowest.
 pub fn step_back<R: Rules>(depth: usize, top: Frame<R>, board: &mut Board)
     requires { 0 < depth → CameFrom R.rule top board.old }
     ensures lowest { depth ≡ 0 → board.new ≡ board.old }
@@ -383,7 +389,7 @@ pub fn step_back<R: Rules>(depth: usize, top: Frame<R>, board: &mut Board)
     }
 }
 
-/// The top frame.
+/// Returns the top frame.
 fn top_of<R: Rules, const N: usize>(frames: &ArrayVec<Frame<R>, N>) -> &Frame<R>
     requires { 0 < array_vec_len frames.now }
     ensures { frames.now.items
@@ -392,7 +398,8 @@ fn top_of<R: Rules, const N: usize>(frames: &ArrayVec<Frame<R>, N>) -> &Frame<R>
     &frames.as_slice()[frames.len() - 1]
 }
 
-/// The next move of the top frame, which moves on to it where it stands: taken off and put back it would be copied twice.
+/// Returns the next move to try from the top frame and moves its cursor. The frame changes in place: popped
+/// and pushed it would be copied twice.
 fn next_of_top<R: Rules, const N: usize>(
     plan: Plan,
     board: &mut Board,
@@ -420,8 +427,8 @@ fn next_of_top<R: Rules, const N: usize>(
     )
 }
 
-/// One step of the walk: the next move of the top frame is played, or the frame is closed. Answers whether the path
-/// to the new top frame is given.
+/// Takes one step of the walk: plays the next move of the top frame, or closes the frame. Returns whether
+/// the path to the new top frame is emitted.
 #[tactic(auto, using(crate::proofs::Walking::top_frame))]
 pub(crate) fn step<R: Rules, const N: usize>(
     plan: Plan,

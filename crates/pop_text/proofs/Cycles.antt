@@ -18,15 +18,15 @@ cycled_rest text (b ∷ rest) = ap (λ bytes. b ∷ bytes) (cycled_rest text res
 pub cycled_whole : (text : List ℕ) → cycled_bytes text text (length text) ≡ text
 cycled_whole text = cycled_rest text text
 
--- What a call gives.
+-- What a call returns.
 
 module _ (text rest back : List ℕ) (left count : ℕ) (behind : back ≡ drop count rest) where
-  -- a call that gives so many bytes gives the first of those to come, and leaves the others
+  -- a call returns the first bytes of those to come, and leaves the others
   pub gives : (given after : List ℕ) → count ≤ left → count ≤ length rest → given ≡ take count rest
       → cycled_bytes text rest left ≡ take count (given ++ after) ++ cycled_bytes text back (left - count)
   gives given after some few is = grind (arith, length-take-le count rest few, take-append_seam given after, cycled_front text rest left count some few)
 
-  -- no byte, where there is room, only at the end
+  -- no byte for a buffer with room, only at the end
   pub gives_none : (room : ℕ) → (0 < length rest → 0 < room → 0 < left → 0 < count) → (length rest ≡ 0 → text ≡ []) → count ≡ 0 → 0 < room
       → cycled_bytes text back (left - count) ≡ []
   gives_none room some none nothing wide = grind (arith, cases_lt)

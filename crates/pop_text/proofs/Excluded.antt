@@ -1,12 +1,12 @@
--- What the clauses of the scanner exclude: a call that uses more than its word or its line, and a word with another number, where the bytes of the
--- source are known; a word that is cut; a part of a line that holds a line end. And those of sinks and adapters: a text of which a part was left out, a
--- clean end told as a failure, and a text that was taken told as refused.
+-- What the clauses exclude. In the scanner: using more than a word or a line, and another line number, if the source's bytes are known; cutting a word;
+-- a part of a line that holds a line end. In sinks and adapters: leaving out a part of a text, reporting a clean end as a failure, and reporting a text
+-- that was taken as refused.
 use Rattle.pop_text.proofs.Basics.{Appends, IsRunOver, List, Ok, Open, Reading, Result, Some, Text, Uses, UsesLine, UsesRun, [], ap, append_cancel_right, arith, count_by, inl, inr, is_gap, is_in_line, is_in_word, is_line_end, length, length-append, list_all, refl, sym, true, ℕ, ◌++◌, ◌+◌, ◌∙◌, ◌∷◌, ◌≡◌}
 use Rattle.std.specs.Prelude.{IsErr, ◌<◌}
 use Rattle.pop_text.proofs.WordLaws.{all_parts}
 use Rattle.pop_text.specs.Bytes.{TellsRead, TellsWrite}
 
--- two ways to use bytes of a known source use the same
+-- two ways to use bytes of a known source use equal bytes
 pub same_bytes : (old new : Reading) (had left xs ys : List ℕ) → Uses old new (Some had) (Some left) xs → Uses old new (Some had) (Some left) ys → xs ≡ ys
 same_bytes old new had left xs ys p q = grind (arith, append_cancel_right)
 
@@ -18,7 +18,7 @@ no_more xs (b ∷ behind) e = absurd (omega (arith, ap length e, length-append x
 pub gap_or_word : (b : ℕ) → is_gap b ≡ true → is_in_word b ≡ true → ⊥
 gap_or_word b g w = grind (arith, g, w)
 
--- a gap before a run is the same one, and nothing follows
+-- two gaps before one run are equal, and nothing follows
 same_gap : (g h : List ℕ) (c : ℕ) (run behind : List ℕ) → list_all is_gap g ≡ true → list_all is_gap h ≡ true → is_in_word c ≡ true
     → h ++ c ∷ run ≡ (g ++ c ∷ run) ++ behind → (g ≡ h) × (behind ≡ [])
 same_gap [] [] c run behind p q w e = (refl, no_more (c ∷ run) behind e)
@@ -26,7 +26,7 @@ same_gap [] (b ∷ h) c run behind p q w e = let is : b ≡ c = cc in absurd (ga
 same_gap (b ∷ g) [] c run behind p q w e = let is : c ≡ b = cc in absurd (gap_or_word b (all_parts is_gap b g p).0 (rw (← is) w))
 same_gap (b ∷ g) (d ∷ h) c run behind p q w e = grind (arith, all_parts, same_gap g h c run behind (all_parts is_gap b g p).1 (all_parts is_gap d h q).1 w cc)
 
--- a call that used a gap, a run and bytes behind it: there are none, and the number is that of the run's line
+-- a call that used a gap, a run and more bytes: there are no more bytes, and the number is the run's line
 pub nothing_behind_word : (old new : Reading) (had left : List ℕ) (number : ℕ) (gap : List ℕ) (c : ℕ) (run behind : List ℕ) → list_all is_gap gap ≡ true
     → is_in_word c ≡ true → Uses old new (Some had) (Some left) ((gap ++ c ∷ run) ++ behind)
     → UsesRun old new (Some had) (Some left) number (c ∷ run) → (behind ≡ []) × (number ≡ old.line + count_by is_line_end gap)
@@ -38,11 +38,11 @@ nothing_behind_word old new had left number gap c run behind blank solid used u 
 pub word_is_whole : (new : Reading) (c : ℕ) (rest : List ℕ) → is_in_word c ≡ true → new.window ≡ c ∷ rest → IsRunOver new → ⊥
 word_is_whole new c rest solid at over = grind (arith, gap_or_word)
 
--- nor where only the window ends
+-- no word is over only because the window ends
 pub window_ends_no_word : (new : Reading) → new.window ≡ [] → new.end ≡ Open → IsRunOver new → ⊥
 window_ends_no_word new none unknown over = grind arith
 
--- a line before its line end is the same one, and nothing follows
+-- two lines before one line end are equal, and nothing follows
 same_line : (line other behind : List ℕ) → list_all is_in_line line ≡ true → list_all is_in_line other ≡ true → other ++ 10 ∷ [] ≡ (line ++ 10 ∷ []) ++ behind
     → behind ≡ []
 same_line [] [] behind p q e = no_more (10 ∷ []) behind e
@@ -55,7 +55,7 @@ no_end [] other behind q e = grind (arith, all_parts)
 no_end (b ∷ line) [] behind q e = cc
 no_end (b ∷ line) (d ∷ other) behind q e = no_end line other behind (all_parts is_in_line d other q).1 cc
 
--- a call that used a line, its line end and bytes behind that: there are none
+-- a call that used a line, its line end and more bytes: there are no more bytes
 pub nothing_behind_line : (old new : Reading) (had left : List ℕ) (text : Text) (line behind : List ℕ) → list_all is_in_line line ≡ true
     → Uses old new (Some had) (Some left) ((line ++ 10 ∷ []) ++ behind) → UsesLine old new (Some had) (Some left) (Ok text) → behind ≡ []
 nothing_behind_line old new had left text line behind plain used (other, p, is, whole) = elim whole [
@@ -63,23 +63,23 @@ nothing_behind_line old new had left text line behind plain used (other, p, is, 
   | inr u ↦ absurd (no_end line other behind p (same_bytes old new had left other ((line ++ 10 ∷ []) ++ behind) u.0 used))
 ]
 
--- bytes that reach behind the first line end of a view are no part of the line
+-- bytes after the first line end of a view are no part of the line
 pub nothing_behind_line_end : (line behind : List ℕ) → list_all is_in_line (line ++ 10 ∷ behind) ≡ true → ⊥
 nothing_behind_line_end [] behind e = cc
 nothing_behind_line_end (b ∷ line) behind e = nothing_behind_line_end line behind (all_parts is_in_line b (line ++ 10 ∷ behind) e).1
 
--- where all of a text was written, no part of it was left out
+-- if all of a text was written, no part of it was left out
 pub nothing_left_out : (before now text behind : List ℕ) → Appends (Some before) (Some now) text → Appends (Some before) (Some now) (text ++ behind)
     → behind ≡ []
 nothing_left_out before now text [] p q = refl
 nothing_left_out before now text (b ∷ behind) p q =
     absurd (omega (arith, ap length (sym p ∙ q), length-append before text, length-append before (text ++ b ∷ behind), length-append text (b ∷ behind)))
 
--- a reader's clean end is told as one
+-- a reader's clean end is a source's clean end
 pub end_is_no_failure : {D E : Type 0} (answer : Result ℕ E) (told : Result ℕ D) → answer ≡ Ok 0 → TellsRead answer told → IsErr told → ⊥
 end_is_no_failure answer told end tells failed = grind arith
 
--- a text that the writer took is told as taken, however long it is
+-- a text that the writer took is taken, however long it is
 pub taken_text_is_told : {D E : Type 0} (size n : ℕ) (answer : Result ℕ E) (told : Result ℕ D) → answer ≡ Ok n → 0 < n → TellsWrite size answer told
     → IsErr told → ⊥
 taken_text_is_told size n answer told took some tells failed = grind arith

@@ -1,11 +1,11 @@
--- What is kept of a line.
+-- The bytes that are kept of a line.
 use Rattle.pop_text.proofs.Basics.{List, [], append-nil, append_assoc, arith, cases_lt, fold, le-ltb, length-append, length-take, lt-ltb, suc, take, take-append-le, take_all, with_byte, without_leading, ℕ, ◌++◌, ◌∷◌, ◌≡◌}
 
--- what a text has of a line's bytes, before the trailing blanks go
+-- the bytes kept of a line's bytes, before trailing blanks are removed
 abbrev pub kept_of_line : List ℕ → List ℕ
 kept_of_line bytes = take 200 (without_leading bytes)
 
--- What is kept, where there is room for one byte and m more.
+-- The bytes kept, if there is room for one byte and m more.
 
 module _ (m : ℕ) where
   -- one more byte of a line

@@ -24,18 +24,18 @@ plain_no_text (a ∷ []) h = refl
 plain_no_text (a ∷ b ∷ []) h = refl
 plain_no_text (a ∷ b ∷ c ∷ word) h = grind (arith, or_parts, no_front)
 
--- nor does it close a problem
+-- a word that begins like no text word and no closing word closes no problem
 pub plain_no_closing : (word : List ℕ) → is_named word ≡ false → (is_short_form (codes "nextproblem") word ≡ false)
     × (is_short_form (codes "endproblem") word ≡ false)
 plain_no_closing word h = grind (arith, or_parts, no_front)
 
--- Words, one more.
+-- One more word.
 
--- where there are no bytes there are no words, so all are plain
+-- without bytes there are no words, so all are plain
 pub none_plain : IsPlain []
 none_plain = record { tokens = λ line. []; plain = λ line. refl; words = λ cut line behind ends. let same : line + 0 ≡ line = omega arith in rw same refl }
 
--- a run behind bytes begins behind a gap, or there are none
+-- a run after bytes begins after a gap, or there are no bytes
 runs_start : (bytes gap word rest behind : List ℕ) → list_all is_gap gap ≡ true → list_all is_in_word word ≡ true → 0 < length word
     → RunsOut bytes ((gap ++ word) ++ rest) → (bytes ≡ []) ⊎ ((c : ℕ) × (more : List ℕ) × ((gap ++ word) ++ behind ≡ c ∷ more) × (is_gap c ≡ true))
 runs_start bytes [] [] rest behind g w some out = absurd (omega arith)
@@ -70,9 +70,9 @@ module _ (bytes gap word : List ℕ) (some : 0 < length word) (blank : list_all 
         );
   }
 
--- A step over a view: a gap of g bytes behind the first k, and a run of r.
+-- A step over a view: after the first k bytes, a gap of g bytes and a run of r bytes.
 
--- where no byte is taken no run is cut
+-- if no byte is taken, no run is cut
 pub none_out : (behind : List ℕ) → RunsOut [] behind
 none_out behind = grind arith
 
@@ -93,7 +93,7 @@ module _ (view left behind : List ℕ) (k g r lines more : ℕ) (at_left : left 
   less : r < length behind
   less = omega (arith, short, fits)
 
-  -- behind plain words a gap and one plain word more
+  -- after plain words, a gap and one more plain word
   pub step_more : list_all is_gap (take g left) ≡ true → list_all is_in_word (take r behind) ≡ true → (r < length behind → is_gap (get_or behind r 0) ≡ true)
       → is_named (take r behind) ≡ false → more ≡ count_by is_line_end (take g left) → ArePlain view k lines → ArePlain view (k + (g + r)) (lines + more)
   step_more blank solid over plain are s =
@@ -110,7 +110,7 @@ module _ (view left behind : List ℕ) (k g r lines more : ℕ) (at_left : left 
         ));
       }
 
--- What was skipped.
+-- What is skipped.
 
 first_of : (n : ℕ) (xs ys out : List ℕ) (b : ℕ) → b ∷ out ≡ take n xs → (more : List ℕ) × (take n (xs ++ ys) ≡ b ∷ more)
 first_of zero xs ys out b e = cc
@@ -143,15 +143,15 @@ module _ (old new : Reading) (bytes out : List ℕ) (uses : (had : Option (List 
     end = end;
   }
 
--- what stands behind the front of a view
+-- what follows a prefix of a view
 pub behind_view : (view window : List ℕ) (room k : ℕ) → view ≡ take room window → k ≤ room → drop k view ≡ take (room - k) (drop k window)
 behind_view view window room k is few = let parts : room ≡ k + (room - k) = omega arith in grind (arith, drop-take k (room - k) window)
 
--- where nothing was used no word was taken
+-- if no byte is used, no word is taken
 pub takes_none : (place : Reading) (had : Option (List ℕ)) → Takes (among place) (among place) had had []
 takes_none place had = record { bytes = []; amount = omega arith; taken = keeps_bytes had; follows = λ rest may. may; begin = λ rest may. refl }
 
--- nor is any skipped
+-- if no byte is used, no word is skipped
 pub skips_none : (place : Reading) → Skips place place
 skips_none place = record {
   tokens = [];

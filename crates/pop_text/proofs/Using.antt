@@ -36,22 +36,22 @@ unfoldable pub all_then : {test : ℕ → Bool} {a b c : Reading} {had mid left 
     → UsesAll test a c had left
 all_then {test} p q = record { bytes = p.bytes ++ q.bytes; all = list_all-append test p.bytes q.bytes ∙ rw (p.all, q.all) refl; uses = uses_then p.uses q.uses }
 
--- a byte that is looked at is still unused
+-- a byte that is only looked at is still unused
 unfoldable pub all_seen : {test : ℕ → Bool} {a b c : Reading} {had mid left : Option (List ℕ)} → UsesAll test a b had mid → Uses b c mid left []
     → UsesAll test a c had left
 all_seen p u = record { bytes = p.bytes; all = p.all; uses = rw append-nil at (uses_then p.uses u) }
 
--- Bytes that pass a test were used, and of them this was kept.
+-- Bytes that pass a test were used, and this was kept of them.
 pub record SoFar {A : Type 0} (test : ℕ → Bool) (keep : List ℕ → A) (old new : Reading) (had left : Option (List ℕ)) (kept : A) : Type 0 where
   pub used : UsesAll test old new had left
   pub is : kept ≡ keep used.bytes
 
--- nor is anything kept
+-- before the first byte nothing is kept
 pub none_so_far : {A : Type 0} (test : ℕ → Bool) (keep : List ℕ → A) (place : Reading) (had : Option (List ℕ)) → SoFar test keep place place had had (keep [])
 unfolding no_run
 none_so_far test keep place had = record { used = no_run test place had; is = refl }
 
--- a byte that is looked at adds nothing
+-- a byte that is only looked at adds nothing
 pub seen_so_far : {A : Type 0} {test : ℕ → Bool} {keep : List ℕ → A} {a b c : Reading} {had mid left : Option (List ℕ)} {kept : A}
     → SoFar test keep a b had mid kept → Uses b c mid left [] → SoFar test keep a c had left kept
 unfolding all_seen
@@ -71,11 +71,11 @@ pub failures_then : (a b c : End) (n m k : ℕ) → a ≡ Open ⊎ b ≡ a → b
     → k ≡ failures_after a c n
 failures_then a b c n m k p q e f = grind arith
 
--- a source that isn't asked doesn't fail
+-- a source that isn't called doesn't fail
 pub asks_none : (end : End) (had : Option (List ℕ)) (n : ℕ) → Asks end end had had n n
 asks_none end had n = grind arith
 
--- what a source was asked in two steps
+-- the calls of a source in two steps
 pub asks_then : {a b c : End} {had mid left : Option (List ℕ)} {n m k : ℕ} → Asks a b had mid n m → Asks b c mid left m k → Asks a c had left n k
 asks_then p q = grind arith
 
@@ -85,7 +85,7 @@ asks_then p q = grind arith
 abbrev pub kept_of_run : List ℕ → List ℕ × Bool
 kept_of_run run = (take 160 run, nat_lt (length run) 161)
 
--- so many bytes of a part as there is room for
+-- as many bytes of a part as there is room for
 pub take_room : (kept part : List ℕ) (room : ℕ) → length kept + room ≡ 160 → take 160 (kept ++ part) ≡ kept ++ take room part
 take_room kept part room is = rw (← is) (take-append-add kept part room)
 
@@ -104,18 +104,18 @@ run_over {kept = kept} true p over =
     grind (arith, take_all 160 p.used.bytes (omega arith))
 run_over false p over = grind (arith, ltb-false)
 
--- a gap, and a run behind it
+-- a gap, and a run after it
 gap_run : {a b c : Reading} {had mid left : Option (List ℕ)} (number : ℕ) {run : List ℕ} → UsesAll is_gap a b had mid → UsesSolid b c mid left run
     → number ≡ b.line → UsesRun a c had left number run
 gap_run number p q is = record { gap = p.bytes; blank = p.all; solid = q.solid; uses = uses_then p.uses q.uses; line = is ∙ p.uses.line }
 
--- a run is not empty where a byte stands that is in no gap
+-- a run isn't empty if the next byte is in no gap
 first_byte : (b : ℕ) (rest : List ℕ) (new : Reading) (taken run : List ℕ) → (b ∷ rest) ++ taken ≡ run ++ new.window → is_gap b ≡ false → IsRunOver new
     → 0 < length run
 first_byte b rest new taken [] e out over = grind (arith, e, out)
 first_byte b rest new taken (c ∷ run) e out over = omega arith
 
--- a gap and the run behind it are the word that is found, or the fault
+-- a gap and the run after it are the word that is found, or the fault
 pub found_uses : (old mid new : Reading) (had met left : Option (List ℕ)) (word : Read) (run : Result Bool ReadFault) → UsesAll is_gap old mid had met
     → word.line ≡ mid.line → RunsTo mid new met left word.bytes.items run → UsesWord old new had left (found_by word (found_of run word.line))
 found_uses old mid new had met left word (Ok true) p line q = (gap_run word.line p q.0 line, q.1)
@@ -124,7 +124,7 @@ found_uses old mid new had met left word (Err (TooLong number)) p line q = absur
 found_uses old mid new had met left word (Err (InputTooLong number)) p line (run, q, at) = (run, gap_run number p q (grind (arith, line_lines, solid_line)))
 found_uses old mid new had met left word (Err (Device number)) p line (run, q, at) = (run, gap_run number p q (grind (arith, line_lines, solid_line)))
 
--- the word has a byte where the run's first one is in no gap
+-- the word has a byte if the run's first byte is in no gap
 pub found_stands : (mid new : Reading) (met left : Option (List ℕ)) (word : Read) (run : Result Bool ReadFault) (b : ℕ) (rest : List ℕ)
     → RunsTo mid new met left word.bytes.items run → mid.window ≡ b ∷ rest → is_gap b ≡ false → Stands new (found_by word (found_of run word.line))
 found_stands mid new met left word run b rest p at out = grind (arith, first_byte)
@@ -136,15 +136,15 @@ unfolding no_run
 uses_cut old new had left fault p at = found_uses old new new had left left (record { bytes = record { items = [] }; line = new.line }) (Err fault) p refl
     ([], record { solid = refl; uses = (no_run is_gap new left).uses }, at)
 
--- a fault found at a place is found there by every later call
+-- a fault that comes next is found again by every later call
 pub fault_sticks : (fault : ReadFault) (place : Reading) → Peeks place (Err fault) → Sticks place fault
 fault_sticks fault place at = grind arith
 
--- a line, and the line end at the place behind it
+-- a line, and the line end after it
 pub line_ends : {old here new : Reading} {had left : Option (List ℕ)} {line : List ℕ} (b : ℕ) (rest : List ℕ) → Uses old here had left line
     → here.window ≡ b ∷ rest → is_line_end b ≡ true → Uses here new left left (take 1 here.window) → Uses old new had left (line ++ 10 ∷ [])
 line_ends = grind (arith, eqb-true, uses_then)
 
--- a fault at a place is one at the same place
+-- a fault in a state is a fault in an equal state
 pub still_stuck : (a b : Reading) (fault : ReadFault) → b ≡ a → Peeks a (Err fault) → Peeks b (Err fault)
 still_stuck a b fault same at = subst (λ place. Peeks place (Err fault)) (sym same) at

@@ -1,4 +1,4 @@
--- What stands first in the words of a view.
+-- The first word or text line of a view.
 use Rattle.pop_text.proofs.Basics.{Bool, List, None, Some, TextLine, Token, Word, [], ap, append-nil, arith, cond, count_by, false, if◌then◌else◌, inl, inr, is_blank, is_gap, is_in_line, is_in_word, is_line_end, is_line_over, is_text_word, lines_tokens, list_all, refl, runs_of, slice_split, sum_by-append, sym, text_lines, tokens_from, tokens_of, true, ℕ, ◌&&◌, ◌++◌, ◌+◌, ◌∙◌, ◌∷◌, ◌≡◌, ◌⊎◌}
 
 -- Lines of a view.
@@ -7,11 +7,11 @@ use Rattle.pop_text.proofs.Basics.{Bool, List, None, Some, TextLine, Token, Word
 gap_byte : (b : ℕ) → is_gap b ≡ true → (is_line_end b ≡ true) ⊎ ((is_blank b ≡ true) × (is_line_end b ≡ false))
 gap_byte b h = grind arith
 
--- a byte of a word is neither
+-- a byte of a word is neither a line end nor a blank
 word_byte : (b : ℕ) → is_in_word b ≡ true → (is_line_end b ≡ false) × (is_blank b ≡ false)
 word_byte b h = grind arith
 
--- where all bytes pass, the first does, and the others do
+-- if all bytes pass, the first and the others pass
 pub all_parts : (test : ℕ → Bool) (b : ℕ) (bytes : List ℕ) → list_all test (b ∷ bytes) ≡ true → (test b ≡ true) × (list_all test bytes ≡ true)
 all_parts test b bytes h = grind arith
 
@@ -40,19 +40,19 @@ runs_front b (c ∷ run) line h apart = grind (arith, word_byte, runs_front c ru
 
 -- Words.
 
--- the parts of a view in which a run just ended: its end, where nothing is cut, or a line end, or a blank
+-- the lines of a view in which a run just ended: nothing, if the input isn't cut, or a line end or blank first
 data Over : Bool → List (List ℕ) → Type 0 where
   at_end : Over false ([] ∷ [])
   at_line_end : {cut : Bool} {m : List ℕ} {ms : List (List ℕ)} → Over cut ([] ∷ m ∷ ms)
   at_blank : {cut : Bool} {c : ℕ} {l : List ℕ} {ls : List (List ℕ)} → is_blank c ≡ true → Over cut ((c ∷ l) ∷ ls)
 
--- bytes of a line stand before the first part
+-- bytes of a line extend the first line of a view
 line_parts : (line view : List ℕ) (l : List ℕ) (ls : List (List ℕ)) → list_all is_in_line line ≡ true → slice_split is_line_end view ≡ l ∷ ls
     → slice_split is_line_end (line ++ view) ≡ (line ++ l) ∷ ls
 line_parts [] view l ls h e = e
 line_parts (b ∷ line) view l ls h e = grind (arith, line_parts line view l ls)
 
--- and none of them ends a line
+-- bytes of a line hold no line end
 pub line_lines : (line : List ℕ) → list_all is_in_line line ≡ true → count_by is_line_end line ≡ 0
 line_lines [] h = refl
 line_lines (b ∷ line) h = grind (arith, line_lines line)
@@ -93,7 +93,7 @@ pub data RunEnds : Bool → List ℕ → Type 0 where
   with_view : RunEnds false []
   with_gap : {cut : Bool} {b : ℕ} {view : List ℕ} → is_gap b ≡ true → RunEnds cut (b ∷ view)
 
--- the parts of it
+-- the lines of a view in which a run just ended
 record Parts (cut : Bool) (view : List ℕ) : Type 0 where
   first : List ℕ
   others : List (List ℕ)
@@ -125,7 +125,7 @@ run_tokens_are : (text cut : Bool) (n : ℕ) (run view l : List ℕ) (ls : List 
     → run_lines text cut n run (l ∷ ls) ≡ run_tokens text cut n run view
 run_tokens_are text cut n run view l ls e = grind arith
 
--- a run that is over is the first token, or the text word behind which the next one begins
+-- a run that is over is the first token, or the text word of the first token
 pub take_run : (cut : Bool) (n b : ℕ) (run view : List ℕ) → list_all is_in_word (b ∷ run) ≡ true → RunEnds cut view
     → tokens_from None cut n ((b ∷ run) ++ view) ≡ run_tokens (is_text_word (b ∷ run)) cut n (b ∷ run) view
 take_run cut n b run view h ends =
@@ -141,12 +141,12 @@ drop_run n (b ∷ run) h =
 
 -- Text lines.
 
--- behind a text word, a line that its line end ends is the first token
+-- after a text word, a line with its line end is the first token
 pub take_line : (keyword : List ℕ) (cut : Bool) (n : ℕ) (line view : List ℕ) → list_all is_in_line line ≡ true
     → tokens_from (Some keyword) cut n (line ++ 10 ∷ view) ≡ TextLine n keyword line ∷ tokens_from None cut (n + 1) view
 take_line keyword cut n line view h = let s = split_some view in rw (line_parts line (10 ∷ view) [] (s.0 ∷ s.1) h (rw s.2 refl), s.2, append-nil line) refl
 
--- one that the end of the view ends is the last, where nothing is cut, and otherwise no token
+-- after a text word, a line without a line end is the last token if the input isn't cut, otherwise no token
 pub take_last_line : (keyword : List ℕ) (cut : Bool) (n : ℕ) (line : List ℕ) → list_all is_in_line line ≡ true
     → tokens_from (Some keyword) cut n line ≡ (if cut then [] else TextLine n keyword line ∷ [])
 take_last_line keyword cut n line h = grind (arith, append-nil, line_parts line [] [] [])

@@ -1,4 +1,4 @@
-//! Bytes that stand first in a view: gaps, runs, plain words and lines.
+//! Prefixes of a view: gaps (blanks and line ends), runs (bytes between gaps), plain words and lines.
 ghost use Rattle.std.specs.Prelude.{◌≡◌, ◌<◌, ◌+◌, ◌^◌, [], ◌∷◌, List, ℕ, count_by, drop, length, slice_index, take, false, true, ◌≤◌};
 ghost use Rattle.std.specs.List.{list_all};
 ghost use Rattle.pop_text.specs.Words.{is_gap, is_in_line, is_in_word, is_line_end};
@@ -7,22 +7,22 @@ ghost use Rattle.pop_text.specs.ties.Plain.{ArePlain, is_named, is_named_front};
 
 use memchr::memchr;
 
-// The bytes of a gap that are looked at one by one, before blocks are.
+// How many bytes of a gap are tested one by one before whole blocks are.
 const NEAR: usize = 4;
 
-// The bytes of a gap or a run that are looked at together.
+// The size of a block, whose bytes are tested without a branch so that the compiler makes vector code.
 const BLOCK: usize = 32;
 
-/// Bytes that stand first in a view.
+/// A prefix of a view.
 #[derive(Clone, Copy)]
 pub struct Front {
-    /// How many bytes.
+    /// The number of bytes.
     pub count: usize,
-    /// How many of them are line ends.
+    /// The number of line ends among the bytes.
     pub line_ends: usize,
 }
 
-// How many blanks and line ends stand first: the near ones, and where they are many whole blocks behind them.
+// Returns blanks and line ends at the front: the first `NEAR` bytes, then whole blocks. May stop before the gap ends.
 #[inline(always)]
 pub(crate) fn gap_front(view: &[u8]) -> Front
     ensures first { AreFirst is_gap view.now result.count result.line_ends }
@@ -37,7 +37,7 @@ pub(crate) fn gap_front(view: &[u8]) -> Front
     both(near, far)
 }
 
-// So many bytes and those behind them.
+// Adds two prefixes, the second of which comes after the first.
 fn both(near: Front, far: Front) -> Front
     requires bytes { near.count + far.count < 2 ^ 63 }
     requires line_ends { near.line_ends + far.line_ends < 2 ^ 63 }
@@ -50,7 +50,7 @@ fn both(near: Front, far: Front) -> Front
     }
 }
 
-// How many of the near bytes are blanks and line ends that stand first.
+// Returns the blanks and line ends among the first `NEAR` bytes, up to another byte.
 fn near_gap(view: &[u8]) -> Front
     ensures first { AreFirst is_gap view.now result.count result.line_ends }
     ensures some { (b : ℕ) → (rest : List ℕ) → view.now ≡ b ∷ rest → is_gap b ≡ true
@@ -71,7 +71,7 @@ fn near_gap(view: &[u8]) -> Front
     }
 }
 
-// How many bytes the whole blocks of blanks and line ends have that stand first.
+// Returns the whole blocks of blanks and line ends at the front. Out of line: long gaps are rare.
 #[inline(never)]
 fn gap_blocks(view: &[u8]) -> Front
     ensures { AreFirst is_gap view.now result.count result.line_ends }
@@ -91,7 +91,7 @@ fn gap_blocks(view: &[u8]) -> Front
     blocks
 }
 
-// Whether all bytes are blanks or line ends: none ends the loop, so that many are looked at together.
+// Returns whether all bytes are blanks or line ends. The loop has no exit, so that it becomes vector code.
 fn are_in_gap(block: &[u8]) -> bool
     ensures { result ≡ list_all is_gap block.now }
 {
@@ -102,7 +102,7 @@ fn are_in_gap(block: &[u8]) -> bool
     all
 }
 
-// How many of the bytes are line ends.
+// Counts the line ends of a block.
 fn line_ends_in(block: &[u8]) -> u8
     requires { length block.now < 256 }
     ensures value { result ≡ count_by is_line_end block.now }
@@ -117,7 +117,7 @@ fn line_ends_in(block: &[u8]) -> u8
     ends
 }
 
-// How many bytes of a run stand before the first blank or line end, where it is long already or not.
+// Returns the length of the run at the front. `is_long` says that the run is long already, and so likely goes on.
 pub(crate) fn run_length(view: &[u8], is_long: bool) -> usize
     ensures { Leads is_in_word view.now result }
 {
@@ -128,7 +128,7 @@ pub(crate) fn run_length(view: &[u8], is_long: bool) -> usize
     }
 }
 
-// How many bytes stand before the first blank or line end.
+// Counts the bytes before the first blank or line end, one by one.
 fn run_front(view: &[u8]) -> usize
     ensures front { Leads is_in_word view.now result }
     ensures over { result < length view.now → is_gap (slice_index view.now result) ≡ true }
@@ -141,7 +141,8 @@ fn run_front(view: &[u8]) -> usize
     view.len()
 }
 
-// The same, counted by whole blocks, and behind them byte by byte.
+// Counts the bytes before the first blank or line end: whole blocks first, then byte by byte. Out of line: long runs
+// are rare.
 #[inline(never)]
 fn far_run(view: &[u8]) -> usize
     ensures { Leads is_in_word view.now result }
@@ -150,7 +151,7 @@ fn far_run(view: &[u8]) -> usize
     whole + run_front(&view[whole..])
 }
 
-// How many bytes the whole blocks without a blank or line end have that stand first.
+// Counts the bytes of the whole blocks at the front that have no blank or line end.
 fn run_blocks(view: &[u8]) -> usize
     ensures within { result ≤ length view.now }
     ensures all { list_all is_in_word (take result view.now) ≡ true }
@@ -165,7 +166,7 @@ fn run_blocks(view: &[u8]) -> usize
     count
 }
 
-// Whether no byte is a blank or line end: none ends the loop, so that many are looked at together.
+// Returns whether no byte is a blank or line end. The loop has no exit, so that it becomes vector code.
 fn are_in_run(block: &[u8]) -> bool
     ensures { result ≡ list_all is_in_word block.now }
 {
@@ -176,7 +177,7 @@ fn are_in_run(block: &[u8]) -> bool
     all
 }
 
-// How many bytes the plain words have that stand first, with the gaps before them. Behind each stands a gap.
+// Returns the plain words at the front, with the gaps before them. A gap follows each of the words.
 pub(crate) fn plain_front(view: &[u8]) -> Front
     ensures { ArePlain view.now result.count result.line_ends }
 {
@@ -201,7 +202,8 @@ pub(crate) fn plain_front(view: &[u8]) -> Front
     plain
 }
 
-// Whether so many bytes are a word that says nothing in skipped text: it ends within the view, and isn't named.
+// Returns whether the first `count` bytes are a plain word: it ends within the view and begins like no text word and no
+// closing word, so that it says nothing in skipped text.
 fn says_nothing(view: &[u8], count: usize) -> bool
     requires { count ≤ length view.now }
     ensures some { result ≡ true → 0 < count }
@@ -211,7 +213,7 @@ fn says_nothing(view: &[u8], count: usize) -> bool
     count > 0 && count < view.len() && !is_named(&view[..count])
 }
 
-// Whether the word begins like a text word or a closing word.
+// Returns whether the word begins like a text word or a closing word, in capitals or not.
 fn is_named(word: &[u8]) -> bool
     ensures { result ≡ is_named word.now }
 {
@@ -225,7 +227,7 @@ fn is_named(word: &[u8]) -> bool
     }
 }
 
-// Whether a text word or a closing word begins with these small letters.
+// Returns whether a text word or a closing word begins with these small letters.
 fn is_front(a: u8, b: u8, c: u8) -> bool
     ensures { result ≡ is_named_front a b c }
 {
@@ -237,7 +239,7 @@ fn is_front(a: u8, b: u8, c: u8) -> bool
         || (a == b'e' && b == b'n' && c == b'd')
 }
 
-// How many bytes stand before the first line end.
+// Counts the bytes before the first line end.
 pub(crate) fn line_front(view: &[u8]) -> usize
     ensures { Leads is_in_line view.now result }
 {
@@ -253,7 +255,7 @@ pub(crate) fn in_gap(byte: u8) -> bool
     matches!(byte, 9..=13 | 32)
 }
 
-// The same without a branch, for bytes that are looked at together.
+// Returns whether the byte is a blank or line end, without a branch: for bytes that are tested in blocks.
 fn in_gap_of_block(byte: u8) -> bool
     ensures { result ≡ is_gap byte }
 {

@@ -1,12 +1,14 @@
-//! Why a scanner has no word or text line to give.
+//! Why a scanner returns no word or text line.
 
-/// Each case holds the line, counted from 1. The limits are this project's own.
+/// Why a scanner returns no word or text line. Each case holds a line, counted from 1. The limits are own.
 #[derive(Clone, Copy)]
 pub enum ReadFault {
-    /// A word has more than 160 bytes: the line on which it begins. It is used up, and reading goes on behind it.
+    /// A word has more than 160 bytes. Holds the line on which it begins. The word is used, and the next call continues
+    /// after it.
     TooLong(u64),
-    /// A byte behind the first 2^30 of the input is needed: the line of the last of them. It is answered from then on.
+    /// A byte after the first 2^30 of the input is needed. Holds the line of that byte. Every later call returns this
+    /// fault.
     InputTooLong(u64),
-    /// The source failed: the line of the next byte. It is answered from then on.
+    /// The source failed. Holds the line of the next byte. Every later call returns this fault.
     Device(u64),
 }

@@ -1,4 +1,4 @@
-//! A reader of the standard library as a source.
+//! Readers of the standard library as sources.
 ghost use Rattle.std.specs.Prelude.{◌≡◌, ℕ, List, ◌<◌, ◌+◌, ◌^◌, ◌-◌, Option, IfOk, IsOk, IsErr, OnErr};
 ghost use Rattle.std.specs.Io.{ReadsAtMost};
 ghost use Rattle.pop_text.specs.Bytes.{Keeps, Consumes, ReadConsumes, TellsRead, count_after, greatest_count};
@@ -7,7 +7,8 @@ use crate::source::{Device, Source};
 use std::io;
 use std::io::Read;
 
-/// Any reader of the standard library, with a count of failures. An interrupted call is a failure.
+/// A reader of the standard library as a source. Each call makes one call of the reader and never retries: an
+/// interrupted call is a failure.
 #[derive(Drop)]
 pub struct ReadSource<R> {
     reader: R,
@@ -15,7 +16,7 @@ pub struct ReadSource<R> {
 }
 
 impl<R: Read + Drop> ReadSource<R> {
-    /// The reader, of which no call has failed yet.
+    /// Returns a source of this reader, with no failure counted.
     pub fn new(reader: R) -> ReadSource<R>
         ensures remaining { ⟦<ReadSource<R> as Source>⟧.remaining result ≡ R.remaining reader }
         ensures failures { ⟦<ReadSource<R> as Source>⟧.failures result ≡ 0 }
@@ -26,7 +27,7 @@ impl<R: Read + Drop> ReadSource<R> {
         }
     }
 
-    // What the reader's answer is told as: so many bytes, none of them at the end, or a failure, which is counted.
+    // Turns the reader's result into the source's, and counts a failure.
     fn result_of(&mut self, answer: io::Result<usize>) -> Result<usize, Device>
         requires { self.old.failures < greatest_count }
         ensures answer { TellsRead answer result }

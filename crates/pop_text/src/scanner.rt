@@ -1,4 +1,4 @@
-//! Words and text lines of a source.
+//! The scanner: cuts an input into words and text lines.
 ghost use Rattle.std.specs.Prelude.{◌≡◌, ◌<◌, ◌+◌, ◌-◌, ◌^◌, ◌++◌, ◌⊎◌, ◌≢◌, [], ◌∷◌, List, ℕ, count_by, drop, length, nat_lt, slice_index, Some, None, Ok, take, Option, Err, IfErr, IfOk, IfSome, false, true, ◌≤◌};
 ghost use Rattle.pop_text.specs.Bytes.{greatest_count};
 ghost use Rattle.std.specs.List.{list_all};
@@ -17,33 +17,33 @@ use crate::word::Word;
 use arrayvec::ArrayVec;
 use std::marker::Model;
 
-// The most bytes that are read of an input.
+// The greatest number of bytes that are used of an input (own).
 const LIMIT: u32 = 1 << 30;
 
-// The most bytes that wait.
+// The size of the window, in bytes: the greatest number of bytes that are read but not used.
 const WINDOW: usize = 4096;
 
-/// How the input ends, as far as that is known.
+/// How the input ends, if that is known.
 #[derive(Clone, Copy)]
 pub enum End {
     /// Nothing is known yet.
     Open,
-    /// The source has said that nothing follows. It is not asked again.
+    /// The source has ended. It isn't called again.
     Ended,
-    /// The source has failed. It is not asked again.
+    /// The source has failed. It isn't called again.
     Broken,
 }
 
-/// Whether there is a word.
+/// What `read_word` found.
 #[derive(Clone, Copy)]
 pub enum Found {
-    /// There is one.
+    /// A word.
     Word,
-    /// The input has ended.
+    /// The end of the input.
     Nothing,
 }
 
-/// A place in an input, which is read through a source that each call is handed: the same one throughout.
+/// A scanner of one input. Pass the same source to every call.
 #[derive(Drop)]
 pub struct Scanner {
     cells: [u8; WINDOW],
@@ -72,7 +72,7 @@ impl Model for Scanner {
 }
 
 impl Scanner {
-    /// The place before the first byte.
+    /// Returns a scanner before the first byte.
     pub fn new() -> Scanner
         ensures { result ≡ first_reading }
     {
@@ -86,14 +86,14 @@ impl Scanner {
         }
     }
 
-    /// The line of the next byte, counted from 1.
+    /// Returns the line of the next byte, counted from 1.
     pub fn line(&self) -> u64
         ensures { result ≡ self.now.line }
     {
         self.line
     }
 
-    // Fills the window where no byte waits and the end is not known.
+    // Fills the window if it is empty and the source may have more.
     #[tactic(auto, unfolding(crate::specs::Words::limit))]
     fn refill<S: Source>(&mut self, source: &mut S)
         requires { self.old.end ≡ End.Open → S.failures source.old < greatest_count }
@@ -119,7 +119,7 @@ impl Scanner {
         }
     }
 
-    // The byte at the place, which stays unread.
+    // Returns the next byte without using it, or `None` at the end of the input.
     #[tactic(auto, unfolding(crate::specs::Words::limit))]
     fn peek<S: Source>(&mut self, source: &mut S) -> Result<Option<u8>, ReadFault>
         requires { self.old.end ≡ End.Open → S.failures source.old < greatest_count }
@@ -144,7 +144,7 @@ impl Scanner {
         Ok(None)
     }
 
-    // Uses so many bytes at the place, among which so many line ends are.
+    // Uses the next `count` bytes, which have `line_ends` line ends.
     #[tactic(auto, unfolding(crate::specs::Words::limit))]
     fn advance(&mut self, count: usize, line_ends: usize)
         requires waits { count ≤ length self.old.window }
@@ -161,7 +161,7 @@ impl Scanner {
         self.line = line_behind(self.line, line_ends);
     }
 
-    // How many bytes may still be used.
+    // Returns how many bytes may still be used.
     #[tactic(auto, unfolding(crate::specs::Words::limit))]
     fn room(&self) -> usize
         ensures room { result ≡ limit - self.now.used }
@@ -170,7 +170,7 @@ impl Scanner {
         (LIMIT - self.used) as usize
     }
 
-    // The bytes of the window that belong to the input.
+    // Returns the bytes of the window that are within the limit of the input.
     #[tactic(auto, unfolding(crate::specs::Words::limit))]
     fn view(&self) -> &[u8]
         ensures { IsView self.now result.now }
@@ -180,7 +180,7 @@ impl Scanner {
         &window[..reach]
     }
 
-    // The bytes of the window that belong to the line and to the input.
+    // Returns the bytes of the view up to the first line end.
     fn line_part(&self) -> &[u8]
         ensures { IsFront is_in_line self.now result.now }
     {
@@ -188,7 +188,7 @@ impl Scanner {
         &view[..line_front(view)]
     }
 
-    // The bytes of the window that belong to the run, which is long already or not, and to the input.
+    // Returns the bytes of the view that belong to the run at its front. `is_long` says that the run is long already.
     fn run_part(&self, is_long: bool) -> &[u8]
         ensures { IsFront is_in_word self.now result.now }
     {
@@ -196,7 +196,7 @@ impl Scanner {
         &view[..run_length(view, is_long)]
     }
 
-    // Uses the blanks and line ends that stand first in the window and belong to the input.
+    // Uses blanks and line ends at the front of the view.
     fn skip_part(&mut self)
         ensures uses { (had : Option (List ℕ)) → UsesAll is_gap self.old self.new had had }
         ensures end { self.new.end ≡ self.old.end }
@@ -209,7 +209,7 @@ impl Scanner {
         self.advance(gap.count, gap.line_ends);
     }
 
-    // Uses blanks and line ends, up to another byte, which is answered.
+    // Uses blanks and line ends, and returns the next byte without using it.
     fn skip_gap<S: Source>(&mut self, source: &mut S) -> Result<Option<u8>, ReadFault>
         requires { self.old.end ≡ End.Open → S.failures source.old < greatest_count }
         ensures uses { UsesAll is_gap self.old self.new (S.remaining source.old)
@@ -230,7 +230,7 @@ impl Scanner {
         }
     }
 
-    // Uses the run at the place, and says whether it fits the word.
+    // Uses the run at the front, and returns whether it fits the word.
     fn take_run<S: Source>(
         &mut self,
         source: &mut S,
@@ -258,7 +258,7 @@ impl Scanner {
         }
     }
 
-    /// Uses words that stand whole in the window and begin like no text word and no closing word, up to the first other one.
+    /// Uses whole words of the window that begin like no text word and no closing word, up to the first other word.
     pub fn skip_plain(&mut self)
         ensures { Skips self.old self.new }
     {
@@ -266,8 +266,12 @@ impl Scanner {
         self.advance(plain.count, plain.line_ends);
     }
 
-    /// The next word, or none at the end of the input. The byte behind it is not used yet.
-    /// A word that the limit of the input or a failure cuts is none: that fault is answered in its place.
+    /// Returns the next word, or `None` at the end of the input. Doesn't use the byte after the word.
+    ///
+    /// # Errors
+    ///
+    /// `TooLong` if the word has more than 160 bytes. `InputTooLong` or `Device` if the limit of the input or a failure
+    /// of the source comes before the end of the word; these are returned by every later call.
     pub fn next_word<S: Source>(&mut self, source: &mut S) -> Result<Option<Word>, ReadFault>
         requires { self.old.end ≡ End.Open → S.failures source.old < greatest_count }
         ensures word { NextWord self.old self.new (S.remaining source.old) (S.remaining source.new)
@@ -292,7 +296,11 @@ impl Scanner {
         }
     }
 
-    /// The same, where the word is put into the room of another one.
+    /// Reads into `word` the word that `next_word` would return, in place of the old one.
+    ///
+    /// # Errors
+    ///
+    /// Fails exactly when `next_word` would, with the same fault.
     pub fn read_word<S: Source>(
         &mut self,
         source: &mut S,
@@ -326,8 +334,13 @@ impl Scanner {
         }
     }
 
-    /// The rest of the line, whose line end is used too: at most 200 bytes behind its leading blanks, without trailing ones.
-    /// A line that the limit of the input or a failure cuts gives that fault, and never `TooLong`.
+    /// Returns the rest of the line: its first 200 bytes after leading blanks, without trailing blanks. Uses the line
+    /// end too.
+    ///
+    /// # Errors
+    ///
+    /// `InputTooLong` or `Device` if the limit of the input or a failure of the source comes before the end of the
+    /// line. Never `TooLong`.
     pub fn rest_of_line<S: Source>(&mut self, source: &mut S) -> Result<Text, ReadFault>
         requires { self.old.end ≡ End.Open → S.failures source.old < greatest_count }
         ensures text { (keyword : List ℕ)
@@ -365,7 +378,7 @@ impl Scanner {
     }
 }
 
-// What is found where a run was taken so, which begins in this line: a word where it fits.
+// Turns the outcome of a run, which begins in this line, into a `Found`.
 fn run_told(run: Result<bool, ReadFault>, line: u64) -> Result<Found, ReadFault>
     ensures { result ≡ found_of run line }
 {
@@ -376,7 +389,7 @@ fn run_told(run: Result<bool, ReadFault>, line: u64) -> Result<Found, ReadFault>
     }
 }
 
-// The line behind so many line ends.
+// Returns the number of the line after `line_ends` line ends.
 fn line_behind(line: u64, line_ends: usize) -> u64
     requires { line + line_ends < 2 ^ 64 }
     ensures { result ≡ line + line_ends }
@@ -384,7 +397,7 @@ fn line_behind(line: u64, line_ends: usize) -> u64
     line + line_ends as u64
 }
 
-// Keeps bytes of a run as far as there is room, and says whether there is room for all.
+// Appends the bytes that fit, and returns whether all fit.
 fn keep_run(word: &mut ArrayVec<u8, 160>, part: &[u8]) -> bool
     ensures kept { word.new.items ≡ take 160 (word.old.items ++ part.now) }
     ensures fits { result ≡ nat_lt (length (word.old.items ++ part.now)) 161 }

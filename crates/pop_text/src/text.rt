@@ -1,4 +1,4 @@
-//! The text behind a text word.
+//! The text after a text word.
 ghost use Rattle.std.specs.Prelude.{◌≡◌, ◌≤◌, ℕ, List, [], fold, length};
 ghost use Rattle.pop_text.specs.Words.{is_blank, without_trailing};
 ghost use Rattle.pop_text.specs.ties.Texts.{with_byte};
@@ -6,7 +6,7 @@ ghost use Rattle.pop_text.specs.ties.Texts.{with_byte};
 use arrayvec::ArrayVec;
 use std::marker::Model;
 
-/// At most 200 bytes of a line, in its own room. Contracts see the bytes.
+/// A text of at most 200 bytes, stored in place. Contracts see the bytes.
 #[derive(Clone, Copy)]
 pub struct Text {
     cells: [u8; 200],
@@ -22,7 +22,7 @@ impl Model for Text {
 
     ghost view = { λ t. take t.size t.cells };
 
-    // The cells behind the bytes are 0, so that the bytes say all.
+    // The cells after the text are 0, so that equal texts are equal values.
     ghost invariant = { λ t. IsPadded t.cells t.size };
 
     ghost inverse = { λ bytes. record { cells = padded_cells bytes; size = length bytes } };
@@ -32,7 +32,7 @@ impl Model for Text {
 }
 
 impl Text {
-    /// No byte.
+    /// Returns the empty text.
     pub fn empty() -> Text
         ensures { result ≡ [] }
     {
@@ -42,7 +42,7 @@ impl Text {
         }
     }
 
-    /// Its bytes.
+    /// Returns the bytes of the text.
     pub fn bytes(&self) -> &[u8]
         ensures bytes { result.now ≡ self.now }
         ensures short { length result.now ≤ 200 }
@@ -50,7 +50,7 @@ impl Text {
         &self.cells[..self.size as usize]
     }
 
-    /// The text of a line: the bytes kept of it without their trailing blanks.
+    /// Returns the text of the bytes that were kept of a line, without trailing blanks.
     pub(crate) fn of_line(mut kept: ArrayVec<u8, 200>) -> Text
         ensures { result ≡ without_trailing kept.items }
     {
@@ -76,7 +76,7 @@ impl Text {
     }
 }
 
-/// Keeps bytes of a line, as far as there is room, without leading blanks.
+/// Appends the next bytes of a line, without leading blanks, until the text is full.
 pub(crate) fn keep_all(kept: &mut ArrayVec<u8, 200>, bytes: &[u8])
     ensures { kept.new.items ≡ fold (with_byte 200) kept.old.items bytes.now }
 {
@@ -88,7 +88,7 @@ pub(crate) fn keep_all(kept: &mut ArrayVec<u8, 200>, bytes: &[u8])
     }
 }
 
-// Keeps a byte, where there is room and it is no leading blank.
+// Appends a byte, unless the text is full or the byte is a leading blank.
 fn keep(kept: &mut ArrayVec<u8, 200>, byte: u8)
     ensures { kept.new.items ≡ with_byte 200 kept.old.items byte }
 {

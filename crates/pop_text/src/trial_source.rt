@@ -1,4 +1,4 @@
-//! A source for tests.
+//! Sources for tests.
 ghost use Rattle.std.specs.Prelude.{◌≡◌, ◌≢◌, ℕ, List, [], ◌<◌, ◌≤◌, ◌+◌, ◌-◌, Some, drop, length, option_map};
 ghost use Rattle.std.specs.Io.{ReadsAtMost};
 ghost use Rattle.pop_text.specs.Bytes.{ReadConsumes, count_after, greatest_count};
@@ -7,7 +7,8 @@ ghost use Rattle.pop_text.specs.ties.Trials.{Gives, bytes_handed_out, cycled_byt
 use crate::source::{Device, Source};
 use std::marker::Model;
 
-/// Hands out a text, once or over and over, and may fail once on the way. A call gives no bytes of two rounds.
+/// A source of a text, once or over and over. It returns few bytes a call, and can fail once at a chosen byte. No call
+/// returns bytes of two rounds.
 #[derive(Drop)]
 pub struct TrialSource<'a> {
     text: &'a [u8],
@@ -37,7 +38,8 @@ impl<'a> Model for TrialSource<'a> {
 }
 
 impl<'a> TrialSource<'a> {
-    /// The text once, at most `at_most` bytes a call, with one failure before byte `fails_at`.
+    /// Returns a source of the text, of at most `at_most` bytes a call, 1 or more, that fails once before byte
+    /// `fails_at`, counted from 0, if there is one.
     pub fn new(text: &'a [u8], at_most: usize, fails_at: Option<usize>) -> TrialSource<'a>
         requires { 0 < at_most }
         ensures remaining { ⟦<TrialSource<'a> as Source>⟧.remaining result ≡ Some text.now }
@@ -61,7 +63,8 @@ impl<'a> TrialSource<'a> {
         }
     }
 
-    /// `length` bytes of the text over and over, likewise.
+    /// Returns a source of the text over and over, `length` bytes in all, of at most `at_most` bytes a call, 1 or more,
+    /// that fails once before byte `fails_at`, counted from 0, if there is one.
     pub fn repeated(
         text: &'a [u8],
         length: usize,
@@ -91,7 +94,7 @@ impl<'a> TrialSource<'a> {
         }
     }
 
-    // What comes next of the text: the rest, or behind it the text anew.
+    // Returns the rest of this round, or the next round if this one is over.
     fn round(&self) -> &'a [u8]
         ensures round { result.now ≡ round_of self.now }
         ensures same { (n : ℕ) → cycled_bytes self.now.text result.now n
@@ -105,7 +108,7 @@ impl<'a> TrialSource<'a> {
         }
     }
 
-    // Goes on behind so many bytes, where this is the rest of the round.
+    // Moves on by `count` bytes. `rest` is then the rest of the round.
     fn pass(&mut self, rest: &'a [u8], count: usize)
         requires { count ≤ self.old.left }
         ensures { self.new ≡ record self.old {
@@ -119,7 +122,7 @@ impl<'a> TrialSource<'a> {
         self.until_failure = less(self.until_failure, count);
     }
 
-    // How many bytes a call hands out, where the round has so many and there is so much room.
+    // Returns how many bytes a call returns, if the round has `rest` bytes and the buffer has `room`.
     fn reach(&self, rest: usize, room: usize) -> usize
         requires round { rest ≡ length (round_of self.now) }
         requires sound { self.now.until_failure ≢ Some 0 }
@@ -167,7 +170,7 @@ impl<'a> Source for TrialSource<'a> {
     }
 }
 
-// What is left before the failure behind so many bytes.
+// Returns how many bytes are left before the failure after `count` more bytes.
 pub(crate) fn less(until: Option<usize>, count: usize) -> Option<usize>
     ensures { result ≡ option_map (λ bytes. bytes - count) until }
 {

@@ -1,9 +1,9 @@
-//! A word of the input.
+//! Words of an input.
 ghost use Rattle.std.specs.Prelude.{◌≡◌, []};
 
 use arrayvec::ArrayVec;
 
-/// A word as it was written, and the number of its line, counted from 1.
+/// A word of at most 160 bytes, as written, and the number of its line, counted from 1.
 #[derive(Drop)]
 pub struct Word {
     pub bytes: ArrayVec<u8, 160>,
@@ -11,7 +11,7 @@ pub struct Word {
 }
 
 impl Word {
-    /// No byte yet, and no line.
+    /// Returns a word without bytes, as a buffer for `Scanner::read_word`. Its line is 0.
     pub fn new() -> Word
         ensures bytes { result.bytes.items ≡ [] }
         ensures line { result.line ≡ 0 }

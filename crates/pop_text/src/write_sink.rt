@@ -1,4 +1,4 @@
-//! A writer of the standard library as a sink.
+//! Writers of the standard library as sinks.
 ghost use Rattle.std.specs.Prelude.{◌≡◌, ℕ, List, ◌<◌, ◌≤◌, ◌+◌, ◌^◌, ◌-◌, Option, IfOk, IsOk, IsErr, OnErr, OnOk, length};
 ghost use Rattle.std.specs.Io.{WritesAtMost};
 ghost use Rattle.pop_text.specs.Bytes.{Keeps, Appends, TellsWrite, WriteAppends, count_after, greatest_count, Writes};
@@ -7,8 +7,8 @@ use crate::sink::{Sink, SinkFault};
 use std::io;
 use std::io::Write;
 
-/// Any writer of the standard library, with a count of failures. An interrupted call is a failure,
-/// and so is one that takes nothing of a text.
+/// A writer of the standard library as a sink. Each call makes one call of the writer and never retries: an interrupted
+/// call is a failure, and a call that takes no byte of a non-empty text is a failure too.
 #[derive(Drop)]
 pub struct WriteSink<W> {
     writer: W,
@@ -16,7 +16,7 @@ pub struct WriteSink<W> {
 }
 
 impl<W: Write + Drop> WriteSink<W> {
-    /// The writer, of which no call has failed yet.
+    /// Returns a sink of this writer, with no failure counted.
     pub fn new(writer: W) -> WriteSink<W>
         ensures taken { ⟦<WriteSink<W> as Sink>⟧.taken result ≡ W.contents writer }
         ensures failures { ⟦<WriteSink<W> as Sink>⟧.failures result ≡ 0 }
@@ -27,7 +27,7 @@ impl<W: Write + Drop> WriteSink<W> {
         }
     }
 
-    /// The writer, with what it has taken.
+    /// Returns the writer, with all that it has taken.
     pub fn into_inner(self) -> W
         ensures { W.contents result ≡ ⟦<WriteSink<W> as Sink>⟧.taken self }
     {
@@ -38,7 +38,7 @@ impl<W: Write + Drop> WriteSink<W> {
         writer
     }
 
-    // What the writer's answer is told as: so many bytes, or a failure, which is counted. None of a text is one.
+    // Turns the writer's result into the sink's, and counts a failure. `Ok(0)` for a non-empty text is a failure.
     fn result_of(&mut self, answer: io::Result<usize>, text: &[u8]) -> Result<usize, SinkFault>
         requires { self.old.failures < greatest_count }
         ensures answer { TellsWrite (length text.now) answer result }

@@ -1,5 +1,5 @@
--- What the clauses of a page's calls exclude: a text that is cut before the room is full, one that is lost, a faulty text told as
--- sound, a missing part told as shown.
+-- What the clauses of a page's calls exclude: cutting a text before the output is full, losing it, reporting a faulty
+-- text as sound, and reporting a missing part as shown.
 use Rattle.std.proofs.Common.{List, ap, arith, length, refl, ℕ, ◌∙◌, ◌≡◌, ◌≢◌}
 use Rattle.pop_run.specs.declared.choice.Choice.{Choice}
 use Rattle.pop_run.specs.Report.{report, status}
@@ -15,11 +15,11 @@ module _ (choice : Choice) (text shown : List ℕ) where
   pub cut_report_fills_the_room : Shows choice text shown (status_number OutputFailed) → length shown ≢ room → ⊥
   cut_report_fills_the_room f less = less (report_full _ _ _ _ f refl)
 
-  -- other bytes aren't told as a sound text's report
+  -- other bytes aren't the report of a sound text
   pub no_other_report : Shows choice text shown (status_number Sound) → shown ≢ report choice (whole_input text) → ⊥
   no_other_report f other = other (report_whole _ _ _ _ f (grind arith)).0
 
-  -- a faulty text isn't told as sound
+  -- a faulty text isn't reported as sound
   pub faulty_text_is_told : Shows choice text shown (status_number Sound) → status (whole_input text) ≡ Faulty → ⊥
   faulty_text_is_told f faulty = let same = (report_whole _ _ _ _ f (grind arith)).1 ∙ ap status_number faulty in grind arith
 
@@ -28,7 +28,7 @@ module _ (depth : ℕ) (text shown : List ℕ) where
   pub cut_list_fills_the_room : Lists depth text shown (status_number OutputFailed) → length shown ≢ room → ⊥
   cut_list_fills_the_room f less = less (list_full _ _ _ _ f refl)
 
-  -- other bytes aren't told as the list of a sound text
+  -- other bytes aren't the list of a sound text
   pub no_other_list : Lists depth text shown (status_number Sound) → shown ≢ list_text depth (whole_input text) → ⊥
   no_other_list f other = other (list_whole _ _ _ _ f (grind arith)).0
 
@@ -37,10 +37,10 @@ module _ (asked : Asked) (text shown : List ℕ) where
   pub cut_part_fills_the_room : ShowsParts asked text shown (outcome_number PartsCut) → length shown ≢ room → ⊥
   cut_part_fills_the_room f less = less (part_full _ _ _ _ f refl)
 
-  -- other bytes aren't told as a part's
+  -- other bytes aren't the text of a part
   pub no_other_part : ShowsParts asked text shown (outcome_number Shown) → shown ≢ text_of asked (whole_input text) → ⊥
   no_other_part f other = other (part_whole _ _ _ _ f (grind arith)).0
 
-  -- a part that the phase doesn't have isn't told as shown
+  -- a part that the phase doesn't have isn't reported as shown
   pub missing_part_is_told : ShowsParts asked text shown (outcome_number Shown) → outcome_of asked (whole_input text) ≡ NoPart → ⊥
   missing_part_is_told f missing = let same = (part_whole _ _ _ _ f (grind arith)).1 ∙ ap outcome_number missing in grind arith

@@ -1,4 +1,4 @@
--- What a call that fills the room has shown: all bytes that it writes, or the first of them.
+-- What a call has shown: all bytes that it writes, or the first of them that fill the output.
 use Rattle.std.proofs.Common.{Bool, List, Some, [], ap, ap₂, arith, false, length, refl, sym, take, true, ℕ, ◌∙◌, ◌≡◌, ◌≢◌}
 use Rattle.std.proofs.Math.Seq.{take-append_seam}
 use Rattle.pop_text.specs.Bytes.{Begins}
@@ -11,16 +11,16 @@ use Rattle.pop_parts.specs.declared.asked.Asked.{Asked}
 use Rattle.pop_parts.specs.declared.asked.Outcome.TheVariants.{OutputFailed as PartsCut}
 use Rattle.pop_web.specs.Page.{Fills, Lists, Shows, ShowsParts, status_number, outcome_number, room, whole_input}
 
--- no input has the number of a failed output
+-- no status of an input has the number of a failed output
 other_number : (entries : List Entry) → status_number (status_of entries) ≢ status_number OutputFailed
 unfolding status_of
 other_number entries = grind arith
 
--- nothing that is asked of an input ends as a failed output does
+-- no outcome of parts has the number of a failed output
 other_outcome : (asked : Asked) (text : List ℕ) → outcome_number (outcome_of asked (whole_input text)) ≢ outcome_number PartsCut
 other_outcome asked text = grind arith
 
--- A call that writes these bytes and ends well, or a beginning of them and is cut; and what a page is shown of it.
+-- A call writes these bytes and ends well, or writes a beginning of them and is cut. What a page is shown of it:
 module _ (Ending : Type 0) (number : Ending → ℕ) (Does : List ℕ → Bool → Ending → Type 0) (bytes : List ℕ) (well cut_short : Ending)
     (all : (now : List ℕ) (ending : Ending) → Does now false ending → (now ≡ bytes) × (ending ≡ well))
     (some : (now : List ℕ) (ending : Ending) → Does now true ending → Begins (Some []) (Some now) bytes × (ending ≡ cut_short))
@@ -42,7 +42,7 @@ module _ (Ending : Type 0) (number : Ending → ℕ) (Does : List ℕ → Bool �
   filled false ending told does full other over = absurd (other (sym (ap number (all shown ending does).1) ∙ sym told ∙ over))
   filled true ending told does full other over = full refl
 
-  -- a call that is told as cut has filled the room
+  -- a call whose result says that it is cut has filled the output
   room_is_full : Fills Ending number Does shown answer → number well ≢ number cut_short → answer ≡ number cut_short
       → length shown ≡ room
   room_is_full f other over = filled f.cut f.ending f.told f.does f.full other over
@@ -51,7 +51,7 @@ module _ (Ending : Type 0) (number : Ending → ℕ) (Does : List ℕ → Bool �
   shown_whole : Fills Ending number Does shown answer → answer ≢ number cut_short → (shown ≡ bytes) × (answer ≡ number well)
   shown_whole f other = same f.cut f.ending f.told f.does other
 
-  -- one that is cut has shown as many bytes as the page has room for
+  -- a call that is cut has shown as many bytes as the output has
   shown_first : Fills Ending number Does shown answer → number well ≢ number cut_short → answer ≡ number cut_short
       → shown ≡ take room bytes
   shown_first f other over = first f.cut f.ending f.told f.does f.full other over
@@ -62,12 +62,12 @@ module _ (choice : Choice) (text shown : List ℕ) (answer : ℕ) (f : Shows cho
   report_whole other = shown_whole _ _ _ (report choice (whole_input text)) (status (whole_input text)) OutputFailed (λ now ending does. does)
       (λ now ending does. does) _ _ f other
 
-  -- of one that is cut as many bytes are shown as there is room for
+  -- of a report that is cut, as many bytes are shown as the output has
   pub report_first : answer ≡ status_number OutputFailed → shown ≡ take room (report choice (whole_input text))
   report_first over = shown_first _ _ _ (report choice (whole_input text)) (status (whole_input text)) OutputFailed (λ now ending does. does)
       (λ now ending does. does) _ _ f (other_number (entries_in (whole_input text))) over
 
-  -- one that is cut has filled the room
+  -- a report that is cut has filled the output
   pub report_full : answer ≡ status_number OutputFailed → length shown ≡ room
   report_full over = room_is_full _ _ _ (report choice (whole_input text)) (status (whole_input text)) OutputFailed (λ now ending does. does)
       (λ now ending does. does) _ _ f (other_number (entries_in (whole_input text))) over
@@ -78,12 +78,12 @@ module _ (depth : ℕ) (text shown : List ℕ) (answer : ℕ) (f : Lists depth t
   list_whole other = shown_whole _ _ _ (list_text depth (whole_input text)) (status (whole_input text)) OutputFailed (λ now ending does. does)
       (λ now ending does. does) _ _ f other
 
-  -- of one that is cut as many bytes are shown as there is room for
+  -- of a list that is cut, as many bytes are shown as the output has
   pub list_first : answer ≡ status_number OutputFailed → shown ≡ take room (list_text depth (whole_input text))
   list_first over = shown_first _ _ _ (list_text depth (whole_input text)) (status (whole_input text)) OutputFailed (λ now ending does. does)
       (λ now ending does. does) _ _ f (other_number (entries_in (whole_input text))) over
 
-  -- one that is cut has filled the room
+  -- a list that is cut has filled the output
   pub list_full : answer ≡ status_number OutputFailed → length shown ≡ room
   list_full over = room_is_full _ _ _ (list_text depth (whole_input text)) (status (whole_input text)) OutputFailed (λ now ending does. does)
       (λ now ending does. does) _ _ f (other_number (entries_in (whole_input text))) over
@@ -95,12 +95,12 @@ module _ (asked : Asked) (text shown : List ℕ) (answer : ℕ) (f : ShowsParts 
   part_whole other = shown_whole _ _ _ (text_of asked (whole_input text)) (outcome_of asked (whole_input text)) PartsCut (λ now ending does. does)
       (λ now ending does. does) _ _ f other
 
-  -- of one that is cut as many bytes are shown as there is room for
+  -- of a part that is cut, as many bytes are shown as the output has
   pub part_first : answer ≡ outcome_number PartsCut → shown ≡ take room (text_of asked (whole_input text))
   part_first over = shown_first _ _ _ (text_of asked (whole_input text)) (outcome_of asked (whole_input text)) PartsCut (λ now ending does. does)
       (λ now ending does. does) _ _ f (other_outcome asked text) over
 
-  -- one that is cut has filled the room
+  -- a part that is cut has filled the output
   pub part_full : answer ≡ outcome_number PartsCut → length shown ≡ room
   part_full over = room_is_full _ _ _ (text_of asked (whole_input text)) (outcome_of asked (whole_input text)) PartsCut (λ now ending does. does)
       (λ now ending does. does) _ _ f (other_outcome asked text) over

@@ -1,2 +1,2 @@
--- What the definitions mean, for readers: theorems over every text and all settings.
+-- What the definitions mean, for readers: theorems that hold for every text and all settings.
 pub mod Page

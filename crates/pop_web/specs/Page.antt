@@ -1,4 +1,4 @@
--- What a page is shown (own).
+-- What the calls of a page return (own).
 use Rattle.std.specs.Prelude.{◌≡◌, ℕ, ◌^◌, ◌==◌, List, [], length, Some, Bool, true, false, if◌then◌else◌}
 use Rattle.pop_text.specs.Words.{Input, Clean}
 use Rattle.pop_events.specs.declared.event.Phase.{Phase}
@@ -12,15 +12,15 @@ use Rattle.pop_parts.specs.declared.asked.Asked.{Asked}
 use Rattle.pop_parts.specs.declared.asked.Outcome.{Outcome}
 use Rattle.pop_parts.specs.declared.asked.Outcome.TheVariants.{Shown, NoItem, FaultyItem, NoPhase, NoPart, InputFailed as PartsBroken, OutputFailed as PartsCut}
 
--- the bytes that a page has room for
+-- the size of the output, in bytes
 abbrev pub room : ℕ
 room = 2 ^ 22
 
--- the answer to a page that hands over less room
+-- the result if the output is smaller
 abbrev pub too_short : ℕ
 too_short = 4
 
--- what a sink has kept, and how many of its calls failed
+-- the bytes that a sink has taken, and how many of its calls failed
 pub record Kept : Type 0 where
   pub taken : List ℕ
   pub failures : ℕ
@@ -36,7 +36,7 @@ status_number Faulty = 1
 status_number InputFailed = 2
 status_number OutputFailed = 3
 
--- the number of what comes of parts
+-- the number of an outcome
 abbrev pub outcome_number : Outcome → ℕ
 outcome_number Shown = 0
 outcome_number FaultyItem = 1
@@ -46,12 +46,12 @@ outcome_number NoItem = 5
 outcome_number NoPhase = 6
 outcome_number NoPart = 7
 
--- the phase asked for
+-- the phase of the flag for set play
 abbrev pub phase_of : Bool → Phase
 phase_of true = Set
 phase_of false = Play
 
--- how many moves tell the parts of help play apart: at least one
+-- how many first moves a part of help play fixes: at least one
 abbrev pub depth_of : ℕ → ℕ
 depth_of depth = if depth == 0 then 1 else depth
 
@@ -65,8 +65,8 @@ part_of set_play depth number = record {
   depth = depth_of depth;
 }
 
--- A call into memory: the bytes are those that it writes, and the answer is the number of how it ends. Where it is cut,
--- the bytes fill the room.
+-- A call that writes to memory: the bytes are those that it writes, and the result is the number of how it ends. If it
+-- is cut, the bytes fill the output.
 pub record Fills (Ending : Type 0) (number : Ending → ℕ)
     (Does : List ℕ → Bool → Ending → Type 0) (shown : List ℕ) (answer : ℕ) : Type 0 where
   pub cut : Bool
@@ -75,20 +75,22 @@ pub record Fills (Ending : Type 0) (number : Ending → ℕ)
   pub does : Does shown cut ending
   pub full : cut ≡ true → length shown ≡ room
 
--- The bytes are the report of the text, and the answer is the number of its status; or they are its beginning and fill the
--- room, and the answer is the number of a failed output.
+-- The bytes are the report of the text, and the result is the number of its status. Or the bytes are a beginning of the
+-- report that fills the output, and the result is the number of a failed output.
 abbrev pub Shows : Choice → List ℕ → List ℕ → ℕ → Type 0
 Shows choice text shown answer = Fills Status status_number
     (λ bytes cut ending. Runs choice (whole_input text) (Some []) (Some bytes) cut ending) shown
     answer
 
--- the same of the list of the text's parts
+-- The bytes are the list of the text's parts, and the result is the number of its status; or they are a beginning of
+-- the list that fills the output, and the result is the number of a failed output.
 abbrev pub Lists : ℕ → List ℕ → List ℕ → ℕ → Type 0
 Lists depth text shown answer = Fills Status status_number
     (λ bytes cut ending. ListRuns depth (whole_input text) (Some []) (Some bytes) cut ending) shown
     answer
 
--- the same of the text of parts
+-- The bytes are the text of the parts, and the result is the number of the outcome; or they are a beginning of the text
+-- that fills the output, and the result is the number of a failed output.
 abbrev pub ShowsParts : Asked → List ℕ → List ℕ → ℕ → Type 0
 ShowsParts asked text shown answer = Fills Outcome outcome_number
     (λ bytes cut ending. PartsRun asked (whole_input text) (Some []) (Some bytes) cut ending) shown

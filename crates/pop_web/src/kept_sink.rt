@@ -1,4 +1,4 @@
-//! A sink in memory.
+//! Sinks in memory.
 ghost use Rattle.std.specs.Prelude.{◌≡◌, ℕ, List, [], ◌<◌, ◌≤◌, ◌+◌, Some, length, IfOk};
 ghost use Rattle.std.specs.Io.{WritesAtMost};
 ghost use Rattle.pop_text.specs.Bytes.{WriteAppends, count_after, greatest_count};
@@ -7,7 +7,7 @@ use arrayvec::ArrayVec;
 use pop_text::sink::{Sink, SinkFault};
 use std::marker::Model;
 
-/// Keeps a text of at most N bytes, and fails only where it is full.
+/// A sink that keeps at most N bytes. It fails only when it is full.
 #[derive(Drop)]
 pub struct KeptSink<const N: usize> {
     text: ArrayVec<u8, N>,
@@ -26,7 +26,7 @@ impl<const N: usize> Model for KeptSink<N> {
 }
 
 impl<const N: usize> KeptSink<N> {
-    /// No byte yet.
+    /// Returns an empty sink.
     pub fn new() -> KeptSink<N>
         ensures { result ≡ record { taken = []; failures = 0 } }
     {
@@ -36,7 +36,7 @@ impl<const N: usize> KeptSink<N> {
         }
     }
 
-    /// What it keeps. Where a call has failed, these are N bytes.
+    /// Returns the bytes that the sink keeps: N bytes if a call has failed.
     pub fn text(&self) -> &[u8]
         ensures text { result.now ≡ self.now.taken }
         ensures room { length result.now ≤ N }

@@ -1,4 +1,17 @@
-//! The engine for a page: the report of a text, the list of its parts and one of them, each by one call.
+//! The engine of the web page: three calls that solve a text in memory.
+//!
+//! ```rust
+//! use pop_web::page::pops_report;
+//!
+//! // `output` has 2^22 bytes or more.
+//! let mut written = 0;
+//! let status = pops_report(false, false, input, output, &mut written);
+//! let report = &output[..written];
+//! ```
+//!
+//! The interface is `pops_report`, `pops_list` and `pops_part`, which are exported by these names. They use a source
+//! and a sink in memory, `text_source` and `kept_sink`. `specs/Page.antt` defines what the calls return. No call
+//! allocates.
 #![tactic(auto)]
 
 pub mod kept_sink;

@@ -1,4 +1,4 @@
-//! What a page calls: a text's report, the list of its parts, the solutions of one part.
+//! The calls of a page: a text's report, the list of its parts, the solutions of one part.
 ghost use Rattle.std.specs.Prelude.{◌≡◌, ◌<◌, ◌≤◌, length, take};
 ghost use Rattle.pop_web.specs.Page.{Lists, Shows, ShowsParts, depth_of as depth_by, status_number, outcome_number, part_of as part_by, phase_of as phase_by, room, too_short};
 
@@ -10,19 +10,19 @@ use pop_parts::list::list_parts;
 use pop_parts::show::show_parts;
 use pop_run::{Choice, Status, report};
 
-/// The bytes that a page has room for.
+/// The size of the output, in bytes. Longer texts are cut.
 const ROOM: usize = 1 << 22;
 
-/// Puts the report of the input at the front of the output, and how many bytes it has into `written`.
+/// Writes the report of the input to the front of `output`, and its length in bytes to `written`.
 ///
-/// | Answer | When |
+/// | Result | When |
 /// |---|---|
 /// | 0 | every problem is sound |
 /// | 1 | some problem is faulty |
-/// | 3 | the report is longer than 2^22 bytes: its first 2^22 are there |
-/// | 4 | the output has less room than 2^22 bytes: nothing is read or written |
+/// | 3 | the report is longer than 2^22 bytes: its first 2^22 are written |
+/// | 4 | `output` has fewer than 2^22 bytes: nothing is read or written |
 ///
-/// 0, 1 and 3 are the program's exit statuses.
+/// The results 0, 1 and 3 are the exit statuses of `pops`.
 #[unsafe(no_mangle)]
 pub extern "C" fn pops_report(
     check: bool,
@@ -51,10 +51,10 @@ pub extern "C" fn pops_report(
     status_number(status)
 }
 
-/// Puts the list of the input's parts at the front of the output, a line an item, and how many bytes it has into
-/// `written`. `depth` moves tell the parts of help play apart, 0 as well as 1.
+/// Writes the list of the input's parts to the front of `output`, one line an item, and its length in bytes to
+/// `written`. A part of help play fixes `depth` first moves; 0 counts as 1.
 ///
-/// The answers are those of `pops_report`.
+/// The result means what it means for `pops_report`.
 #[unsafe(no_mangle)]
 pub extern "C" fn pops_list(
     depth: usize,
@@ -79,18 +79,18 @@ pub extern "C" fn pops_list(
     status_number(ending)
 }
 
-/// Puts the solutions of one part of the input's first problem, and their number, at the front of the output, and how
-/// many bytes they have into `written`. Parts are counted from 1; `depth` is that of the list.
+/// Writes the solutions of one part of the input's first problem, and their number, to the front of `output`, and the
+/// text's length in bytes to `written`. Parts are counted from 1. Pass the same `depth` as to `pops_list`.
 ///
-/// | Answer | When |
+/// | Result | When |
 /// |---|---|
 /// | 0 | the part is there |
 /// | 1 | the problem is faulty |
-/// | 3 | the text is longer than 2^22 bytes: its first 2^22 are there |
-/// | 4 | the output has less room than 2^22 bytes: nothing is read or written |
+/// | 3 | the text is longer than 2^22 bytes: its first 2^22 are written |
+/// | 4 | `output` has fewer than 2^22 bytes: nothing is read or written |
 /// | 5 | the input has no problem |
-/// | 6 | the problem has no set play, which is asked for |
-/// | 7 | the phase has no such part |
+/// | 6 | `set_play` is true and the problem has no set play |
+/// | 7 | the phase has no part with this number |
 #[unsafe(no_mangle)]
 pub extern "C" fn pops_part(
     set_play: bool,
@@ -118,7 +118,7 @@ pub extern "C" fn pops_part(
     outcome_number(outcome)
 }
 
-// Says that nothing was written, and answers that there is too little room.
+// Notes that nothing is written, and returns the result for an output that is too small.
 fn refuse(written: &mut usize) -> u32
     ensures { (result ≡ too_short) × (written.new ≡ 0) }
 {
@@ -126,7 +126,7 @@ fn refuse(written: &mut usize) -> u32
     4
 }
 
-// Puts what a sink kept at the front of the output, and answers how many bytes these are.
+// Copies the bytes of a sink to the front of the output, and returns their number.
 fn hand_out(sink: &KeptSink<ROOM>, output: &mut [u8]) -> usize
     requires { room ≤ length output.old }
     ensures text { take result output.new ≡ sink.now.taken }
@@ -140,14 +140,14 @@ fn hand_out(sink: &KeptSink<ROOM>, output: &mut [u8]) -> usize
     count
 }
 
-// How many moves tell parts apart: at least one.
+// Returns how many first moves a part of help play fixes: at least one.
 fn depth_of(depth: usize) -> usize
     ensures { result ≡ depth_by depth }
 {
     if depth == 0 { 1 } else { depth }
 }
 
-// One part of the first problem.
+// Returns the request for one part of the first problem.
 fn part_of(set_play: bool, depth: usize, number: u64) -> Asked
     ensures { result ≡ part_by set_play depth number }
 {
@@ -160,14 +160,14 @@ fn part_of(set_play: bool, depth: usize, number: u64) -> Asked
     }
 }
 
-// The phase asked for.
+// Returns the phase of the flag for set play.
 fn phase_of(set_play: bool) -> Phase
     ensures { result ≡ phase_by set_play }
 {
     if set_play { Phase::Set } else { Phase::Play }
 }
 
-// The number of a status.
+// Returns the number of a status.
 fn status_number(status: Status) -> u32
     ensures { result ≡ status_number status }
 {
@@ -179,7 +179,7 @@ fn status_number(status: Status) -> u32
     }
 }
 
-// The number of what comes of parts.
+// Returns the number of an outcome.
 fn outcome_number(outcome: Outcome) -> u32
     ensures { result ≡ outcome_number outcome }
 {

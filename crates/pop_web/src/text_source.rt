@@ -1,18 +1,18 @@
-//! A text as a source.
+//! Texts in memory as sources.
 ghost use Rattle.std.specs.Prelude.{◌≡◌, ℕ, List, ◌<◌, ◌≤◌, ◌+◌, Some, IfOk};
 ghost use Rattle.std.specs.Io.{ReadsAtMost};
 ghost use Rattle.pop_text.specs.Bytes.{ReadConsumes, count_after, greatest_count};
 
 use pop_text::source::{Device, Source};
 
-/// Hands out a text once. It never fails.
+/// A source of a text in memory. It never fails.
 #[derive(Drop)]
 pub struct TextSource<'a> {
     rest: &'a [u8],
 }
 
 impl<'a> TextSource<'a> {
-    /// The whole text is still to come.
+    /// Returns a source of the whole text.
     pub fn new(text: &'a [u8]) -> TextSource<'a>
         ensures { ⟦<TextSource<'a> as Source>⟧.remaining result ≡ Some text.now }
     {

@@ -3,8 +3,8 @@ use Rattle.std.specs.Prelude.{ℕ, Bool, false, true, None, Option, Some}
 use Rattle.pop_run.specs.declared.status.Status.{Status}
 use Rattle.pop_run.specs.declared.status.Status.TheVariants.{Sound, Faulty, InputFailed, OutputFailed}
 
--- The exit status of a run whose output was flushed in the end or not. Where a write or the flush failed it has none of its
--- own: the output's failure is told in its place.
+-- the exit status of a run, by its status and whether the last flush succeeded: none if a write or the flush failed,
+-- since the program then reports that failure
 abbrev pub exit_status_of : Status → Bool → Option ℕ
 exit_status_of status false = None
 exit_status_of Sound true = Some 0

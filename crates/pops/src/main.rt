@@ -1,4 +1,10 @@
-//! Popeye in a named profile: reads chess problems and reports their solutions.
+//! The program `pops`: reads chess problems in a part of Popeye's input language and reports their solutions.
+//!
+//! ```sh
+//! printf 'BeginProblem Pieces White Kg6 Ra1 Black Kg8 Stipulation #1 EndProblem\n' | pops --no-board
+//! ```
+//!
+//! `program` is the whole program but for its streams; `main` passes it the words and the standard streams.
 #![tactic(auto)]
 
 pub mod program;
@@ -19,8 +25,8 @@ fn main(rt: HostRuntime) -> ExitCode {
     }
 }
 
-// Takes the words over and runs the program on them and the standard streams. Words that can't be taken over, since one
-// is no UTF-8 text or since memory is short, can't be judged at all: both are answered alike.
+// Runs the program on the words of the command line and the standard streams. Fails if a word is no UTF-8 text or
+// memory is short: then there are no words to run it on.
 fn run_words(rt: &HostRuntime) -> io::Result<u8> {
     let mut words = Vec::new(rt.alloc());
     for word in env::args(rt)? {

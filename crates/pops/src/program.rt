@@ -1,4 +1,4 @@
-//! The program: its settings, its files and its exit statuses.
+//! The program `pops`: its settings, its files and its exit statuses.
 ghost use Rattle.std.specs.Prelude.{◌≡◌, ◌≤◌};
 ghost use Rattle.pops.specs.ExitStatus.{exit_status_of};
 
@@ -10,15 +10,16 @@ use std::fs;
 use std::io::{Read, Write};
 use std::rt::Files;
 
-/// Does all that the words of a command line say, of which the first is the program's name, and answers the exit status.
+/// Runs the program on the words of a command line, whose first word is the program's name, and returns the exit
+/// status.
 ///
 /// | Status | When | Written to `errors` |
 /// |---|---|---|
 /// | 0 | every problem is sound | nothing |
 /// | 1 | some problem is faulty | nothing |
-/// | 2 | the words aren't of the form `pops [--check] [--no-board] [FILE]` | the usage |
+/// | 2 | the words don't have the form `pops [--check] [--no-board] [FILE]` | the usage |
 /// | 3 | the input device failed | nothing |
-/// | 3 | FILE can't be opened, want of memory included | `pops: cannot open the input file` |
+/// | 3 | FILE can't be opened, also for lack of memory | `pops: cannot open the input file` |
 /// | 3 | a write or the last flush failed | `pops: output failed` |
 /// | 4 | there was no memory to read the words | `pops: out of memory` |
 ///
@@ -50,7 +51,7 @@ pub fn program<T: Files + AllocGlobal, R: Read + Drop, W: Write + Drop, E: Write
     }
 }
 
-// Runs over the input and flushes the output.
+// Reports the input, flushes the output and returns the exit status.
 fn report<R: Read + Drop, W: Write + Drop, E: Write + Drop>(
     settings: &Settings,
     input: R,
@@ -70,7 +71,7 @@ fn report<R: Read + Drop, W: Write + Drop, E: Write + Drop>(
     }
 }
 
-// The exit status of a run; none where its output failed, the last flush included.
+// Returns the exit status of a run, or `None` if a write or the last flush failed.
 fn exit_status(status: Status, flushed: bool) -> Option<u8>
     ensures { result ≡ exit_status_of status flushed }
 {
@@ -83,7 +84,7 @@ fn exit_status(status: Status, flushed: bool) -> Option<u8>
     }
 }
 
-// Says why nothing came of the words, and answers the exit status.
+// Writes the text to `errors`, and returns the exit status whether or not that succeeds.
 fn refuse<E: Write + Drop>(mut errors: E, text: &[u8], status: u8) -> u8
     ensures { result ≡ status }
 {

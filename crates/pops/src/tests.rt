@@ -1,3 +1,3 @@
-//! What is only tested: the streams and files of a program.
+//! Tests of what isn't proved: the streams and files of the program.
 mod files;
 mod streams;

@@ -14,7 +14,7 @@ ending_of_list SomeFaulty = Faulty
 ending_of_list ListBroken = InputFailed
 ending_of_list ListCut = OutputFailed
 
--- how what was asked for ends
+-- how parts end
 abbrev pub ending_of_parts : Outcome → Ending
 ending_of_parts Shown = Done
 ending_of_parts PartsBroken = InputFailed
@@ -24,7 +24,7 @@ ending_of_parts FaultyItem = Refused FaultyItem
 ending_of_parts NoPhase = Refused NoPhase
 ending_of_parts NoPart = Refused NoPart
 
--- the exit status
+-- the exit status of an ending
 abbrev pub status_of : Ending → ℕ
 status_of Done = 0
 status_of Faulty = 1
@@ -32,12 +32,12 @@ status_of (Refused outcome) = 2
 status_of InputFailed = 3
 status_of OutputFailed = 3
 
--- how a run ends that ended so before the output was flushed or not
+-- how a run ends, by how it ended before the last flush and whether the flush succeeded
 abbrev pub ending_flushed : Ending → Bool → Ending
 ending_flushed ending true = ending
 ending_flushed ending false = OutputFailed
 
--- what is told on standard error
+-- the message on standard error
 abbrev pub message_of : Ending → List ℕ
 message_of Done = []
 message_of Faulty = []

@@ -18,12 +18,12 @@ use Rattle.pop_settings.specs.declared.pops_part.wanted.PhaseName.TheVariants.{S
 use Rattle.pop_settings.specs.declared.pops_part.wanted.Wanted.{Wanted}
 use Rattle.pop_settings.specs.declared.pops_part.wanted.Wanted.TheVariants.{List as ListOf, Parts}
 
--- the phase of a name
+-- the phase with this name
 abbrev pub phase_named : PhaseName → Phase
 phase_named SetName = Set
 phase_named PlayName = Play
 
--- what is asked where parts are named so
+-- the request for the parts that are named
 abbrev pub asked_for : NamedParts → Asked
 asked_for named = record {
   item = named.item;
@@ -33,24 +33,25 @@ asked_for named = record {
   depth = named.depth;
 }
 
--- the text that is wanted of an input: the list of its parts, or the text of those asked for
+-- the text that is wanted: the list of the input's parts, or the text of the parts that are named
 abbrev pub text_wanted : Wanted → Input → List ℕ
 text_wanted (ListOf depth) input = list_text depth input
 text_wanted (Parts named) input = text_of (asked_for named) input
 
--- how a run over an input ends that can be written
+-- how a run ends if its output can be written
 abbrev pub ending_wanted : Wanted → Input → Ending
 ending_wanted (ListOf depth) input = ending_of_list (status input)
 ending_wanted (Parts named) input = ending_of_parts (outcome_of (asked_for named) input)
 
--- The text is written, and how it ends answered. Where the sink failed, a beginning is written.
+-- A run writes the text that is wanted and returns how it ends. If the sink fails, it writes a beginning of the text
+-- and returns `OutputFailed`.
 abbrev pub Answers : Wanted → Input → Option (List ℕ) → Option (List ℕ) → Bool → Ending → Type 0
 Answers wanted input before now false ending = Appends before now (text_wanted wanted input)
     × (ending ≡ ending_wanted wanted input)
 Answers wanted input before now true ending = Begins before now (text_wanted wanted input)
     × (ending ≡ OutputFailed)
 
--- how far it reads that took these bytes: a list as a run does, parts no further than their item
+-- how far a run reads: for a list as far as a run of `pops`, for parts no further than their item
 abbrev pub ReadsWanted : Wanted → Input → List ℕ → Type 0
 ReadsWanted (ListOf depth) input taken = ReadsUpTo input taken
 ReadsWanted (Parts named) input taken = ReadsItems named.item input taken

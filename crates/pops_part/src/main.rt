@@ -1,4 +1,11 @@
-//! Lists the parts of the phases of chess problems and reports the solutions of some of them.
+//! The program `pops-part`: lists the parts of chess problems, or reports the solutions of some parts.
+//!
+//! ```sh
+//! pops-part --list mate.pop
+//! pops-part --item 1 --phase play --part 1..5 mate.pop
+//! ```
+//!
+//! `program` is the whole program but for its streams; `main` passes it the words and the standard streams.
 #![tactic(auto)]
 
 pub mod program;
@@ -17,8 +24,8 @@ fn main(rt: HostRuntime) -> ExitCode {
     }
 }
 
-// Takes the words over and runs the program on them and the standard streams. Words that can't be taken over, since one
-// is no UTF-8 text or since memory is short, can't be judged at all: both are answered alike.
+// Runs the program on the words of the command line and the standard streams. Fails if a word is no UTF-8 text or
+// memory is short: then there are no words to run it on.
 fn run_words(rt: &HostRuntime) -> io::Result<u8> {
     let mut words = Vec::new(rt.alloc());
     for word in env::args(rt)? {

@@ -1,4 +1,4 @@
-//! The program: its settings, its files and its exit statuses.
+//! The program `pops-part`: its settings, its files and its exit statuses.
 ghost use Rattle.std.specs.Prelude.{◌≡◌, ◌<◌, ◌≤◌, IfSome};
 ghost use Rattle.pop_text.specs.Bytes.{greatest_count};
 ghost use Rattle.pop_run.specs.Run.{FailsOnce, has_grown, input_met, taken_of};
@@ -24,11 +24,11 @@ use std::rt::Files;
 /// How a run ends.
 #[derive(Clone, Copy)]
 pub enum Ending {
-    /// All was written, and every item is sound or shown.
+    /// All is written: the parts, or a list in which every item is sound.
     Done,
-    /// All was written, and some item is faulty.
+    /// The list is written, and some item is faulty.
     Faulty,
-    /// The parts asked for aren't there.
+    /// The named parts aren't there. Holds the reason.
     Refused(Outcome),
     /// The input device failed.
     InputFailed,
@@ -36,16 +36,17 @@ pub enum Ending {
     OutputFailed,
 }
 
-/// Does all that the words of a command line say, of which the first is the program's name, and answers the exit status.
+/// Runs the program on the words of a command line, whose first word is the program's name, and returns the exit
+/// status.
 ///
 /// | Status | When | Written to `errors` |
 /// |---|---|---|
 /// | 0 | the list is written and every problem is sound, or the parts are shown | nothing |
 /// | 1 | the list is written and some problem is faulty | nothing |
-/// | 2 | the words are of neither form | the usage |
-/// | 2 | there is no such item, phase or part, or the item is faulty | which of them |
+/// | 2 | the words have neither form | the usage |
+/// | 2 | the item, phase or part doesn't exist, or the item is faulty | which of these |
 /// | 3 | the input device failed | nothing |
-/// | 3 | FILE can't be opened, want of memory included | `pops-part: cannot open the input file` |
+/// | 3 | FILE can't be opened, also for lack of memory | `pops-part: cannot open the input file` |
 /// | 3 | a write or the last flush failed | `pops-part: output failed` |
 /// | 4 | there was no memory to read the words | `pops-part: out of memory` |
 ///
@@ -77,7 +78,7 @@ pub fn program<T: Files + AllocGlobal, R: Read + Drop, W: Write + Drop, E: Write
     }
 }
 
-// Runs over the input, flushes the output, and tells what has come of it.
+// Writes what is wanted, flushes the output, reports a failure and returns the exit status.
 fn report<R: Read + Drop, W: Write + Drop, E: Write + Drop>(
     wanted: &Wanted,
     input: R,
@@ -100,10 +101,10 @@ fn report<R: Read + Drop, W: Write + Drop, E: Write + Drop>(
     }
 }
 
-// Writes what is wanted of the source into the sink.
+// Writes what is wanted of the source to the sink, and returns how that ends.
 //
-// What is written is exactly the list of the input or the text of the parts, or a beginning of it where the sink
-// fails. Of the calls of each, source and sink, at most one fails.
+// Writes exactly the list of the input or the text of the parts, or a beginning of it if the sink fails. At most one
+// source call and one sink call fail.
 fn answer<S: Source, W: Sink>(wanted: &Wanted, source: &mut S, sink: &mut W) -> Ending
     requires deep { IsDeep wanted.now }
     requires source { S.failures source.old < greatest_count }
@@ -126,7 +127,7 @@ fn answer<S: Source, W: Sink>(wanted: &Wanted, source: &mut S, sink: &mut W) -> 
     }
 }
 
-// What is asked of the item where parts of it are named so.
+// Returns the request for the parts that are named.
 fn asked_for(named: &NamedParts) -> Asked
     ensures { result ≡ asked_for named.now }
 {
@@ -139,7 +140,7 @@ fn asked_for(named: &NamedParts) -> Asked
     }
 }
 
-// The phase of a name.
+// Returns the phase with this name.
 fn phase_named(name: PhaseName) -> Phase
     ensures { result ≡ phase_named name }
 {
@@ -149,7 +150,7 @@ fn phase_named(name: PhaseName) -> Phase
     }
 }
 
-// How a run ends that ended so before the output's last flush.
+// Returns how a run ends, by how it ended before the last flush and whether the flush succeeded.
 fn ending_after_flush(ending: Ending, is_flushed: bool) -> Ending
     ensures { result ≡ ending_flushed ending is_flushed }
 {
@@ -160,7 +161,7 @@ fn ending_after_flush(ending: Ending, is_flushed: bool) -> Ending
     }
 }
 
-// How a list ends.
+// Returns how a list ends.
 fn ending_of_list(status: Status) -> Ending
     ensures { result ≡ ending_of_list status }
 {
@@ -172,7 +173,7 @@ fn ending_of_list(status: Status) -> Ending
     }
 }
 
-// How what was asked for ends.
+// Returns how parts end.
 fn ending_of_parts(outcome: Outcome) -> Ending
     ensures { result ≡ ending_of_parts outcome }
 {
@@ -184,7 +185,7 @@ fn ending_of_parts(outcome: Outcome) -> Ending
     }
 }
 
-// The exit status.
+// Returns the exit status of an ending.
 fn status_of(ending: Ending) -> u8
     ensures { result ≡ status_of ending }
 {
@@ -196,7 +197,7 @@ fn status_of(ending: Ending) -> u8
     }
 }
 
-// What is told of a run that ends so, nothing where all was written.
+// Returns the message for standard error, empty if there is none.
 fn message_of(ending: Ending) -> &'static [u8]
     ensures { result.now ≡ message_of ending }
 {
@@ -210,7 +211,7 @@ fn message_of(ending: Ending) -> &'static [u8]
     }
 }
 
-// Says why nothing came of the words, and answers the exit status.
+// Writes the text to `errors`, and returns the exit status whether or not that succeeds.
 fn refuse<E: Write + Drop>(mut errors: E, text: &[u8], status: u8) -> u8
     ensures { result ≡ status }
 {

@@ -1,4 +1,4 @@
-//! The reader beside the plain one.
+//! Comparison of the reader with the plain reader.
 ghost use Rattle.std.specs.Prelude.{◌<◌};
 
 use crate::plain::{ITEMS, items};
@@ -8,7 +8,8 @@ use pop_input::item::{Item, Last};
 use pop_input::reader::Reader;
 use pop_text::trial_source::TrialSource;
 
-// What the reader tells of an input through a source that hands out so many bytes a call, up to a failure.
+// Returns the items that the reader reads of an input, from a source of at most `at_most` bytes a call, which may fail
+// at the end.
 fn read(input: &[u8], at_most: usize, failed: bool) -> ArrayVec<Told, ITEMS>
     requires { 0 < at_most }
 {
@@ -40,7 +41,7 @@ fn read(input: &[u8], at_most: usize, failed: bool) -> ArrayVec<Told, ITEMS>
     items
 }
 
-/// Whether both readers tell the same of an input that ends cleanly, and of one that fails there.
+/// Returns whether both readers find equal items, both for a clean end of the input and for a source that fails there.
 pub(crate) fn agree(input: &[u8], at_most: usize) -> bool
     requires { 0 < at_most }
 {
@@ -48,7 +49,7 @@ pub(crate) fn agree(input: &[u8], at_most: usize) -> bool
         && read(input, at_most, true).as_slice() == items(input, true).as_slice()
 }
 
-/// Marks the numbers of the faults that an input has, and 0 where it has a sound problem.
+/// Marks the numbers of the faults of an input, and 0 if it has a sound problem.
 pub(crate) fn mark(input: &[u8], failed: bool, seen: &mut [bool; 22]) {
     for told in items(input, failed).as_slice() {
         match told {

@@ -1,4 +1,11 @@
-//! Tests of the reader: a plain reader of whole inputs beside it, made texts, and sources that hand out few bytes or fail.
+//! Tests of the reader (`pop_input::Reader`) and of the adapters of the standard library's readers and writers.
+//!
+//! ```sh
+//! cd crates/reader_tests && rt test
+//! ```
+//!
+//! `plain` and `plain_words` are a plain reader of whole inputs, `compared` compares the reader with it. `made` and
+//! `long` make inputs. `tests` holds the tests.
 #![tactic(auto)]
 
 #[cfg(test)]

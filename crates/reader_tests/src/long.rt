@@ -1,10 +1,10 @@
-//! Long texts, of more than three reading windows, in which words, blanks and lines cross each window's end.
+//! Texts of more than three reading windows, in which words, blanks and lines cross the windows' ends.
 use std::alloc::AllocError;
 
-/// After so many bytes, those of a sound and a faulty problem, a long text begins anew: 346 and 367 to 371.
+/// The number of bytes after which a long text repeats: a sound problem of 346 bytes, and a faulty one of 367 to 371.
 pub(crate) const PERIOD: usize = 715;
 
-// A sound problem with a title, blanks of each kind and a long text line.
+// Adds a sound problem with a title, blanks of each kind and a long text line.
 fn put_sound(text: &mut Vec<u8>) -> Result<(), AllocError> {
     text.extend_from_slice(b"Pieces White Kg6\tRa1 \n\n Black Kg8\r\nTitle \x0b a title \x0c\n")?;
     text.extend_from_slice(b"stipulation #1\nRemark ")?;
@@ -14,7 +14,7 @@ fn put_sound(text: &mut Vec<u8>) -> Result<(), AllocError> {
     text.extend_from_slice(b"\n author  NextProblem \nOption MaxSolutions\n 0012\nNextProblem\n")
 }
 
-// A faulty problem, with long words and text lines where words are skipped.
+// Adds a faulty problem, with long words and text lines in the text that the reader skips.
 fn put_faulty(text: &mut Vec<u8>, long_word: u8) -> Result<(), AllocError> {
     text.extend_from_slice(b"Pieces Black Pa8 ")?;
     for _letter in 0..long_word {
@@ -27,7 +27,7 @@ fn put_faulty(text: &mut Vec<u8>, long_word: u8) -> Result<(), AllocError> {
     text.extend_from_slice(b"\n\n\nPieces nextproblem ")
 }
 
-/// Many problems behind so many blanks; long words have 158 to 162 bytes.
+/// Returns a text of many problems after `shift` blanks. Long words have 158 to 162 bytes.
 pub(crate) fn long_text(rt: &HostRuntime, shift: usize) -> Result<Vec<u8>, AllocError> {
     let mut text = Vec::new(rt.alloc());
     for _blank in 0..shift {

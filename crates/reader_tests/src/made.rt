@@ -1,9 +1,9 @@
-//! Made texts: words drawn from a list, with blanks and line ends between them.
+//! Random texts: words drawn from lists, with blanks and line ends between them.
 ghost use Rattle.std.specs.Prelude.{◌<◌};
 
 use arrayvec::ArrayVec;
 
-/// More bytes than any made text has.
+/// More bytes than any of these texts has.
 pub(crate) const BYTES: usize = 4096;
 
 const WORDS: [&str; 24] = [
@@ -105,13 +105,13 @@ const OPTIONS: [&str; 12] = [
     "Option MaxSolutions 4000000000 max 5 noc h8 var a8",
 ];
 
-// The next number of a row that looks drawn.
+// Returns the next number of a pseudorandom sequence.
 fn drawn(seed: u64) -> u64 {
     seed.wrapping_mul(6_364_136_223_846_793_005)
         .wrapping_add(1_442_695_040_888_963_407)
 }
 
-// One of so many.
+// Returns a number below `count`.
 fn choice(seed: u64, count: u64) -> usize
     requires { 0 < count }
     ensures { result < count }
@@ -119,7 +119,7 @@ fn choice(seed: u64, count: u64) -> usize
     ((seed >> 33) % count) as usize
 }
 
-// A word of so many letters.
+// Adds a word of `length` letters.
 fn put_long(text: &mut ArrayVec<u8, BYTES>, length: u64) {
     for _letter in 0..length {
         let _ = text.try_push(b'x');
@@ -137,7 +137,7 @@ fn put_gap(text: &mut ArrayVec<u8, BYTES>, seed: u64) {
     let _ = text.try_extend_from_slice(gap);
 }
 
-// One of four sections.
+// Adds one of the four sections, 0 to 3.
 fn put_section(text: &mut ArrayVec<u8, BYTES>, section: usize, seed: u64) {
     let words: &str = match section {
         0 => PIECES[choice(seed, 13)],
@@ -148,7 +148,7 @@ fn put_section(text: &mut ArrayVec<u8, BYTES>, section: usize, seed: u64) {
     let _ = text.try_extend_from_slice(words.as_bytes());
 }
 
-// A word, a text line or a long word out of place, now and then.
+// Adds nothing, or sometimes a misplaced word, a text line or a long word.
 fn put_stray(text: &mut ArrayVec<u8, BYTES>, seed: u64) {
     let drawn = drawn(seed);
     match choice(seed, 32) {
@@ -163,7 +163,7 @@ fn put_stray(text: &mut ArrayVec<u8, BYTES>, seed: u64) {
     }
 }
 
-/// A text of a few problems, made from a number.
+/// Returns the text of four problems that belongs to this number.
 pub(crate) fn text(number: u64) -> ArrayVec<u8, BYTES> {
     let mut text = ArrayVec::new();
     let mut seed = drawn(number);

@@ -1,4 +1,4 @@
-//! The items of a whole input, read plainly: one pass over its words with all that is known in variables.
+//! A plain reader: one pass over the words of a whole input, with all its state in variables.
 use crate::plain_words::{Token, is_short, last_line, tokens, without_leading, without_trailing};
 use crate::summary::{CORNERS, Summary, Told, digest};
 use arrayvec::ArrayVec;
@@ -6,10 +6,10 @@ use chess_core::{Board, Colour, Diagram, Kind, Man, Square};
 use chess_rules::{Circe, Madrasi, Orthodox, in_check};
 use pop_input::FaultKind;
 
-/// More items than any input here has.
+/// More items than any input of these tests has.
 pub(crate) const ITEMS: usize = 64;
 
-// What is awaited.
+// The value that an option expects.
 #[derive(Clone, Copy, PartialEq, Eq)]
 enum Await {
     Nothing,
@@ -19,7 +19,7 @@ enum Await {
     MoreSquares,
 }
 
-// The section that is open.
+// The open section.
 #[derive(Clone, Copy, PartialEq, Eq)]
 enum Open {
     Nothing,
@@ -29,7 +29,7 @@ enum Open {
     Options,
 }
 
-// All that is known of a problem.
+// The state of a problem.
 #[derive(Clone, Copy)]
 struct Known {
     begun: bool,
@@ -75,7 +75,7 @@ fn nothing_known(begun: bool) -> Known {
     }
 }
 
-// The squares of a word that has nothing else.
+// Returns the squares of a word that is squares and nothing else.
 fn squares_named(word: &[u8]) -> Option<ArrayVec<u8, 80>> {
     if word.is_empty() {
         return None;
@@ -103,7 +103,7 @@ fn has_digit(word: &[u8]) -> bool {
     false
 }
 
-// The number of a word of digits, cut at a great one; none for another word.
+// Returns the number of a word of digits, saturated, or `None` for another word.
 fn number_of(word: &[u8]) -> Option<u64> {
     let mut value = 0u64;
     for byte in word {
@@ -117,8 +117,8 @@ fn number_of(word: &[u8]) -> Option<u64> {
     Some(value)
 }
 
-// The form, the goal's sign and the number of a stipulation: `#` or `=` behind s, h or nothing, 1 to 16, and in help
-// play `.5` behind 0 to 15.
+// Returns the form, the goal's sign and the number of moves of a stipulation: nothing, `s` or `h`, then `#` or `=`,
+// then 1 to 16; or `h`, `#` or `=`, 0 to 15 and `.5`.
 fn stipulation_of(word: &[u8]) -> Option<(u8, u8, u8)> {
     let (form, rest) = match word {
         [b's' | b'S', rest @ ..] => (1, rest),
@@ -160,7 +160,7 @@ fn is_command(word: &[u8]) -> bool {
     false
 }
 
-// The fault of a word.
+// Reads a word, and returns its fault.
 fn read(known: &mut Known, word: &[u8]) -> Option<FaultKind> {
     if word.len() > 160 {
         return Some(FaultKind::WordTooLong);
@@ -193,7 +193,7 @@ fn read_limit(known: &mut Known, word: &[u8]) -> Option<FaultKind> {
     }
 }
 
-// The square of a word that names one.
+// Returns the square of a word that is one square.
 fn square_of(word: &[u8]) -> Option<u8> {
     match squares_named(word)?.as_slice() {
         [square] => Some(*square),
@@ -239,7 +239,7 @@ fn bar(known: &mut Known, squares: &[u8]) -> Option<FaultKind> {
     None
 }
 
-// Bars castling from a square. Answers whether it is one of the six.
+// Forbids castling from a square. Returns whether it is a castling square.
 fn bar_one(known: &mut Known, square: u8) -> bool {
     for place in 0..6usize {
         if CORNERS[place] == square {
@@ -250,7 +250,7 @@ fn bar_one(known: &mut Known, square: u8) -> bool {
     false
 }
 
-// A word that no option awaits.
+// Reads a word that no option expects.
 fn read_plain(known: &mut Known, word: &[u8]) -> Option<FaultKind> {
     if is_command(word) {
         return open_section(known, word);
@@ -361,7 +361,7 @@ fn read_men(known: &mut Known, word: &[u8]) -> Option<FaultKind> {
     read_squares(known, word, letter, squares_named(behind))
 }
 
-// The squares behind the letter of a man, if they are some.
+// Puts men on the squares after a letter, if the word has squares.
 fn read_squares(
     known: &mut Known,
     word: &[u8],
@@ -386,7 +386,7 @@ fn read_squares(
     None
 }
 
-// A man of the colour that stands.
+// Puts a man of the last colour on a square.
 fn put_man(known: &mut Known, letter: u8, square: u8) -> Option<FaultKind> {
     let place = (square & 63) as usize;
     let man = if known.colour == b'w' {
@@ -407,7 +407,7 @@ fn put_man(known: &mut Known, letter: u8, square: u8) -> Option<FaultKind> {
     None
 }
 
-// The man of a letter.
+// Returns the man of a letter, a small one for Black.
 fn man_of(letter: u8) -> Option<Man> {
     let colour = if letter.is_ascii_uppercase() {
         Colour::White
@@ -428,7 +428,7 @@ fn man_of(letter: u8) -> Option<Man> {
     Some(Man { colour, kind })
 }
 
-// Whether the side that isn't to move stands in check.
+// Returns whether the side that isn't to move is in check.
 fn checked(known: &Known) -> bool {
     let mut diagram = Diagram::new();
     for number in 0..64u8 {
@@ -452,7 +452,7 @@ fn checked(known: &Known) -> bool {
     }
 }
 
-// Whether a pawn may just have gone over the square.
+// Returns whether a pawn can have just passed over the en passant square.
 fn was_passed(known: &Known) -> bool {
     let place = known.crossed as usize;
     let black_starts = known.form == 2;
@@ -471,12 +471,12 @@ fn was_passed(known: &Known) -> bool {
     }
 }
 
-// An item that is a fault.
+// Returns a faulty item.
 fn told(fault: FaultKind, line: u64) -> Told {
     Told::Faulty(fault.number(), line)
 }
 
-// The fault of a block's end.
+// Returns the fault at the end of a block.
 fn fault_at_end(known: &Known) -> Option<FaultKind> {
     if !known.stated {
         return Some(FaultKind::StipulationMissing);
@@ -497,7 +497,7 @@ fn fault_at_end(known: &Known) -> Option<FaultKind> {
     None
 }
 
-// Which of the men that castle stand at home and aren't barred.
+// Returns the castling rights: the men that castle are on their squares, and castling isn't forbidden there.
 fn unmoved(known: &Known) -> [bool; 6] {
     let home = [b'R', b'K', b'R', b'r', b'k', b'r'];
     let mut unmoved = [false; 6];
@@ -508,7 +508,7 @@ fn unmoved(known: &Known) -> [bool; 6] {
     unmoved
 }
 
-// The item of a block that a word in this line closes.
+// Returns the item of a block that a word in this line closes.
 fn closed(known: &Known, line: u64) -> Told {
     if let Some(fault) = known.fault {
         return told(fault, known.line);
@@ -532,7 +532,7 @@ fn closed(known: &Known, line: u64) -> Told {
     })
 }
 
-// A text line.
+// Reads a text line.
 fn note(known: &mut Known, token: &Token<'_>, rest: &[u8]) {
     let text = without_leading(rest);
     let (kept, _) = text.split_at(text.len().min(200));
@@ -544,7 +544,7 @@ fn note(known: &mut Known, token: &Token<'_>, rest: &[u8]) {
     }
 }
 
-/// The items of an input that ends cleanly or not.
+/// Returns the items of an input, whose source ends cleanly or fails at its end.
 pub(crate) fn items(input: &[u8], failed: bool) -> ArrayVec<Told, ITEMS> {
     let mut items = ArrayVec::new();
     let mut known = nothing_known(false);

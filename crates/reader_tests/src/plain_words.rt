@@ -1,9 +1,9 @@
-//! Words of a whole input, cut out of it one after another.
+//! A plain scanner: the words and text lines of a whole input.
 ghost use Rattle.std.specs.Prelude.{◌≤◌, length};
 
 use arrayvec::ArrayVec;
 
-/// A word with its line, and for a text word the rest of its line.
+/// A word with the number of its line, and for a text word the rest of its line.
 #[derive(Clone, Copy)]
 pub(crate) struct Token<'a> {
     pub(crate) line: u64,
@@ -21,14 +21,14 @@ impl<'a> Default for Token<'a> {
     }
 }
 
-/// More words than any input here has.
+/// More words than any input of these tests has.
 pub(crate) const MOST: usize = 512;
 
 fn is_blank(byte: u8) -> bool {
     byte == 9 || byte == 11 || byte == 12 || byte == 13 || byte == 32
 }
 
-/// Whether the name begins with the word, which has so many letters at least.
+/// Returns whether the word has at least `least` letters and the name begins with it, in capitals or not.
 pub(crate) fn is_short(name: &[u8], word: &[u8], least: usize) -> bool {
     if word.len() < least || word.len() > name.len() {
         return false;
@@ -48,7 +48,7 @@ fn is_text_word(word: &[u8]) -> bool {
         || is_short(b"remark", word, 3)
 }
 
-/// The text without blanks before its first other byte.
+/// Returns the text without the blanks at its start.
 pub(crate) fn without_leading(text: &[u8]) -> &[u8] {
     let mut left = text;
     for _round in text {
@@ -60,7 +60,7 @@ pub(crate) fn without_leading(text: &[u8]) -> &[u8] {
     left
 }
 
-/// The text without blanks behind its last other byte.
+/// Returns the text without the blanks at its end.
 pub(crate) fn without_trailing(text: &[u8]) -> &[u8] {
     let mut left = text;
     for _round in text {
@@ -72,7 +72,7 @@ pub(crate) fn without_trailing(text: &[u8]) -> &[u8] {
     left
 }
 
-// How many bytes stand before a line end, or before a blank too.
+// Counts the bytes before the first line end, or with `blanks` before the first line end or blank.
 fn reach(text: &[u8], blanks: bool) -> usize
     ensures { result ≤ length text.now }
 {
@@ -86,7 +86,7 @@ fn reach(text: &[u8], blanks: bool) -> usize
     text.len()
 }
 
-/// The words of an input that ends cleanly or not.
+/// Returns the words and text lines of an input, whose source ends cleanly or fails at its end.
 pub(crate) fn tokens(input: &[u8], failed: bool) -> ArrayVec<Token<'_>, MOST> {
     let mut tokens = ArrayVec::new();
     let mut left = input;
@@ -123,7 +123,7 @@ pub(crate) fn tokens(input: &[u8], failed: bool) -> ArrayVec<Token<'_>, MOST> {
     tokens
 }
 
-/// The lines of an input.
+/// Returns the number of the last line of an input.
 pub(crate) fn last_line(input: &[u8]) -> u64 {
     let mut line = 1u64;
     for byte in input {

@@ -1,11 +1,11 @@
-//! What an item says, in numbers that can be compared.
+//! Items as values that can be compared.
 use chess_core::{Colour, Diagram, Kind, Man, Square};
 use pop_input::condition::Condition;
 use pop_input::item::Item;
 use pop_input::problem::Problem;
 use pop_input::stipulation::{Form, Goal};
 
-/// A problem: its men by their letters, small for Black, and all that it says besides.
+/// A problem: its men as letters, small ones for Black, 0 for an empty square, and all else that it states.
 #[derive(Clone, Copy, PartialEq, Eq)]
 pub(crate) struct Summary {
     pub(crate) men: [u8; 64],
@@ -35,7 +35,7 @@ impl Default for Told {
     }
 }
 
-/// A number for a text, another one for most others.
+/// Returns a hash of a text.
 pub(crate) fn digest(text: &[u8]) -> u64 {
     let mut value = text.len() as u64;
     for byte in text {
@@ -44,7 +44,7 @@ pub(crate) fn digest(text: &[u8]) -> u64 {
     value
 }
 
-/// The castling squares in the order of `unmoved`.
+/// The castling squares a1, e1, h1, a8, e8 and h8, by their numbers.
 pub(crate) const CORNERS: [u8; 6] = [0, 4, 7, 56, 60, 63];
 
 fn letter_of(man: Man) -> u8 {
@@ -128,7 +128,7 @@ fn summary_of(problem: &Problem) -> Summary {
     }
 }
 
-/// What an item of the reader says, none behind the last.
+/// Returns an item of the reader as a value that can be compared, or `None` for `End`.
 pub(crate) fn tell(item: &Item) -> Option<Told> {
     match item {
         Item::Sound(problem, _) => Some(Told::Sound(summary_of(problem))),

@@ -1,3 +1,3 @@
-//! The reader beside a plain one.
+//! The tests.
 mod adapters;
 mod agreements;

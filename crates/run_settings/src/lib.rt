@@ -1,4 +1,10 @@
-//! The settings of a run, which a command line chooses and a run follows.
+//! The settings of a run. pop_settings reads them from a command line, and pop_run follows them.
+//!
+//! ```rust
+//! use run_settings::Settings;
+//!
+//! let settings = Settings { file: None, check: true, no_board: false };
+//! ```
 #![tactic(auto)]
 
 /// The settings of a run.
@@ -6,8 +12,8 @@
 pub struct Settings {
     /// The path of the input file, or `None` for standard input.
     pub file: Option<String>,
-    /// Whether problems are only read and tested, not solved.
+    /// Whether to only read and test the problems, and not solve them.
     pub check: bool,
-    /// Whether boards are left out.
+    /// Whether to leave the boards out of the report.
     pub no_board: bool,
 }

@@ -1,10 +1,10 @@
-//! Sources and sinks of which the calls are counted.
+//! Sources and sinks that count their calls.
 ghost use Rattle.std.specs.Prelude.{◌≡◌, ◌<◌};
 
 use pop_text::sink::{Sink, SinkFault};
 use pop_text::source::{Device, Source};
 
-/// A source or a sink, with how often it was asked, and how often behind a call that failed.
+/// A source or a sink, with the number of its calls, and of its calls after a failure.
 #[derive(Drop)]
 pub(crate) struct Counted<D> {
     pub(crate) device: D,
@@ -14,7 +14,7 @@ pub(crate) struct Counted<D> {
 }
 
 impl<D> Counted<D> {
-    /// The device, which wasn't asked yet.
+    /// Returns the device with no call counted.
     pub(crate) fn new(device: D) -> Counted<D>
         ensures { result.device ≡ device }
     {

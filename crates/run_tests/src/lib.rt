@@ -1,4 +1,11 @@
-//! Tests of runs: worked rows, whose reports were written from the rules, inputs without end, and calls of devices.
+//! Tests of runs (`pop_run`): worked rows, whose reports were written from the rules; endless inputs; devices that
+//! fail.
+//!
+//! ```sh
+//! cd crates/run_tests && rt test
+//! ```
+//!
+//! `tests` holds the tests, `report` runs one row, and `counted` counts the calls of a device.
 #![tactic(auto)]
 
 #[cfg(test)]

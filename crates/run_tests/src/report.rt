@@ -1,4 +1,4 @@
-//! A run over a text.
+//! Runs over the rows of `tests/rows`.
 use pop_run::{Settings, Status, run};
 use pop_text::trial_sink::TrialSink;
 use pop_text::trial_source::TrialSource;
@@ -11,7 +11,7 @@ pub(crate) fn settings(check: bool) -> Settings {
     }
 }
 
-/// A row of the table `tests/rows`.
+/// A row of `tests/rows`: an input with its report and status.
 pub(crate) struct Row {
     pub(crate) name: &'static str,
     pub(crate) input: &'static [u8],
@@ -21,7 +21,7 @@ pub(crate) struct Row {
     pub(crate) status: Status,
 }
 
-/// Whether a run over the row's input gives its report and status.
+/// Returns whether a run over the row's input writes its report and returns its status.
 pub(crate) fn gives(row: &Row) -> bool {
     let settings = Settings {
         file: None,

@@ -1,4 +1,4 @@
-//! Runs over texts and devices.
+//! The tests.
 mod devices;
 mod endless;
 mod rows;

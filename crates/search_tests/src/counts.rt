@@ -1,4 +1,4 @@
-//! How many half-moves are tried, counted plainly: by recursion over copied positions.
+//! Plain counts of the positions that a search tries: by recursion over copied positions.
 ghost use Rattle.chess_core.specs.WellFormed.{IsWellFormed};
 
 use crate::plain::{can_move, first_diagram, is_goal_reached};
@@ -10,7 +10,7 @@ use pop_input::condition::Condition;
 use pop_input::problem::Problem;
 use pop_input::stipulation::{Form, Goal};
 
-/// How many lists of fewer moves than `half_moves` there are, each legal where it stands.
+/// Returns the number of lists of fewer than `half_moves` moves, each legal in its position.
 #[tactic(auto, using(chess_rules::proofs::listing_moves::Calls::playing))]
 fn walk_count<R: Rules>(board: &Board, half_moves: usize) -> u64
     requires { IsWellFormed board.now }
@@ -29,7 +29,8 @@ fn walk_count<R: Rules>(board: &Board, half_moves: usize) -> u64
     count
 }
 
-/// The same of a phase: none where it is barred, and set play has a half-move less than the play.
+/// Returns the walk count of a phase; 0 if it isn't possible. Set play has one half-move less than the
+/// play.
 fn phase_walk<R: Rules>(problem: &Problem, in_set: bool) -> u64 {
     let diagram = first_diagram(problem, in_set);
     if !diagram.is_well_formed() {
@@ -45,7 +46,7 @@ fn phase_walk<R: Rules>(problem: &Problem, in_set: bool) -> u64 {
     walk_count::<R>(&board, half_moves(problem).saturating_sub(1))
 }
 
-/// The same under the rules of the problem's condition.
+/// Returns the walk count of a phase under the rules of the problem's condition.
 pub(crate) fn walk_of(problem: &Problem, in_set: bool) -> u64 {
     match problem.condition() {
         None => phase_walk::<Orthodox>(problem, in_set),
@@ -61,16 +62,16 @@ struct Battle {
     selfmate: bool,
 }
 
-/// Whether White reaches his aim, and how many positions the smallest tree has that shows it.
+/// Whether White reaches the goal, and the number of positions in a smallest tree that shows it.
 #[derive(Clone, Copy)]
 struct Shown {
     wins: bool,
     positions: u64,
 }
 
-/// What `left` half-moves from here on show. To show it, some half-move has to be tried from each position of a tree: where
-/// one move decides, from the one after the deciding move with the smallest tree; where none does, from those after all moves.
-/// Where the goal is reached or no move is left, none has to be tried.
+/// Returns what the next `left` half-moves show. A tree shows it by a half-move from each of its positions:
+/// if one move decides, the tree goes on only after the deciding move with the smallest tree, otherwise
+/// after all moves. If the goal is reached or no move is left, the tree is empty.
 #[tactic(auto, using(chess_rules::proofs::listing_moves::Calls::playing))]
 fn smallest<R: Rules>(battle: Battle, board: &Board, left: usize) -> Shown
     requires { IsWellFormed board.now }
@@ -109,13 +110,13 @@ fn smallest<R: Rules>(battle: Battle, board: &Board, left: usize) -> Shown
     }
 }
 
-/// What a search for the keys of a battle comes to.
+/// The result of a search for the keys of a battle.
 #[derive(Clone, Copy, Default)]
 pub(crate) struct Tried {
-    /// The keys.
+    /// The number of keys.
     pub keys: u32,
-    /// From how many positions at least a half-move has to be tried: from the first, and from those of a smallest tree for each
-    /// first move.
+    /// The least number of positions that a search must try: the first, and all positions in a smallest
+    /// tree for each first move.
     pub positions: u64,
 }
 
@@ -148,7 +149,7 @@ fn try_all<R: Rules>(problem: &Problem) -> Tried {
     tried
 }
 
-/// The same under the rules of the problem's condition.
+/// Returns the keys, and the least number of positions to try, under the rules of the problem's condition.
 pub(crate) fn fewest_tried(problem: &Problem) -> Tried {
     match problem.condition() {
         None => try_all::<Orthodox>(problem),

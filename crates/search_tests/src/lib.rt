@@ -1,5 +1,5 @@
-//! Searches tried on whole problems whose solutions are known: their events, searches that are dropped early, and searches
-//! with just enough frames.
+//! Tests of searches on whole problems with known solutions: their events, searches that are dropped early,
+//! and searches with just enough frames.
 #![tactic(auto)]
 
 #[cfg(test)]

@@ -1,11 +1,12 @@
-//! Made help problems: few men on squares that look drawn, the same on each run.
+//! Generated help problems: few men on pseudorandom squares, equal on each run.
 ghost use Rattle.std.specs.Prelude.{◌<◌};
 
 use crate::row::posed;
 use arrayvec::ArrayVec;
 use pop_input::problem::Problem;
 
-/// Stipulations, with the letters of White's men, of Black's, and of fairy men: so few that the lines can be counted plainly.
+/// Stipulations, with the letters of White's men, of Black's and of fairy men; few enough men that plain
+/// counts are quick.
 const SHAPES: [(&str, &str, &str, &str); 12] = [
     ("h#0.5", "QR", "S", "N"),
     ("h#1", "QR", "P", ""),
@@ -21,7 +22,7 @@ const SHAPES: [(&str, &str, &str, &str); 12] = [
     ("h=2", "Q", "P", ""),
 ];
 
-/// Black's king stands at the edge, and White's mostly near him, so that many of the problems have solutions.
+/// Black's king is at the edge, and White's mostly near it, so that many of the problems have solutions.
 const WHITE_KINGS: [&str; 8] = [
     " Kf6", " Kg6", " Kf7", " Kg5", " Kf8", " Kf5", " Kd6", " Ke1",
 ];
@@ -41,7 +42,7 @@ const CONDITIONS: [&str; 8] = [
     " Condition Madrasi",
 ];
 
-/// A text that is put together.
+/// The text of a problem under construction, and the generator's state.
 #[derive(Drop)]
 struct Draft {
     text: ArrayVec<u8, 256>,
@@ -53,7 +54,7 @@ impl Draft {
         let _fits = self.text.try_extend_from_slice(words.as_bytes());
     }
 
-    /// One of so many numbers, by a linear congruential generator (Knuth, MMIX).
+    /// Returns a number below `count`, by a linear congruential generator (Knuth, MMIX).
     fn draw(&mut self, count: u64) -> u64
         requires { 0 < count }
         ensures { result < count }
@@ -65,7 +66,7 @@ impl Draft {
         (self.seed >> 33) % count
     }
 
-    /// A man of each letter, on a drawn square.
+    /// Puts a man of each letter on a drawn square.
     fn put_men(&mut self, letters: &str) {
         for letter in letters.as_bytes() {
             let file = self.draw(8) as u8;
@@ -76,7 +77,7 @@ impl Draft {
         }
     }
 
-    /// One of these words.
+    /// Puts one of these words.
     fn put_one(&mut self, words: &[&str; 8]) {
         let at = self.draw(8) as usize;
         self.put(words[at]);
@@ -93,7 +94,8 @@ impl Draft {
     }
 }
 
-/// The problem made from a number, with set play or without, and with a limit of solutions; nothing where it isn't sound.
+/// Returns the problem with this number, with or without set play and a limit of solutions; `None` if it
+/// isn't sound.
 pub(crate) fn made(number: u64, set_play: bool, limit: Option<u32>) -> Option<Problem> {
     let mut draft = Draft {
         text: ArrayVec::new(),

@@ -1,4 +1,4 @@
-//! The solutions of a problem as they are defined, to be compared: whole, by recursion over copied positions, with no
+//! A plain solver, for comparison: it follows the definitions, by recursion over copied positions, with no
 //! frames and no cutoffs.
 ghost use Rattle.std.specs.Prelude.{◌≡◌, ◌+◌, ◌≤◌};
 ghost use Rattle.chess_core.specs.WellFormed.{IsWellFormed};
@@ -11,7 +11,7 @@ use pop_events::{Event, Mark, Phase, Shown, Side};
 use pop_input::problem::Problem;
 use pop_input::stipulation::{Form, Goal};
 
-/// What is told of a phase: its first `limit` solutions, and how many they are.
+/// The text of a phase: its first `limit` solutions, and their number.
 #[derive(Drop)]
 struct Told {
     text: ArrayVec<u8, 4096>,
@@ -22,7 +22,7 @@ struct Told {
 }
 
 impl Told {
-    /// A solution begins, or is one too many.
+    /// Begins a solution, or notes that there are too many.
     fn begin(&mut self) {
         if self.count == self.limit {
             self.over = true;
@@ -31,7 +31,7 @@ impl Told {
         }
     }
 
-    /// A move of a tree.
+    /// Adds a move of a tree.
     fn node(&mut self, depth: u32, shown: Shown) {
         if depth == 0 {
             self.begin();
@@ -42,7 +42,7 @@ impl Told {
         }
     }
 
-    /// A line of help play.
+    /// Adds a line of help play.
     fn line(&mut self, path: &[Shown]) {
         self.begin();
         if !self.over {
@@ -61,7 +61,8 @@ impl Told {
     }
 }
 
-/// The man that has come back on another square than the arrival: one of the captured kind where none like it stood.
+/// Returns the man that was reborn, and its square: a man of the captured kind, not on the arrival, where
+/// no man of its kind and colour was before.
 fn reborn(before: &Board, after: &Board, captured: Man, arrival: Square) -> Option<(Man, Square)> {
     for number in 0..64u8 {
         let square = Square::numbered(number);
@@ -75,7 +76,7 @@ fn reborn(before: &Board, after: &Board, captured: Man, arrival: Square) -> Opti
     None
 }
 
-/// To which side a king castles: he goes more than one file.
+/// Returns the side to which the king castles: it goes more than one file.
 fn castling(man: Man, by: Move) -> Option<Side> {
     if man.kind != Kind::King || by.from.file().abs_diff(by.to.file()) < 2 {
         None
@@ -86,7 +87,7 @@ fn castling(man: Man, by: Move) -> Option<Side> {
     }
 }
 
-/// The square of the man that a move captures, if it captures one.
+/// Returns the square of the man that a move captures, if any.
 fn captured_on(before: &Board, man: Man, by: Move) -> Option<Square> {
     if before.man_at(by.to).is_some() {
         Some(by.to)
@@ -97,7 +98,7 @@ fn captured_on(before: &Board, man: Man, by: Move) -> Option<Square> {
     }
 }
 
-/// A move as it is shown, read off the positions before and after it.
+/// Returns a move as it is shown, from the positions before and after it.
 fn shown<R: Rules>(goal: Goal, before: &Board, after: &Board, by: Move) -> Shown
     requires { IsWellFormed after.now }
 {
@@ -133,14 +134,14 @@ fn shown<R: Rules>(goal: Goal, before: &Board, after: &Board, by: Move) -> Shown
     }
 }
 
-/// Whether the side to move is mated, or stalemated, whichever is the goal.
+/// Returns whether the side to move is mated or stalemated, whichever is the goal.
 pub(crate) fn is_goal_reached<R: Rules>(goal: Goal, board: &Board) -> bool
     requires { IsWellFormed board.now }
 {
     in_check::<R>(board, board.turn()) == (goal == Goal::Mate) && !can_move::<R>(board)
 }
 
-/// Whether it has a legal move.
+/// Returns whether the side to move has a legal move.
 pub(crate) fn can_move<R: Rules>(board: &Board) -> bool
     requires { IsWellFormed board.now }
 {
@@ -148,7 +149,8 @@ pub(crate) fn can_move<R: Rules>(board: &Board) -> bool
     has_legal_move::<R>(&mut here)
 }
 
-/// Whether the goal is reached, or the other side reaches it within so many further moves against every defence.
+/// Returns whether the goal is reached, or the other side reaches it within `moves` further moves against
+/// every defence.
 #[tactic(auto, using(chess_rules::proofs::listing_moves::Calls::playing))]
 fn is_lost<R: Rules>(goal: Goal, board: &Board, moves: u8) -> bool
     requires { IsWellFormed board.now }
@@ -177,7 +179,7 @@ fn is_lost<R: Rules>(goal: Goal, board: &Board, moves: u8) -> bool
     every
 }
 
-/// Whether the side to move forces the other side to reach the goal within so many moves.
+/// Returns whether the side to move forces the other side to reach the goal within `moves` moves.
 #[tactic(auto, using(chess_rules::proofs::listing_moves::Calls::playing))]
 fn self_wins<R: Rules>(goal: Goal, board: &Board, moves: u8) -> bool
     requires { IsWellFormed board.now }
@@ -204,7 +206,8 @@ fn self_wins<R: Rules>(goal: Goal, board: &Board, moves: u8) -> bool
     some
 }
 
-/// Whether after a move of White to this position he still wins within so many moves, that one counted.
+/// Returns whether White, after a move to this position, still wins within `moves` moves, this move
+/// counted.
 #[tactic(auto, using(chess_rules::proofs::listing_moves::Calls::playing))]
 fn keeps<R: Rules>(goal: Goal, selfmate: bool, board: &Board, moves: u8) -> bool
     requires { IsWellFormed board.now }
@@ -225,7 +228,7 @@ fn keeps<R: Rules>(goal: Goal, selfmate: bool, board: &Board, moves: u8) -> bool
     every
 }
 
-/// Whether White to move wins within so many moves.
+/// Returns whether White, to move, wins within `moves` moves.
 #[tactic(auto, using(chess_rules::proofs::listing_moves::Calls::playing))]
 fn wins<R: Rules>(goal: Goal, selfmate: bool, board: &Board, moves: u8) -> bool
     requires { IsWellFormed board.now }
@@ -247,7 +250,7 @@ fn wins<R: Rules>(goal: Goal, selfmate: bool, board: &Board, moves: u8) -> bool
     some
 }
 
-/// The smallest number of moves, up to `most`, within which White to move wins.
+/// Returns the smallest number of moves, up to `most`, within which White, to move, wins.
 fn least<R: Rules>(goal: Goal, selfmate: bool, board: &Board, most: u8) -> u8
     requires { IsWellFormed board.now }
     ensures { result ≤ most }
@@ -268,8 +271,8 @@ struct Battle {
     moves: u8,
 }
 
-/// The moves of White that win within so many moves, and below each, down to `left` further moves of White, the defences
-/// with the moves of least length against them.
+/// Adds White's moves that win within `moves` moves and, down to `left` further moves by White, the
+/// defences below each with the shortest continuations.
 #[cycle(tree)]
 #[tactic(auto, using(chess_rules::proofs::listing_moves::Calls::playing))]
 fn white<R: Rules>(told: &mut Told, battle: Battle, board: &Board, moves: u8, depth: u32, left: u8)
@@ -289,7 +292,7 @@ fn white<R: Rules>(told: &mut Told, battle: Battle, board: &Board, moves: u8, de
     }
 }
 
-/// The defences, and the moves of least length against them.
+/// Adds the defences, with the shortest continuations.
 #[cycle(tree)]
 #[tactic(auto, using(chess_rules::proofs::listing_moves::Calls::playing))]
 fn black<R: Rules>(told: &mut Told, battle: Battle, board: &Board, depth: u32, left: u8)
@@ -316,7 +319,7 @@ fn black<R: Rules>(told: &mut Told, battle: Battle, board: &Board, depth: u32, l
     }
 }
 
-/// Set play: the first moves of Black after which White still wins, and the moves of least length against them.
+/// Adds set play: the first moves by Black after which White still wins, with the shortest continuations.
 #[tactic(auto, using(chess_rules::proofs::listing_moves::Calls::playing))]
 fn set<R: Rules>(told: &mut Told, battle: Battle, board: &Board, left: u8)
     requires { IsWellFormed board.now }
@@ -338,7 +341,7 @@ fn set<R: Rules>(told: &mut Told, battle: Battle, board: &Board, left: u8)
     }
 }
 
-/// The lines of so many further half-moves in whose last position the goal is reached.
+/// Adds the lines of `left` further half-moves that reach the goal.
 #[tactic(auto, using(chess_rules::proofs::listing_moves::Calls::playing))]
 fn help<R: Rules>(
     told: &mut Told,
@@ -368,7 +371,7 @@ fn help<R: Rules>(
     }
 }
 
-/// A phase from its first position.
+/// Adds a phase from its first position.
 fn phase<R: Rules>(
     told: &mut Told,
     problem: &Problem,
@@ -411,7 +414,8 @@ fn phase<R: Rules>(
     }
 }
 
-/// The first position of a phase: set play gives the move to the other side and has no crossed square.
+/// Returns the first position of a phase: set play gives the move to the other side and clears the en
+/// passant square.
 pub(crate) fn first_diagram(problem: &Problem, in_set: bool) -> Diagram {
     let mut diagram = problem.diagram();
     if in_set {
@@ -421,7 +425,7 @@ pub(crate) fn first_diagram(problem: &Problem, in_set: bool) -> Diagram {
     diagram
 }
 
-/// The text of a phase.
+/// Adds the text of a phase.
 fn tell_phase<R: Rules>(told: &mut Told, problem: &Problem, in_set: bool) {
     let diagram = first_diagram(problem, in_set);
     if !diagram.is_well_formed() {
@@ -459,7 +463,7 @@ fn tell_phase<R: Rules>(told: &mut Told, problem: &Problem, in_set: bool) {
     );
 }
 
-/// The text of all events of a problem.
+/// Returns the text of all events of a problem.
 pub(crate) fn solve<R: Rules>(problem: &Problem) -> ArrayVec<u8, 4096> {
     let mut told = Told {
         text: ArrayVec::new(),

@@ -16,8 +16,8 @@ use pop_solve::search::Search;
 use pop_text::trial_sink::TrialSink;
 use pop_text::trial_source::TrialSource;
 
-/// A row of the table `tests/rows`: a problem, the text of its events, and the least and the most positions that a search
-/// may try, where they are known.
+/// A row of `tests/rows`: a problem, the text of its events, and the least and the most positions that a
+/// search may try, where they are known.
 pub(crate) struct Row {
     pub(crate) name: &'static str,
     pub(crate) input: &'static [u8],
@@ -28,8 +28,9 @@ pub(crate) struct Row {
 /// More events than any row has.
 const ALL: u64 = 1000;
 
-/// What a search has given: the text of its events, their number, what `given` and `opened` say then, and the most frames
-/// that were in use; how many of three more calls gave an event, and what `given` says after these.
+/// The outcome of a search: the text and number of its events, what `given` and `opened` then return, and
+/// the most frames in use; and after three more calls, how many of them returned an event and what `given`
+/// returns.
 #[derive(Drop)]
 struct Given {
     text: ArrayVec<u8, 4096>,
@@ -48,7 +49,7 @@ pub(crate) fn tell(event: &Event, text: &mut ArrayVec<u8, 4096>) {
     let _fits = text.try_extend_from_slice(sink.text());
 }
 
-/// The half-moves of a problem.
+/// Returns the number of half-moves of a problem.
 #[tactic(auto, using(pop_solve::proofs::Sound::in_range))]
 pub(crate) fn half_moves(problem: &Problem) -> usize
     ensures value { result ≡ half_moves problem.now.stipulation }
@@ -57,7 +58,7 @@ pub(crate) fn half_moves(problem: &Problem) -> usize
     problem.stipulation().half_moves()
 }
 
-/// A search that is dropped after so many events.
+/// Runs a search that is dropped after `most` events.
 fn run<R: Rules, const N: usize>(problem: &Problem, most: u64) -> Given
     requires rule { R.rule ≡ rule_of problem.now.condition }
     requires room { half_moves problem.now.stipulation < N }
@@ -93,7 +94,7 @@ fn run<R: Rules, const N: usize>(problem: &Problem, most: u64) -> Given
     }
 }
 
-/// A search with just enough frames; nothing where no row has so many half-moves.
+/// Runs a search with just enough frames; `None` if no row has this number of half-moves.
 fn run_tight<R: Rules>(problem: &Problem) -> Option<Given>
     requires { R.rule ≡ rule_of problem.now.condition }
 {
@@ -110,7 +111,8 @@ fn run_tight<R: Rules>(problem: &Problem) -> Option<Given>
 }
 
 impl Given {
-    /// Whether the search gave this text and ended: each call after the last event returns `None`, and changes no count.
+    /// Returns whether the search returned this text and ended: each call after the last event returns
+    /// `None` and changes no count.
     fn ends(&self, text: &[u8]) -> bool {
         self.text.as_slice() == text
             && self.given == self.events
@@ -118,7 +120,8 @@ impl Given {
             && self.given_after == self.events
     }
 
-    /// Whether the search, dropped after this many events, gave the beginning of a whole text, and would have given the rest.
+    /// Returns whether the search, dropped after this number of events, returned the beginning of the whole
+    /// text and would have returned the rest.
     fn begins(&self, events: u64, whole: &Given) -> bool {
         self.events == events
             && self.given == events
@@ -128,8 +131,8 @@ impl Given {
     }
 }
 
-/// Whether searches under the problem's rules give the row's events: one up to its end, one with just enough frames, and one
-/// that is dropped after each number of events.
+/// Returns whether searches under the problem's rules return the row's events: one to its end, one with
+/// just enough frames, and one dropped after each number of events.
 fn is_searched_under<R: Rules>(problem: &Problem, row: &Row) -> bool
     requires { R.rule ≡ rule_of problem.now.condition }
 {
@@ -156,7 +159,7 @@ fn is_searched_under<R: Rules>(problem: &Problem, row: &Row) -> bool
     true
 }
 
-/// Whether searches do all that they must for the row's problem.
+/// Returns whether searches do all that they must for the row's problem.
 pub(crate) fn is_searched(row: &Row) -> bool {
     let Some(problem) = read(row.input) else {
         return false;
@@ -168,18 +171,18 @@ pub(crate) fn is_searched(row: &Row) -> bool {
     }
 }
 
-/// Whether a search gives the text of the plain solutions.
+/// Returns whether a search returns the text of the plain solver.
 fn agrees_under<R: Rules>(problem: &Problem) -> bool
     requires { R.rule ≡ rule_of problem.now.condition }
 {
-    // For the proof: a stipulation that was read has at most 32 half-moves.
+    // For the proof: the stipulation of a problem that was read has at most 32 half-moves.
     let _half_moves = half_moves(problem);
     let given = run::<R, 33>(problem, ALL);
     let plain = solve::<R>(problem);
     given.text.as_slice() == plain.as_slice()
 }
 
-/// The problem of men, a stipulation and the rest; nothing where it isn't sound.
+/// Returns the problem with these men, stipulation and options, or `None` if it isn't sound.
 pub(crate) fn posed(men: &[u8], stipulation: &str, rest: &str) -> Option<Problem> {
     let parts: [&[u8]; 7] = [
         b"BeginProblem Pieces ",
@@ -197,7 +200,7 @@ pub(crate) fn posed(men: &[u8], stipulation: &str, rest: &str) -> Option<Problem
     read(text.as_slice())
 }
 
-/// The first problem of a text; nothing where it isn't sound.
+/// Returns the first problem of a text, or `None` if it isn't sound.
 fn read(text: &[u8]) -> Option<Problem> {
     let mut source = TrialSource::new(text, 4096, None);
     let mut reader = Reader::new();
@@ -207,7 +210,8 @@ fn read(text: &[u8]) -> Option<Problem> {
     }
 }
 
-/// The same of a problem put together of its men, its stipulation and its options; nothing of one that isn't sound.
+/// Returns whether a search agrees with the plain solver on the problem with these men, stipulation and
+/// options; `None` if it isn't sound.
 pub(crate) fn agrees(men: &str, stipulation: &str, rest: &str) -> Option<bool> {
     let problem = posed(men.as_bytes(), stipulation, rest)?;
     Some(match problem.condition() {

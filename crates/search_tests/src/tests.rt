@@ -1,4 +1,4 @@
-//! Rows by their stipulation, and searches beside the plain solutions.
+//! Rows, and comparisons with the plain solver.
 mod agreements;
 mod opened;
 mod printing;

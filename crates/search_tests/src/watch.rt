@@ -1,4 +1,4 @@
-//! What a search says of the frames that it has opened, at each of its events.
+//! What a search says of the positions that it has tried, at each of its events.
 ghost use Rattle.std.specs.Prelude.{◌≡◌};
 ghost use Rattle.pop_input.specs.Posed.{rule_of};
 
@@ -14,19 +14,19 @@ use std::process::Abort;
 /// More events than any problem here has.
 const ALL: u32 = 1_000_000;
 
-/// What a search gave.
+/// The counts of a search.
 #[derive(Clone, Copy, Default)]
 pub(crate) struct Seen {
-    /// The frames opened when set play ended, and at the end.
+    /// The positions tried when set play ended, and at the end.
     pub after_set: u64,
     pub opened: u64,
-    /// The solutions of all phases, and of the one that has most.
+    /// The solutions of all phases, and of the phase with most.
     pub solutions: u32,
     pub most: u32,
-    /// Phases that the limit ended, and set play that isn't possible.
+    /// The phases that the limit stopped, and set play that isn't possible.
     pub stopped: u32,
     pub barred: u32,
-    /// Lines and nodes with a check that is no mate, and those with a rebirth.
+    /// The lines and nodes with a check that is no mate, and with a rebirth.
     pub checks: u32,
     pub rebirths: u32,
 }
@@ -56,16 +56,16 @@ impl Seen {
     }
 }
 
-/// From how many positions the moves of the lines and nodes given so far go on: a frame has been opened for each.
+/// The number of positions from which the lines and nodes so far go on: the search must have tried each.
 #[derive(Drop)]
 struct Stood {
     line: ArrayVec<Shown, 32>,
-    /// The depth from which on a node is the first below another.
+    /// A node of this depth or more is the first below another node.
     below: u32,
     positions: u64,
 }
 
-/// With how many moves both lines begin.
+/// Returns the number of moves with which both lines begin.
 fn alike(one: &[Shown], other: &[Shown]) -> usize {
     let length = one.len().min(other.len());
     for k in 0..length {
@@ -83,7 +83,7 @@ impl Stood {
         self.below = 0;
     }
 
-    /// A line goes on from a position for each of its moves. Those up to the first other move are the last line's too.
+    /// Counts a position for each move of a line, but not those shared with the line before.
     fn line(&mut self, moves: &[Shown]) {
         let shared = if self.line.is_empty() {
             0
@@ -96,7 +96,7 @@ impl Stood {
         let _fits = self.line.try_extend_from_slice(moves);
     }
 
-    /// The first node below another goes on from the position after that.
+    /// Counts a position for the first node below another: it goes on from the position after that node.
     fn node(&mut self, depth: u32) {
         if depth >= self.below {
             self.positions = self.positions.saturating_add(1);
@@ -105,7 +105,7 @@ impl Stood {
     }
 }
 
-/// Takes an event in.
+/// Counts an event.
 fn note(event: &Event, opened: u64, seen: &mut Seen, stood: &mut Stood) {
     match event {
         Event::Phase(phase) => {
@@ -131,8 +131,8 @@ fn note(event: &Event, opened: u64, seen: &mut Seen, stood: &mut Stood) {
     }
 }
 
-/// Searches to the end. After each event `opened()` is no less than before, no less than the positions from which the given
-/// moves go on, and at most `most`; after the end it stays.
+/// Runs a search to its end. After each event `opened()` hasn't fallen, is at least the number of positions
+/// from which the shown moves go on, and at most `most`; after the end it stays.
 fn watch_under<R: Rules>(rt: &impl Abort, problem: &Problem, most: u64) -> Seen
     requires { R.rule ≡ rule_of problem.now.condition }
 {
@@ -162,7 +162,7 @@ fn watch_under<R: Rules>(rt: &impl Abort, problem: &Problem, most: u64) -> Seen
     seen
 }
 
-/// The same under the rules of the problem's condition.
+/// Runs a search to its end under the rules of the problem's condition.
 pub(crate) fn watch(rt: &impl Abort, problem: &Problem, most: u64) -> Seen {
     match problem.condition() {
         None => watch_under::<Orthodox>(rt, problem, most),

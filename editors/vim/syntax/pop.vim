@@ -1,4 +1,4 @@
-" Texts of problems for pops. Words are parted by blanks; most may be cut to three letters.
+" Texts of problems for pops. Blanks separate words; most words may be shortened to three letters.
 if exists('b:current_syntax')
   finish
 endif

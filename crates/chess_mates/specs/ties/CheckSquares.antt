@@ -20,27 +20,27 @@ use Rattle.chess_rules.specs.ties.Lines.{is_two_files_aside}
 use Rattle.chess_rules.specs.ties.Shields.{may_expose, may_stand_between}
 use Rattle.chess_rules.specs.ties.Targets.{may_go}
 
--- it is a fairy man, and none of its colour and kind stands on the board
+-- x is a fairy man, and no man of its colour and kind is on the board
 abbrev pub is_absent : List (Option Man) → Man → Bool
 is_absent men x = is_fairy x.kind && not (some_square (λ q. is_man (man_on men q) x.colour x.kind))
 
--- x, on t, may give check to a king on this square, if there is one; a fairy man of whom none stands on the
--- board may from everywhere
+-- x on t may give check to a king on this square, if there is one; a fairy man of an absent kind may from
+-- everywhere
 abbrev pub may_check_from_at : List (Option Man) → Option ℕ → Man → ℕ → Bool
 may_check_from_at men None x t = false
 may_check_from_at men (Some k) x t = is_absent men x || reaches_as men x.colour x.kind t k
 
--- x, on t, may give check to the king of colour c
+-- x on t may give check to the king of colour c
 unfoldable pub may_check_from : List (Option Man) → Colour → Man → ℕ → Bool
 may_check_from men c x t = may_check_from_at men (king_square men c) x t
 
--- a man who is reborn gives no check, nor uncovers one: in Circe, where colour e, which captures, has no
--- grasshopper to which he might be a hurdle
+-- a reborn man neither gives check nor uncovers one: in Circe, if colour e, which captures, has no
+-- grasshopper for which it could be a hurdle
 unfoldable pub are_rebirths_quiet : RuleSet → List (Option Man) → Colour → Bool
 are_rebirths_quiet rule men e =
     captures_are_reborn rule && is_absent men (record { colour = e; kind = Grasshopper })
 
--- the rules by which it is told what moves of colour e uncover: the orthodox ones, where rebirths are quiet
+-- the rules that decide what moves of colour e uncover: the orthodox ones if rebirths are quiet
 abbrev pub rule_of_checks : RuleSet → List (Option Man) → Colour → RuleSet
 rule_of_checks rule men e = if are_rebirths_quiet rule men e then orthodox else rule
 
@@ -52,8 +52,8 @@ enemy c j = record { colour = other c; kind = j }
 abbrev pub own_man : Position → Kind → Man
 own_man p j = record { colour = p.turn; kind = j }
 
--- the words are those of the squares from which a move may expose the king of colour c, of the lines to it with
--- a fairy man, and of the squares from which its enemies of each kind but kings may give check to it
+-- s holds the squares from which a move may expose the king of colour c, its fairy lines, and the squares
+-- from which its enemies of each kind but kings may give check to it
 pub record AreCheckSquares (men : List (Option Man)) (c : Colour)
     (s : CheckSquares) : Type 0 where
   pub shield_squares : s.shield_squares ≡ word (may_expose men c)
@@ -65,7 +65,7 @@ pub record AreCheckSquares (men : List (Option Man)) (c : Colour)
   pub grasshopper : s.grasshopper ≡ word (may_check_from men c (enemy c Grasshopper))
   pub nightrider : s.nightrider ≡ word (may_check_from men c (enemy c Nightrider))
 
--- of these words that of a kind: a king who stood where he gives check would be in check himself
+-- the check squares for a kind; none for a king, which would be in check itself where it gives check
 abbrev pub check_squares_for : CheckSquares → Kind → ℕ
 check_squares_for s King = 0
 check_squares_for s Queen = bit_or s.straight s.diagonal
@@ -82,18 +82,18 @@ pub record AreCheckTargets (rule : RuleSet) (p : Position) (s w : ℕ) : Type 0 
       → (bit_at w m.to == 1) ≡ false → in_check rule (position_after rule p m).men (other p.turn)
       ≡ false
 
--- halfway to a square two files beside s that isn't in the word, a rook gives no check
+-- from halfway to a square two files to either side of s, unless that square is in w, a rook gives no check
 pub record AreCastlingTargets (v : CheckSquares) (s w : ℕ) : Type 0 where
   pub elsewhere : (t : ℕ) → t < 64 → is_two_files_aside s t ≡ true → (bit_at w t == 1) ≡ false
       → (bit_at v.straight ((s + t) / 2) == 1) ≡ false
 
--- a legal move gives no check, if it goes from a square not in the word
+-- a legal move from a square outside w gives no check
 pub record AreCheckOrigins (rule : RuleSet) (p : Position) (w : ℕ) : Type 0 where
   pub elsewhere : (m : Move) → m.from < 64 → m.to < 64 → is_legal rule p m ≡ true
       → (bit_at w m.from == 1) ≡ false → in_check rule (position_after rule p m).men (other p.turn)
       ≡ false
 
--- the word has each square from which this man, whoever else stands there, may go to one of the targets
+-- w holds each square from which this man, on some board, may go to one of the targets
 pub record AreApproaches (x : Man) (targets w : ℕ) : Type 0 where
   pub approach : (p : Position) (s t : ℕ) → s < 64 → t < 64 → may_go p x s t ≡ true
       → (bit_at targets t == 1) ≡ true → (bit_at w s == 1) ≡ true

@@ -1,4 +1,4 @@
--- Flights: the squares to which a king may go (a composer's word; the moves are the Laws').
+-- Flights: the squares where a king may go (a composers' word; the moves are those that the Laws allow).
 use Rattle.std.specs.Prelude.{◌≡◌, ⊤, ◌<◌, ℕ, Bool, true, false, ◌&&◌, ◌==◌, not, List, Option, Some, None, is_some}
 use Rattle.std.specs.Int.{bit_at, bit_not, w64}
 use Rattle.std.specs.Int.Bits.{bit_and, bit_or}
@@ -35,25 +35,26 @@ is_flight rule p t = is_flight_at rule p (king_square p.men p.turn) t
 unfoldable pub has_flight : RuleSet → Position → Bool
 has_flight rule p = some_square (is_flight rule p)
 
--- a king of colour c on k may step to t, attacks apart: no man of its own and no king stands there, and in
--- Circe, where a man that is captured may be reborn, nobody
+-- a king of colour c on k may step to t, attacked or not: no man of its own and no king is there, and in
+-- Circe, where a captured man may be reborn, nobody
 unfoldable pub is_open : RuleSet → List (Option Man) → Colour → ℕ → ℕ → Bool
 is_open rule men c k t =
     reaches_as men c King k t && is_arrival_free c (man_on men t)
     && not (captures_do_more rule && is_some (man_on men t))
 
--- the king of colour c on k may step so to each square of the word
+-- the king of colour c on k may step to each square of w, attacked or not
 pub record AreOpen (rule : RuleSet) (men : List (Option Man)) (c : Colour) (k w : ℕ) : Type 0 where
   pub inside : (t : ℕ) → t < 64 → (bit_at w t == 1) ≡ true → is_open rule men c k t ≡ true
 
--- the same, and without Circe to no other, after a move of x, unless x is a king
+-- after a move by x, not a king, the king of colour c on k may step to exactly the squares of w, attacked
+-- or not; in Circe perhaps to others
 pub record AreSteps (rule : RuleSet) (men : List (Option Man)) (x : Man) (c : Colour) (k w : ℕ) : Type
     0 where
   pub inside : (t : ℕ) → t < 64 → (bit_at w t == 1) ≡ true → is_open rule men c k t ≡ true
   pub outside : same_kind x.kind King ≡ false → captures_do_more rule ≡ false → (t : ℕ) → t < 64
       → (bit_at w t == 1) ≡ false → is_open rule men c k t ≡ false
 
--- x may make the simple move m, and the enemy king stands on k: x doesn't come next to it if it is a king
+-- x may make the simple move m, and the enemy king is on k; if x is a king, it doesn't arrive next to k
 pub record IsSeenFrom (rule : RuleSet) (p : Position) (m : Move) (x : Man) (k : ℕ) : Type 0 where
   pub well_formed : IsWellFormed p
   pub pseudo : is_pseudo_legal rule p m ≡ true
@@ -62,59 +63,58 @@ pub record IsSeenFrom (rule : RuleSet) (p : Position) (m : Move) (x : Man) (k : 
   pub simple : is_simple rule x m (is_some (capture_square p x m)) ≡ true
   pub king : king_square p.men (other p.turn) ≡ Some k
 
--- the words once a man has gone from a to b, the man on o is gone, and the enemy king is lifted from k: the man
--- that went doesn't count
+-- the sight after a man has gone from a to b, the man on o has left the board, and the enemy king is lifted
+-- from k; the moved man isn't among the standing men
 abbrev pub sight_lifted : List (Option Man) → ℕ → Option ℕ → ℕ → ℕ → Sight
 sight_lifted men a o b k = record {
   occupied = bit_and (sight_after men a o b).occupied (bit_not w64 (word (is_square (Some k))));
   standing = bit_and (sight_after men a o b).standing (bit_not w64 (word (is_square (Some a))));
 }
 
--- the words once that king stands on t, whoever stood there
+-- the sight after the lifted king is put on t, whoever was there
 abbrev pub sight_with : Sight → ℕ → Sight
 sight_with v t = record {
   occupied = bit_or v.occupied (word (is_square (Some t)));
   standing = bit_and v.standing (bit_not w64 (word (is_square (Some t))));
 }
 
--- t is one of the word's squares, and there no man of colour c, the one that moved apart, reaches the king
--- who stands on it
+-- t is a square of w, and no man of colour c but the moved one reaches the king there
 pub record IsSafe (before : List (Option Man)) (c : Colour) (v : Sight) (w t : ℕ) : Type 0 where
   pub small : t < 64
   pub here : (bit_at w t == 1) ≡ true
   pub unreached : (men : List (Option Man)) → AreSeen before men c (sight_with v t)
       → is_reached men t c ≡ false
 
--- the words once that king, lifted from k, stands on t: of his side the others count
+-- the sight after the lifted king of k is put on t; the king isn't among the standing men
 abbrev pub sight_stepped : Sight → ℕ → ℕ → Sight
 sight_stepped v k t = record {
   occupied = (sight_with v t).occupied;
   standing = bit_and (sight_with v t).standing (bit_not w64 (word (is_square (Some k))));
 }
 
--- no other man of the side that steps from k to t reaches s then, where the mover, of colour c, has his king
+-- after the step from k to t no man of the stepping side but the king reaches s, where the mover, of colour
+-- c, has its king
 pub record IsQuietTo (before : List (Option Man)) (c : Colour) (v : Sight) (k t s : ℕ) : Type 0 where
   pub unreached : (men : List (Option Man)) → AreSeen before men (other c) (sight_stepped v k t)
       → is_reached men s (other c) ≡ false
 
--- on each of the word's squares a man of colour c, the one that moved apart, reaches the king who stands
--- there
+-- on each square of w a man of colour c other than the moved one reaches the king there
 pub record AreUnsafe (before : List (Option Man)) (c : Colour) (v : Sight) (w : ℕ) : Type 0 where
   pub reached : (t : ℕ) → t < 64 → (bit_at w t == 1) ≡ true → (men : List (Option Man))
       → AreSeen before men c (sight_with v t) → is_reached men t c ≡ true
 
--- the king of the side to move has no legal move where he is in check
+-- the king of the side to move has no legal move if it is in check
 pub record IsFlightless (rule : RuleSet) (p : Position) : Type 0 where
   pub stays : in_check rule p.men p.turn ≡ true → (m : Move) → is_of_others p m ≡ false
       → is_legal rule p m ≡ false
 
--- it is so what is told of the flights of the side to move
+-- what is known of the flights of the side to move is true
 abbrev pub IsTold : RuleSet → Position → Flights → Type 0
 IsTold rule p Left = has_flight rule p ≡ true
 IsTold rule p NoneLeft = IsFlightless rule p
 IsTold rule p Untold = ⊤
 
--- no enemy of the side to move reaches this king, one of its men, once he has stepped from k to t
+-- no enemy of the side to move reaches its king x after the step from k to t
 pub record IsUnreached (p : Position) (x : Man) (k t : ℕ) : Type 0 where
   pub none : (men : List (Option Man))
       → AreSeen p.men men (other p.turn) (sight_after p.men k

@@ -1,4 +1,4 @@
--- A move that may not be made doesn't mate (own).
+-- A move that isn't pseudo-legal doesn't mate (own).
 use Rattle.std.specs.Prelude.{◌≡◌, false}
 use Rattle.std.proofs.lemmas.Bool.{and_left}
 use Rattle.chess_core.specs.Position.{Position}

@@ -1,5 +1,5 @@
--- Flights that the other side can't take with one move: none of its men would reach them, whoever else stood on the
--- board (a composer's word; own).
+-- Flights that the other side can't take with one move: none of its men would reach them on any board (a
+-- composers' word; own).
 use Rattle.std.specs.Prelude.{◌≡◌, ◌≢◌, ◌<◌, ◌==◌, ℕ, Bool, true, false, List, Option}
 use Rattle.std.specs.Int.{bit_at}
 use Rattle.std.specs.List.{list_any}
@@ -16,22 +16,22 @@ use Rattle.chess_mates.specs.ties.Attackers.{IsAttacker, is_promotion}
 use Rattle.chess_rules.specs.Reaches.{leaps, reaches_as}
 use Rattle.chess_rules.specs.ties.Targets.{AreReached, is_promoting, may_go}
 
--- the word has each square from which x reaches t, whoever else stands on the board
+-- w holds each square from which x reaches t on some board
 pub record AreApproached (x : Man) (t w : ℕ) : Type 0 where
   pub inside : (men : List (Option Man)) (s : ℕ) → s < 64
       → reaches_as men x.colour x.kind s t ≡ true
       → (bit_at w s == 1) ≡ true
 
--- it has those that each of these men reaches
+-- w holds all squares that these men reach on some board
 pub record AreGuarded (a : Attackers) (w : ℕ) : Type 0 where
   pub guards : (s : ℕ) (x : Man) → IsAttacker a x s → AreReached x s w
 
--- it has those to which x on s might go, by `may_go`
+-- w holds all squares to which x on s may go on some board, by `may_go`
 pub record AreTargets (x : Man) (s w : ℕ) : Type 0 where
   pub inside : (p : Position) (t : ℕ) → t < 64 → may_go p x s t ≡ true
       → (bit_at w t == 1) ≡ true
 
--- the squares to which a kind's men might go
+-- the squares where men of a kind may go
 abbrev pub targets_for : OpenTargets → Kind → ℕ
 targets_for o King = o.kings
 targets_for o Queen = o.queens
@@ -42,7 +42,8 @@ targets_for o Pawn = o.pawns
 targets_for o Grasshopper = o.grasshoppers
 targets_for o Nightrider = o.nightriders
 
--- x may be z once he has come to t: himself, or on his last rank what a pawn becomes, a fairy man only with b
+-- x may be z after arriving on t: itself, or on its last rank what a pawn may promote to; a fairy man only
+-- with b
 pub record MayBecome (b : Bool) (x : Man) (t : ℕ) (z : Man) : Type 0 where
   pub mine : z.colour ≡ x.colour
   pub same : is_promoting x t ≡ false → z.kind ≡ x.kind
@@ -54,38 +55,38 @@ counts_as Rook = Queen
 counts_as Bishop = Queen
 counts_as k = k
 
--- the word of each kind has those where x from s becomes a man who counts as one
+-- the targets of each kind hold the squares where x from s promotes to a man that counts as this kind
 pub record ArePromoted (b : Bool) (o : OpenTargets) (x : Man) (s : ℕ) : Type 0 where
   pub inside : (p : Position) (z : Man) (t : ℕ) → t < 64 → may_go p x s t ≡ true
       → is_promoting x t ≡ true → MayBecome b x t z
       → (bit_at (targets_for o (counts_as z.kind)) t == 1) ≡ true
 
--- those of each of these men are among his kind's, those of pawns who are promoted among those of what they become, and
--- what they reach now is guarded
+-- the targets of each of these men are among those for its kind, the targets of promoting pawns are among
+-- those for what they become, and all that these men reach now is guarded
 pub record AreOpenTargets (a : Attackers) (o : OpenTargets) : Type 0 where
   pub guards : AreGuarded a o.guarded
   pub targets : (s : ℕ) (x : Man) → IsAttacker a x s → AreTargets x s (targets_for o x.kind)
   pub promoted : (s : ℕ) (x : Man) → IsAttacker a x s → ArePromoted a.fairy_promotions o x s
 
--- once x has come to t, f is left of the word: he stands on another square, and doesn't reach f, whoever else
--- stands on the board
+-- after x has arrived on t, f remains of the squares w: x is on another square and doesn't reach f on any
+-- board
 pub record IsLeft (w : ℕ) (x : Man) (t f : ℕ) : Type 0 where
   pub small : f < 64
   pub on : (bit_at w f == 1) ≡ true
   pub off : f ≢ t
   pub unreached : (men : List (Option Man)) → reaches_as men x.colour x.kind t f ≡ false
 
--- wherever x goes from s, and whatever he becomes there, a square of the word is left, and he doesn't castle
+-- wherever x goes from s, and whatever it becomes there, a square of w remains; and x can't castle
 pub record LeavesOne (b : Bool) (w : ℕ) (x : Man) (s : ℕ) : Type 0 where
   pub left : (p : Position) (z : Man) (t : ℕ) → t < 64 → may_go p x s t ≡ true → MayBecome b x t z
       → (f : ℕ) × IsLeft w z t f
   pub away : same_kind x.kind King ≡ true → (s ≢ e1) × (s ≢ e8)
 
--- so does each of these men
+-- wherever any of these men goes, a square of w remains
 pub record LeaveOne (a : Attackers) (w : ℕ) : Type 0 where
   pub leaves : (s : ℕ) (x : Man) → IsAttacker a x s → LeavesOne a.fairy_promotions w x s
 
--- squares next to k on which no man of the mover stands, neither before the move nor after it, nor the enemy's king
+-- squares next to k without a man of the mover, before and after the move, and without the enemy king
 pub record AreNear (p : Position) (m : Move) (k w : ℕ) : Type 0 where
   pub next : (f : ℕ) → f < 64 → (bit_at w f == 1) ≡ true → list_any (leaps k f) queen_steps ≡ true
   pub arrival : (f : ℕ) → f < 64 → (bit_at w f == 1) ≡ true → f ≢ m.to
@@ -94,7 +95,7 @@ pub record AreNear (p : Position) (m : Move) (k w : ℕ) : Type 0 where
   pub king : (f : ℕ) → f < 64 → (bit_at w f == 1) ≡ true
       → is_man (man_on p.men f) (other p.turn) King ≡ false
 
--- these men can't take each square of the word with one move: one is left of those that they don't guard
+-- these men can't take all squares of w with one move: one remains of those that they don't guard
 pub record KeepsOne (a : Attackers) (w : ℕ) : Type 0 where
   pub squares : ℕ
   pub guarded : ℕ

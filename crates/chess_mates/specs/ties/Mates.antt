@@ -1,4 +1,4 @@
--- Moves that mate, and places among them (own).
+-- Moves that mate, and cursors among them (own).
 use Rattle.std.specs.Prelude.{◌≡◌, ℕ, Bool, true, not, ◌&&◌, ◌-◌, List, [], ◌∷◌, ◌++◌, filter}
 use Rattle.chess_core.specs.Position.{Position, other}
 use Rattle.chess_core.specs.declared.man.Move.{Move}
@@ -16,11 +16,11 @@ use Rattle.chess_mates.specs.ties.StandingFlights.{AreStandingFlights}
 abbrev pub is_mating : RuleSet → Position → Move → Bool
 is_mating rule p m = is_mate rule (position_after rule p m)
 
--- the legal moves behind a place that mate
+-- the mating moves after a cursor
 unfoldable pub mates_behind : RuleSet → Position → ℕ → List Move
 mates_behind rule p place = filter (is_mating rule p) (moves_behind rule p place)
 
--- those of them that don't lie behind another
+-- the mating moves after one cursor and not after another
 unfoldable pub mates_between : RuleSet → Position → ℕ → ℕ → List Move
 mates_between rule p place end = filter (is_mating rule p) (moves_between rule p place end)
 
@@ -28,7 +28,7 @@ mates_between rule p place end = filter (is_mating rule p) (moves_between rule p
 abbrev pub allows_mate : RuleSet → Position → Move → Bool
 allows_mate rule p m = not (is_nil (mates_behind rule (position_after rule p m) 0))
 
--- from one place to another the moves `over`, none of which mates, are passed, and then m, which mates
+-- from one cursor to the next are the moves `over`, none of which mates, and then m, which mates
 pub record IsNextMate (rule : RuleSet) (p : Position) (old new : ℕ) (m : Move) : Type 0 where
   pub over : List Move
   pub passed : moves_behind rule p old ≡ over ++ moves_behind rule p (new - 1)
@@ -36,22 +36,22 @@ pub record IsNextMate (rule : RuleSet) (p : Position) (old new : ℕ) (m : Move)
   pub here : moves_behind rule p (new - 1) ≡ m ∷ moves_behind rule p new
   pub mates : is_mating rule p m ≡ true
 
--- the move is legal, and the side that is then to move is mated
+-- the move is legal, and the side then to move is mated
 unfoldable pub mates : RuleSet → Position → Move → Bool
 mates rule p m = is_legal rule p m && is_mate rule (position_after rule p m)
 
--- the clues are of this position
+-- the clues belong to this position
 pub record AreMateClues (rule : RuleSet) (p : Position) (v : MateClues) : Type 0 where
   pub checks : AreCheckSquares p.men (other p.turn) v.checks
   pub flights : AreStandingFlights rule p v.flights
 
--- a place in a position, with what tells of a move there that it doesn't mate, and with what is kept of one origin
+-- a cursor in a position: its number, what rules out that a move mates, and the candidates of one origin
 pub record MatingPlace : Type 0 where
   pub place : ℕ
   pub clues : MateClues
   pub kept : Kept
 
--- the place is one in this position
+-- the cursor belongs to this position
 pub record IsMatingPlaceIn (rule : RuleSet) (p : Position) (v : MatingPlace) : Type 0 where
   pub clues : AreMateClues rule p v.clues
   pub kept : AreKept rule p (mates rule p) v.kept

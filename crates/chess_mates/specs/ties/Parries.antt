@@ -1,4 +1,4 @@
--- Checks that another man than the king parries, told before they are given (own).
+-- Parries by men other than the king, found before the check is given (own).
 use Rattle.std.specs.Prelude.{◌≡◌, ⊤, ◌<◌, ◌==◌, ℕ, Bool, true, false, List, Option, None, Some, not, ◌&&◌, ◌||◌, ◌⊎◌}
 use Rattle.std.specs.Int.{bit_at, bit_not, w64}
 use Rattle.std.specs.Int.Bits.{bit_and, bit_or}
@@ -21,8 +21,8 @@ use Rattle.chess_rules.specs.ties.Lines.{is_advance, is_on_some, occupied_square
 use Rattle.chess_rules.specs.ties.Shields.{cannot_expose, is_fairy, may_expose, may_stand_between}
 use Rattle.chess_rules.specs.ties.Sifting.{is_of_others}
 
--- parries of the move m of x are told: no king goes and nobody is promoted, the move opens no line to the enemy
--- king, nobody is reborn, and no man stands still
+-- parries of the move m of x are computed: x is no king and doesn't promote, the move opens no line to the
+-- enemy king, nobody is reborn, and no man is paralysed
 pub record AreParriesTold (rule : RuleSet) (p : Position) (x : Man) (m : Move) : Type 0 where
   pub mortal : same_kind x.kind King ≡ false
   pub unpromoted : m.promo ≡ None
@@ -30,17 +30,17 @@ pub record AreParriesTold (rule : RuleSet) (p : Position) (x : Man) (m : Move) :
   pub able : faced_men_stand_still rule ≡ false
   pub cannot_expose : cannot_expose rule p (other p.turn) m ≡ true
 
--- s lies on a file, rank or diagonal of k
+-- s is on a file, rank or diagonal of k
 abbrev pub is_on_line : ℕ → ℕ → Bool
 is_on_line k s = is_on_some straight_steps k s || is_on_some diagonal_steps k s
 
--- who goes from s after m opens no line to his king on k: he shuts none alone, and none together with the man that
--- m takes away
+-- a man that leaves s after m opens no line to its king on k: it blocks none alone, and none together with
+-- the man that m moves away
 abbrev pub is_unpinned : Position → Move → ℕ → ℕ → Bool
 is_unpinned p m k s =
     not (may_expose p.men (other p.turn) s) && not (is_on_line k m.from && is_on_line k s)
 
--- a man of those comes from s to t: a piece reaches it, or a pawn steps there
+-- a man comes from s to t, to interpose: a piece reaches t, or a pawn steps there
 abbrev pub IsWayBetween : List (Option Man) → Position → ℕ → ℕ → Type 0
 IsWayBetween men p s t =
     (((is_of_colour (man_on men s) (other p.turn) && reaches men s t) ≡ true)
@@ -48,8 +48,8 @@ IsWayBetween men p s t =
     ⊎ ((is_man (man_on men s) (other p.turn) Pawn ≡ true)
     × (is_square (along s (forward (other p.turn)) 1) t ≡ true))
 
--- once the man of x has come by m, another, who is unpinned, comes from one square to another, empty and on no
--- fairy line, and x doesn't reach the king on k then
+-- after x has arrived by m, an unpinned enemy goes to an empty square on no fairy line, and x then doesn't
+-- reach the king on k
 pub record IsInterposed (men : List (Option Man)) (p : Position) (x : Man) (m : Move) (k : ℕ) : Type 0 where
   pub from : ℕ
   pub square : ℕ
@@ -62,7 +62,7 @@ pub record IsInterposed (men : List (Option Man)) (p : Position) (x : Man) (m : 
       (bit_not w64 (word (is_square (Some from))))) (word (is_square (Some square)))
       ≡ occupied_squares l → reaches_as l x.colour x.kind m.to k ≡ false
 
--- one of these men goes to t, and x on b doesn't reach k then
+-- one of these men goes to t, and x on b then doesn't reach k
 pub record IsShutBy (occupied comers : ℕ) (x : Man) (b k t : ℕ) : Type 0 where
   pub from : ℕ
   pub small : from < 64
@@ -71,19 +71,19 @@ pub record IsShutBy (occupied comers : ℕ) (x : Man) (b k t : ℕ) : Type 0 whe
       (bit_not w64 (word (is_square (Some from))))) (word (is_square (Some t)))
       ≡ occupied_squares l → reaches_as l x.colour x.kind b k ≡ false
 
--- the side to move is in check, and no other man than its king has a legal move
+-- the side to move is in check, and no man but its king has a legal move
 pub record IsParriless (rule : RuleSet) (p : Position) : Type 0 where
   pub check : in_check rule p.men p.turn ≡ true
   pub idle : (m : Move) → is_of_others p m ≡ true → is_legal rule p m ≡ false
 
--- it is so what is told of the parries of the side to move
+-- what is known of the parries of the side to move is true
 abbrev pub AreParries : RuleSet → Position → Parries → Type 0
 AreParries rule p Possible = is_mate rule p ≡ false
 AreParries rule p Impossible = IsParriless rule p
 AreParries rule p Unknown = ⊤
 
--- the word has the squares that a rook on b and one on k see, if b lies on a file or rank of k, and the same of
--- bishops and diagonals
+-- w holds the squares that rooks on b and k both reach, if b is on a file or rank of k, and the same
+-- squares for bishops and diagonals
 pub record AreBetween (men : List (Option Man)) (b k w : ℕ) : Type 0 where
   pub straight : is_on_some straight_steps k b ≡ true → (t : ℕ) → t < 64
       → (bit_at w t == 1) ≡ false
@@ -92,15 +92,15 @@ pub record AreBetween (men : List (Option Man)) (b k w : ℕ) : Type 0 where
       → (bit_at w t == 1) ≡ false
       → (reaches_as men White Bishop b t && reaches_as men White Bishop k t) ≡ false
 
--- another man of colour c than the king on k comes from s to the empty square t: a piece reaches it, or a pawn
--- goes there by one step or two
+-- another man of colour c than the king on k goes from s to the empty square t: a piece reaches it, or a
+-- pawn goes there by one step or two
 abbrev pub comes : List (Option Man) → Colour → ℕ → ℕ → ℕ → Bool
 comes men c k t s =
     (is_of_colour (man_on men s) c && reaches men s t && not (is_man (man_on men s) c Pawn)
     && not (is_square (Some k) s))
     || (is_man (man_on men s) c Pawn && is_advance (other c) t s)
 
--- the squares between b and k are empty, and none of those men comes there
+-- the squares between b and k are empty, and no man of colour c but the king goes there
 pub record NobodyComes (men : List (Option Man)) (c : Colour) (b k : ℕ) : Type 0 where
   pub squares : ℕ
   pub between : AreBetween men b k squares
@@ -108,14 +108,14 @@ pub record NobodyComes (men : List (Option Man)) (c : Colour) (b k : ℕ) : Type
   pub none : (t : ℕ) → t < 64 → (bit_at squares t == 1) ≡ true
       → some_square (comes men c k t) ≡ false
 
--- it is so what is told of men who come between, once the man of x has come by m
+-- what is known of men that interpose, after x has arrived by m, is true
 abbrev pub IsToldBetween : List (Option Man) → Position → Man → Move → ℕ → Parries → Type 0
 IsToldBetween men p x m k Possible = IsInterposed men p x m k
 IsToldBetween men p x m k Impossible = NobodyComes men (other p.turn) m.to k
 IsToldBetween men p x m k Unknown = ⊤
 
--- x, no pawn, which might be captured en passant, and no fairy man, gives check from b to the king on k, and nobody
--- but this king takes him
+-- x, no pawn (which might be captured en passant) and no fairy man, gives check from b to the king on k,
+-- and nobody but this king takes it
 pub record IsUntaken (occupied takers : ℕ) (x : Man) (b k : ℕ) : Type 0 where
   pub piece : same_kind x.kind Pawn ≡ false
   pub orthodox : is_fairy x.kind ≡ false

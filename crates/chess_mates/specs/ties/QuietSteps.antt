@@ -1,4 +1,4 @@
--- Steps of the enemy king that give no check, told for all moves of one man (own).
+-- Steps of the enemy king that give no check, found for all moves of one man (own).
 use Rattle.std.specs.Prelude.{◌≡◌, ℕ, Bool, true, false, List, Option, Some, None}
 use Rattle.std.specs.Int.{bit_not, w64}
 use Rattle.std.specs.Int.Bits.{bit_and, bit_or}
@@ -25,7 +25,7 @@ abbrev pub must_reply_with_mate : RuleSet → Position → Move → Bool
 must_reply_with_mate rule p m =
     list_all (is_mating rule (position_after rule p m)) (moves rule (position_after rule p m))
 
--- the words of the men but for those on two squares
+-- the sight without the men on two squares
 abbrev pub sight_without : List (Option Man) → ℕ → ℕ → Sight
 sight_without men a k =
     let gone = bit_or (word (is_square (Some a))) (word (is_square (Some k))) in
@@ -34,22 +34,22 @@ sight_without men a k =
       standing = bit_not w64 gone;
     }
 
--- x captures only where he arrives, and in Circe nobody, and neither castles nor is promoted
+-- x captures only on its arrival, and nobody in Circe, and neither castles nor promotes
 pub record GoesSimply (rule : RuleSet) (p : Position) (x : Man) (m : Move) : Type 0 where
   pub castling : is_castling x m ≡ false
   pub captures : (s : ℕ) → capture_square p x m ≡ Some s → s ≡ m.to
   pub mere : captures_do_more rule ≡ true → capture_square p x m ≡ None
   pub unpromoted : is_promoting x m.to ≡ false
 
--- once x has come to t, the enemy king's step to f is left of the word: no man of the mover reaches f, neither x nor one
--- of those whose words are given
+-- after x has arrived on t, the enemy king's step to f remains of w: neither x nor another standing man of
+-- the mover reaches f
 pub record IsStepLeft (p : Position) (v : Sight) (w : ℕ) (x : Man) (t f : ℕ) : Type 0 where
   pub left : IsLeft w x t f
   pub others : (men : List (Option Man)) → AreSeen p.men men p.turn v
       → is_reached men f p.turn ≡ false
 
--- once x has gone and the enemy king has stepped from k, none of the men of his side whose words are given reaches the
--- mover's king, or k where that king himself goes and no man stands still
+-- after x has left and the enemy king has stepped from k, none of its side's standing men reaches the
+-- mover's king; if x is that king, none reaches k, and no man is paralysed
 pub record AreQuiet (rule : RuleSet) (p : Position) (v : Sight) (x : Man) (k : ℕ) : Type 0 where
   pub stands : same_kind x.kind King ≡ false → (s : ℕ) × (king_square p.men p.turn ≡ Some s)
       × ((men : List (Option Man)) → AreSeen p.men men (other p.turn) v

@@ -1,4 +1,5 @@
--- A king's siege, told over hurdles: the squares of all men but the king (own).
+-- The men around an attacked king, and where they reach over hurdles: the squares of all men but the king
+-- (own).
 use Rattle.std.specs.Prelude.{◌≡◌, ◌≢◌, ◌<◌, ◌==◌, ◌⊎◌, ◌+◌, ◌-◌, ℕ, Bool, true, false, List, Option, Some, is_some}
 use Rattle.std.specs.Int.{bit_at}
 use Rattle.std.specs.Int.Bits.{bit_and}
@@ -27,15 +28,15 @@ use Rattle.chess_rules.specs.RuleSet.{RuleSet, captures_do_more, faced_men_stand
 use Rattle.chess_rules.specs.ties.Lines.{is_on_some, men_on}
 use Rattle.chess_rules.specs.ties.Targets.{is_promoting, may_go}
 
--- x on s reaches t over men on the squares of the word alone
+-- x on s reaches t if exactly the squares of d are occupied
 unfoldable pub reached_over : ℕ → Man → ℕ → ℕ → Bool
 reached_over d x s t = reaches_as (men_on d) x.colour x.kind s t
 
--- the word has each square that x on s reaches so
+-- w holds each square that x on s reaches over the hurdles d
 pub record IsReached (d : ℕ) (x : Man) (s w : ℕ) : Type 0 where
   pub inside : (t : ℕ) → t < 64 → reached_over d x s t ≡ true → (bit_at w t == 1) ≡ true
 
--- rides along lines
+-- moves along lines
 abbrev pub is_rider : Kind → Bool
 is_rider Nightrider = true
 is_rider Queen = true
@@ -43,14 +44,14 @@ is_rider Rook = true
 is_rider Bishop = true
 is_rider _ = false
 
--- goes a step or a leap
+-- moves by one step or leap
 abbrev pub is_leaper : Kind → Bool
 is_leaper King = true
 is_leaper Knight = true
 is_leaper Pawn = true
 is_leaper _ = false
 
--- x on s may reach a square of the region
+-- x on s could reach a square of the region on some board
 pub record IsNear (x : Man) (s region : ℕ) : Type 0 where
   pub square : ℕ
   pub small : square < 64
@@ -58,7 +59,8 @@ pub record IsNear (x : Man) (s region : ℕ) : Type 0 where
   pub men : List (Option Man)
   pub reaches : reaches_as men x.colour x.kind s square ≡ true
 
--- the word has each square that the attackers of these kinds reach over the hurdles, those who may reach the region
+-- w holds each square that attackers of these kinds, as far as they could reach the region, reach over the
+-- hurdles
 pub record AreReached (d : ℕ) (a : Attackers) (region : ℕ) (kinds : Kind → Bool) (w : ℕ) : Type
     0 where
   pub reach : (s : ℕ) (x : Man) → IsAttacker a x s → kinds x.kind ≡ true → IsNear x s region
@@ -71,66 +73,67 @@ pub record IsReachedFrom (d : ℕ) (x : Man) (squares t : ℕ) : Type 0 where
   pub on : (bit_at squares from == 1) ≡ true
   pub reaches : reached_over d x from t ≡ true
 
--- one of the attackers does
+-- one of the attackers reaches t over the hurdles
 pub record IsAttackedOver (d : ℕ) (a : Attackers) (t : ℕ) : Type 0 where
   pub from : ℕ
   pub man : Man
   pub stands : IsAttacker a man from
   pub reaches : reached_over d man from t ≡ true
 
--- the hurdles are men of both sides, and not the king on k
+-- the hurdles are men of either side, without the king on k
 pub record AreHurdles (own enemies k d : ℕ) : Type 0 where
   pub men : (e : ℕ) → e < 64 → (bit_at d e == 1) ≡ true
       → (((bit_at own e == 1) ≡ true) ⊎ ((bit_at enemies e == 1) ≡ true)) × (k ≢ e)
 
--- so are those of a siege
+-- the hurdles of v are men of either side, without its king
 pub record IsSiege (v : Siege) : Type 0 where
   pub hurdles : AreHurdles v.own v.enemies v.king v.hurdles
 
--- a man on e, who isn't the king on k, is one of the hurdles
+-- a man on e, if it isn't the king on k, is one of the hurdles
 abbrev pub IsHurdle : ℕ → ℕ → ℕ → ℕ → ℕ → Type 0
 IsHurdle own enemies k d e =
     ((bit_at own e == 1) ≡ true) ⊎ ((bit_at enemies e == 1) ≡ true) → k ≢ e
     → (bit_at d e == 1) ≡ true
 
--- all men of a siege but the king are hurdles
+-- all men but the king are hurdles
 pub record IsWhole (v : Siege) : Type 0 where
   pub hurdles : (e : ℕ) → e < 64 → IsHurdle v.own v.enemies v.king v.hurdles e
 
--- all but the king and a man on s
+-- all men but the king and a man on s are hurdles
 pub record IsWholeBut (v : Siege) (s : ℕ) : Type 0 where
   pub hurdles : (e : ℕ) → e < 64 → s ≢ e → IsHurdle v.own v.enemies v.king v.hurdles e
 
--- the rook in the corner has moved, or a man of the colour stands on the square beside the king, or the word has it
+-- the rook in the corner has moved, or a man of the colour is on the square beside the king, or w holds
+-- that square
 abbrev pub IsShut : Position → Colour → ℕ → ℕ → ℕ → Type 0
 IsShut p c w corner next =
     (has_unmoved p.unmoved corner ≡ false)
     ⊎ (is_of_colour (man_on p.men next) c ≡ true) ⊎ (next < 64 → (bit_at w next == 1) ≡ true)
 
--- the colour's king has moved, or the word has the squares to which a rook may castle
+-- the colour's king has moved, or w holds the squares to which a rook may castle
 pub record AreCastlingSquares (p : Position) (c : Colour) (w : ℕ) : Type 0 where
   pub sides : (s : ℕ) → s < 64 → is_man (man_on p.men s) c King ≡ true
       → (has_unmoved p.unmoved s ≡ false)
       ⊎ (IsShut p c w (s + 3) (s + 1) × IsShut p c w (s - 4) (s - 1))
 
--- z on s may be captured somewhere and reborn on r: a pawn on the file where he stands
+-- z on s may be captured somewhere and reborn on r; a pawn is captured on its file
 pub record IsHome (z : Man) (s r : ℕ) : Type 0 where
   pub square : ℕ
   pub file : same_kind z.kind Pawn ≡ true → file_of square ≡ file_of s
   pub reborn : rebirth z.colour z.kind square ≡ Some r
 
--- the word has each such square of the colour's men of this kind
+-- w holds the home squares of the colour's men of this kind
 pub record AreHomesOf (men : List (Option Man)) (c : Colour) (k : Kind) (w : ℕ) : Type 0 where
   pub homes : (s r : ℕ) (z : Man) → s < 64 → man_on men s ≡ Some z → z.colour ≡ c → z.kind ≡ k
       → IsHome z s r → (bit_at w r == 1) ≡ true
 
--- of all its men
+-- w holds the home squares of all the colour's men
 pub record AreHomes (men : List (Option Man)) (c : Colour) (w : ℕ) : Type 0 where
   pub homes : (s r : ℕ) (z : Man) → s < 64 → man_on men s ≡ Some z → z.colour ≡ c → IsHome z s r
       → (bit_at w r == 1) ≡ true
 
--- the word has the squares of the side to move; where captures do more those of all men, and those on which
--- one of its men may be reborn
+-- w holds the squares of the side to move; in Circe also the squares of all men and the home squares of its
+-- own men
 pub record AreClosed (rule : RuleSet) (p : Position) (w : ℕ) : Type 0 where
   pub own : (s : ℕ) → s < 64 → is_of_colour (man_on p.men s) p.turn ≡ true
       → (bit_at w s == 1) ≡ true
@@ -138,7 +141,7 @@ pub record AreClosed (rule : RuleSet) (p : Position) (w : ℕ) : Type 0 where
       → is_some (man_on p.men s) ≡ true → (bit_at w s == 1) ≡ true
   pub homes : captures_do_more rule ≡ true → AreHomes p.men p.turn w
 
--- its men are those of the position, the defender to move
+-- v describes the position, with the defender to move
 pub record IsSiegeOf (rule : RuleSet) (p : Position) (v : Siege) : Type 0 where
   pub colour : v.men.colour ≡ other p.turn
   pub men : AreAttackers p.men v.men
@@ -152,7 +155,7 @@ pub record IsSiegeOf (rule : RuleSet) (p : Position) (v : Siege) : Type 0 where
   pub promotions : (k : Kind) → may_promote p k ≡ true
       → is_promotion v.men.fairy_promotions k ≡ true
 
--- a man stands on a square of the word, other than t
+-- a man is on a square of w other than t
 pub record IsSprung (men : List (Option Man)) (t w : ℕ) : Type 0 where
   pub square : ℕ
   pub small : square < 64
@@ -160,13 +163,13 @@ pub record IsSprung (men : List (Option Man)) (t w : ℕ) : Type 0 where
   pub apart : square ≢ t
   pub stands : is_some (man_on men square) ≡ true
 
--- the word has the springboards of t: whoever else stands on the board, a hopper reaches t only over a man on one of them
+-- w holds the springboards of t: on any board, a hopper reaches t only over a man on one of them
 pub record AreSpringboards (a : Attackers) (t w : ℕ) : Type 0 where
   pub sprung : (men : List (Option Man)) (q : ℕ) (z : Man) → IsAttacker a z q
       → is_hopper (gait_of z.kind) ≡ true → reaches_as men z.colour z.kind q t ≡ true
       → IsSprung men t w
 
--- k apart, no man stands on a square of the word, and none is closed
+-- no man but one on k is on a square of w, and none of these squares is closed
 pub record AreFree (v : Siege) (k w : ℕ) : Type 0 where
   pub own : (h : ℕ) → (bit_at w h == 1) ≡ true → h < 64 → h ≢ k → (bit_at v.own h == 1) ≡ false
   pub enemies : (h : ℕ) → (bit_at w h == 1) ≡ true → h < 64 → h ≢ k
@@ -174,38 +177,39 @@ pub record AreFree (v : Siege) (k w : ℕ) : Type 0 where
   pub closed : (h : ℕ) → (bit_at w h == 1) ≡ true → h < 64 → h ≢ k
       → (bit_at v.closed h == 1) ≡ false
 
--- the word has the springboards of t, and these are free
+-- w holds the springboards of t, and these are free
 pub record IsUnsprung (v : Siege) (k t w : ℕ) : Type 0 where
   pub springboards : ℕ
   pub are : AreSpringboards v.men t springboards
   pub free : AreFree v k springboards
   pub within : (h : ℕ) → (bit_at springboards h == 1) ≡ true → (bit_at w h == 1) ≡ true
 
--- wherever the defender comes, critical squares apart, another square of the word is left; where an enemy stands, x
--- comes only after a capture there
+-- wherever the defender goes, except to critical squares, another square of w remains; if an enemy is on t,
+-- x arrives there only as a recapture
 pub record LeavesOne (w enemies critical : ℕ) (x : Man) (t : ℕ) : Type 0 where
   pub left : (b : ℕ) → b < 64 → (bit_at critical b == 1) ≡ false
       → ((bit_at enemies t == 1) ≡ true → b ≡ t)
       → (f : ℕ) × IsLeft w x t f × (f ≢ b)
 
--- once a man has left s, and the king k, the word has the hurdles, and the closed squares if an enemy stands on one
+-- after a man has left s and the king has left k, w holds the remaining hurdles, and the closed squares if
+-- an enemy is on one
 pub record AreLaterHurdles (v : Siege) (k s w : ℕ) : Type 0 where
   pub hurdles : (e : ℕ) → e < 64 → (bit_at v.hurdles e == 1) ≡ true → e ≢ s → e ≢ k
       → (bit_at w e == 1) ≡ true
   pub closed : (e : ℕ) → e < 64 → (bit_at v.closed e == 1) ≡ true → e ≢ k
       → bit_and v.closed v.enemies ≢ 0 → (bit_at w e == 1) ≡ true
 
--- nobody stands on k, and but for f and t on no square but those of the word, and b
+-- nobody is on k, and apart from f and t men are only on squares of d and on b
 pub record AreStanding (men : List (Option Man)) (d k b t f : ℕ) : Type 0 where
   pub stand : (h : ℕ) → h < 64 → h ≢ f → h ≢ t → is_some (man_on men h) ≡ true
       → (h ≢ k) × (((bit_at d h == 1) ≡ true) ⊎ (h ≡ b))
 
--- f is neither b nor, unless that is k, next to it
+-- f is neither b nor next to b, unless b is k
 pub record IsApart (k f b : ℕ) : Type 0 where
   pub elsewhere : f ≢ b
   pub beside : list_any (leaps f b) queen_steps ≡ true → b ≡ k
 
--- once x has come to t and the defender to b, f is left of the word: nobody stands there who came, and x doesn't reach it
+-- after x has arrived on t and the defender on b, f remains of w: neither is on f, and x doesn't reach it
 pub record IsUntaken (d k w : ℕ) (x : Man) (t b f : ℕ) : Type 0 where
   pub small : f < 64
   pub on : (bit_at w f == 1) ≡ true
@@ -214,12 +218,13 @@ pub record IsUntaken (d k w : ℕ) (x : Man) (t b f : ℕ) : Type 0 where
   pub unreached : (men : List (Option Man)) → AreStanding men d k b t f
       → reaches_as men x.colour x.kind t f ≡ false
 
--- so it is wherever the defender comes, critical squares apart, as above
+-- wherever the defender goes, except to critical squares, a square of w remains; if an enemy is on t, x
+-- arrives there only as a recapture
 pub record LeavesUntaken (d k w enemies critical : ℕ) (x : Man) (t : ℕ) : Type 0 where
   pub left : (b : ℕ) → b < 64 → (bit_at critical b == 1) ≡ false
       → ((bit_at enemies t == 1) ≡ true → b ≡ t) → (f : ℕ) × IsUntaken d k w x t b f
 
--- x may go from s to t, a piece that is no hopper over the hurdles
+-- x may go from s to t; a piece other than a hopper goes over the hurdles
 pub record IsArrival (d : ℕ) (x : Man) (s t : ℕ) : Type 0 where
   pub small : t < 64
   pub position : Position
@@ -227,30 +232,30 @@ pub record IsArrival (d : ℕ) (x : Man) (s t : ℕ) : Type 0 where
   pub reaches : same_kind x.kind Pawn ≡ false → is_hopper (gait_of x.kind) ≡ false
       → reached_over d x s t ≡ true
 
--- the word has each such square
+-- w holds each arrival square of x from s
 pub record AreArrivals (d : ℕ) (x : Man) (s w : ℕ) : Type 0 where
   pub inside : (t : ℕ) → IsArrival d x s t → (bit_at w t == 1) ≡ true
 
--- x doesn't check from t, unless he is a king, nor once he is promoted there, nor lets a hopper check from a springboard
+-- x doesn't check from t, unless it is a king, nor after promotion there, and lets no hopper check from a
+-- springboard
 pub record IsNoCheck (g : Field) (checks : ℕ) (x : Man) (t : ℕ) : Type 0 where
   pub off : same_kind x.kind King ≡ false → (bit_at checks t == 1) ≡ false
   pub unsprung : (bit_at g.springboards t == 1) ≡ false
   pub promoted : is_promoting x t ≡ true → (bit_at g.promotions t == 1) ≡ false
 
--- the word has each square from which x checks the king on k: a hopper whoever else stands on the board, others over
--- the hurdles
+-- w holds each square from which x checks the king on k: a hopper on some board, other men over the hurdles
 pub record IsCheckWord (d k : ℕ) (x : Man) (w : ℕ) : Type 0 where
   pub hops : is_hopper (gait_of x.kind) ≡ true → AreApproached x k w
   pub inside : is_hopper (gait_of x.kind) ≡ false → (t : ℕ) → t < 64
       → reached_over d (record { colour = other x.colour; kind = x.kind }) k t ≡ true
       → (bit_at w t == 1) ≡ true
 
--- the defender leaves a, which is a hurdle on none of the lines, and comes to b, which isn't critical
+-- the defender leaves a, which is a hurdle on none of the lines, and goes to b, which isn't critical
 pub record IsOff (d : ℕ) (r : Risk) (a b : ℕ) : Type 0 where
   pub lines : (bit_at d a == 1) ≡ true → (bit_at r.lines a == 1) ≡ false
   pub critical : (bit_at r.critical b == 1) ≡ false
 
--- what the attackers who may reach the region reach once the one on s has gone
+-- what attackers near the region reach after the one on s has left
 pub record AreGuardsWithout (v : Siege) (s region : ℕ) (g : Guards) : Type 0 where
   pub hurdles : ℕ
   pub kept : (e : ℕ) → e < 64 → (bit_at hurdles e == 1) ≡ true
@@ -260,7 +265,8 @@ pub record AreGuardsWithout (v : Siege) (s region : ℕ) (g : Guards) : Type 0 w
   pub guards : (q : ℕ) (z : Man) → IsAttacker v.men z q → s ≢ q
       → is_hopper (gait_of z.kind) ≡ false → IsNear z q region → IsReached hurdles z q g.guarded
 
--- they don't reach t then, and the defender who leaves a opens no line
+-- after the attacker on s has left, none of the others reaches t, and the defender that leaves a opens no
+-- line to it
 pub record IsUnguarded (v : Siege) (s a t : ℕ) : Type 0 where
   pub region : ℕ
   pub near : (bit_at region t == 1) ≡ true
@@ -269,8 +275,8 @@ pub record IsUnguarded (v : Siege) (s a t : ℕ) : Type 0 where
   pub shut : (bit_at v.hurdles a == 1) ≡ true → (bit_at guards.ridden a == 1) ≡ false
   pub off : (bit_at guards.guarded t == 1) ≡ false
 
--- after a man goes from s to t, where he is x, and the defender from a to b, a square of the field is left, and no other
--- man hops over x
+-- after an attacker goes from s to t, where it is x, and the defender from a to b, a square of the king
+-- zone remains, and no other man hops over x
 pub record IsFlight (v : Siege) (g : Field) (x : Man) (s a b t : ℕ) : Type 0 where
   pub unsprung : (q : ℕ) (z : Man) → IsAttacker v.men z q → s ≢ q
       → is_hopper (gait_of z.kind) ≡ true → (bit_at g.hops t == 1) ≡ false
@@ -280,39 +286,41 @@ pub record IsFlight (v : Siege) (g : Field) (x : Man) (s a b t : ℕ) : Type 0 w
   pub left : IsUntaken hurdles g.king g.near x t b square
   pub unguarded : IsUnguarded v s a square
 
--- or the king captures x on t
+-- the king captures x on t
 pub record IsCaptured (v : Siege) (g : Field) (s a t : ℕ) : Type 0 where
   pub on : (bit_at g.captures t == 1) ≡ true
   pub unguarded : IsUnguarded v s a t
 
--- one or the other, whatever x becomes on t
+-- whatever x becomes on t, a flight remains or the king captures it
 abbrev pub LeavesFlight : Siege → Field → Man → ℕ → ℕ → ℕ → ℕ → Type 0
 LeavesFlight v g x s a b t =
     IsCaptured v g s a t
     ⊎ ((z : Man) → MayBecome v.men.fairy_promotions x t z → IsFlight v g z s a b t)
 
--- so it is unless t is none of the targets and no other attacker checks then
+-- if t is none of the targets no other attacker checks then; otherwise a flight remains or the king
+-- captures x
 abbrev pub IsMet : Siege → Field → Man → ℕ → ℕ → ℕ → ℕ → ℕ → Type 0
 IsMet v g x s targets a b t =
     ((bit_at v.enemies t == 1) ≡ true → b ≡ t)
     → (((bit_at targets t == 1) ≡ false) × IsUnguarded v s a g.king) ⊎ LeavesFlight v g x s a b t
 
--- x doesn't check from t, nor let a hopper check, nor does he uncover a check
+-- x doesn't check from t, lets no hopper check, and uncovers no check
 pub record IsQuiet (v : Siege) (g : Field) (checks : ℕ) (x : Man) (s a t : ℕ) : Type 0 where
   pub check : IsNoCheck g checks x t
   pub covered : ((bit_at g.lines s == 1) ≡ false) ⊎ IsUnguarded v s a g.king
 
--- wherever x goes from s, he gives no check or leaves a flight
+-- wherever x goes from s, it gives no check or leaves a flight
 pub record IsMild (v : Siege) (g : Field) (checks : ℕ) (x : Man) (s a b : ℕ) : Type 0 where
   pub each : (t : ℕ) → IsArrival v.hurdles x s t → ((bit_at v.enemies t == 1) ≡ true → b ≡ t)
       → IsQuiet v g checks x s a t ⊎ LeavesFlight v g x s a b t
 
--- so it is after each move without this risk
+-- x gives no check or leaves a flight after each move of the defender outside this risk
 pub record IsHarmless (v : Siege) (g : Field) (checks : ℕ) (r : Risk) (x : Man) (s : ℕ) : Type
     0 where
   pub mild : (a b : ℕ) → a < 64 → b < 64 → IsOff v.hurdles r a b → IsMild v g checks x s a b
 
--- and x on s, who may check from these squares, doesn't check now, unless he is a hopper
+-- x on s, unless it is a hopper, doesn't check now; and wherever it goes, it gives no check or leaves a
+-- flight
 pub record IsWeakAt (v : Siege) (g : Field) (x : Man) (s a b : ℕ) : Type 0 where
   pub checks : ℕ
   pub word : IsCheckWord v.hurdles g.king x checks
@@ -322,17 +330,17 @@ pub record IsWeakAt (v : Siege) (g : Field) (x : Man) (s a b : ℕ) : Type 0 whe
 pub record IsWeak (v : Siege) (g : Field) (r : Risk) (x : Man) (s : ℕ) : Type 0 where
   pub weak : (a b : ℕ) → a < 64 → b < 64 → IsOff v.hurdles r a b → IsWeakAt v g x s a b
 
--- so is each attacker
+-- each attacker is weak in this sense
 pub record AreWeak (v : Siege) (g : Field) (r : Risk) : Type 0 where
   pub weak : (s : ℕ) (x : Man) → IsAttacker v.men x s → IsWeak v g r x s
 
--- squares next to k that aren't closed, and without the enemy's king
+-- squares next to k that aren't closed and don't hold the enemy king
 pub record AreAdjacent (v : Siege) (k w : ℕ) : Type 0 where
   pub next : (f : ℕ) → f < 64 → (bit_at w f == 1) ≡ true → list_any (leaps k f) queen_steps ≡ true
   pub free : (f : ℕ) → f < 64 → (bit_at w f == 1) ≡ true → (bit_at v.closed f == 1) ≡ false
   pub kings : (f : ℕ) → f < 64 → (bit_at w f == 1) ≡ true → (bit_at v.men.kings f == 1) ≡ false
 
--- the word has squares next to k, but none if an attacker stands on a closed square, or is a hopper
+-- w holds squares next to k, but none if an attacker is on a closed square or is a hopper
 pub record AreCaptureSquares (v : Siege) (k w : ℕ) : Type 0 where
   pub next : (f : ℕ) → f < 64 → (bit_at w f == 1) ≡ true → list_any (leaps k f) queen_steps ≡ true
   pub off : (f s : ℕ) → (bit_at w f == 1) ≡ true → s < 64 → (bit_at v.enemies s == 1) ≡ true
@@ -346,18 +354,19 @@ pub record ArePromotions (a : Attackers) (k w : ℕ) : Type 0 where
       → is_promoting x t ≡ true → MayBecome a.fairy_promotions x t z
       → reaches_as men z.colour z.kind t k ≡ true → (bit_at w t == 1) ≡ true
 
--- a rider, a nightrider only if the attackers have one
+-- a rider; a nightrider only if the attackers have one
 abbrev pub MayRide : Siege → Kind → Type 0
 MayRide v k = (is_rider k ≡ true) × (same_kind k Nightrider ≡ true → v.men.nightriders ≢ 0)
 
--- squares next to k which hoppers don't reach but over springboards; those of k, and those of all
+-- squares next to k that hoppers reach only over springboards; the springboards of k, and all springboards
 pub record AreSprings (v : Siege) (k : ℕ) (i : Springs) : Type 0 where
   pub near : AreAdjacent v k i.near
   pub unsprung : (f : ℕ) → f < 64 → (bit_at i.near f == 1) ≡ true → IsUnsprung v k f i.all
   pub own : AreSpringboards v.men k i.own
   pub within : (h : ℕ) → (bit_at i.own h == 1) ≡ true → (bit_at i.all h == 1) ≡ true
 
--- the field of the king: such squares next to him, and those on which he may capture; his lines; springboards; promotions
+-- the king zone: the squares next to the king where it may go or capture, its lines, springboards and
+-- promotion squares
 pub record IsField (v : Siege) (g : Field) : Type 0 where
   pub springs : AreSprings v g.king
       (record { near = g.near; own = g.springboards; all = g.hops })
@@ -370,7 +379,8 @@ pub record IsField (v : Siege) (g : Field) : Type 0 where
       → IsReached v.hurdles (record { colour = c; kind = k }) g.king g.lines
   pub promotions : ArePromotions v.men g.king g.promotions
 
--- no rook checks from a square to which he may castle, no king leaves a line of the field, and there is no fairy man
+-- no rook checks from a square to which it may castle, no king leaves a line of the zone, and there is no
+-- fairy man
 pub record IsCastlingHarmless (v : Siege) (g : Field) : Type 0 where
   pub rooks : (h : ℕ) → h < 64 → (bit_at v.castled h == 1) ≡ true
       → is_on_some straight_steps g.king h ≡ false
@@ -379,7 +389,7 @@ pub record IsCastlingHarmless (v : Siege) (g : Field) : Type 0 where
   pub fairies : (h s : ℕ) (x : Man) → (bit_at v.castled h == 1) ≡ true → IsAttacker v.men x s
       → is_fairy x.kind ≡ false
 
--- the risk of a defender whose king is on k: after each move without it no reply mates
+-- the risk of a defender whose king is on k: after each of its moves outside this risk no reply mates
 pub record IsRiskAt (v : Siege) (k : ℕ) (r : Risk) : Type 0 where
   pub field : Field
   pub king : field.king ≡ k
@@ -393,7 +403,7 @@ pub record IsRiskAt (v : Siege) (k : ℕ) (r : Risk) : Type 0 where
       → (bit_at field.hops b == 1) ≡ false
   pub weak : (s : ℕ) (x : Man) → IsAttacker v.men x s → IsWeak v field r x s
 
--- a siege of the same men by the same attackers
+-- w has the same men, king and attackers as v
 pub record IsLike (v w : Siege) : Type 0 where
   pub siege : IsSiege w
   pub king : w.king ≡ v.king
@@ -403,19 +413,19 @@ pub record IsLike (v w : Siege) : Type 0 where
   pub castled : w.castled ≡ v.castled
   pub closed : w.closed ≡ v.closed
 
--- without a hurdle on this square
+-- w is v without a hurdle on this square
 pub record IsLifted (v : Siege) (from : ℕ) (w : Siege) : Type 0 where
   pub like : IsLike v w
   pub off : (bit_at w.hurdles from == 1) ≡ false
   pub whole : IsWholeBut w from
 
--- the risk of the siege's king, told without a hurdle on this square
+-- the risk of the king of v without a hurdle on this square
 pub record IsRiskBehind (v : Siege) (from : ℕ) (r : Risk) : Type 0 where
   pub siege : Siege
   pub lifted : IsLifted v from siege
   pub risk : IsRiskAt siege v.king r
 
--- the risk of the siege's king, told with the lines of all riders
+-- the risk of the king of v, with the lines of all riders
 pub record AreThreats (v : Siege) (r : Risk) : Type 0 where
   pub siege : IsSiege v
   pub whole : IsWhole v
@@ -423,12 +433,12 @@ pub record AreThreats (v : Siege) (r : Risk) : Type 0 where
   pub rides : (s : ℕ) (x : Man) → IsAttacker v.men x s → is_rider x.kind ≡ true
       → IsReached v.hurdles x s r.lines
 
--- a defender who leaves a opens no rider's line
+-- a defender that leaves a opens no rider's line
 pub record IsShutAt (v : Siege) (a : ℕ) : Type 0 where
   pub shut : (s : ℕ) (x : Man) → IsAttacker v.men x s → is_rider x.kind ≡ true
       → (bit_at v.hurdles a == 1) ≡ true → reached_over v.hurdles x s a ≡ false
 
--- another man than the king may go from s to t: a siege of the same men tells no risk of that
+-- another man than the king may go from s to t: it is outside a risk of the same men
 pub record IsSafeMove (v : Siege) (s t : ℕ) : Type 0 where
   pub siege : Siege
   pub like : IsLike v siege
@@ -438,34 +448,34 @@ pub record IsSafeMove (v : Siege) (s t : ℕ) : Type 0 where
   pub off : IsOff siege.hurdles risk s t
   pub shut : IsShutAt siege s
 
--- the king may step to t: nobody stands there, and there is no risk there
+-- the king may step to t: nobody is there, and it is outside the risk there
 pub record IsSafeStep (v : Siege) (t : ℕ) : Type 0 where
   pub free : (bit_at v.hurdles t == 1) ≡ false
   pub risk : Risk
   pub at : IsRiskAt v t risk
   pub off : (bit_at risk.critical t == 1) ≡ false
 
--- the king mayn't step to t, since an attacker who doesn't stand still reaches it, where nobody stands
+-- the king may not step to t, which is empty: an attacker that isn't paralysed reaches it
 pub record IsBarred (rule : RuleSet) (v : Siege) (t : ℕ) : Type 0 where
   pub able : faced_men_stand_still rule ≡ false
   pub free : (bit_at v.hurdles t == 1) ≡ false
   pub attacked : IsAttackedOver v.hurdles v.men t
 
--- the king may step to t, where captures do no more, and keeps a flight there, whatever is played then
+-- the king may step to t, not in Circe, and keeps a flight there, whatever is played next
 pub record KeepsFlight (rule : RuleSet) (v : Siege) (t : ℕ) : Type 0 where
   pub captures : captures_do_more rule ≡ false
   pub near : ℕ
   pub adjacent : AreAdjacent v t near
   pub keeps : KeepsOne v.men near
 
--- another man may come to t, where captures do no more: the king keeps a flight there, whatever is played then
+-- another man may go to t, not in Circe: the king keeps a flight, whatever is played next
 pub record KeepsFlightBeside (v : Siege) (t : ℕ) : Type 0 where
   pub near : ℕ
   pub adjacent : AreAdjacent v v.king near
   pub off : (bit_at near t == 1) ≡ false
   pub keeps : KeepsOne v.men near
 
--- so it is for each square but those of the word
+-- the king keeps a flight for each arrival of another man outside w
 pub record AreNeeded (v : Siege) (w : ℕ) : Type 0 where
   pub keeps : (t : ℕ) → t < 64 → (bit_at w t == 1) ≡ false → KeepsFlightBeside v t
 
@@ -473,18 +483,19 @@ pub record AreNeeded (v : Siege) (w : ℕ) : Type 0 where
 abbrev pub IsSparedStep : RuleSet → Siege → ℕ → Type 0
 IsSparedStep rule v t = IsSafeStep v t ⊎ KeepsFlight rule v t
 
--- so it is, or the step is illegal
+-- no reply mates after the king's step to t, or the step is illegal
 abbrev pub IsSettledStep : RuleSet → Siege → ℕ → Type 0
 IsSettledStep rule v t = IsSparedStep rule v t ⊎ IsBarred rule v t
 
--- each of these steps that isn't risky is settled, by each rule as to faced men and captures
+-- none of these steps that isn't risky can be followed by mate, under all rules that agree on paralysis and
+-- rebirth
 pub record AreToldSteps (v : Siege) (k : ToldSteps) : Type 0 where
   pub told : (rule : RuleSet) → faced_men_stand_still rule ≡ k.stand_still
       → captures_do_more rule ≡ k.do_more → (t : ℕ) → t < 64
       → (bit_at k.steps t == 1) ≡ true → (bit_at k.risky t == 1) ≡ false
       → IsSettledStep rule v t
 
--- the king's step to t is plain: he goes to a square next to him, which is empty where captures do more
+-- the king's step to t is plain: t is next to it, and in Circe empty
 pub record IsPlainStep (rule : RuleSet) (v : Siege) (t : ℕ) : Type 0 where
   pub near : list_any (leaps v.king t) queen_steps ≡ true
   pub empty : captures_do_more rule ≡ true → (bit_at v.hurdles t == 1) ≡ false
@@ -493,8 +504,8 @@ pub record IsPlainStep (rule : RuleSet) (v : Siege) (t : ℕ) : Type 0 where
 pub record AreUnhopping (a : Attackers) : Type 0 where
   pub plain : (s : ℕ) (x : Man) → IsAttacker a x s → is_hopper (gait_of x.kind) ≡ false
 
--- of the squares, to which the king steps plainly, the word has those that no attacker reaches, and attackers don't
--- stand still
+-- the king's steps to these squares are plain, attackers can't be paralysed, and w holds exactly the
+-- squares that no attacker reaches
 pub record AreExactSteps (rule : RuleSet) (v : Siege) (squares w : ℕ) : Type 0 where
   pub able : faced_men_stand_still rule ≡ false
   pub plain : (t : ℕ) → t < 64 → (bit_at squares t == 1) ≡ true → IsPlainStep rule v t

@@ -1,4 +1,4 @@
--- Flights of the enemy king as the men stand, and who leaves them (own).
+-- Flights of the enemy king as the men are, and the moves that leave them (own).
 use Rattle.std.specs.Prelude.{◌≡◌, ◌<◌, ◌==◌, ℕ, true, false, List, Option, Some}
 use Rattle.std.specs.Int.{bit_at}
 use Rattle.chess_core.specs.Position.{Position, king_square, man_on, other, without_man}
@@ -9,12 +9,13 @@ use Rattle.chess_mates.specs.ties.Flights.{is_open}
 use Rattle.chess_rules.specs.RuleSet.{RuleSet}
 use Rattle.chess_rules.specs.ties.Shields.{is_reached}
 
--- no man hops
+-- no hopper is on the board
 pub record NoneHops (men : List (Option Man)) : Type 0 where
   pub none : (s : ℕ) (x : Man) → s < 64 → man_on men s ≡ Some x
       → is_hopper (gait_of x.kind) ≡ false
 
--- nobody hops, and the enemy king may step to f, attacks apart, where no man of the mover but the one on a reaches him
+-- no hopper is on the board, and the enemy king may step to f, attacked or not, where no man of the mover
+-- but the one on a reaches it
 pub record IsFlightBut (rule : RuleSet) (p : Position) (a f : ℕ) : Type 0 where
   pub king : ℕ
   pub stands : king_square p.men (other p.turn) ≡ Some king
@@ -22,7 +23,7 @@ pub record IsFlightBut (rule : RuleSet) (p : Position) (a f : ℕ) : Type 0 wher
   pub way : is_open rule p.men (other p.turn) king f ≡ true
   pub unreached : is_reached (without_man (without_man p.men king) a) f p.turn ≡ false
 
--- so is each of the flights for who stands on no ridden square
+-- each of the flights remains if a man leaves a square that no rider reaches
 pub record AreStandingFlights (rule : RuleSet) (p : Position) (v : StandingFlights) : Type 0 where
   pub left : (a f : ℕ) → a < 64 → (bit_at v.ridden a == 1) ≡ false → f < 64
       → (bit_at v.flights f == 1) ≡ true → IsFlightBut rule p a f

@@ -1,4 +1,4 @@
--- Threats of mate, told before the defender's move (own).
+-- Threats of mate, computed before the defender's move (own).
 use Rattle.std.specs.Prelude.{◌≡◌, ◌<◌, ◌==◌, ℕ, true, false, [], Some, None}
 use Rattle.std.specs.Int.{bit_at}
 use Rattle.std.specs.List.{list_any}
@@ -18,55 +18,55 @@ use Rattle.chess_rules.specs.Play.{capture_square, halfway, is_castling, is_doub
 use Rattle.chess_rules.specs.RuleSet.{RuleSet, captures_are_reborn, captures_do_more}
 use Rattle.chess_rules.specs.ties.Targets.{is_promoting, may_go}
 
--- threats are told: where all that captures do more is that men are reborn
+-- threats can be computed: captures only remove men, which may be reborn
 pub record IsTold (rule : RuleSet) : Type 0 where
   pub captures : captures_do_more rule ≡ true → captures_are_reborn rule ≡ true
 
--- what is told of: a siege
+-- what contracts see of threats: the men around the king
 pub record ToldThreats : Type 0 where
   pub siege : Siege
 
--- it is that of this position
+-- the threats belong to this position
 pub record AreThreatsOf (rule : RuleSet) (p : Position) (t : ToldThreats) : Type 0 where
   pub told : IsTold rule
   pub fits : IsSiegeOf rule p t.siege
   pub siege : IsSiege t.siege
   pub whole : IsWhole t.siege
 
--- the word has each square from which a pawn of colour c captures on one of the targets
+-- w holds each square from which a pawn of colour c captures on one of the targets
 pub record AreCapturers (c : Colour) (targets w : ℕ) : Type 0 where
   pub capture : (s t : ℕ) → s < 64 → t < 64 → list_any (leaps s t) (pawn_capture_steps c) ≡ true
       → (bit_at targets t == 1) ≡ true → (bit_at w s == 1) ≡ true
 
--- if x goes two squares as a pawn, no enemy pawn might come to the square between
+-- if x makes a pawn's double step, no enemy pawn could come to the square between
 pub record IsPassing (p : Position) (x : Man) (m : Move) : Type 0 where
   pub freely : is_double_step x m ≡ true → (q : Position) (s : ℕ) (z : Man) → s < 64
       → halfway m < 64 → man_on p.men s ≡ Some z → z.colour ≡ other x.colour
       → same_kind z.kind Pawn ≡ true → may_go q z s (halfway m) ≡ false
 
--- x doesn't castle, captures only where he arrives, and passes freely
+-- x doesn't castle, captures only on its arrival, and no en passant capture of it is possible
 pub record IsPlainMove (p : Position) (x : Man) (m : Move) : Type 0 where
   pub castling : is_castling x m ≡ false
   pub captures : (s : ℕ) → capture_square p x m ≡ Some s → s ≡ m.to
   pub passing : IsPassing p x m
 
--- so x moves from s to each square that isn't in the word
+-- the move of x from s to each square outside w is plain
 pub record ArePlain (p : Position) (x : Man) (s w : ℕ) : Type 0 where
   pub plain : (m : Move) → m.from ≡ s → m.to < 64 → may_go p x s m.to ≡ true
       → (bit_at w m.to == 1) ≡ false → IsPlainMove p x m
 
--- x captures nobody, isn't promoted, and as a pawn stays on his file
+-- x captures nobody, doesn't promote, and as a pawn stays on its file
 pub record IsMereMove (p : Position) (x : Man) (m : Move) : Type 0 where
   pub captures : capture_square p x m ≡ None
   pub unpromoted : is_promoting x m.to ≡ false
   pub file : same_kind x.kind Pawn ≡ true → file_of m.to ≡ file_of m.from
 
--- so x moves from s to each square that isn't in the word
+-- the move of x from s to each square outside w is no capture and no promotion
 pub record AreMere (p : Position) (x : Man) (s w : ℕ) : Type 0 where
   pub mere : (m : Move) → m.from ≡ s → m.to < 64 → may_go p x s m.to ≡ true
       → (bit_at w m.to == 1) ≡ false → IsMereMove p x m
 
--- no reply mates after a legal move from s to one of the squares, but for risky ones
+-- no reply mates after a legal move from s to one of the squares that isn't risky
 pub record AreRisky (rule : RuleSet) (p : Position) (s squares risky : ℕ) : Type 0 where
   pub settled : (m : Move) → is_legal rule p m ≡ true → m.from ≡ s
       → (bit_at squares m.to == 1) ≡ true → (bit_at risky m.to == 1) ≡ false

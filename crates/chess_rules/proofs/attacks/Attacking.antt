@@ -1,4 +1,4 @@
--- Attack looked for outward from the square.
+-- Attackers of a square, found by looking outward from it.
 use Rattle.chess_rules.proofs.Chess.{Bishop, Bool, Colour, Grasshopper, Hopper, Kind, King, Knight, List, Man, Nightrider, Option, Pawn, Queen, Rook, RuleSet, Step, [], and_left, any_kept, any_range_same, any_range_true, arith, bit_and, bit_at, bit_or, diagonal_steps, differs, eq-eqb, faced_men_stand_still, faces, faces_its_like, false, false_from_ne_true, false≢true, first_of_and, gait_of, hopped_from, hops, is_ahead, is_attacked, is_attacker, is_fairy_man, is_leaping_man, is_man, is_met, is_of_colour, is_on_some, is_paralysed, is_reached, joined, list_any, list_any-append, man_on, not, other, queen_steps, reaches, reaches_as, reaches_of, refl, rides, rules, same_colour-true, same_kind-true, second_of_and, shared, some_square, some_square_told, squares, squares_of, squares_same, straight_steps, sym, true, word, word_empty, word_has, word_lacks, ℕ, ◌&&◌, ◌<◌, ◌==◌, ◌||◌, ◌∙◌, ◌∷◌, ◌≡◌}
 use Rattle.chess_rules.proofs.rays.Flips.{diagonal-back, hops-turned, queen_rides-back, reaches_back, straight-back}
 use Rattle.chess_rules.proofs.rays.Ways.{ride_on-found}
@@ -19,7 +19,7 @@ pub comes_hopper : (men : List (Option Man)) (c : Colour) (j : Kind) (t : ℕ) �
 unfolding reaches_as
 comes_hopper men c j t hops q = grind (arith, squares_same, hops-turned)
 
--- a man of this colour and kind goes as such men go
+-- a man moves as its colour and kind do
 reaches_of_man : (men : List (Option Man)) (o : Option Man) (c : Colour) (k : Kind) (s t : ℕ) → is_man o c k ≡ true
     → reaches_of men o s t ≡ reaches_as men c k s t
 reaches_of_man men o c k s t h = grind (arith, first_of_and, same_colour-true, same_kind-true, second_of_and)
@@ -79,7 +79,7 @@ rides_some men t s ds h = false_from_ne_true _ (λ y. false≢true (sym h ∙ go
 apart : (m l r : Bool) → (m && l) ≡ false → (l ≡ false → r ≡ false) → (m && r) ≡ false
 apart m l r p q = grind arith
 
--- where none of them stands on a line from t, none is met
+-- if none of these men is on a line from t, none is met
 pub met_none : (men : List (Option Man)) (c : Colour) (k : Kind) (t m n l : ℕ) (ds : List Step) → m ≡ squares_of men c k → n ≡ squares_of men c Queen
     → l ≡ word (is_on_some ds t) → bit_and (bit_or m n) l ≡ 0 → 0 ≡ word (is_met men c k ds t)
 unfolding squares_of is_met

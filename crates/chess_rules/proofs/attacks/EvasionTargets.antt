@@ -1,4 +1,4 @@
--- A move that goes to no square at which a check is met is not legal.
+-- A move that doesn't arrive where a check is parried isn't legal.
 use Rattle.chess_rules.proofs.Chess.{AreEvasions, AreEvasionsFrom, IsWellFormed, King, Man, Move, Position, RuleSet, Some, and_left, and_parts, and_right, ap, arith, bit_and, bit_at, bit_not, bit_or, captures_do_more, cases_Bool, faced_men_stand_still, false, is_castling, is_plain, is_promoting, is_some, is_square, man_on, may_go, off_left, off_right, refl, rules, same_kind, true, w64, word, word_has, ℕ, ◌<◌, ◌==◌, ◌∙◌, ◌≡◌}
 use Rattle.chess_rules.proofs.attacks.StayingInCheck.{check_unmet}
 use Rattle.chess_rules.proofs.listing_moves.Targeting.{arrival_needed, every_square_on, false_by, no_promotion_here}
@@ -21,7 +21,8 @@ module _ (rule : RuleSet) (p : Position) (x : Man) (f : ℕ) (well : IsWellForme
     (reborn : captures_do_more rule ≡ true → c ≡ word (λ t. is_some (man_on p.men t)))
     (promoted : faced_men_stand_still rule ≡ true → e ≡ word (is_promoting x))
     (targets : (q : Position) (t : ℕ) → t < 64 → may_go q x f t ≡ true → (bit_at d t == 1) ≡ true) where
-  -- another man than the king needs the evasions, the crossed square, in Circe those with men and in Madrasi those of a promotion, if he might go there
+  -- another man than the king needs an evasion, the en passant square, in Circe an occupied square and in
+  -- Madrasi a promotion square, if it might go there
   pub evasions_from_some : AreEvasionsFrom rule p f (bit_and d (bit_or (bit_or (bit_or a b) c) e))
   evasions_from_some = record {
     elsewhere = λ m at small may off.

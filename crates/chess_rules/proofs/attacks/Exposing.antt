@@ -1,4 +1,4 @@
--- Whether a move leaves its mover in check, told by the men that an attack sees after it.
+-- Whether a move leaves its own king in check, from the attacks after it.
 use Rattle.chess_rules.proofs.Chess.{AreArrived, AreOthers, AreSeen, Bool, Colour, IsWellFormed, Kind, King, List, Man, Move, None, Option, Position, RuleSet, Some, and_from, and_left, and_parts, ap, arith, arriving_man, bit_at, capture_square, captures_do_more, cases_Bool, cases_eq, cond-false, cond-true, differs, eq-eqb, faced_men_stand_still, faces, faces_its_like, false, false≢true, in_check, is_arrival_free, is_arriving_as, is_attacked, is_attacked_at, is_castling, is_man, is_of_colour, is_paralysed, is_promotion_right, is_pseudo_legal, is_simple, is_some, is_square, joined, king_after, king_square, man_on, not, not-true, not_zero, or_parts, other, own_after, position_after, reaches, refl, rules, same_colour, same_colour-refl, same_colour-true, same_kind, shared, sight_after, some_square, squares_not, squares_of, squares_same, subst, sym, true, word, word_empty, word_has, ℕ, ◌&&◌, ◌<◌, ◌==◌, ◌||◌, ◌∙◌, ◌≡◌}
 use Rattle.chess_rules.specs.declared.sight.Sight.{Sight}
 use Rattle.chess_rules.proofs.attacks.Attacking.{attacked_by}
@@ -23,7 +23,7 @@ pub arrives_as : (x : Man) (m : Move) (k : Kind) (w : ℕ) → w ≡ word (is_sq
     → w ≡ word (is_arriving_as x m k)
 arrives_as x m k w h is = h ∙ squares_same _ _ (λ s b. sym (ap (λ (y : Bool). y && is_square (Some m.to) s) is))
 
--- it is in no word of another kind
+-- the arriving man is in no word of another kind
 pub arrives_otherwise : (x : Man) (m : Move) (k : Kind) → same_kind (arriving_man x m.promo).kind k ≡ false → 0 ≡ word (is_arriving_as x m k)
 arrives_otherwise x m k off = word_empty (is_arriving_as x m k) (λ s b. and_left _ (is_square (Some m.to) s) off)
 
@@ -85,7 +85,7 @@ goes_without_king rule p x m well is small other_man = record {
 -- where a king stands once a man has moved
 ruleset king_moves = (goes_without_king, king_is, king_stands, king_stays_king, moved_arrival, moved_plainly, moved_sound)
 
--- the mover's king stands on the arrival if he went, else where he stood
+-- the mover's king is on the arrival if it moved, otherwise where it was
 pub king_is_after : (rule : RuleSet) (p : Position) (x : Man) (m : Move) → IsWellFormed p → IsMade rule p x m → m.to < 64 → is_castling x m ≡ false
     → king_square (arrived p x m) p.turn ≡ king_after p x m
 king_is_after rule p x m well is small castling = grind (arith, and_from, cases_Bool, cond-false, cond-true, same_colour-refl, king_moves)

@@ -1,4 +1,4 @@
--- Lines of grasshoppers and nightriders to a square: what stands elsewhere changes nothing on them.
+-- Lines of grasshoppers and nightriders to a square: men off the lines don't matter.
 use Rattle.chess_rules.proofs.Chess.{Bool, Colour, Direction, East, EastNorthEast, EastSouthEast, Grasshopper, Kind, List, Man, Nightrider, None, North, NorthEast, NorthNorthEast, NorthNorthWest, NorthWest, Option, Some, South, SouthEast, SouthSouthEast, SouthSouthWest, SouthWest, Step, West, WestNorthWest, WestSouthWest, [], along, and_from, and_left, and_right, any_range_true, ap, arith, bit_and, bit_or, eq-eqb, false, false_from_ne_true, false≢true, has_fairy, hops, is_ahead, is_lined, is_man, is_occupied, is_on_fairy_line, is_on_fairy_line_at, is_square, joined, king_square, knight_steps, list_any, man_on, may_stand_between, not, not_zero, or_cases, or_left, or_parts, or_right, other, place, queen_steps, ray, refl, rides, rules, some_square, some_square_false, some_square_true, squares_both, squares_of, squares_same, step_of, sym, true, word, word_empty, ℕ, ◌&&◌, ◌-◌, ◌<◌, ◌==◌, ◌||◌, ◌∙◌, ◌∷◌, ◌≡◌, ◌≤◌, ◌⊎◌}
 use Rattle.chess_rules.proofs.rays.Ahead.{ordered}
 use Rattle.chess_rules.proofs.attacks.Attacking.{some_square_same}
@@ -25,7 +25,7 @@ its_own s k d n small at low le = ahead_on s k d n 0 s at (omega arith) le (ap (
 abbrev pub IsBeside : ℕ → ℕ → ℕ → Step → Type 0
 IsBeside a s k d = (n i : ℕ) → along s d n ≡ Some k → 1 ≤ i → i < n → n ≤ 7 → is_square (along s d i) a ≡ false
 
--- nor does it pass a right before k, where a hurdle would be
+-- no line from s to k in this direction passes a right before k, where a hurdle would be
 abbrev pub IsNoHurdle : ℕ → ℕ → ℕ → Step → Type 0
 IsNoHurdle a s k d = (n : ℕ) → along s d n ≡ Some k → 2 ≤ n → n ≤ 7 → is_square (along s d (n - 1)) a ≡ false
 
@@ -43,7 +43,7 @@ hop_kept men after a b s k d i o beside none_there h = let w = hop-found after s
 abbrev pub queen_directions : List Direction
 queen_directions = East ∷ West ∷ North ∷ South ∷ NorthEast ∷ SouthEast ∷ NorthWest ∷ SouthWest ∷ []
 
--- and those of a knight
+-- the nightrider's eight directions
 abbrev pub knight_directions : List Direction
 knight_directions = NorthNorthEast ∷ SouthSouthEast ∷ NorthNorthWest ∷ SouthSouthWest ∷ EastNorthEast ∷ EastSouthEast ∷ WestNorthWest ∷ WestSouthWest ∷ []
 
@@ -58,12 +58,12 @@ once k i n t x lt here there =
     let less : place (step_of x) t < place (step_of x) t = (ordered x).in_order k i n t t here there lt in
     absurd (omega arith)
 
--- a man of kind j and colour e stood on s, or has come from a to b, which is s
+-- a man of kind j and colour e was on s, or has gone from a to b, which is s
 abbrev pub WasThere : List (Option Man) → Colour → Kind → ℕ → ℕ → ℕ → Type 0
 WasThere men e j a b s = (is_man (man_on men s) e j ≡ true) ⊎ ((s ≡ b) × (a < 64) × (is_man (man_on men a) e j ≡ true))
 
 module _ (men after : List (Option Man)) (e : Colour) (a b k s : ℕ) (i : Frees after men a) (small : s < 64) where
-  -- a square that isn't lined with such a man lies on no line with him
+  -- a square that isn't lined with a man of this kind is on no line with one
   unlined : (j : Kind) (q t : ℕ) (d : Step) → is_lined men e j k t d ≡ false → q < 64 → is_man (man_on men q) e j ≡ true → is_ahead k d q ≡ true
       → is_ahead k d t ≡ false
   unlined j q t d off inside man ahead = search (rules, false_from_ne_true, false≢true, and_from, some_square_true)
@@ -83,7 +83,8 @@ module _ (men after : List (Option Man)) (e : Colour) (a b k s : ℕ) (i : Frees
       (λ x. is_lined men e Grasshopper k b (back (step_of x))) (search (rules, hop_kept, beside, no_hurdle))
       (backward queen_steps (is_lined men e Grasshopper k a) refl ∙ p) (backward queen_steps (is_lined men e Grasshopper k b) refl ∙ q) h
 
-  -- and so for nightriders
+  -- a nightrider that stands where it stood rides as it rode, and one that has come from a as it would have
+  -- ridden
   pub nightrider_before : WasThere men e Nightrider a b s → list_any (is_lined men e Nightrider k a) knight_steps ≡ false
       → list_any (rides after s k) knight_steps ≡ true → list_any (rides men s k) knight_steps ≡ true
   nightrider_before was p h =
@@ -98,23 +99,23 @@ pub fairy_parts : (men : List (Option Man)) (e : Colour) (k t : ℕ) → is_on_f
 unfolding is_on_fairy_line
 fairy_parts men e k t h = or_parts (list_any (is_lined men e Grasshopper k t) queen_steps) (list_any (is_lined men e Nightrider k t) knight_steps) h
 
--- the words of such lines
+-- a line and a bitboard share a square exactly if some square of the bitboard is on the line
 passed : (test : ℕ → Bool) (k w r : ℕ) (d : Step) → w ≡ word test → r ≡ ray k d → not (bit_and r w == 0) ≡ some_square (λ q. test q && is_ahead k d q)
 unfolding ray
 passed test k w r d h i = grind (arith, squares_both, not_zero, some_square_same)
 
--- of a line on which such a man stands, every square is lined with it
+-- every square of a line that carries a man of this kind is lined with it
 pub line_passes : (test : ℕ → Bool) (k w r : ℕ) (d : Step) → w ≡ word test → r ≡ ray k d → (bit_and r w == 0) ≡ false
     → r ≡ word (λ t. is_ahead k d t && some_square (λ q. test q && is_ahead k d q))
 unfolding ray
 line_passes test k w r d h i some = grind (arith, squares_same, passed test k w r d h i)
 
--- of one on which none stands, no square is
+-- if a line carries no man of this kind, no square of the line is lined with it
 pub line_misses : (test : ℕ → Bool) (k w r : ℕ) (d : Step) → w ≡ word test → r ≡ ray k d → (bit_and r w == 0) ≡ true
     → 0 ≡ word (λ t. is_ahead k d t && some_square (λ q. test q && is_ahead k d q))
 line_misses test k w r d h i none = grind (arith, word_empty, and_right, passed test k w r d h i)
 
--- where no such man stands, or no king
+-- if there is no man of this kind, or no king, no square is lined
 none_of : (p : ℕ → Bool) (q : ℕ) → some_square p ≡ false → q < 64 → p q ≡ false
 none_of p q h lt = false_from_ne_true _ (λ y. false≢true (sym h ∙ some_square_true p q lt y))
 
@@ -148,7 +149,7 @@ pub fairy_lines_are : (men : List (Option Man)) (c : Colour) (k w n : ℕ) → k
 unfolding may_stand_between is_on_fairy_line
 fairy_lines_are men c k w n at h i = joined _ _ _ _ h i ∙ squares_same _ _ (λ t less. ap (λ (o : Option ℕ). is_on_fairy_line_at men o c t) (sym at))
 
--- the word of the men of a colour and kind, told by a test
+-- the bitboard of the men of a colour and kind, by a test
 pub man_test : (men : List (Option Man)) (e : Colour) (j : Kind) (w : ℕ) → w ≡ squares_of men e j → w ≡ word (λ q. is_man (man_on men q) e j)
 unfolding squares_of
 man_test men e j w h = h

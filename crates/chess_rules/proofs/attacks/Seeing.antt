@@ -1,8 +1,8 @@
--- The men that an attack sees once a move is made.
+-- The men that attacks depend on after a move.
 use Rattle.chess_rules.proofs.Chess.{AreSeen, Bool, Colour, Kind, King, List, Man, None, Option, Some, and_left, ap, arith, bit_and, bit_not, cases_Bool, cases_eq, differs, eq-eqb, eqb-true, every_square, false, false≢true, is_man, is_of_colour, is_some, is_square, joined, king_square, length, man_on, man_on-with_other, man_on-without_other, man_on-without_same, not, or_cases, or_parts, or_right, other, refl, rules, same_colour, shared, sight_after, squares, squares_either, squares_not, squares_of, squares_same, true, w64, with_man, without_at, without_man, word, ℕ, ◌&&◌, ◌<◌, ◌||◌, ◌∙◌, ◌≡◌, ◌≢◌}
 use Rattle.chess_rules.proofs.making_moves.Plays.{stays_empty}
 
--- a man stands on s once the man on a is gone, that on o too, and one has come to b
+-- a man is on s after the men on a and o have left and one has come to b
 abbrev pub is_occupied_after : List (Option Man) → ℕ → Option ℕ → ℕ → ℕ → Bool
 is_occupied_after men a o b s = (is_some (man_on men s) && not (is_square (Some a) s || is_square o s)) || is_square (Some b) s
 
@@ -39,12 +39,12 @@ pub kept_now : (men : List (Option Man)) (a : ℕ) (o : Option ℕ) (b : ℕ) (z
     → man_on (gone_to men a o b z) q ≡ man_on men q
 kept_now men a o b z q ne h = grind (arith, or_parts, man_on-with_other, ne, h, man_on-without_other, false≢true, eq-eqb)
 
--- so the test says on which squares men stand after the move
+-- the test says on which squares men stand after the move
 pub occupied_now : (men : List (Option Man)) (a : ℕ) (o : Option ℕ) (b : ℕ) (z : Man) (q : ℕ) → b < length men
     → is_occupied_after men a o b q ≡ is_some (man_on (gone_to men a o b z) q)
 occupied_now men a o b z q small = search (rules, cases_Bool, cases_eq, differs, eq-eqb, kept_now, left_now, or_right, there_now)
 
--- what is asked of the man on the origin, of the one that arrives, and of the arrival
+-- what must hold of the man on the origin, of the arriving man, and of the arrival
 pub record IsCapture (men : List (Option Man)) (a : ℕ) (o : Option ℕ) (b : ℕ) (z : Man) (c : Colour) : Type 0 where
   pub small : b < length men
   pub own : is_of_colour (man_on men a) (other c) ≡ false
@@ -60,7 +60,7 @@ enemy_now : (men : List (Option Man)) (a : ℕ) (o : Option ℕ) (b : ℕ) (z : 
 enemy_now men a o b z c k q i =
     grind (arith, cases_eq q b, there_now, left_now, kept_now, cases_Bool (is_square o q), cases_Bool (is_square (Some a) q), no_man, eqb-true a q, false≢true)
 
--- the words after a move are those of the men after it
+-- the bitboards after a move describe the men after it
 pub seen_after : (men : List (Option Man)) (a : ℕ) (o : Option ℕ) (b : ℕ) (z : Man) (c : Colour) → IsCapture men a o b z c
     → AreSeen men (gone_to men a o b z) (other c) (sight_after men a o b)
 unfolding squares_of
@@ -82,7 +82,7 @@ king_now : (men : List (Option Man)) (a : ℕ) (o : Option ℕ) (b : ℕ) (z : M
 king_now men a o b z c q i =
     grind (arith, cases_eq q b, there_now men a o b z i.small, cases_Bool (is_square (Some a) q || is_square o q), left_now, or_cases, eqb-true a q, kept_now)
 
--- then the king stands where he stood
+-- if no king goes, arrives or is captured, the king keeps its square
 pub king_stands : (men : List (Option Man)) (a : ℕ) (o : Option ℕ) (b : ℕ) (z : Man) (c : Colour) → IsNoKing men a o b z c
     → king_square (gone_to men a o b z) c ≡ king_square men c
 unfolding king_square squares

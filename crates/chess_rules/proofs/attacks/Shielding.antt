@@ -1,4 +1,4 @@
--- A plain move from a square that a queen on the king's doesn't see opens no line to the king.
+-- A plain move from a square that a queen on the king's square doesn't reach opens no line to the king.
 use Rattle.chess_rules.proofs.Chess.{AtMostOneKing, Bishop, Bool, Colour, Diagonal, Direction, East, Grasshopper, IsWellFormed, Kind, King, List, Man, Move, Nightrider, None, North, NorthEast, NorthWest, Option, Position, Queen, Rook, RuleSet, Some, South, SouthEast, SouthWest, Step, Straight, West, [], and_from, and_parts, and_right, any_kept, ap, arith, arriving_man, bit_at, bit_not, bit_or, cannot_expose, capture_square, captures_do_more, cases_Bool, cases_eq, cond-false, cond-true, diagonal_steps, differs, eq-eqb, every_square, false, false_from_ne_true, false≢true, find_first, find_square_some, has_fairy, hops, in_check, inl, inr, is_attacked, is_attacked_at, is_attacker, is_behind, is_castling, is_checker, is_checker_at, is_man, is_of_colour, is_on_fairy_line, is_on_some, is_plain, is_promotion_right, is_pseudo_legal, is_reached, is_shut, is_square, joined, king_square, knight_steps, length, list_any, list_any-append, man_on, may_expose, may_expose_at, may_stand_between, moved_men, not, not-true, not_zero, or_cases, or_left, or_parts, or_right, other, position_after, position_after_by, queen_steps, reaches, reaches_as, reborn_square, refl, rider_along, rides, rules, same_colour, same_kind, second_fails, some_square_false, some_square_true, squares, squares_either, squares_of, squares_same, step_of, steps_along, straight_steps, sym, true, w64, word, word_empty, word_has, ℕ, ◌&&◌, ◌<◌, ◌==◌, ◌||◌, ◌∙◌, ◌∷◌, ◌≡◌, ◌≢◌}
 use Rattle.chess_rules.specs.declared.shields.RiderLines.{RiderLines}
 use Rattle.chess_rules.proofs.rays.Ends.{square_is}
@@ -18,7 +18,7 @@ pub record IsShift (men after : List (Option Man)) (a b : ℕ) (z : Man) : Type 
   pub others : (q : ℕ) (y : Man) → man_on after q ≡ Some y → q ≢ b → man_on men q ≡ Some y
   pub arrived : (y : Man) → man_on after b ≡ Some y → y ≡ z
 
--- a man that goes, and captures on its arrival alone, makes such a shift
+-- a move that captures only on its arrival is a shift
 pub gone_shift : (men : List (Option Man)) (a : ℕ) (o : Option ℕ) (b : ℕ) (z : Man) → b < length men → ((s : ℕ) → is_square o s ≡ true → s ≡ b)
     → IsShift men (gone_to men a o b z) a b z
 gone_shift men a o b z small taken = grind (arith, gone_to, there_now, kept_now, left_now, cases_Bool)
@@ -59,7 +59,7 @@ shut : (men : List (Option Man)) (c : Colour) (a k : ℕ) (l : RiderLines) → I
     → is_shut men (other c) (rider_along l) (steps_along l) k a ≡ false
 shut men c a k l g = grind arith
 
--- what keeps one square from shutting a line to a man that stands on another
+-- what keeps one square from blocking a line to a man on another
 pub not_parted : (men : List (Option Man)) (a k s : ℕ) (e : Colour) (j : Kind) (ds : List Step) → is_shut men e j ds k a ≡ false
     → (is_man (man_on men s) e j || is_man (man_on men s) e Queen) ≡ true → s < 64 → is_on_some ds k s ≡ true
     → (list_any (rides men k a) ds ≡ true) × (list_any (rides men s a) ds ≡ true) → ⊥
@@ -175,14 +175,14 @@ module _ (men after : List (Option Man)) (a b : ℕ) (z : Man) (i : IsShift men 
               grind (arith, and_parts, cases_eq s b, arrival_strikes (man_on after s), checks_before s (man_on after s) refl p, reached));
         })
 
--- so none attacks him
+-- a king that no enemy reaches isn't attacked
 pub not_attacked : (rule : RuleSet) (men : List (Option Man)) (e : Colour) (k : ℕ) → is_reached men k e ≡ false → is_attacked rule men k e ≡ false
 unfolding is_attacked is_attacker is_reached
 not_attacked rule men e k h =
     let reached = some_square_true (λ s. is_of_colour (man_on men s) e && reaches men s k) in
     grind (arith, some_square_false (is_attacker rule men k e) 64, reached, and_parts, and_from)
 
--- what is asked of a shift, so that the king of colour c isn't in check after it
+-- what must hold of a shift for the king of colour c not to be in check after it
 record IsHarmless (men : List (Option Man)) (c : Colour) (a b : ℕ) (z : Man) : Type 0 where
   pub one : AtMostOneKing men
   pub king : is_man (Some z) c King ≡ true → king_square men c ≡ Some a
@@ -235,12 +235,12 @@ pub unreborn_after : (rule : RuleSet) (p : Position) (x : Man) (m : Move) → ma
 unfolding position_after position_after_by reborn_square
 unreborn_after rule p x m here rebirth = search rules
 
--- and nobody castles
+-- where nobody is reborn and nobody castles, the men after the move are those after the arrival
 pub simple_after : (rule : RuleSet) (p : Position) (x : Man) (m : Move) → man_on p.men m.from ≡ Some x → is_castling x m ≡ false
     → (captures_do_more rule ≡ true → capture_square p x m ≡ None) → (position_after rule p m).men ≡ arrived p x m
 simple_after rule p x m here castling rebirth = unreborn_after rule p x m here rebirth ∙ moved_plainly p x m castling
 
--- so it is after a plain move
+-- after a plain move the men are those after the arrival
 pub men_after : (rule : RuleSet) (p : Position) (x : Man) (m : Move) → man_on p.men m.from ≡ Some x → IsPlain rule p x m
     → (position_after rule p m).men ≡ arrived p x m
 men_after rule p x m here plain = simple_after rule p x m here plain.castling plain.rebirth
@@ -287,7 +287,7 @@ pub cannot_expose_parts : (rule : RuleSet) (p : Position) (x : Man) (c : Colour)
 unfolding cannot_expose is_plain capture_square
 cannot_expose_parts rule p x c m here h = grind (arith, and_parts, not-true, second_fails, cond-false, and_right)
 
--- such a move doesn't leave its mover in check
+-- a move that can't expose the king doesn't leave it in check
 pub cannot_expose_own : (rule : RuleSet) (p : Position) (m : Move) → IsWellFormed p → is_pseudo_legal rule p m ≡ true → m.to < 64
     → cannot_expose rule p p.turn m ≡ true → in_check rule (position_after rule p m).men p.turn ≡ false
 cannot_expose_own rule p m well may small h =
@@ -305,7 +305,7 @@ pub some_hopper : (men : List (Option Man)) (c : Colour) (w : ℕ) → w ≡ squ
 unfolding has_fairy squares_of
 some_hopper men c w h some = search (rules, differs, or_left, not_zero)
 
--- and where no grasshopper stands, by that of the nightriders
+-- a side without grasshoppers has a fairy man exactly if its word of nightriders isn't empty
 pub some_nightrider : (men : List (Option Man)) (c : Colour) (w n : ℕ) → w ≡ squares_of men c Grasshopper → w ≡ 0 → n ≡ squares_of men c Nightrider
     → not (n == 0) ≡ has_fairy men c
 unfolding has_fairy squares_of
@@ -316,7 +316,7 @@ pub shield_squares_none : (men : List (Option Man)) (c : Colour) → king_square
 unfolding may_expose
 shield_squares_none men c h = word_empty (may_expose men c) (λ s b. ap (λ (o : Option ℕ). may_expose_at men o c s) h)
 
--- nor does an enemy reach him
+-- where a side has no king, no square is a checker's
 pub checkers_none : (men : List (Option Man)) (c : Colour) → king_square men c ≡ None → 0 ≡ word (is_checker men c)
 unfolding is_checker
 checkers_none men c h = word_empty (is_checker men c) (λ s b. ap (λ (o : Option ℕ). is_checker_at men o c s) h)
@@ -331,7 +331,7 @@ pub checkers_are : (men : List (Option Man)) (c e : Colour) (k w : ℕ) → e �
 unfolding is_checker
 checkers_are men c e k w enemy at h = search (rules, squares_same, enemy, at, h)
 
--- whether there is one, told by their word
+-- an enemy reaches the king exactly if the bitboard of these enemies isn't 0
 reached_by_word : (men : List (Option Man)) (c e : Colour) (k w : ℕ) → e ≡ other c → w ≡ word (reaching men e k) → not (w == 0) ≡ is_reached men k (other c)
 unfolding is_reached
 reached_by_word men c e k w enemy h = search (rules, not_zero, enemy, h)
@@ -344,7 +344,8 @@ shield_squares_all men c e k w enemy at h some =
     let reached : is_reached men k (other c) ≡ true = sym (reached_by_word men c e k w enemy h) ∙ ap not (differs w 0 some) in
     search (rules, every_square, or_left)
 
--- else his own, those that shut a line to him, and those on fairy lines
+-- with a king that no enemy reaches, they are its own square, those that block a line to it, and those on
+-- fairy lines
 pub shield_squares_some : (men : List (Option Man)) (c e : Colour) (k r w n : ℕ) → e ≡ other c → king_square men c ≡ Some k → r ≡ word (reaching men e k)
     → r ≡ 0 → w ≡ bit_or (bit_or (word (is_square (Some k))) (word (is_shut men (other c) Rook straight_steps k)))
     (word (is_shut men (other c) Bishop diagonal_steps k)) → n ≡ word (may_stand_between men c) → bit_or w n ≡ word (may_expose men c)
@@ -353,25 +354,25 @@ shield_squares_some men c e k r w n enemy at reachers none h i =
     let unreached : is_reached men k (other c) ≡ false = sym (reached_by_word men c e k r enemy reachers) ∙ ap (λ (v : ℕ). not (v == 0)) none in
     joined _ _ _ _ (h ∙ joined _ _ _ _ (squares_either _ _) refl) i ∙ squares_same _ _ (λ t less. grind (arith, at, unreached))
 
--- else it is told by the rest
+-- from a square that isn't a blocker's the other parts of the test decide
 pub cannot_expose_to : (rule : RuleSet) (p : Position) (x : Man) (c : Colour) (m : Move) (w s : ℕ) (b r : Bool) → man_on p.men s ≡ Some x
     → w ≡ word (may_expose p.men c) → s ≡ m.from → s < 64 → b ≡ (bit_at w s == 1) → b ≡ false
     → r ≡ (not (may_stand_between p.men c m.to) && is_plain rule p x m) → r ≡ cannot_expose rule p c m
 unfolding cannot_expose
 cannot_expose_to rule p x c m w s b r here h same small e off rest = search (rules, word_has)
 
--- where nobody stands on the origin, the answer is no
+-- if nobody is on the origin, the test fails
 pub cannot_expose_nobody : (rule : RuleSet) (p : Position) (c : Colour) (m : Move) → man_on p.men m.from ≡ None → false ≡ cannot_expose rule p c m
 unfolding cannot_expose
 cannot_expose_nobody rule p c m none = rw none refl
 
--- so one that isn't in their word lies on none
+-- a square that isn't in the word of exposing squares stands between nothing
 pub off_shields : (men : List (Option Man)) (c : Colour) (w t : ℕ) (b : Bool) → w ≡ word (may_expose men c) → t < 64 → b ≡ (bit_at w t == 1) → b ≡ false
     → b ≡ may_stand_between men c t
 unfolding may_expose may_stand_between
 off_shields men c w t b h small e off = search (rules, word_has, or_parts)
 
--- and the word of the fairy lines tells of the others
+-- the bitboard of the fairy lines decides for the other squares
 pub between_is : (men : List (Option Man)) (c : Colour) (w t : ℕ) (b : Bool) → w ≡ word (may_stand_between men c) → t < 64 → b ≡ (bit_at w t == 1)
     → b ≡ may_stand_between men c t
 between_is men c w t b h small e = e ∙ word_has (may_stand_between men c) w t h small

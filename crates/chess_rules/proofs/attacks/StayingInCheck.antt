@@ -1,4 +1,4 @@
--- A check that isn't met stays.
+-- A check that isn't parried stays.
 use Rattle.chess_rules.proofs.Chess.{AreEvasions, AtMostOneKing, Bool, Colour, IsNoEvasion, IsWellFormed, Kind, King, List, Man, Move, Option, Position, Queen, RuleSet, Some, Step, and_from, and_parts, and_right, ap, arith, arriving_man, bit_and, bit_at, bit_not, bit_or, capture_square, cases_eq, cond-false, eq-eqb, faced_men_stand_still, faces, faces_its_like, false, false≢true, find_first, first_of_and, has_fairy_lines, has_fairy_lines_of, in_check, is_attacked, is_attacker, is_checker, is_man, is_of_colour, is_paralysed, is_plain, is_pseudo_legal, is_square, is_vacant_at, king_square, list_any, list_any-append, man_on, may_be_paralysed, may_paralyse_anew, not-true, or_left, or_parts, or_right, other, position_after, queen_steps, reaches, reaches_as, rides, rules, same_colour, same_kind, second_fails, second_of_and, some_square, some_square_false, some_square_true, squares, squares_both, squares_either, subst, sym, true, w64, word, word_has, ℕ, ◌&&◌, ◌<◌, ◌==◌, ◌∙◌, ◌≡◌, ◌≢◌}
 use Rattle.chess_rules.proofs.attacks.Shielding.{IsPlain, IsShift, arrived_shift, king_is, man_there, men_after, other_differs}
 use Rattle.chess_rules.proofs.attacks.Exposing.{free_of_own}
@@ -50,14 +50,14 @@ record IsAway (rule : RuleSet) (men : List (Option Man)) (c : Colour) (a b : ℕ
   pub same : faced_men_stand_still rule ≡ true → man_on men a ≡ Some z
 
 module _ (rule : RuleSet) (men after : List (Option Man)) (a b : ℕ) (z : Man) (c : Colour) (i : IsShift men after a b z) (away : IsAway rule men c a b z) where
-  -- then a man of each kind that has one now stood before
+  -- a side that has a man of a kind after the move had one before it
   like_stood : (k : Kind) (q : ℕ) → faced_men_stand_still rule ≡ true → is_man (man_on after q) c k ≡ true → some_square (λ s. is_man (man_on men s) c k) ≡ true
   like_stood k q stands h =
       let x = man_there (man_on after q) c k h in
       let some = some_square_true (λ s. is_man (man_on men s) c k) in
       grind (arith, cases_eq q b, i.arrived x.0, i.others q x.0, x.1, away.size a z, away.size q x.0, some a, some q)
 
-  -- so a man whose like didn't stand isn't paralysed
+  -- a man that faced no man of its kind before the move isn't paralysed after it
   unfaced : (s : ℕ) (y : Man) → man_on after s ≡ Some y → same_colour y.colour (other c) ≡ true → may_be_paralysed rule men c (Some y) ≡ false
       → is_paralysed rule after s ≡ false
   unfolding is_paralysed faces_its_like faces

@@ -1,4 +1,4 @@
--- The words of the squares to which a man may go.
+-- The bitboards of the squares to which a man may go.
 use Rattle.chess_rules.proofs.Chess.{Black, Bool, Colour, IsAimed, IsFirst, Kind, King, List, Man, Move, None, Option, Pawn, Position, RuleSet, Some, White, agree_below_at, along, and_from, and_left, and_parts, ap, arith, bit_and, bit_at, bit_not, bit_or, can_go, cases_Bool, cond-false, cond-true, eqb-true, false, false≢true, find, find_no, forward, has_unmoved, inl, inr, is_advance, is_arrival, is_arrival_free, is_arrival_of, is_paralysed, is_pseudo_legal, is_some, is_square, joined, leaps, list_any, man_on, may_go, may_promote, not, not-true, or_cases, or_left, or_right, other, pawn_goes, queen_steps, range_with_len, rank_of, reaches, reaches_as, refl, rules, same_Bool, same_colour, same_kind, second_rank, shared, side_of, squares_both, squares_not, squares_of, squares_same, steps_to, sym, true, w64, word, word_empty, word_has, ℕ, ◌&&◌, ◌+◌, ◌/◌, ◌<◌, ◌==◌, ◌||◌, ◌∙◌, ◌≡◌}
 use Rattle.chess_rules.proofs.making_moves.Pseudo.{king_is_no_pawn}
 
@@ -128,7 +128,7 @@ pub arrivals_other : (rule : RuleSet) (p : Position) (x : Man) (s : ℕ) → man
 unfolding is_arrival
 arrivals_other rule p x s here h = word_empty (is_arrival rule p s) (λ t b. rw (here, h) refl)
 
--- nor does a paralysed man
+-- a paralysed man goes nowhere
 pub arrivals_paralysed : (rule : RuleSet) (p : Position) (x : Man) (s : ℕ) → man_on p.men s ≡ Some x → same_colour x.colour p.turn ≡ true
     → is_paralysed rule p.men s ≡ true → 0 ≡ word (is_arrival rule p s)
 unfolding is_arrival
@@ -158,12 +158,12 @@ pub goes_on : (rule : RuleSet) (p : Position) (x : Man) (m : Move) → man_on p.
 unfolding may_go reaches
 goes_on rule p x m here h free = grind (arith, cases_Bool, and_from, and_parts, cond-true, or_cases, or_left, or_right, cond-false, no_steps, king_is_no_pawn)
 
--- it may be made with a promotion exactly if this promotion is allowed
+-- an aimed move with a promotion is pseudo-legal exactly if this promotion is allowed
 pub aimed_promotion : (rule : RuleSet) (p : Position) (m : Move) (k : Kind) → IsAimed rule p m → m.promo ≡ Some k → may_promote p k ≡ is_pseudo_legal rule p m
 unfolding may_go reaches is_arrival is_pseudo_legal
 aimed_promotion rule p m k a e = grind (arith, and_parts, and_from, cond-true, or_cases, or_left, or_right, may_go_aimed rule p a.man m a.here a.arrival)
 
--- and without one exactly if the man goes so
+-- an aimed move without a promotion is pseudo-legal exactly if the man goes so
 pub aimed_plain : (rule : RuleSet) (p : Position) (m : Move) (x : Man) → IsAimed rule p m → m.promo ≡ None → man_on p.men m.from ≡ Some x
     → can_go rule p x m ≡ is_pseudo_legal rule p m
 unfolding is_arrival is_pseudo_legal

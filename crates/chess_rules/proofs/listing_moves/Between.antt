@@ -1,4 +1,4 @@
--- The legal moves between two places.
+-- The legal moves between two cursors.
 use Rattle.std.proofs.Math.Seq.{take-add}
 use Rattle.chess_rules.proofs.Chess.{HaveNone, List, Move, Position, RuleSet, [], all_triples, ap, arith, drop, drop-drop, false, filter-append, is_legal, moves, moves_behind, moves_between, refl, rules, sym, take, take-append-drop, triple_at, triples, true, ℕ, ◌++◌, ◌+◌, ◌-◌, ◌<◌, ◌∙◌, ◌∷◌, ◌≡◌, ◌≤◌}
 use Rattle.chess_rules.proofs.listing_moves.Places.{drop_triples, drop_triples_past, moves_behind-start, over, place_of_triple}
@@ -6,12 +6,12 @@ use Rattle.chess_rules.proofs.listing_moves.Places.{drop_triples, drop_triples_p
 take-none : (n : ℕ) → take {A = Move} n [] ≡ []
 take-none n = grind arith
 
--- none lies between a place and one that isn't behind it
+-- no move lies between a cursor and one that isn't after it
 pub between-none : (rule : RuleSet) (p : Position) (a b : ℕ) → b ≤ a → moves_between rule p a b ≡ []
 unfolding moves_between
 between-none rule p a b le = let z : b - a ≡ 0 = omega (arith, le) in rw z refl
 
--- nor behind the last triple
+-- no move lies after the last triple
 pub between-past : (rule : RuleSet) (p : Position) (a b : ℕ) → all_triples ≤ a → moves_between rule p a b ≡ []
 unfolding moves_between
 between-past rule p a b ge = rw (drop_triples_past a ge, take-none (b - a)) refl
@@ -22,13 +22,13 @@ pub between-here : (rule : RuleSet) (p : Position) (a b : ℕ) → a < all_tripl
 unfolding moves_between
 between-here rule p a b lt low h = search (rules, drop_triples)
 
--- and is passed over, if it isn't
+-- a triple at the first place that isn't legal is skipped
 pub between-skip : (rule : RuleSet) (p : Position) (a b : ℕ) → a < all_triples → is_legal rule p (triple_at a) ≡ false
     → moves_between rule p a b ≡ moves_between rule p (a + 1) b
 unfolding moves_between
 between-skip rule p a b lt h = search (rules, between-none, drop_triples)
 
--- over a stretch without moves
+-- over a range without moves
 pub between-none-is_legal : (rule : RuleSet) (p : Position) (a b e : ℕ) → (b < all_triples → a ≤ b) → b ≤ all_triples → HaveNone (is_legal rule p) a b
     → moves_between rule p a e ≡ moves_between rule p b e
 between-none-is_legal rule p a b e =
@@ -54,7 +54,7 @@ between_cut rule p a b e lo hi =
     let n : e - a ≡ (b - a) + (e - b) = omega arith in
     grind (arith, n, take-add (b - a) (e - b) (drop a triples), filter-append (is_legal rule p) (take (b - a) (drop a triples)), drop_twice a b triples lo)
 
--- the moves behind a place, cut at another
+-- the moves after a cursor, cut at another
 pub behind_cut : (rule : RuleSet) (p : Position) (a b : ℕ) → a ≤ b → moves_behind rule p a ≡ moves_between rule p a b ++ moves_behind rule p b
 unfolding moves_between moves_behind
 behind_cut rule p a b le =

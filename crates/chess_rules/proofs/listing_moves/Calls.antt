@@ -1,4 +1,4 @@
--- The calls of `next` over one position.
+-- Successive calls of `next` on one position.
 use Rattle.chess_rules.proofs.Chess.{List, MatchOption, Move, Option, Position, RuleSet, [], and_parts, arith, drop, drop-drop, is_legal, is_pseudo_legal, moves, moves_behind, place_of, refl, slice_get, suc, true, zero, ℕ, ◌+◌, ◌∷◌, ◌≡◌}
 use Rattle.chess_rules.proofs.listing_moves.Places.{moves_behind-end}
 
@@ -15,7 +15,7 @@ pub step_on : (rule : RuleSet) (p : Position) (n place next : ℕ) (o : Option M
 unfolding place_of
 step_on rule p n place next o at e rest = grind (arith, drop-drop 1 n (moves rule p), moves_behind-end)
 
--- and which move it gives: the one of that number, if there is one
+-- the move that one call gives is the one of that number, if there is one
 pub answer_is : (rule : RuleSet) (p : Position) (n place next : ℕ) (o : Option Move) → moves_behind rule p place ≡ drop n (moves rule p)
     → MatchOption o (moves_behind rule p place ≡ []) (λ m. moves_behind rule p place ≡ (m ∷ moves_behind rule p next)) → o ≡ slice_get (moves rule p) n
 answer_is rule p n place next o at rest = grind (arith, get_first (moves rule p) n)

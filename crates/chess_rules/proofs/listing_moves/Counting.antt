@@ -1,4 +1,4 @@
--- How many legal moves lie between two places.
+-- The number of legal moves between two cursors.
 use Rattle.std.proofs.lemmas.List.Sums.{count_by-le-length, length-filter}
 use Rattle.std.specs.Int.Count.{ones_step}
 use Rattle.std.specs.Prelude.{count_ones}
@@ -12,17 +12,17 @@ use Rattle.chess_rules.specs.ties.Taking.{IsTaken}
 bit_is : (n : ℕ) → n < 2 → n ≡ from_bool (n == 1)
 bit_is n less = grind arith
 
--- the squares of a word from one on: that one, if the word has it, and those behind it
+-- the squares of a bitboard from a square on: that square, if it is in, and the squares after it
 ones_from : (w t : ℕ) → count_ones (w / 2 ^ t) ≡ from_bool (bit_at w t == 1) + count_ones (w / 2 ^ (t + 1))
 ones_from w t = grind (arith, ones_step (w / 2 ^ t), shr-shr w t 1, bit_is (bit_at w t), bit_at-lt w t)
 
--- behind the last square there is none
+-- no square comes after the last
 pub none_from : (w t : ℕ) → w < 2 ^ 64 → 64 ≤ t → 0 ≡ count_ones (w / 2 ^ t)
 none_from w t fits past =
     let le : 2 ^ 64 ≤ 2 ^ t = pow_mono past in
     grind (arith, le, ones-le 0 (w / 2 ^ t), shr_below w 0 t)
 
--- of such a walk the legal moves from the origins that were taken are counted
+-- during the walk, the legal moves from all origins passed so far have been counted
 pub record IsCounted (rule : RuleSet) (p : Position) (start rest count : ℕ) : Type 0 where
   pub reached : ℕ
   pub low : start ≤ reached
@@ -30,7 +30,8 @@ pub record IsCounted (rule : RuleSet) (p : Position) (start rest count : ℕ) : 
   pub walked : IsWalked (is_legal rule p) reached rest
   pub counted : count ≡ length (moves_between rule p start reached)
 
--- of the moves of one origin those to the squares of a word that were taken are counted, from a place on and before an end
+-- during the walk over one origin's squares, its moves to the squares taken so far have been counted: from
+-- `start` on and before `end`
 pub record IsCountedTo (rule : RuleSet) (p : Position) (s w start end rest count : ℕ) : Type 0 where
   pub at : ℕ
   pub few : at ≤ per_origin
@@ -51,11 +52,11 @@ module _ (rule : RuleSet) (p : Position) where
   count_cut : (a b e : ℕ) → a ≤ b → b ≤ e → between a e ≡ between a b + between b e
   count_cut a b e lo hi = ap length (between_cut rule p a b e lo hi) ∙ length-append (moves_between rule p a b) (moves_between rule p b e)
 
-  -- none lies between a place and one that isn't behind it
+  -- no move lies between a cursor and one that isn't after it
   pub none_left : (a e : ℕ) → e ≤ a → between a e ≡ 0
   none_left a e le = ap length (between-none rule p a e le)
 
-  -- over a stretch without moves there are as many
+  -- over a range without moves the count stays
   count_over : (a b e : ℕ) → a ≤ b → b ≤ all_triples → HaveNone (is_legal rule p) a b → between a e ≡ between b e
   count_over a b e lo hi none = ap length (between-none-is_legal rule p a b e (λ less. lo) hi none)
 
@@ -74,7 +75,8 @@ module _ (rule : RuleSet) (p : Position) where
     abbrev same : h.reached - n ≡ z
     same = grind (arith, h.begin s, next.small, next.here)
 
-    -- those up to a triple of the next origin are those so far and its own before that one
+    -- the moves up to a triple of the next origin are those counted and the next origin's before that
+    -- triple
     pub counted_to : (a : ℕ) → z ≤ a → between start (n + a) ≡ count + between (per_origin * s + z) (per_origin * s + a)
     counted_to a more =
         let before = walk_before (is_legal rule p) h.reached rest s n h.walked next.first (omega (arith, next.small)) (omega (arith, first)) in
@@ -183,6 +185,6 @@ module _ (rule : RuleSet) (p : Position) where
           → between (per_origin * s + a) (per_origin * s + b) + count_ones (w / 2 ^ arrival_from b) ≡ count_ones (w / 2 ^ arrival_from a)
       count_by_word a b le hi = counted (b - a) a b (omega (arith, le)) hi
 
-      -- those of a whole origin are all of them
+      -- for a whole origin, all squares are counted
       pub count_whole : (a b : ℕ) → w < 2 ^ 64 → a ≡ 0 → b ≡ per_origin → between (per_origin * s + a) (per_origin * s + b) ≡ count_ones w
       count_whole a b fits first last = grind (arith, count_by_word a b, none_from w 64 fits)

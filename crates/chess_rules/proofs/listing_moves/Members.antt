@@ -1,4 +1,4 @@
--- The elements of lists that are made of others, and lists whose elements stand in order.
+-- Elements of lists made from other lists, and sorted lists.
 use Rattle.chess_rules.proofs.Basics.{AllPairs, AllPairs-cons, Bool, Contains, Contains-append_cases, Contains-append_left, Contains-append_right, Contains-get_or, List, [], ap, arith, cond, false, false≢true, filter, flat_map, get_or, get_or-map, get_or-range_with_len, inl, inr, length-map, length-range_with_len, map, range_with_len, refl, suc, sym, true, ℕ, ◌++◌, ◌+◌, ◌-◌, ◌<◌, ◌∙◌, ◌∷◌, ◌≡◌, ◌≤◌, ◌⊎◌}
 
 module _ {X : Type 0} where
@@ -10,7 +10,7 @@ module _ {X : Type 0} where
   pub first_in : (x : X) (xs : List X) → Contains (x ∷ xs) x
   first_in x xs = (0, omega arith, refl)
 
-  -- and so is each later one
+  -- each later element of a list is in it
   pub later_in : (y : X) (xs : List X) (x : X) → Contains xs x → Contains (y ∷ xs) x
   later_in y xs x (k, less, at) = (suc k, omega (arith, less), at)
 
@@ -44,7 +44,7 @@ pub in_range : (a n k : ℕ) → a ≤ k → k < a + n → Contains (range_with_
 in_range a n k low high =
     (k - a, rw length-range_with_len (omega (arith, low, high)), get_or-range_with_len a n (k - a) k (omega (arith, low, high)) ∙ omega (arith, low))
 
--- and it has no others
+-- a range has no other numbers
 pub from_range : (a n k : ℕ) → Contains (range_with_len a n) k → (a ≤ k) × (k < a + n)
 from_range a n k c = let less : c.0 < n = rw length-range_with_len at c.1 in omega (arith, less, sym (get_or-range_with_len a n c.0 k less) ∙ c.2)
 
@@ -112,7 +112,7 @@ module _ {X Y : Type 0} (R : X → X → Type 0) (S : Y → Y → Type 0) where
       pairs_of S (f x) (map f xs) (λ y c. let w = from_map f xs y c in rw (w.2) at (keeps x w.0 (pairs_first R x xs a w.0 w.1)))
       (pairs_map f xs keeps (pairs_later R x xs a))
 
-  -- joined lists: each in order, and those of an element before those of a later one
+  -- joined lists are sorted if each is, and the elements of each come before the elements of later ones
   pub pairs_flat_map : (f : X → List Y) (xs : List X) → AllPairs R xs → ((x : X) → AllPairs S (f x))
       → ((x y : X) → R x y → (a b : Y) → Contains (f x) a → Contains (f y) b → S a b) → AllPairs S (flat_map f xs)
   pairs_flat_map f [] a each across = pairs_nil S

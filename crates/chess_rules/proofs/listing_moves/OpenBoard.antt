@@ -1,4 +1,4 @@
--- Where a man goes, he might go whoever else stood on the board.
+-- Where a man goes, it could go on some board: `open_reach` and `open_targets` miss no square.
 use Rattle.chess_rules.proofs.Chess.{Bool, Grasshopper, Kind, King, Leaper, List, Man, Nightrider, Option, Pawn, Position, Queen, Rider, and_parts, arith, bit_at, bit_or, cond-false, cond-true, diagonal_steps, false, false≢true, gait_of, inl, inr, is_advance, is_on_some, kind_steps, leaps, list_any, list_any-append, may_go, men_on, AreReached, occupied_squares, on_left, on_right, or_cases, reaches_as, refl, rides, rules, same_kind, steps_to, straight_steps, sym, true, word, word_has, ℕ, ◌&&◌, ◌<◌, ◌==◌, ◌||◌, ◌∙◌, ◌≡◌}
 use Rattle.chess_rules.proofs.attacks.Attacking.{goes_on}
 use Rattle.chess_rules.proofs.listing_moves.Arrivals.{no_steps}

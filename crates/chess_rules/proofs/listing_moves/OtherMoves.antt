@@ -1,4 +1,4 @@
--- Legal moves of other men than the king.
+-- Legal moves of men other than the king.
 use Rattle.chess_rules.proofs.Chess.{AreCandidates, AreOrigins, HaveNone, IsAimed, IsWellFormed, King, Move, Position, RuleSet, all_triples, and_left, and_right, ap, arith, bit_and, bit_at, bit_not, cases_Bool, cases_lt, false, filter, first_of_and, is_legal, is_nil, is_of_others, is_wanted, le-ltb, lt-ltb, moves, moves_behind, nat_lt, not, rules, second_of_and, squares_not, squares_of, triple_at, true, w64, word_has, ℕ, ◌<◌, ◌==◌, ◌≡◌, ◌≤◌}
 use Rattle.chess_rules.proofs.listing_moves.Places.{moves_behind-here, moves_behind-start}
 use Rattle.chess_rules.proofs.listing_moves.Sifting.{sifted_missing, wanted-none}
@@ -12,7 +12,7 @@ module _ (rule : RuleSet) (p : Position) where
   unfolding squares_of
   other_origins o k own kings = search (rules, cases_Bool, and_right, word_has, squares_not, off_second, and_left)
 
-  -- candidates for all legal moves are candidates for those of other men
+  -- candidates for all legal moves are candidates for the moves of other men
   pub other_candidates : (s w : ℕ) → AreCandidates rule p (is_legal rule p) s w → AreCandidates rule p (is_wanted rule p (is_of_others p)) s w
   other_candidates s w are = search (rules, and_left)
 

@@ -1,4 +1,4 @@
--- The legal moves that a sieve takes, passed over by walking from candidate to candidate.
+-- Walking from candidate to candidate passes over the legal moves that a filter takes.
 use Rattle.chess_rules.proofs.Chess.{AreCandidates, AreLegal, AreOrigins, AreSifted, Bool, HaveNone, IsSifted, Move, None, Position, RuleSet, SomeFails, [], all_triples, and_le_l, and_left, ap, append-nil, append_assoc, append_cancel_right, arith, bit_and, bit_at, bit_at-trailing_zeros, bit_at_and, bit_not, cases_Bool, cases_lt, eq-eqb, eqb-true, false, filter, filter-append, is_legal, is_wanted, length, moves_behind, moves_between, passes_to, refl, rules, second_fails, sym, trailing_zeros, triple_at, true, w64, ℕ, ◌++◌, ◌+◌, ◌<◌, ◌==◌, ◌^◌, ◌∙◌, ◌∷◌, ◌≡◌, ◌≤◌}
 use Rattle.std.proofs.lemmas.Nat.Bits.{bit_at_not}
 use Rattle.chess_rules.proofs.listing_moves.Between.{behind_cut, between-past}
@@ -6,12 +6,12 @@ use Rattle.chess_rules.proofs.listing_moves.Places.{moves_behind-end, moves_behi
 use Rattle.chess_rules.proofs.listing_moves.Targeting.{false_by}
 use Rattle.chess_rules.proofs.listing_moves.Walks.{off_second, on_first}
 
--- for callers whose place has moved on, or stands behind all triples
+-- for callers whose cursor has moved on, or is at the end
 pub moved_on : (rule : RuleSet) (p : Position) (a b : ℕ) → (b < all_triples → a ≤ b) → moves_behind rule p a ≡ moves_between rule p a b ++ moves_behind rule p b
 moved_on rule p a b on = grind (arith, cases_lt, behind_cut, between-past, moves_behind-end)
 
 module _ (rule : RuleSet) (p : Position) (test : Move → Bool) where
-  -- of the squares to which a legal move may go those that a sieve leaves
+  -- the squares, out of those where a legal move may go, that a filter leaves
   pub wanted_candidates : (s w v : ℕ) → AreCandidates rule p (is_legal rule p) s w → AreSifted rule p test s w v
       → AreCandidates rule p (is_wanted rule p test) s (bit_and w v)
   wanted_candidates s w v are sifted = search (rules, and_left, cases_Bool, off_second, on_first, second_fails)
@@ -20,7 +20,7 @@ module _ (rule : RuleSet) (p : Position) (test : Move → Bool) where
   pub wanted_origins : (o : ℕ) → AreOrigins (is_legal rule p) o → AreOrigins (is_wanted rule p test) o
   wanted_origins o own = record { elsewhere = λ m from to off. and_left _ (test m) (own.elsewhere m from to off) }
 
-  -- of the squares to which a legal move may go those that a filter takes
+  -- a square left after a filter is taken off isn't one of the filter
   taken_off : (w v t : ℕ) → v < 2 ^ 64 → t < 64 → (bit_at (bit_and w (bit_not w64 v)) t == 1) ≡ true → (bit_at v t == 1) ≡ false
   taken_off w v t fits small on = grind (arith, false_by, eqb-true _ _ on, eqb-true, bit_at_not w64 v t fits small, bit_at_and w (bit_not w64 v) t)
 
@@ -52,7 +52,7 @@ module _ (rule : RuleSet) (p : Position) (test : Move → Bool) where
       → filter test (moves_behind rule p n) ≡ filter test (moves_behind rule p (n + 1))
   wanted-skip n lt h = search (rules, second_fails, moves_behind-here, moves_behind-skip)
 
-  -- over a stretch without a wanted move the same moves that pass lie behind a place
+  -- over a range without a wanted move the same moves that pass are left
   pub wanted-none : (a b : ℕ) → (b < all_triples → a ≤ b) → b ≤ all_triples → HaveNone (is_wanted rule p test) a b
       → filter test (moves_behind rule p a) ≡ filter test (moves_behind rule p b)
   wanted-none = over (λ n. filter test (moves_behind rule p n)) (is_wanted rule p test) wanted-skip [] (λ n ge. ap (filter test) (moves_behind-end rule p n ge))
@@ -72,14 +72,14 @@ module _ (rule : RuleSet) (p : Position) (test : Move → Bool) where
             ∙ wanted-none a n (λ _. le) (omega (arith, lt)) none);
       }
 
-  -- where the walk gets to the end, no move behind the place passes
+  -- if the walk reaches the end, no move after the cursor passes
   pub sifted_missing : (a b : ℕ) → all_triples ≤ b → b ≤ all_triples → HaveNone (is_wanted rule p test) a b → filter test (moves_behind rule p a) ≡ []
   sifted_missing a b ge le none = grind (arith, moves_behind-end, wanted-none)
 
--- all that lie behind a place lie before the end
+-- all moves after a cursor come before the end
 pub counted_behind : (rule : RuleSet) (p : Position) (a b c : ℕ) → all_triples ≤ b → b ≤ all_triples → c ≡ length (moves_between rule p a b)
     → c ≡ length (moves_behind rule p a)
 counted_behind rule p a b c ge le count = grind (arith, moved_on rule p a b, moves_behind-end rule p b ge, append-nil (moves_between rule p a b))
 
--- for the next legal move that a sieve leaves
+-- for the next legal move that a filter leaves
 pub ruleset next_sifted = (counted_behind, moved_on, place_of_none, place_of_triple, sifted_missing, sifted_numbered)

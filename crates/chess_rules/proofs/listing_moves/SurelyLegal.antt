@@ -1,4 +1,4 @@
--- Moves that are legal without a look.
+-- Moves that are legal without a test of each.
 use Rattle.chess_rules.proofs.Chess.{AreCandidates, AreLegal, Bool, IsAimed, IsWellFormed, King, Man, Move, None, Pawn, Position, RuleSet, Some, and_from, and_left, arith, bit_and, bit_at, bit_or, cannot_expose, captures_do_more, eqb-true, false, if◌then◌else◌, is_legal, is_plain, is_promoting, is_some, is_square, is_unsure, joined, last_rank, man_on, may_expose, may_stand_between, or_parts, rank_of, refl, rules, same_kind, squares_same, sym, true, word, word_empty, word_has, ℕ, ◌&&◌, ◌<◌, ◌==◌, ◌∙◌, ◌≡◌}
 use Rattle.chess_rules.proofs.attacks.Shielding.{cannot_expose_own}
 use Rattle.chess_rules.proofs.listing_moves.Arrivals.{aimed_plain, goes_on, may_go_aimed}
@@ -11,7 +11,7 @@ sure_unexposed : (rule : RuleSet) (p : Position) (x : Man) (m : Move) → man_on
 unfolding cannot_expose is_plain is_unsure
 sure_unexposed rule p x m here piece from sure = search (rules, and_from, and_left, or_parts)
 
--- of a man who isn't the king and shields him from nobody, each move to such a square is legal
+-- each move to a sure square by a man that isn't the king and blocks no line to it is legal
 pub surely_legal : (rule : RuleSet) (p : Position) (x : Man) (s w v u : ℕ) → IsWellFormed p → man_on p.men s ≡ Some x → s < 64
     → AreCandidates rule p (is_legal rule p) s w → same_kind x.kind King ≡ false → v ≡ word (may_expose p.men p.turn) → (bit_at v s == 1) ≡ false
     → u ≡ word (is_unsure rule p x) → (bit_and w u == 0) ≡ true → AreLegal rule p s w

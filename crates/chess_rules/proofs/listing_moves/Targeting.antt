@@ -1,4 +1,4 @@
--- Where a man may go, and no move is missed by going from one such square to the next.
+-- Arrival squares: walking from one to the next misses no move.
 use Rattle.chess_rules.proofs.Chess.{Bool, IsAimed, IsBarrenFrom, IsFirst, IsNamed, Kind, King, List, Man, Move, None, Option, Pawn, Position, RuleSet, Some, agree_below_at, along, and_from, and_parts, ap, arith, bit_at, bit_not, can_castle, cases_Bool, cond-false, cond-true, false, file_of, find, find_first, find_no, is_advance, is_arrival, is_castling, is_of_colour, is_promoting, is_promotion_right, is_pseudo_legal, is_pseudo_legal_of, is_some, is_square, is_two_files_aside, man_on, may_castle, may_go, or_left, or_right, per_arrival, per_origin, promotion_at, range_with_len, rank_of, reaches, reaches_as, refl, rules, same_colour-refl, same_kind, square_at, squares_same, steps_to, sym, true, w64, word, word_empty, ℕ, ◌%◌, ◌*◌, ◌+◌, ◌-◌, ◌/◌, ◌<◌, ◌==◌, ◌∙◌, ◌≡◌, ◌≤◌}
 use Rattle.chess_rules.proofs.making_moves.Pseudo.{made}
 use Rattle.std.proofs.Math.Bool.{beq}
@@ -84,7 +84,7 @@ pub nobody_moves : (rule : RuleSet) (p : Position) (m : Move) → man_on p.men m
 unfolding is_pseudo_legal
 nobody_moves rule p m h = ap (λ o. is_pseudo_legal_of rule p o m) h
 
--- nor is there one if the man there isn't the mover's
+-- from the square of an opponent's man there is no move
 pub own_moves : (p : Position) (rule : RuleSet) (m : Move) (o : Option Man) → man_on p.men m.from ≡ o → is_of_colour o p.turn ≡ false
     → is_pseudo_legal rule p m ≡ false
 own_moves p rule m None e h = nobody_moves rule p m e
@@ -94,7 +94,7 @@ own_moves p rule m (Some x) e h = false_by (is_pseudo_legal rule p m) (λ y. gri
 abbrev pub arrival_from : ℕ → ℕ
 arrival_from a = (a + per_arrival - 1) / per_arrival
 
--- two stretches of one origin without a move, one behind the other, are one
+-- two adjacent ranges of one origin without a move make one
 pub from-join : (p : Position) (s z a b c : ℕ) → IsBarrenFrom p s z a b → IsBarrenFrom p s z b c → IsBarrenFrom p s z a c
 from-join p s z a b c x y = search rules
 
@@ -134,7 +134,8 @@ pub from-target : (p : Position) (s start at t w : ℕ) → IsBarrenFrom p s w s
     → IsFirst (λ q. bit_at w q == 1) (at / per_arrival) (64 - at / per_arrival) t → IsBarrenFrom p s w start (per_arrival * t)
 from-target p s start at t w past f = search rules
 
--- and past the move to it without a promotion, where a pawn arrives on its last rank
+-- a pawn that arrives on its last rank has no move up to the first target, nor one to that target without a
+-- promotion
 pub from-first : (p : Position) (x : Man) (s start at t w n : ℕ) → man_on p.men s ≡ Some x → IsBarrenFrom p s w start at
     → find (λ q. bit_at w q == 1) (range_with_len (at / per_arrival) (64 - at / per_arrival)) ≡ Some t → is_promoting x t ≡ true → n ≡ per_arrival * t
     → IsBarrenFrom p s w start (n + 1)

@@ -1,4 +1,4 @@
--- The triples: which moves they are, in which order they stand, and that each legal move is one of them.
+-- The triples: what they are, their order, and that each legal move is one of them.
 use Rattle.chess_rules.proofs.Chess.{AllPairs, Bishop, Bool, Colour, Contains, Gait, Grasshopper, Hopper, Kind, King, Knight, Leaper, List, Man, Move, Nightrider, Option, Pawn, Position, Queen, Rider, Rook, RuleSet, Some, Step, [], all_triples, along, along-is, and_parts, ap, arith, can_castle, false≢true, flat_map, gait_of, get_or-range_with_len, goes_by, hops, is_nil, is_promotion_right, is_pseudo_legal, is_square, kind_steps, leaps, length, length-range_with_len, list_any, man_on, map, may_castle, may_promote, or_cases, order_number, promotion_order, promotions, range_with_len, reaches, reaches_as, reaches_of, refl, rides, rules, squares, suc, triple_at, triples, true, zero, ℕ, ◌+◌, ◌-◌, ◌<◌, ◌↔◌, ◌∷◌, ◌≡◌, ◌⊎◌}
 use Rattle.chess_rules.proofs.listing_moves.Members.{first_in, none_in_nil, from_flat_map, from_map, from_range, in_flat_map, in_map, in_range, pairs_map}
 use Rattle.chess_rules.proofs.listing_moves.Places.{triples_numbered}
@@ -15,7 +15,7 @@ in_triples m a b c =
     (in_range 0 64 m.to (omega arith) (omega (arith, b)))
     (in_map (λ r. record { from = m.from; to = m.to; promo = r }) promotions m.promo c))
 
--- and there are no other triples
+-- every triple has an origin, an arrival and a promotion from the lists
 pub from_triples : (m : Move) → Contains triples m → (m.from < 64) × (m.to < 64) × Contains promotions m.promo
 unfolding triples squares
 from_triples m c =

@@ -1,4 +1,4 @@
--- No move is missed by walking from candidate to candidate.
+-- Walking from candidate to candidate misses no move.
 use Rattle.chess_rules.proofs.Chess.{AreCandidates, AreEvasionsFrom, AreOrigins, Bool, HaveNone, IsAimed, IsBarrenFrom, IsNamed, Move, None, Pawn, Position, RuleSet, all_triples, and_parts, and_right, ap, arith, bit_and, bit_at, bit_at-lt, bit_at-zero, bit_at_and, cases_Bool, cases_eq, cases_lt, eq-eqb, eqb-true, false, false≢true, is_arrival, is_legal, is_legal-idle, is_man, is_pseudo_legal, is_some, man_on, not, passes_to, per_arrival, per_origin, promotion_at, refl, rules, side_of, triple_at, true, word, word_has, ℕ, ◌%◌, ◌&&◌, ◌*◌, ◌+◌, ◌-◌, ◌/◌, ◌<◌, ◌==◌, ◌≡◌, ◌≤◌}
 use Rattle.chess_rules.proofs.Basics.{nat_le}
 use Rattle.chess_rules.specs.ties.Taking.{IsTaken}
@@ -56,7 +56,7 @@ module _ (rule : RuleSet) (p : Position) (test : Move → Bool) (needs : (m : Mo
       → test m ≡ false
   none-move s w m are at small h = search (rules, cases_Bool)
 
-  -- of an origin's candidates none passes over a stretch without a move
+  -- over a range without a move no candidate of an origin passes
   pub none-from : (s w a b : ℕ) → b ≤ per_origin → AreCandidates rule p test s w → IsBarrenFrom p s w a b
       → HaveNone test (per_origin * s + a) (per_origin * s + b)
   none-from s w a b le are h = record {
@@ -102,7 +102,7 @@ module _ (test : Move → Bool) where
     pub walk_to : HaveNone test start (n + a)
     walk_to = grind (arith, cases_lt, walk_before start rest s n w next.first, next.small)
 
-    -- and past it
+    -- the walk continues after the last of the origin's triples
     pub walk_on : a ≡ per_origin → IsWalked test start left
     walk_on all = record {
       ahead = λ t small on. w.ahead t small (grind (arith, cases_eq s t, next.gone, next.others t));

@@ -1,4 +1,4 @@
--- A move that may be made can be made on the board.
+-- A pseudo-legal move can be made on the board.
 use Rattle.chess_rules.proofs.Chess.{CanCastle, CanMove, Colour, HasNoKing, IsAt, IsSome, IsWellFormed, Kind, King, List, Man, Move, None, Option, Pawn, Position, RuleSet, Some, and_parts, arith, arriving_man, capture_square, cases_Bool, cond-false, cond-true, corner, eq-eqb, eqb-true, false, false_from_ne_true, file_of, halfway, inl, inr, is_castling, is_crossed_right, is_diagonal, is_man, is_man-without, is_promotion_right, is_some, is_square, leaps, list_any, man_on, man_on-without_none, man_on-without_other, queen_steps, rank_of, reaches, reaches_as, refl, rules, same_colour, same_kind, same_kind-true, square_at, square_at-is, sym, true, was_passed, with_man, without_at, without_man, ℕ, ◌&&◌, ◌∙◌, ◌≡◌, ◌≢◌}
 use Rattle.chess_rules.proofs.making_moves.Castles.{no_king_left, same_colour_self}
 use Rattle.chess_rules.proofs.making_moves.Plays.{stays_empty}
@@ -6,7 +6,7 @@ use Rattle.chess_rules.proofs.making_moves.Pseudo.{IsCastle, IsMade, IsPawnTake,
 use Rattle.chess_rules.proofs.rays.Ends.{square_is}
 use Rattle.chess_rules.proofs.rays.Tables.{king_step_is_no_castling}
 
--- an enemy stands on the square of capture, not on the origin, and is no king
+-- an enemy is on the capture square, not on the origin, and is no king
 pub record IsTaken (p : Position) (m : Move) (s : ℕ) : Type 0 where
   pub man : Man
   pub there : man_on p.men s ≡ Some man
@@ -26,7 +26,7 @@ is_man-some o c k h = grind (arith, and_parts)
 pub pawn_is_no_king : (k : Kind) → same_kind k Pawn ≡ true → same_kind k King ≡ false
 pawn_is_no_king k h = grind arith
 
--- en passant: behind the crossed square stands the pawn that passed it
+-- en passant: the pawn that passed the en passant square is one rank beyond it
 taken_passing : (c : Colour) (p : Position) (x : Man) (m : Move) (s : ℕ) → p.turn ≡ c → x.colour ≡ c → man_on p.men m.from ≡ Some x → IsPawnTake c m.from m.to
     → was_passed p.men c m.to ≡ true → IsAt (file_of m.to) (rank_of m.from) s → IsTaken p m s
 taken_passing c p x m s turn mine here take passed at = grind (arith, and_parts, eqb-true, is_man-some, pawn_is_no_king)

@@ -1,4 +1,4 @@
--- What a move that may be made is made of, check to the mover apart.
+-- What a pseudo-legal move consists of.
 use Rattle.chess_rules.proofs.Chess.{Black, Colour, IsWellFormed, Kind, King, List, Man, Move, None, Option, Pawn, Position, Rook, RuleSet, Some, White, along, along-is, and_parts, arith, can_castle, can_go, cases_lt, cond-false, cond-true, corner, eqb-true, false, file_of, forward, get_or_past, halfway, is_arrival_free, is_home-none, is_home-square, is_pawn_capture, is_pawn_step, is_promotion_right, is_pseudo_legal, is_square, le-ltb, leaps, length, list_any, lt-ltb, man_on, may_castle, or_cases, pawn_capture_steps, rank_of, reaches, reaches_as, rules, same_colour-true, same_kind, same_kind-true, second_rank, true, ℕ, ◌+◌, ◌<◌, ◌≡◌, ◌≢◌, ◌⊎◌}
 use Rattle.chess_rules.proofs.making_moves.Castles.{no_man}
 
@@ -35,7 +35,7 @@ king_is_no_pawn k h = grind arith
 pub on_board : (men : List (Option Man)) (s : ℕ) (x : Man) → length men ≡ 64 → man_on men s ≡ Some x → s < 64
 on_board men s x size here = search (rules, cases_lt, get_or_past)
 
--- so many ranks forward
+-- a number of ranks forward
 abbrev pub Advances : Colour → ℕ → ℕ → ℕ → Type 0
 Advances White s t n = rank_of t ≡ rank_of s + n
 Advances Black s t n = rank_of s ≡ rank_of t + n
@@ -50,7 +50,7 @@ pawn_leaps : (c : Colour) (s t : ℕ) → list_any (leaps s t) (pawn_capture_ste
 unfolding leaps
 pawn_leaps c s t h = grind (arith, along-is, or_cases)
 
--- where a pawn reaches, it goes by such a step
+-- a pawn reaches a square by a capturing step
 pub pawn_reaches : (men : List (Option Man)) (x : Man) (s t : ℕ) → man_on men s ≡ Some x → same_kind x.kind Pawn ≡ true → reaches men s t ≡ true
     → IsPawnTake x.colour s t
 unfolding reaches reaches_as

@@ -1,4 +1,4 @@
--- The position before a move, found again.
+-- Taking a move back restores the position before it.
 use Rattle.chess_rules.proofs.Chess.{CanCastle, CanReturn, IsSome, IsWellFormed, Kind, List, Man, Move, None, Option, Position, RuleSet, Some, and_parts, arith, arriving_man, before_by, capture_square, captured_man, cases_Bool, corner, halfway, inl, inr, is_castling, is_crossed_right, is_promotion_right, is_pseudo_legal, leaving_man, length, length-set, man_on, man_on-with_same, man_on-without_other, man_on-without_same, man_on_at, moved_men, position_after, position_after_by, put_at, reborn_square, refl, return_square, returned_men, rules, same_kind-true, true, uncastled_men, undo_by, undo_of, without_at, without_man, ℕ, ◌<◌, ◌∙◌, ◌≡◌}
 use Rattle.chess_core.specs.Undo.{Undo}
 use Rattle.chess_rules.proofs.making_moves.Pseudo.{made}
@@ -16,7 +16,7 @@ cleared p x m = without_at (without_man p.men m.from) (capture_square p x m)
 arrived_there : (p : Position) (x : Man) (m : Move) → length p.men ≡ 64 → m.to < 64 → man_on (arrived p x m) m.to ≡ Some (arriving_man x m.promo)
 arrived_there p x m size small = search rules
 
--- after any move, castling too, its man stands on the arrival
+-- after any move, castling included, its man is on the arrival
 pub moved_arrival : (rule : RuleSet) (p : Position) (x : Man) (m : Move) → IsWellFormed p → IsMade rule p x m → m.to < 64
     → man_on (moved_men p x m) m.to ≡ Some (arriving_man x m.promo)
 unfolding moved_men
@@ -99,7 +99,7 @@ before_is : (rule : RuleSet) (p : Position) (x : Man) (m : Move) (u : Undo) → 
 unfolding before_by position_after_by undo_by
 before_is rule p x m u well made lost = search (rules, place_after_lift, returned)
 
--- a reborn man stands on his square
+-- a reborn man is on its rebirth square
 reborn_stands : (rule : RuleSet) (p : Position) (x : Man) (m : Move) (s : ℕ) → IsWellFormed p → IsMade rule p x m → reborn_square rule p x m ≡ Some s
     → IsSome (man_on (put_at (moved_men p x m) (reborn_square rule p x m) (captured_man p x m)) s)
 reborn_stands rule p x m s well made e =

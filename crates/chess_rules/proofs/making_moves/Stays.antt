@@ -1,4 +1,4 @@
--- A well-formed position stays well formed.
+-- A move leads from a well-formed position to a well-formed one.
 use Rattle.chess_rules.proofs.Chess.{AtMostOneKing, AtMostOneKing-without, Bool, Colour, HasNoKing, IsWellFormed, Kind, King, List, Man, Move, None, Option, Pawn, Position, Rook, RuleSet, Some, and_from, and_parts, arith, arriving_man, capture_square, captured_man, captures_are_reborn, cases_Bool, cases_eq, cases_lt, cond-false, cond-true, corner, eq-eqb, eqb-true, false, file_of, halfway, has_unmoved, has_unmoved-mark_other, has_unmoved-parts, inl, inr, is_castling, is_crossed_right, is_double_step, is_home, is_home-none, is_man, is_pawn_inside, is_promotion_right, is_pseudo_legal, is_vacant, length, length-set, man_on, man_on-with_other, man_on-with_same, man_on-without_none, man_on-without_other, man_on-without_same, man_on_at, move_man, moved_men, ne_eqb, not-true, or_cases, other, position_after, position_after_by, put_at, rank_of, rebirth, reborn_square, refl, rules, same_colour, same_colour-refl, same_kind, same_kind-true, second_fails, second_rank, set_past, square_at-is, true, unmoved_after, unmoved_with_rook, unmoved_without_at, was_passed, with_man, without_at, without_man, without_unmoved, ℕ, if◌then◌else◌, ◌<◌, ◌≡◌, ◌≢◌, ◌⊎◌}
 use Rattle.chess_core.specs.declared.man.Unmoved.{Unmoved}
 use Rattle.chess_rules.proofs.making_moves.Fits.{arrived, arrived_other, can_move, castle_of, corner_stays, no_capture, pawn_is_no_king, taken}
@@ -100,7 +100,7 @@ pub captured_mortal : (rule : RuleSet) (p : Position) (x : Man) (m : Move) (z : 
     → captured_man p x m ≡ Some z → same_kind z.kind King ≡ false
 captured_mortal rule p x m z well made h = (captured rule p x m z well made h).0
 
--- and no man of the mover
+-- a captured man is the opponent's
 pub captured_enemy : (rule : RuleSet) (p : Position) (x : Man) (m : Move) (z : Man) → IsWellFormed p → IsMade rule p x m
     → captured_man p x m ≡ Some z → same_colour z.colour p.turn ≡ false
 captured_enemy rule p x m z well made h = (captured rule p x m z well made h).1
@@ -117,7 +117,7 @@ after_sound rule p x m well made =
     reborn_sound (moved_men p x m) (reborn_square rule p x m) (captured_man p x m) (moved_sound rule p x m well made)
     (λ r z at who. grind (arith, reborn_is rule p x m r at, reborn_inside, captured_mortal rule p x m z well made who))
 
--- a set of unmoved squares each of which has its man
+-- each square with castling rights holds its man
 abbrev AreHome : Unmoved → List (Option Man) → Type 0
 AreHome u men = (s : ℕ) → has_unmoved u s ≡ true → is_home (man_on men s) s ≡ true
 
@@ -157,7 +157,7 @@ moved_home rule p x m well made = λ t h. elim (cases_Bool (is_castling x m)) [
   | inr e ↦ rw e (home_stays p x m t well (is_left p x m t (rw e at h)))
 ]
 
--- a reborn man stands on no unmoved square but as a rook
+-- after a rebirth each square with castling rights still holds its man
 reborn_home : (u : Unmoved) (men : List (Option Man)) (o : Option ℕ) (y : Option Man) → length men ≡ 64 → AreHome u men
     → ((r : ℕ) → o ≡ Some r → (man_on men r ≡ None) × ((r < 64) × ((z : Man) × ((y ≡ Some z) × (same_kind z.kind Rook ≡ true → is_home (Some z) r ≡ true)))))
     → AreHome (unmoved_with_rook u o y) (put_at men o y)
@@ -175,7 +175,7 @@ after_home rule p x m well made =
     reborn_home (stayed p x m) (moved_men p x m) (reborn_square rule p x m) (captured_man p x m) (moved_sound rule p x m well made).size
     (moved_home rule p x m well made) (λ r at. let b = reborn_is rule p x m r at in search (rules, rebirth_small, reborn_rook_home))
 
--- a double step leaves the pawn behind the square that it passed
+-- a double step leaves the pawn one rank beyond the square that it passed
 vacant : (men : List (Option Man)) (s : ℕ) → man_on men s ≡ None → is_vacant men s ≡ true
 vacant men s h = rw h refl
 

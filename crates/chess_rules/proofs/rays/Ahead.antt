@@ -19,7 +19,7 @@ pub record Passed (s : ℕ) (d : Step) (i q : ℕ) : Type 0 where
   pub at : along s d i ≡ Some q
   pub small : q < 64
 
--- a line that gets to a square of the board passes only such squares before it
+-- a line that reaches a square of the board crosses only squares of the board before it
 pub passes : (s t : ℕ) (d : Step) (k i : ℕ) → s < 64 → i ≤ k → along s d k ≡ Some t → (q : ℕ) × Passed s d i q
 unfolding along
 passes s t d k i p le h =
@@ -58,11 +58,11 @@ shrinks s p q j k a b h i lt down = grind (arith, over j b a down, over k b a do
 pub record Ordered (d : Step) : Type 0 where
   pub in_order : (s j k b t : ℕ) → along s d j ≡ Some b → along s d k ≡ Some t → j < k → place d b < place d t
 
--- so what is passed no later is no more steps on
+-- a square that a line passes no later than another is no more steps away
 pub not_later : (s j k b t : ℕ) (d : Step) → Ordered d → along s d j ≡ Some b → along s d k ≡ Some t → place d b ≤ place d t → j ≤ k
 not_later s j k b t d line h i le = search (rules, cases_lt)
 
--- and what is passed earlier is fewer
+-- a square that a line passes earlier than another is fewer steps away
 pub earlier : (s j k b t : ℕ) (d : Step) → Ordered d → along s d j ≡ Some b → along s d k ≡ Some t → place d b < place d t → j < k
 earlier s j k b t d line h i lt = search (rules, cases_eq, some_is, not_later)
 

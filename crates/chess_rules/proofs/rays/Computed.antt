@@ -11,7 +11,7 @@ one (Some q) = if ltb q 64 then 1 * 2 ^ q % 2 ^ 64 else 0
 one_is : (o : Option ℕ) → one o ≡ word (is_square o)
 one_is o = search (rules, word_empty, cases_lt, cond-true, ltb, lt-ltb, word_only, cond-false, le-ltb, differs)
 
--- that of those of a list: so each square is computed once, and not tested against all 64
+-- the bitboard of a list of squares: each square is computed once, and not tested against all 64
 abbrev each : List (Option ℕ) → ℕ
 each [] = 0
 each (o ∷ os) = bit_or (one o) (each os)
@@ -47,7 +47,7 @@ ray_at x s i none d same small =
     entry (line (step_of x)) (get_or RAYS (direction_number x) none) s i d (row x none) same small
     ∙ each_is (map (λ k. along s (step_of x) k) (range_with_len 1 7))
 
--- and one of a table of the squares a step away
+-- an entry of a table of steps is the word of the squares a step away
 near_at : (ds : List Step) (table : List ℕ) (s i d : ℕ) → table ≡ map (near ds) (range_with_len 0 64) → i ≡ s → i < 64
     → get_or table i d ≡ word (λ t. list_any (λ o. is_square o t) (map (λ d. along s d 1) ds))
 near_at ds table s i d is same small = entry (near ds) table s i d is same small ∙ each_is (map (λ d. along s d 1) ds)
@@ -67,7 +67,7 @@ pub white_captures_at : (s i d : ℕ) → i ≡ s → i < 64 → get_or WHITE_CA
 unfolding leaps along
 white_captures_at s i d = near_at (pawn_capture_steps White) WHITE_CAPTURES s i d refl
 
--- and a Black one
+-- the table of the squares that a Black pawn attacks
 pub black_captures_at : (s i d : ℕ) → i ≡ s → i < 64 → get_or BLACK_CAPTURES i d ≡ word (λ t. list_any (leaps s t) (pawn_capture_steps Black))
 unfolding leaps along
 black_captures_at s i d = near_at (pawn_capture_steps Black) BLACK_CAPTURES s i d refl
@@ -97,7 +97,7 @@ pub white_steps_at : (s i d : ℕ) → i ≡ s → i < 64 → get_or WHITE_STEPS
 unfolding along
 white_steps_at s i d = two_at (λ q. along q (forward White) 1) (λ q. along q (forward White) 2) WHITE_STEPS s i d refl
 
--- and of a Black one
+-- the table of the one or two squares ahead of a Black pawn
 pub black_steps_at : (s i d : ℕ) → i ≡ s → i < 64 → get_or BLACK_STEPS i d ≡ word (is_advance Black s)
 unfolding along
 black_steps_at s i d = two_at (λ q. along q (forward Black) 1) (λ q. along q (forward Black) 2) BLACK_STEPS s i d refl
@@ -111,7 +111,7 @@ aside_at s i d = two_at (λ q. along q (step_by 2 0 0 0) 1) (λ q. along q (step
 abbrev on : Direction → ℕ → ℕ
 on x s = get_or (get_or RAYS (direction_number x) []) s 0
 
--- those of four directions in one word
+-- the lines of four directions in one bitboard
 abbrev joined : Direction → Direction → Direction → Direction → ℕ → ℕ
 joined a b c e s = bit_or (bit_or (bit_or (on a s) (on b s)) (on c s)) (on e s)
 
@@ -128,6 +128,6 @@ lines_at a b c e table s i d is same small =
 pub straight_lines_at : (s i d : ℕ) → i ≡ s → i < 64 → get_or STRAIGHT_LINES i d ≡ word (is_on_some straight_steps s)
 straight_lines_at s i d = lines_at East West North South STRAIGHT_LINES s i d refl
 
--- and of the bishop's
+-- the table of the bishop's lines
 pub diagonal_lines_at : (s i d : ℕ) → i ≡ s → i < 64 → get_or DIAGONAL_LINES i d ≡ word (is_on_some diagonal_steps s)
 diagonal_lines_at s i d = lines_at NorthEast SouthEast NorthWest SouthWest DIAGONAL_LINES s i d refl

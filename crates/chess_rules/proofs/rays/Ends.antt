@@ -1,4 +1,4 @@
--- Lines looked at from their other end.
+-- Lines seen from their other end.
 use Rattle.chess_rules.proofs.Chess.{Bool, None, Option, Some, Step, add-mul, along, and_from, arith, cond, eq-eqb, eqb-true, false≢true, file_of, first_of_and, is_on_board, is_square, le-leb, leb-true, rank_of, refl, rules, second_of_and, some_is, square_at, true, ℕ, ◌&&◌, ◌*◌, ◌+◌, ◌-◌, ◌<◌, ◌≡◌, ◌≤◌}
 
 -- the step the other way
@@ -46,7 +46,7 @@ pub stays : (s : ℕ) (d : Step) → s < 64 → along s d 0 ≡ Some s
 unfolding along
 stays s d p = search rules
 
--- so j steps back from the end lies what is i steps on
+-- on a line of k = i + j steps, j steps back from the end and i steps from the start lead to one square
 pub mirrored : (s t : ℕ) (d : Step) (k i j : ℕ) → i + j ≡ k → along s d k ≡ Some t → along t (back d) j ≡ along s d i
 mirrored s t d k i j e h = let same : k - i ≡ j = omega arith in rw same at (between s t d k i (omega arith) h)
 

@@ -1,4 +1,4 @@
--- The square of a word that a line passes first, its lowest bit or its highest, and the squares that it doesn't pass behind it.
+-- The first square of a bitboard on a line, its lowest or highest bit, and the squares up to it.
 use Rattle.chess_rules.proofs.Chess.{IsStop, IsUpTo, Step, arith, bit_at, bit_at-lt, bit_at-trailing_zeros, bit_at_above, bit_at_mask_below, bit_at_mask_inside, bit_at_or, bit_at_set_other, bit_at_set_same, bit_of, bit_or, cases_eq, cases_lt, false, ones_shl, or_lt, pow-suc, rises, rules, square_word, suc, trailing_zeros, true, w64, zero, ℕ, ◌%◌, ◌*◌, ◌+◌, ◌-◌, ◌<◌, ◌^◌, ◌≡◌, ◌≤◌}
 use Rattle.chess_rules.proofs.LowestBit.{less_one}
 use Rattle.std.proofs.lemmas.Nat.{xor_lt}
@@ -41,7 +41,7 @@ lowest_bits n t pos fits =
     let less = less_one (trailing_zeros w64 n) n pos z.1 z.2 in
     grind (arith, cases_lt t (trailing_zeros w64 n), cases_eq t (trailing_zeros w64 n), less, z.1, z.2 t, bit_at_xor n (n - 1) t, bit_at-lt n t)
 
--- where they rise, what isn't passed behind the first: those bits, or all of them where there is none
+-- if square numbers rise, the squares up to the first: these bits, or all bits if there is none
 pub rising_up_to : (d : Step) (w : ℕ) → w < 2 ^ 64 → rises d ≡ true → IsUpTo d w (bit_xor w ((w + (2 ^ 64 - 1)) % 2 ^ 64))
 rising_up_to d zero fits up = record { last = 63; stop = grind arith; squares = square_word _ _ (omega arith) (grind (arith, bit_at_ones 64)) }
 rising_up_to d (suc n) fits up =

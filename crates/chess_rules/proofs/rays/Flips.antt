@@ -1,4 +1,4 @@
--- Lists of steps that hold each step with its opposite.
+-- Lists of steps that contain the opposite of each of their steps.
 use Rattle.chess_rules.proofs.Chess.{Bool, Colour, Gait, Hopper, Kind, Leaper, List, Man, Option, Rider, Step, [], and_parts, arith, diagonal_steps, eqb-true, false, false≢true, gait_of, goes_by, hopped_from, hops, is_hopper, kind_steps, leaps, list_all, list_any, or_cases, other, queen_steps, reaches_as, refl, rides, rules, same_Bool, straight_steps, sym, true, ℕ, ◌&&◌, ◌<◌, ◌==◌, ◌∷◌, ◌≡◌}
 use Rattle.chess_rules.proofs.rays.Ends.{back, return_square}
 use Rattle.chess_rules.proofs.rays.Ways.{hops-back, rides-back}
@@ -45,15 +45,15 @@ leaps_turned xs ds s t there here p q = search (rules, flip, return_square, same
 pub queen_rides-back : (men : List (Option Man)) (s t : ℕ) → s < 64 → t < 64 → list_any (rides men s t) queen_steps ≡ list_any (rides men t s) queen_steps
 queen_rides-back men s t = rides_turned queen_steps men s t refl
 
--- so does a rook
+-- a rook rides from s to t exactly if one rides from t to s
 pub straight-back : (men : List (Option Man)) (s t : ℕ) → s < 64 → t < 64 → list_any (rides men s t) straight_steps ≡ list_any (rides men t s) straight_steps
 straight-back men s t = rides_turned straight_steps men s t refl
 
--- so does a bishop
+-- a bishop rides from s to t exactly if one rides from t to s
 pub diagonal-back : (men : List (Option Man)) (s t : ℕ) → s < 64 → t < 64 → list_any (rides men s t) diagonal_steps ≡ list_any (rides men t s) diagonal_steps
 diagonal-back men s t = rides_turned diagonal_steps men s t refl
 
--- the steps of a kind lead back by those of its like of the other colour
+-- the steps of a kind lead back by the steps of the same kind of the other colour
 steps_oppose : (c : Colour) (k : Kind) → (opposed (kind_steps c k) (kind_steps (other c) k) ≡ true) × (opposed (kind_steps (other c) k) (kind_steps c k) ≡ true)
 steps_oppose c k = grind arith
 
@@ -68,7 +68,7 @@ reaches_back men c k s t plain p q = by (gait_of k) plain where
       (λ d. rides-back men s t d p q)
   by Hopper e = absurd (false≢true (sym e))
 
--- so does a king
+-- a king steps from s to t exactly if one steps from t to s
 pub king-back : (s t : ℕ) → s < 64 → t < 64 → list_any (leaps s t) queen_steps ≡ list_any (leaps t s) queen_steps
 king-back s t = leaps_turned queen_steps queen_steps s t refl refl
 

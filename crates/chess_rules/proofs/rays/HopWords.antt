@@ -1,4 +1,4 @@
--- The word of a hop.
+-- The bitboard of a hop.
 use Rattle.chess_rules.proofs.Chess.{Bool, Direction, IsStop, List, Man, None, Option, Some, Step, along, ap, arith, bit_at-trailing_zeros, cases_eq, cases_lt, eq-eqb, false, false_from_ne_true, false≢true, first_of_and, hopped_from, hops, inl, inr, is_ahead, is_occupied, is_some, is_square, is_vacant_at, man_on, passing_order_by, place, ray, refl, rides, rides_on, rises, rules, same_Bool, second_of_and, square_word_small, squares_same, step_of, sym, trailing_zeros, true, w64, word, word_empty, word_lacks, ℕ, ◌&&◌, ◌+◌, ◌-◌, ◌<◌, ◌^◌, ◌∙◌, ◌≡◌, ◌≢◌, ◌≤◌}
 use Rattle.chess_rules.proofs.rays.Ahead.{Ordered, Passed, not_later, onward, ordered, passes}
 use Rattle.chess_rules.proofs.rays.Computed.{eighth}
@@ -17,7 +17,7 @@ free_before men s d b j i line stop p on lo lt =
     let w = passes s b d j i p (omega (arith, lt)) on.at in
     grind (arith, stop.first w.0 w.1.small, ahead_at s d w.0 i lo, line.in_order s i j w.0 b w.1.at on.at lt, w.1.at, false_from_ne_true)
 
--- behind the stop lands a hop
+-- a hop lands right after the stop
 lands : (men : List (Option Man)) (s : ℕ) (x : Direction) (b t : ℕ) → Stops men s (step_of x) b → s < 64 → t < 64 → is_square (along b (step_of x) 1) t ≡ true
     → hops men s t (step_of x) ≡ true
 lands men s x b t stop p q h =
@@ -29,7 +29,7 @@ lands men s x b t stop p q h =
     let man = second_of_and (is_ahead s (step_of x) b) in
     hop-made men s t (step_of x) (on.0 + 1) (grind (arith, onward s b (step_of x) on.0 1 on.1.at, man, free, ordered x, short x s t (on.0 + 1)))
 
--- and every hop
+-- every hop lands right after the stop
 landed : (men : List (Option Man)) (s : ℕ) (d : Step) (b t : ℕ) → Ordered d → Stops men s d b → s < 64 → t < 64 → hops men s t d ≡ true
     → is_square (along b d 1) t ≡ true
 landed men s d b t line stop p q h =
@@ -45,7 +45,7 @@ landed men s d b t line stop p q h =
     let e : on.0 + 1 ≡ w.0 = grind (arith, cases_lt on.0 (w.0 - 1), w.1.free on.0 on.1.low, full, later, w.1.low) in
     rw (onward s b d on.0 1 on.1.at ∙ ap (along s d) e ∙ w.1.at) (eq-eqb t t refl)
 
--- a hop goes to the square right behind the first man ahead, if the board has one
+-- a hop goes to the square right after the first man ahead, if there is one
 pub hop_is : (men : List (Option Man)) (s : ℕ) (x : Direction) (b w : ℕ) → Stops men s (step_of x) b → s < 64
     → w ≡ word (λ t. is_square (along b (step_of x) 1) t) → w ≡ word (λ t. hops men s t (step_of x))
 hop_is men s x b w stop p h = search (rules, landed, lands, ordered, same_Bool, squares_same)

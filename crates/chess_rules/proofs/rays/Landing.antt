@@ -1,4 +1,4 @@
--- What a man reaches doesn't depend on who stands on the square that it reaches.
+-- What a man reaches doesn't depend on the man on the square that it reaches.
 use Rattle.chess_rules.proofs.Basics.{Bool, List, Option, Some, [], and_left, arith, cases_Bool, false, false_from_ne_true, is_some, list_all, list_any, or_from, range_with_len, refl, rules, suc, zero, ℕ, ◌&&◌, ◌+◌, ◌-◌, ◌<◌, ◌||◌, ◌∙◌, ◌∷◌, ◌≡◌, ◌≢◌, ◌≤◌}
 use Rattle.chess_rules.proofs.Chess.{Bishop, Black, Colour, Direction, East, Gait, Hopper, Kind, Knight, Leaper, Man, Nightrider, North, NorthEast, NorthWest, Pawn, Rider, Rook, South, SouthEast, SouthWest, Step, West, White, along, any_range_false, any_range_same, gait_of, goes_by, hops, is_clear, is_occupied, is_square, kind_steps, leaps, man_on, place, reaches_as, rides, step_of}
 use Rattle.chess_rules.proofs.rays.Ends.{square_is}
@@ -6,7 +6,7 @@ use Rattle.chess_rules.proofs.attacks.FairyLines.{knight_directions, queen_direc
 use Rattle.chess_rules.proofs.rays.Ahead.{Ordered, ordered}
 use Rattle.chess_rules.proofs.rays.Ends.{stays}
 
--- men stand on the same squares, t apart
+-- two boards have men on equal squares, except perhaps t
 pub record StandAlike (men others : List (Option Man)) (t : ℕ) : Type 0 where
   pub alike : (q : ℕ) → q ≢ t → is_some (man_on men q) ≡ is_some (man_on others q)
 
@@ -50,7 +50,7 @@ ways_alike Hopper men others s t d o a = any_range_same (λ k. is_square (along 
     (λ k lo hi. let end = square_is (along s d k) t in
     grind (arith, cases_Bool, end, a.alike, not_yet s t d k (k - 1) o, clear_alike men others s t d k (k - 2) o a, and_left))
 
--- for two boards that differ in who stands on the target
+-- for two boards that differ only on the target
 pub reaches_alike : (men others : _) (c : Colour) (j : Kind) (s t : ℕ) → StandAlike men others t → reaches_as men c j s t ≡ reaches_as others c j s t
 unfolding reaches_as
 reaches_alike men others c j s t a =
@@ -70,7 +70,7 @@ no_way_back : (g : Gait) (men : List (Option Man)) (s : ℕ) (d : Step) → Orde
 unfolding leaps rides hops
 no_way_back g men s d o small = search (rules, no_return, any_range_false, and_left)
 
--- nor does a man reach where he stands
+-- no man reaches its own square
 pub no_reach_there : (men : List (Option Man)) (c : Colour) (j : Kind) (s : ℕ) → s < 64 → reaches_as men c j s s ≡ false
 unfolding reaches_as
 no_reach_there men c j s small = same_steps (goes_by (gait_of j) men s s) (λ d. false) (λ x. no_way_back (gait_of j) men s (step_of x) (ordered x) small) c j

@@ -1,4 +1,4 @@
--- Boards with men on the squares of a word alone, and lines where there are none.
+-- Boards with men exactly on the squares of a bitboard, and lines on the empty board.
 use Rattle.chess_rules.proofs.Chess.{Colour, Grasshopper, List, Man, Nightrider, None, Option, Pawn, Queen, Some, Step, White, any_kept, ap, arith, bit_at, bit_at-lt, bit_at-zero, bit_of, cases_lt, get_or-map-range_with_len, hops, if◌then◌else◌, knight_steps, is_occupied, is_some, is_vacant_at, length, length-map-range_with_len, man_on, men_on, occupied_squares, or_left, or_right, queen_steps, reaches_as, rides, rules, square_word, squares, sym, true, ℕ, ◌<◌, ◌==◌, ◌^◌, ◌||◌, ◌∙◌, ◌≡◌}
 use Rattle.chess_rules.proofs.making_moves.Pseudo.{on_board}
 use Rattle.chess_rules.proofs.rays.Ways.{hop-found, ride-found, ride-made}
@@ -9,7 +9,8 @@ bit_small d s = grind (arith, bit_at-lt d s)
 abbrev placed : ℕ → ℕ → Option Man
 placed d s = if bit_at d s == 1 then Some (record { colour = White; kind = Pawn }) else None
 
--- on such a board a man stands on a square exactly where it is one of the word
+-- on the board with men exactly on a bitboard's squares, a man is on a square exactly if the bitboard holds
+-- it
 pub one_on : (d s : ℕ) → s < 64 → is_some (man_on (men_on d) s) ≡ (bit_at d s == 1)
 unfolding squares
 one_on d s small = grind (arith, get_or-map-range_with_len (placed d) 0 64 s s None small (omega arith))
@@ -44,7 +45,7 @@ module _ (men : List (Option Man)) where
   pub hop_openly : (s t : ℕ) (st : Step) → hops men s t st ≡ true → rides (men_on 0) s t st ≡ true
   hop_openly s t st h = search (rules, cases_lt, hop-found, on_line, or_left, or_right, ride-made)
 
-  -- and a grasshopper what a queen does
+  -- where a grasshopper hops on some board, a queen rides on the empty board
   pub hops_openly : (b c : Colour) (s t : ℕ) → reaches_as men b Grasshopper s t ≡ true → reaches_as (men_on 0) c Queen s t ≡ true
   unfolding reaches_as
   hops_openly b c s t h = any_kept (hops men s t) (rides (men_on 0) s t) queen_steps (hop_openly s t) h

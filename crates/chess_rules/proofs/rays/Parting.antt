@@ -1,4 +1,4 @@
--- A line on which one square alone may have been shut.
+-- A line that only one square may block.
 use Rattle.chess_rules.proofs.Chess.{List, Man, Option, Step, [], and_from, and_parts, arith, false, false_from_ne_true, is_square, is_vacant_at, list_any, or_cases, or_left, or_parts, or_right, rides, rules, true, ℕ, ◌&&◌, ◌∷◌, ◌≡◌}
 use Rattle.chess_rules.proofs.rays.Ends.{back, square_is}
 use Rattle.chess_rules.proofs.rays.Ways.{from_end, from_start, ride-found, ride-made}

@@ -1,4 +1,4 @@
--- The words of the squares that shut lines.
+-- Bitboards of the squares that block lines.
 use Rattle.std.proofs.lemmas.Nat.Bits.{same_from_bits}
 use Rattle.std.specs.Int.Bits.{or_zero_r}
 use Rattle.chess_rules.proofs.HoldTaken.{none_passes, some_taken}
@@ -14,7 +14,7 @@ regrouped : (a b c : ℕ) → bit_or (bit_or a b) c ≡ bit_or a (bit_or b c)
 regrouped a b c =
     same_from_bits _ _ (λ i. omega (arith, bit_at_or (bit_or a b) c i, bit_at_or a b i, bit_at_or a (bit_or b c) i, bit_at_or b c i))
 
--- with those of one rider that is taken, those of the rest are those of all
+-- the squares that one rider reaches and those that the others reach are all that are reached
 pub ridden_more : (men : List (Option Man)) (ds : List Step) (rest k left r v w : ℕ) → IsTaken rest k left → v ≡ word (λ s. list_any (rides men k s) ds)
     → bit_or r (word (ridden_by men ds rest)) ≡ w → bit_or (bit_or r v) (word (ridden_by men ds left)) ≡ w
 ridden_more men ds rest k left r v w taken h before =
@@ -33,7 +33,7 @@ pub riders_are : (men : List (Option Man)) (e : Colour) (j : Kind) (ds : List St
 unfolding squares_of
 riders_are men e j ds k r l h g = shared _ _ _ _ (h ∙ squares_either _ _) g
 
--- without such riders no square shuts a line
+-- without riders on the lines no square blocks one
 pub none_shut : (men : List (Option Man)) (e : Colour) (j : Kind) (ds : List Step) (k w : ℕ) → w ≡ word (is_line_rider men e j ds k) → w ≡ 0
     → 0 ≡ word (is_shut men e j ds k)
 unfolding is_shut is_behind
@@ -46,7 +46,7 @@ ridden_from : (men : List (Option Man)) (e : Colour) (j : Kind) (ds : List Step)
     → AreRides men e j ds k n → n ≡ word (λ t. list_any (rides men k t) ds)
 ridden_from men e j ds k w n h some i = grind arith
 
--- then a square shuts a line exactly if the king's square and a rider both see it
+-- a square blocks a line to the king exactly if both the king's square and a rider see it
 pub shut_are : (men : List (Option Man)) (e : Colour) (j : Kind) (ds : List Step) (k w n r : ℕ) → w ≡ word (is_line_rider men e j ds k) → (w ≡ 0 → ⊥)
     → AreRides men e j ds k n → r ≡ word (λ s. some_square (λ q. bit_at w q == 1 && list_any (rides men q s) ds)) → bit_and n r ≡ word (is_shut men e j ds k)
 unfolding is_shut is_behind

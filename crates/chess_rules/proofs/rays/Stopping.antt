@@ -1,11 +1,11 @@
--- A ride: the line as far as the first man on it.
+-- A ride: the line up to the first man on it.
 use Rattle.chess_rules.proofs.Chess.{Bool, IsStop, IsUpTo, List, Man, Option, Some, Step, along, and_from, any_range_cases, any_range_false, any_range_true, ap, arith, bit_and, bit_at, cases_lt, eq-eqb, eqb-true, false, false_from_ne_true, false≢true, first_of_and, inl, inr, is_ahead, is_some, is_square, is_vacant_at, le-leb, leb-true, man_on, not, passing_order_by, place, ray, refl, rides, rises, same_Bool, second_of_and, shared, squares_both, squares_same, sym, true, word, word_has, ℕ, ◌&&◌, ◌<◌, ◌∙◌, ◌≡◌, ◌≤◌}
 use Rattle.chess_rules.proofs.rays.Ahead.{Ordered, earlier, passes}
 use Rattle.chess_rules.proofs.rays.Ends.{square_is}
 use Rattle.std.specs.Prelude.{nat_le}
 use Rattle.chess_rules.proofs.rays.Ways.{Ride, ride-found, ride-made}
 
--- b is the first square ahead of s with a man on it, or a square behind which no line goes on
+-- b is the first occupied square ahead of s, or a square after which no line goes on
 pub record Stops (men : List (Option Man)) (s : ℕ) (d : Step) (b : ℕ) : Type 0 where
   pub small : b < 64
   pub first : (q : ℕ) → q < 64 → is_ahead s d q ≡ true → is_some (man_on men q) ≡ true → place d b ≤ place d q
@@ -48,7 +48,7 @@ steps_on s d t h = elim (any_range_cases (λ k. is_square (along s d k) t) 1 7) 
   | inr none ↦ absurd (false≢true (sym (any_range_false (λ k. is_square (along s d k) t) 1 7 none) ∙ h))
 ]
 
--- and what is so many steps on is ahead
+-- a square that is a number of steps on is ahead
 pub ahead_at : (s : ℕ) (d : Step) (t k : ℕ) → 1 ≤ k → k < 8 → along s d k ≡ Some t → is_ahead s d t ≡ true
 unfolding is_ahead
 ahead_at s d t k lo hi at = any_range_true (λ k. is_square (along s d k) t) 1 7 k lo (omega arith) (rw at (eq-eqb t t refl))
@@ -57,7 +57,7 @@ ahead_at s d t k lo hi at = any_range_true (λ k. is_square (along s d k) t) 1 7
 pub occupied_not_vacant : (men : List (Option Man)) (o : Option ℕ) (q : ℕ) → o ≡ Some q → is_some (man_on men q) ≡ true → is_vacant_at men o ≡ false
 occupied_not_vacant men o q at man = rw at (ap not man)
 
--- what is passed behind the stop isn't reached
+-- a square after the stop isn't reached
 blocked : (men : List (Option Man)) (s : ℕ) (d : Step) (b t k : ℕ) → Ordered d → Stops men s d b → t < 64 → Ride 1 men s t d k → place d b < place d t → ⊥
 blocked men s d b t k line stop p ride behind =
     let here = stop.here (omega (arith, behind, place_le (rises d) t p)) in
@@ -71,7 +71,7 @@ nobody : (men : List (Option Man)) (s : ℕ) (d : Step) (b t k i q : ℕ) → Or
 nobody men s d b t k i q line stop lo lt hi at here small le man =
     omega (arith, stop.first q small (ahead_at s d q i lo (omega arith) here) man, line.in_order s i k q t here at lt, le)
 
--- a ride gets to what is ahead and not passed behind the stop
+-- a ride reaches the squares ahead up to the stop
 ridden : (men : List (Option Man)) (s : ℕ) (d : Step) (b t : ℕ) → Ordered d → Stops men s d b → s < 64 → t < 64
     → (is_ahead s d t && nat_le (place d t) (place d b)) ≡ rides men s t d
 ridden men s d b t line stop p q =
@@ -90,7 +90,7 @@ ridden men s d b t line stop p q =
     let ahead = ahead_at s d t w.0 w.1.low w.1.high w.1.at in
     and_from _ _ ahead (grind (arith, cases_lt (place d b) (place d t), le-leb, blocked men s d b t w.0 line stop q w.1)))
 
--- a ride gets to what is ahead, without what is passed behind the first man
+-- a ride reaches the squares ahead up to the first man
 pub ride_is : (men : List (Option Man)) (s : ℕ) (d : Step) (r o n : ℕ) → Ordered d → s < 64 → r ≡ ray s d → o ≡ word (λ q. is_some (man_on men q))
     → IsUpTo d (bit_and r o) n → bit_and r n ≡ word (λ t. rides men s t d)
 unfolding ray

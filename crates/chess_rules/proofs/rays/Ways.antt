@@ -1,4 +1,4 @@
--- Rides and hops told by how many steps they take.
+-- Rides and hops by their number of steps.
 use Rattle.chess_rules.proofs.Chess.{Bool, List, Man, Option, Some, Step, all_at, all_range_true, along, and_from, and_parts, any_range_cases, any_range_false, any_range_true, ap, arith, eq-eqb, false≢true, first_of_and, hopped_from, hops, is_clear, is_occupied, is_square, is_vacant_at, list_all, list_any, range_with_len, refl, rides, rides_on, rules, same_Bool, second_of_and, true, ℕ, ◌&&◌, ◌+◌, ◌-◌, ◌<◌, ◌∙◌, ◌≡◌, ◌≤◌}
 use Rattle.chess_rules.proofs.rays.Ends.{back, mirrored, square_is, stays}
 
@@ -20,7 +20,7 @@ ride_on-found f men s t d h =
     let w = found (λ k. is_square (along s d k) t && list_all (λ i. is_vacant_at men (along s d i)) (range_with_len f (k - f))) f (8 - f) h in
     (w.0, grind (arith, square_is (along s d w.0) t, and_parts, all_at (λ i. is_vacant_at men (along s d i)) f (w.0 - f)))
 
--- and who takes such a number rides
+-- a ride of some number of steps, from the f-th on, is a ride from there
 pub ride_on-made : (f : ℕ) (men : List (Option Man)) (s t : ℕ) (d : Step) (k : ℕ) → Ride f men s t d k → rides_on f men s t d ≡ true
 unfolding rides_on
 ride_on-made f men s t d k r =
@@ -32,12 +32,12 @@ pub ride-found : (men : List (Option Man)) (s t : ℕ) (d : Step) → rides men 
 unfolding rides is_clear rides_on
 ride-found men s t d h = ride_on-found 1 men s t d h
 
--- and such a one is a ride
+-- a ride of some number of steps, from the first on, is a ride
 pub ride-made : (men : List (Option Man)) (s t : ℕ) (d : Step) (k : ℕ) → Ride 1 men s t d k → rides men s t d ≡ true
 unfolding rides is_clear rides_on
 ride-made men s t d k r = ride_on-made 1 men s t d k r
 
--- t is k steps from s, right behind the first man
+-- t is k steps from s, right after the first man
 pub record Hop (men : List (Option Man)) (s t : ℕ) (d : Step) (k : ℕ) : Type 0 where
   pub low : 2 ≤ k
   pub high : k < 8
@@ -52,7 +52,7 @@ hop-found men s t d h =
     let w = found (λ k. is_square (along s d k) t && is_occupied men (along s d (k - 1)) && is_clear men s d (k - 2)) 2 6 h in
     (w.0, grind (arith, square_is (along s d w.0) t, and_parts, all_at (λ i. is_vacant_at men (along s d i)) 1 (w.0 - 2)))
 
--- and who takes such a number hops
+-- a hop of some number of steps is a hop
 pub hop-made : (men : List (Option Man)) (s t : ℕ) (d : Step) (k : ℕ) → Hop men s t d k → hops men s t d ≡ true
 unfolding hops is_clear
 hop-made men s t d k r =
@@ -77,7 +77,7 @@ ride_back men s t d p h =
 pub rides-back : (men : List (Option Man)) (s t : ℕ) (d : Step) → s < 64 → t < 64 → rides men s t d ≡ rides men t s (back d)
 rides-back men s t d p q = same_Bool _ _ (ride_back men s t d p) (ride_back men t s (back d) q)
 
--- and so is a hop
+-- a hop is seen from both ends
 pub hops-back : (men : List (Option Man)) (s t : ℕ) (d : Step) → s < 64 → t < 64 → hops men s t d ≡ hopped_from men t s (back d)
 unfolding hopped_from
 hops-back men s t d p q =

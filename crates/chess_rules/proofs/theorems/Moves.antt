@@ -1,28 +1,30 @@
--- The moves of a position are its legal moves, each once, in the stated order; and what mate and stalemate say of legal moves.
+-- The moves of a position are exactly its legal moves, each once, in order; mate and stalemate in terms of
+-- them.
 use Rattle.chess_rules.proofs.Chess.{AllPairs, AllPairs-filter, Contains, IsWellFormed, Move, Position, RuleSet, and_from, and_parts, ap, arith, false, false_from_ne_true, in_check, is_legal, is_mate, is_nil, is_stalemate, moves, not-true, not_from_false, order_number, promotion_order, promotions, sym, triples, true, true≢false, ◌<◌, ◌↔◌, ◌∙◌, ◌≡◌, ◌≢◌, ◌⊎◌}
 use Rattle.chess_rules.proofs.listing_moves.Calls.{is_pseudo_legal-from_legal}
 use Rattle.chess_rules.proofs.listing_moves.Members.{from_filter, in_filter, pairs_weaker}
 use Rattle.chess_rules.proofs.listing_moves.Triples.{from_triples, in_triples, made_is_triple, triples_rise, by_parts, nil_where_nothing, nothing_in}
 
--- The move goes from a square of the board to a square of the board, and names none or one of the promotions.
+-- The move's origin and arrival are squares of the board, and its promotion is one of `promotions`.
 abbrev pub IsTriple : Move → Type 0
 IsTriple m = (m.from < 64) × (m.to < 64) × Contains promotions m.promo
 
--- m precedes n: it has the lower number among all triples, as the call `Move::precedes` says.
+-- m precedes n: its number among all triples is lower, as `Move::precedes` says.
 abbrev pub Precedes : Move → Move → Type 0
 Precedes m n = order_number m < order_number n
 
--- That is: the lower origin; or the same one, and the lower arrival; or the same two, and the promotion that is named first, none before all.
+-- m precedes n exactly if its origin is lower; or the origins are equal and its arrival is lower; or both
+-- are equal and its promotion comes first in `promotions`.
 pub precedes_by_parts : (m n : Move) → IsTriple m → IsTriple n
     → Precedes m n ↔ ((m.from < n.from) ⊎ ((m.from ≡ n.from) × ((m.to < n.to) ⊎ ((m.to ≡ n.to) × (promotion_order m.promo < promotion_order n.promo)))))
 precedes_by_parts m n a b = by_parts m n a.1 b.1
 
 module _ (rule : RuleSet) (p : Position) where
-  -- Each legal move of a well-formed position is such a triple.
+  -- Each legal move of a well-formed position is a triple.
   pub legal_moves_are_triples : (m : Move) → IsWellFormed p → is_legal rule p m ≡ true → IsTriple m
   legal_moves_are_triples m well h = made_is_triple rule p m well.size (is_pseudo_legal-from_legal rule p m h)
 
-  -- In any position a move stands among the moves exactly where it is one of the triples and legal.
+  -- In any position, a move is in `moves` exactly if it is a triple and legal.
   pub moves_are_the_legal_triples : (m : Move) → Contains (moves rule p) m ↔ (IsTriple m × (is_legal rule p m ≡ true))
   unfolding moves
   moves_are_the_legal_triples m = (
@@ -30,23 +32,23 @@ module _ (rule : RuleSet) (p : Position) where
     λ h. in_filter (is_legal rule p) triples m (in_triples m h.0.0 h.0.1 h.0.2) h.1,
   )
 
-  -- In a well-formed position a move stands among the moves exactly where it is legal.
+  -- In a well-formed position, a move is in `moves` exactly if it is legal.
   pub moves_are_the_legal_moves : (m : Move) → IsWellFormed p → Contains (moves rule p) m ↔ (is_legal rule p m ≡ true)
   moves_are_the_legal_moves m well = grind (arith, moves_are_the_legal_triples, legal_moves_are_triples)
 
-  -- The moves stand in order: each precedes every later one.
+  -- `moves` is sorted: each move precedes every later one.
   pub moves_in_order : AllPairs Precedes (moves rule p)
   unfolding moves
   moves_in_order = AllPairs-filter Precedes (is_legal rule p) triples triples_rise
 
-  -- Each stands once: no two are alike.
+  -- No two elements of `moves` are equal.
   pub moves_differ : AllPairs (λ m n. m ≢ n) (moves rule p)
   moves_differ = pairs_weaker Precedes (λ m n. m ≢ n) (moves rule p) (λ m n less same. apart m n less same) moves_in_order
     where
       apart : (m n : Move) → Precedes m n → m ≡ n → ⊥
       apart m n less same = let e : order_number m ≡ order_number n = ap order_number same in omega (arith, less, e)
 
-  -- There are no moves exactly where no move is legal.
+  -- `moves` is empty exactly if no move is legal.
   pub no_moves_is : IsWellFormed p → (is_nil (moves rule p) ≡ true) ↔ ((m : Move) → is_legal rule p m ≡ false)
   no_moves_is well = (
     λ h m. false_from_ne_true (is_legal rule p m) (λ may. nothing_in (moves rule p) h m ((moves_are_the_legal_moves m well).1 may)),
@@ -58,7 +60,7 @@ module _ (rule : RuleSet) (p : Position) where
   unfolding is_mate
   mate_is well = grind (arith, and_parts, no_moves_is, and_from)
 
-  -- Stalemate: it is not in check, and no move is legal.
+  -- Stalemate: the side to move isn't in check, and no move is legal.
   pub stalemate_is : IsWellFormed p → (is_stalemate rule p ≡ true) ↔ ((in_check rule p.men p.turn ≡ false) × ((m : Move) → is_legal rule p m ≡ false))
   unfolding is_stalemate
   stalemate_is well = grind (arith, and_parts, not-true, no_moves_is, and_from, not_from_false)

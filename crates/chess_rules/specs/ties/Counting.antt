@@ -1,4 +1,4 @@
--- Moves of which it is known without a look that they are legal (own).
+-- Moves known to be legal without a test of each (own).
 use Rattle.std.specs.Prelude.{◌≡◌, ◌<◌, ◌==◌, ◌&&◌, ◌||◌, ℕ, Bool, None, Some, false, is_some, true}
 use Rattle.std.specs.Int.{bit_at}
 use Rattle.chess_core.specs.Position.{Position, man_on}
@@ -14,19 +14,19 @@ use Rattle.chess_rules.specs.ties.Evasions.{AreEvasions}
 use Rattle.chess_rules.specs.ties.Shields.{may_expose, may_stand_between}
 use Rattle.chess_rules.specs.ties.Targets.{AreCandidates, is_promoting}
 
--- what is known of a position is so of this one
+-- k is true of position p
 pub record IsKnownIn (rule : RuleSet) (p : Position) (k : Known) : Type 0 where
   pub shield_squares : k.shield_squares ≡ word (may_expose p.men p.turn)
   pub evasion_squares : AreEvasions rule p.men p.turn k.evasion_squares
 
--- what another man than the king does on t may be more than to stand there: he comes on a line to his king with an
--- enemy fairy man, captures en passant, or in Circe captures a man who is reborn, or is promoted
+-- the arrival of x, not a king, on t may do more than change its two squares: it is on a fairy line of its
+-- king, captures en passant, captures a man that is reborn, or promotes
 unfoldable pub is_unsure : RuleSet → Position → Man → ℕ → Bool
 is_unsure rule p x t =
     may_stand_between p.men p.turn t || is_square p.crossed t
     || (captures_do_more rule && is_some (man_on p.men t)) || is_promoting x t
 
--- the man on s goes to each square of the word by a legal move, and isn't promoted there
+-- each move of the man on s to a square of the bitboard w is legal and doesn't promote
 pub record AreLegal (rule : RuleSet) (p : Position) (s w : ℕ) : Type 0 where
   pub man : Man
   pub here : man_on p.men s ≡ Some man
@@ -34,12 +34,13 @@ pub record AreLegal (rule : RuleSet) (p : Position) (s w : ℕ) : Type 0 where
   pub to : (t : ℕ) → t < 64 → (bit_at w t == 1) ≡ true
       → is_legal rule p (record { from = s; to = t; promo = None }) ≡ true
 
--- and to no other by one
+-- the man on s has legal moves to the squares of w and to no others
 pub record AreExact (rule : RuleSet) (p : Position) (s w : ℕ) : Type 0 where
   pub candidates : AreCandidates rule p (is_legal rule p) s w
   pub legal : AreLegal rule p s w
 
--- the man on s may go to them by a legal move, and to no other; if that is sure he does go to each
+-- all legal moves of the man on s go to the candidate squares; if their legality is `Sure`, it has one to
+-- each
 pub record AreGiven (rule : RuleSet) (p : Position) (s : ℕ) (c : Candidates) : Type 0 where
   pub candidates : AreCandidates rule p (is_legal rule p) s c.squares
   pub legal : c.legality ≡ Sure → AreLegal rule p s c.squares

@@ -1,4 +1,4 @@
--- Squares to which a move may go that answers a check (own).
+-- Squares where a move may parry a check (own).
 use Rattle.std.specs.Prelude.{◌≡◌, ◌<◌, ℕ, Bool, true, false, ◌&&◌, ◌||◌, ◌==◌, List, Option, None, Some, is_some}
 use Rattle.std.specs.Int.{bit_at}
 use Rattle.chess_core.specs.Position.{Position, is_man, is_of_colour, king_square, man_on, other}
@@ -14,30 +14,30 @@ use Rattle.chess_rules.specs.Reaches.{reaches, reaches_as}
 use Rattle.chess_rules.specs.ties.Shields.{has_fairy_lines}
 use Rattle.chess_rules.specs.RuleSet.{RuleSet, faced_men_stand_still}
 
--- a move to t answers the check that the man on q gives to the king of colour c on k: it takes that man, or
--- comes between them, where a queen on either square sees it
+-- a move to t parries the check by the man on q to the king of colour c on k: it captures the checker, or
+-- arrives between them, on a square that a queen reaches from both
 abbrev pub is_evasion : List (Option Man) → Colour → ℕ → ℕ → ℕ → Bool
 is_evasion men c k q t = q == t || (reaches_as men c Queen k t && reaches_as men c Queen q t)
 
--- the man, if there is one, is a fairy man that goes along lines
+-- the man, if there is one, is a fairy man that moves along lines
 abbrev pub has_fairy_lines_of : Option Man → Bool
 has_fairy_lines_of None = false
 has_fairy_lines_of (Some y) = has_fairy_lines y.kind
 
--- colour c has a man of the kind of this man, if there is one
+-- colour c has a man of the same kind as this man, if there is one
 abbrev pub has_like : List (Option Man) → Colour → Option Man → Bool
 has_like men c None = false
 has_like men c (Some y) = some_square (λ s. is_man (man_on men s) c y.kind)
 
--- in Madrasi: colour c has a man who might paralyse this man, if there is one
+-- in Madrasi: colour c has a man that might paralyse this man, if there is one
 abbrev pub may_be_paralysed : RuleSet → List (Option Man) → Colour → Option Man → Bool
 may_be_paralysed rule men c o = faced_men_stand_still rule && has_like men c o
 
--- in Madrasi: the move might paralyse a man of a kind that its side had none of
+-- in Madrasi: the move might paralyse a man of a kind that its side didn't have
 abbrev pub may_paralyse_anew : RuleSet → Move → Bool
 may_paralyse_anew rule m = faced_men_stand_still rule && is_some m.promo
 
--- a check of another man to the king of colour c that a move to t doesn't meet
+-- an orthodox check to the king of colour c that a move to t doesn't parry
 pub record IsNoEvasion (rule : RuleSet) (men : List (Option Man)) (c : Colour) (t : ℕ) : Type
     0 where
   pub king : ℕ
@@ -49,13 +49,13 @@ pub record IsNoEvasion (rule : RuleSet) (men : List (Option Man)) (c : Colour) (
   pub check : reaches men checker king ≡ true
   pub no_evasion : is_evasion men c king checker t ≡ false
 
--- a plain move of another man than the king, in Madrasi no promotion, leaves a check unanswered, if it goes to a
--- square not in the word
+-- a plain move by another man than the king (in Madrasi: no promotion) leaves its king in check if its
+-- arrival isn't in the bitboard w
 pub record AreEvasions (rule : RuleSet) (men : List (Option Man)) (c : Colour) (w : ℕ) : Type
     0 where
   pub elsewhere : (t : ℕ) → t < 64 → (bit_at w t == 1) ≡ false → IsNoEvasion rule men c t
 
--- a move from s that may be made leaves its mover in check, if it goes to a square not in the word
+-- a pseudo-legal move from s leaves its king in check if its arrival isn't in the bitboard w
 pub record AreEvasionsFrom (rule : RuleSet) (p : Position) (s w : ℕ) : Type 0 where
   pub elsewhere : (m : Move) → m.from ≡ s → m.to < 64 → is_pseudo_legal rule p m ≡ true
       → (bit_at w m.to == 1) ≡ false → in_check rule (position_after rule p m).men p.turn ≡ true

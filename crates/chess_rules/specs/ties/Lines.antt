@@ -1,4 +1,4 @@
--- Lines on the empty board, and the order in which they pass squares (own).
+-- Lines on the empty board, and the order in which they cross squares (own).
 use Rattle.std.specs.Prelude.{ℕ, ◌+◌, ◌-◌, ◌*◌, ◌≡◌, ◌<◌, ◌≤◌, ◌==◌, Bool, true, false, ◌||◌, nat_le, List, [], ◌∷◌, Option, Some, None, is_some, map, if◌then◌else◌}
 use Rattle.std.specs.Int.{bit_at}
 use Rattle.std.specs.List.{list_any, range_with_len}
@@ -14,7 +14,7 @@ use Rattle.chess_rules.specs.Legal.{forward}
 use Rattle.chess_rules.specs.declared.lines.Direction.{Direction}
 use Rattle.chess_rules.specs.declared.lines.Direction.TheVariants.{East, West, North, South, NorthEast, SouthEast, NorthWest, SouthWest, NorthNorthEast, SouthSouthEast, NorthNorthWest, SouthSouthWest, EastNorthEast, EastSouthEast, WestNorthWest, WestSouthWest}
 
--- the step of each direction: eight of the queen, eight of the knight
+-- the step of each direction: the queen's eight, then the nightrider's eight
 abbrev pub step_of : Direction → Step
 step_of East = step_by 1 0 0 0
 step_of West = step_by 0 1 0 0
@@ -33,27 +33,27 @@ step_of EastSouthEast = step_by 2 0 0 1
 step_of WestNorthWest = step_by 0 2 1 0
 step_of WestSouthWest = step_by 0 2 0 1
 
--- the squares on which men stand
+-- the occupied squares
 abbrev pub occupied_squares : List (Option Man) → ℕ
 occupied_squares men = word (λ s. is_some (man_on men s))
 
--- a man on each square of the word, and on no other
+-- men on exactly the squares of the bitboard d
 abbrev pub men_on : ℕ → List (Option Man)
 men_on d =
     map (λ s. if bit_at d s == 1 then Some (record { colour = White; kind = Pawn }) else None)
     squares
 
--- the knight's steps of two ranks
+-- the nightrider's steps of two ranks and one file
 abbrev pub steep_steps : List Step
 steep_steps = step_of NorthNorthEast ∷ step_of SouthSouthEast ∷ step_of NorthNorthWest
     ∷ step_of SouthSouthWest ∷ []
 
--- those of one
+-- the nightrider's steps of one rank and two files
 abbrev pub flat_steps : List Step
 flat_steps = step_of EastNorthEast ∷ step_of EastSouthEast ∷ step_of WestNorthWest
     ∷ step_of WestSouthWest ∷ []
 
--- the place of a direction in their order
+-- the number of a direction in the order of directions
 abbrev pub direction_number : Direction → ℕ
 direction_number East = 0
 direction_number West = 1
@@ -72,15 +72,15 @@ direction_number EastSouthEast = 13
 direction_number WestNorthWest = 14
 direction_number WestSouthWest = 15
 
--- t lies on the line from s in this direction
+-- t is on the line from s in this direction
 unfoldable pub is_ahead : ℕ → Step → ℕ → Bool
 is_ahead s d t = list_any (λ k. is_square (along s d k) t) (range_with_len 1 7)
 
--- the squares of that line
+-- the squares of the line from s in this direction
 unfoldable pub ray : ℕ → Step → ℕ
 ray s d = word (is_ahead s d)
 
--- t lies on one of the lines from s
+-- t is on one of the lines from s
 unfoldable pub is_on_some : List Step → ℕ → ℕ → Bool
 is_on_some ds s t = list_any (λ d. is_ahead s d t) ds
 
@@ -88,31 +88,31 @@ is_on_some ds s t = list_any (λ d. is_ahead s d t) ds
 abbrev pub is_advance : Colour → ℕ → ℕ → Bool
 is_advance c s t = is_square (along s (forward c) 1) t || is_square (along s (forward c) 2) t
 
--- t is two files beside s
+-- t is two files to either side of s, on its rank
 abbrev pub is_two_files_aside : ℕ → ℕ → Bool
 is_two_files_aside s t = is_square (along s (step_by 2 0 0 0) 1) t
     || is_square (along s (step_by 0 2 0 0) 1) t
 
--- whether the numbers of the squares rise along it
+-- square numbers rise along lines of this step
 unfoldable pub rises : Step → Bool
 rises d = nat_le (d.left + 8 * d.down + 1) (d.right + 8 * d.up)
 
--- how early a line passes a square: by its number, or by how far it is from the last
+-- the order in which a line crosses squares: rising or falling numbers
 abbrev pub passing_order_by : Bool → ℕ → ℕ
 passing_order_by true s = s
 passing_order_by false s = 63 - s
 
--- the same by the direction of a line
+-- the order in which lines of this step cross squares
 abbrev pub place : Step → ℕ → ℕ
 place d s = passing_order_by (rises d) s
 
--- b is the square of the word that is passed first, or the last of the board where the word has none
+-- b is the first square of the bitboard w in this order; or the last square of the board, if w is empty
 pub record IsStop (d : Step) (w b : ℕ) : Type 0 where
   pub small : b < 64
   pub first : (q : ℕ) → q < 64 → bit_at w q ≡ 1 → place d b ≤ place d q
   pub here : place d b < 63 → bit_at w b ≡ 1
 
--- r has the squares that aren't passed behind that square
+-- r holds all squares up to the first one of w in this order
 pub record IsUpTo (d : Step) (w r : ℕ) : Type 0 where
   pub last : ℕ
   pub stop : IsStop d w last

@@ -1,4 +1,4 @@
--- Lines looked at from the square of arrival, and the ways along them (own).
+-- Lines seen from the arrival square (own).
 use Rattle.std.specs.Prelude.{ℕ, ◌-◌, Bool, false, ◌&&◌, ◌||◌, List, Option, Some, None}
 use Rattle.std.specs.List.{list_any, list_all, range_with_len}
 use Rattle.chess_core.specs.Position.{is_fairy, is_man, man_on, same_colour, same_kind}
@@ -22,18 +22,18 @@ is_leaping_man (Some x) c =
     same_colour x.colour c
     && (same_kind x.kind King || same_kind x.kind Knight || same_kind x.kind Pawn)
 
--- a queen or a man of kind k, of this colour, stands on s, and a rider on t gets there by one of the steps
+-- a queen or a man of kind k, of this colour, is on s, and a rider on t reaches s by one of the steps
 unfoldable pub is_met : List (Option Man) → Colour → Kind → List Step → ℕ → ℕ → Bool
 is_met men c k ds t s = (is_man (man_on men s) c k || is_man (man_on men s) c Queen)
     && list_any (rides men t s) ds
 
--- t is at least f steps from s, and every square from the f-th on is empty up to it
+-- t is at least f steps from s, and every square from the f-th up to the one before t is empty
 unfoldable pub rides_on : ℕ → List (Option Man) → ℕ → ℕ → Step → Bool
 rides_on f men s t d =
     list_any (λ k. is_square (along s d k) t
     && list_all (λ i. is_vacant_at men (along s d i)) (range_with_len f (k - f)))
     (range_with_len f (8 - f))
 
--- a grasshopper on s hops to t against this step: a man stands next to t, and s is behind it
+-- a grasshopper on s hops to t against this step: a man stands next to t, and s is on the line after it
 unfoldable pub hopped_from : List (Option Man) → ℕ → ℕ → Step → Bool
 hopped_from men t s d = is_occupied men (along t d 1) && rides_on 2 men t s d

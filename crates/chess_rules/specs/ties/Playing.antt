@@ -1,4 +1,4 @@
--- What a move asks of the board before it is played.
+-- What the board must satisfy before a move is made (own).
 use Rattle.std.specs.Prelude.{ℕ, true, false, List, Option, Some, None, IsSome, ◌≡◌}
 use Rattle.chess_core.specs.Position.{Position, man_on, with_man, without_man, same_kind, HasNoKing}
 use Rattle.chess_core.specs.declared.man.Man.{Man}
@@ -6,12 +6,12 @@ use Rattle.chess_core.specs.declared.man.Move.{Move}
 use Rattle.chess_core.specs.declared.man.Kind.TheVariants.{King}
 use Rattle.chess_rules.specs.Play.{arriving_man, capture_square, corner, halfway, is_castling, without_at}
 
--- a rook can be taken from one square and put on another
+-- the rook on square a, if there is one, can be moved to square b
 pub record CanCastle (men : List (Option Man)) (a b : ℕ) : Type 0 where
   pub free : man_on (without_man men a) b ≡ None
   pub no_king : (z : Man) → man_on men a ≡ Some z → same_kind z.kind King ≡ false
 
--- what the board's calls ask for when the men are moved one by one
+-- the board's calls may move the men one by one
 pub record CanMove (p : Position) (x : Man) (m : Move) : Type 0 where
   pub here : man_on p.men m.from ≡ Some x
   pub taken : (s : ℕ) → capture_square p x m ≡ Some s → IsSome (man_on (without_man p.men m.from) s)

@@ -1,4 +1,4 @@
--- Squares that shield a king along the lines to it, and moves that can't expose it (own).
+-- Blockers on the lines to a king, and moves that can't expose it (own).
 use Rattle.std.specs.Prelude.{◌≡◌, ◌⊎◌, ℕ, Bool, false, ◌&&◌, ◌||◌, ◌==◌, not, List, Option, Some, None, is_some}
 use Rattle.chess_core.specs.Squares.{is_square, some_square}
 pub use Rattle.chess_core.specs.Position.{is_fairy}
@@ -18,58 +18,58 @@ use Rattle.chess_rules.specs.declared.shields.RiderLines.{RiderLines}
 use Rattle.chess_rules.specs.declared.shields.RiderLines.TheVariants.{Straight, Diagonal}
 use Rattle.chess_rules.specs.RuleSet.{RuleSet, captures_do_more}
 
--- whether it is a fairy man that goes along lines: a rider or a hopper
+-- men of this kind are fairy men that move along lines: riders or hoppers
 abbrev pub has_fairy_lines : Kind → Bool
 has_fairy_lines k = is_fairy k && not (is_leaper (gait_of k))
 
--- a grasshopper or a nightrider of colour c stands on the board
+-- colour c has a grasshopper or a nightrider
 unfoldable pub has_fairy : List (Option Man) → Colour → Bool
 has_fairy men c =
     some_square (λ s. is_man (man_on men s) c Grasshopper)
     || some_square (λ s. is_man (man_on men s) c Nightrider)
 
--- some man of colour e reaches k, be it paralysed or not
+-- some man of colour e reaches k, paralysed or not
 unfoldable pub is_reached : List (Option Man) → ℕ → Colour → Bool
 is_reached men k e = some_square (λ s. is_of_colour (man_on men s) e && reaches men s k)
 
--- t lies on a line from k by this step, and so does a man of colour e and kind j
+-- t is on a line from k by this step, and a man of colour e and kind j is on the line too
 abbrev pub is_lined : List (Option Man) → Colour → Kind → ℕ → ℕ → Step → Bool
 is_lined men e j k t d = is_ahead k d t && some_square
     (λ q. is_man (man_on men q) e j && is_ahead k d q)
 
--- t lies on a queen's line from k on which a grasshopper of colour e stands, or on a nightrider's line from
--- there with such a nightrider
+-- t is on a queen's line from k that carries a grasshopper of colour e, or on a nightrider's line from k
+-- that carries a nightrider of colour e
 unfoldable pub is_on_fairy_line : List (Option Man) → Colour → ℕ → ℕ → Bool
 is_on_fairy_line men e k t =
     list_any (is_lined men e Grasshopper k t) queen_steps
     || list_any (is_lined men e Nightrider k t) knight_steps
 
--- the same with the king's square, if there is a king
+-- t is on a fairy line of the king's square, if there is a king
 abbrev pub is_on_fairy_line_at : List (Option Man) → Option ℕ → Colour → ℕ → Bool
 is_on_fairy_line_at men None c t = false
 is_on_fairy_line_at men (Some k) c t = is_on_fairy_line men (other c) k t
 
--- a man on t may be a hurdle before the king of colour c, or shut a nightrider's line to it
+-- a man on t may be a hurdle for an attack on the king of colour c, or block a nightrider's line to it
 unfoldable pub may_stand_between : List (Option Man) → Colour → ℕ → Bool
 may_stand_between men c t = is_on_fairy_line_at men (king_square men c) c t
 
--- a queen or a man of kind j, of colour e, stands on q, on one of the lines from k by these steps
+-- a queen or a man of kind j, of colour e, is on q, on one of the lines from k by these steps
 abbrev pub is_line_rider : List (Option Man) → Colour → Kind → List Step → ℕ → ℕ → Bool
 is_line_rider men e j ds k q =
     (is_man (man_on men q) e j || is_man (man_on men q) e Queen) && is_on_some ds k q
 
--- the word has the squares to which a rider gets from k by these steps; it may have none if no such man stands
--- on their lines
+-- w holds the squares that a rider on k reaches by these steps; it may be empty if no rider of colour e
+-- is on these lines
 abbrev pub AreRides : List (Option Man) → Colour → Kind → List Step → ℕ → ℕ → Type 0
 AreRides men e j ds k w =
     (w ≡ word (λ t. list_any (rides men k t) ds))
     ⊎ ((w ≡ 0) × (word (is_line_rider men e j ds k) ≡ 0))
 
--- such a man comes to s by such a step
+-- a line rider of colour e on q reaches s by one of these steps
 unfoldable pub is_behind : List (Option Man) → Colour → Kind → List Step → ℕ → ℕ → ℕ → Bool
 is_behind men e j ds k s q = is_line_rider men e j ds k q && list_any (rides men q s) ds
 
--- s shuts a line between k and such a man: both come to it
+-- s blocks a line between k and a line rider of colour e: riders on both reach it
 unfoldable pub is_shut : List (Option Man) → Colour → Kind → List Step → ℕ → ℕ → Bool
 is_shut men e j ds k s = list_any (rides men k s) ds && some_square (is_behind men e j ds k s)
 
@@ -78,20 +78,20 @@ abbrev pub is_checker_at : List (Option Man) → Option ℕ → Colour → ℕ �
 is_checker_at men None c s = false
 is_checker_at men (Some k) c s = is_of_colour (man_on men s) (other c) && reaches men s k
 
--- an enemy on s reaches the king of colour c, be it paralysed or not
+-- an enemy on s reaches the king of colour c, paralysed or not
 unfoldable pub is_checker : List (Option Man) → Colour → ℕ → Bool
 is_checker men c s = is_checker_at men (king_square men c) c s
 
--- whether a move from s may expose the king on his square, if there is a king
+-- a move from s may expose the king on its square, if there is a king
 abbrev pub may_expose_at : List (Option Man) → Option ℕ → Colour → ℕ → Bool
 may_expose_at men None c s = false
 may_expose_at men (Some k) c s =
     is_reached men k (other c) || k == s || is_shut men (other c) Rook straight_steps k s
     || is_shut men (other c) Bishop diagonal_steps k s || is_on_fairy_line men (other c) k s
 
--- a move from s may expose the king of colour c: an enemy reaches it, be it paralysed or not, the move is
--- the king's own, or s shuts a line between it and an enemy rider of that line, or lies on a line to it with
--- an enemy grasshopper or nightrider
+-- a move from s may expose the king of colour c: an enemy reaches the king, paralysed or not; the king
+-- itself moves; s blocks a line to an enemy rider; or s is on a line that carries an enemy grasshopper or
+-- nightrider
 unfoldable pub may_expose : List (Option Man) → Colour → ℕ → Bool
 may_expose men c s = may_expose_at men (king_square men c) c s
 
@@ -100,25 +100,24 @@ abbrev pub steps_along : RiderLines → List Step
 steps_along Straight = straight_steps
 steps_along Diagonal = diagonal_steps
 
--- the man that rides along them alone
+-- the piece that rides along these lines only
 abbrev pub rider_along : RiderLines → Kind
 rider_along Straight = Rook
 rider_along Diagonal = Bishop
 
--- the move changes nothing but that x leaves its origin and stands on the arrival: it is neither castling
--- nor a capture en passant, and nobody is reborn
+-- the move changes only its origin and its arrival: it isn't castling or en passant, and nobody is reborn
 unfoldable pub is_plain : RuleSet → Position → Man → Move → Bool
 is_plain rule p x m =
     not (is_castling x m) && not (is_square p.crossed m.to)
     && not (captures_do_more rule && is_some (man_on p.men m.to))
 
--- the move of this man, if there is one, can't uncover the king of colour c
+-- the move of this man, if there is one, can't expose the king of colour c
 abbrev pub cannot_expose_of : RuleSet → Position → Option Man → Colour → Move → Bool
 cannot_expose_of rule p None c m = false
 cannot_expose_of rule p (Some x) c m =
     not (may_expose p.men c m.from)
     && (not (may_stand_between p.men c m.to) && is_plain rule p x m)
 
--- the move can't uncover the king of colour c
+-- the move can't expose the king of colour c
 unfoldable pub cannot_expose : RuleSet → Position → Colour → Move → Bool
 cannot_expose rule p c m = cannot_expose_of rule p (man_on p.men m.from) c m

@@ -1,4 +1,4 @@
--- Legal moves that a sieve takes (own).
+-- Legal moves that a filter takes (own).
 use Rattle.std.specs.Prelude.{◌≡◌, ℕ, Bool, true, false, ◌&&◌, ◌==◌, not, List, [], ◌∷◌, ◌++◌, filter, length}
 use Rattle.std.specs.Int.{bit_at}
 use Rattle.chess_core.specs.Position.{Position, is_man, man_on}
@@ -8,21 +8,21 @@ use Rattle.chess_rules.specs.RuleSet.{RuleSet}
 use Rattle.chess_rules.specs.Legal.{is_legal}
 use Rattle.chess_rules.specs.ties.Places.{moves_between}
 
--- no legal move from s to a square of w that isn't one of v passes the test
+-- no legal move from s to a square of w that isn't in v passes the test
 pub record AreSifted (rule : RuleSet) (p : Position) (test : Move → Bool) (s w v : ℕ) : Type
     0 where
   pub taken : (m : Move) → is_legal rule p m ≡ true → m.from ≡ s → (bit_at w m.to == 1) ≡ true
       → (bit_at v m.to == 1) ≡ false → test m ≡ false
 
--- a move that no sieve for the test takes: it is legal and passes
+-- the move is legal and passes the test, so no filter for the test takes it
 abbrev pub is_wanted : RuleSet → Position → (Move → Bool) → Move → Bool
 is_wanted rule p test m = is_legal rule p m && test m
 
--- it isn't the king of the side to move who goes
+-- the move isn't made by the king of the side to move
 abbrev pub is_of_others : Position → Move → Bool
 is_of_others p m = not (is_man (man_on p.men m.from) p.turn King)
 
--- behind the place a up to the place b lie the n legal moves `over`, none of which passes the test, and then m
+-- the legal moves after cursor a up to cursor b are `over`, n moves that all fail the test, and then m
 pub record IsSifted (rule : RuleSet) (p : Position) (test : Move → Bool) (a b n : ℕ) (m : Move) :
     Type 0 where
   pub over : List Move

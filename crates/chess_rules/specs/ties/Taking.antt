@@ -1,8 +1,8 @@
--- The squares of a word, taken one after another (own).
+-- The squares of a bitboard, removed one after another (own).
 use Rattle.std.specs.Prelude.{ℕ, ◌≡◌, ◌≢◌, ◌<◌, ◌==◌, true, false}
 use Rattle.std.specs.Int.{bit_at}
 
--- s is the first square of the word, and the rest is what is left without it
+-- s is the lowest square of the bitboard w, and `rest` is w without it
 pub record IsTaken (w s rest : ℕ) : Type 0 where
   pub small : s < 64
   pub here : (bit_at w s == 1) ≡ true

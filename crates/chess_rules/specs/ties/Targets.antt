@@ -1,4 +1,4 @@
--- Where a man may go, and stretches of triples in which no move is found (own).
+-- Arrival squares, candidate squares, and ranges of triples without a move (own).
 use Rattle.std.specs.Prelude.{◌≡◌, ℕ, ◌<◌, Bool, false, true, not, ◌&&◌, ◌||◌, ◌==◌, List, Option, Some, None, is_some, if◌then◌else◌}
 use Rattle.std.specs.Int.{bit_at}
 use Rattle.chess_core.specs.Castling.{has_unmoved}
@@ -14,7 +14,7 @@ use Rattle.chess_rules.specs.Reaches.{reaches_as}
 use Rattle.chess_rules.specs.RuleSet.{RuleSet}
 use Rattle.chess_rules.specs.declared.targets.Kept.{Kept}
 
--- a pawn goes one or two squares forward, a king two squares aside
+-- a pawn goes one or two squares forward, a king two files to either side
 unfoldable pub steps_to : Man → ℕ → ℕ → Bool
 steps_to x s t =
     if same_kind x.kind Pawn then is_square (along s (forward x.colour) 1) t
@@ -26,29 +26,29 @@ steps_to x s t =
 abbrev pub pawn_goes : Position → Man → ℕ → ℕ → Bool
 pawn_goes p x s t = is_pawn_step p x (record { from = s; to = t; promo = None })
 
--- x goes from s to t, most tests of castling apart: a pawn captures or steps, another man reaches t, and
--- a king that stands unmoved goes two squares aside
+-- x goes from s to t, without most tests of castling: a pawn captures or steps, another man reaches t, and
+-- a king with castling rights goes two files to either side
 unfoldable pub may_go : Position → Man → ℕ → ℕ → Bool
 may_go p x s t =
     if same_kind x.kind Pawn then (reaches_as p.men x.colour x.kind s t
     && (is_some (man_on p.men t) || is_square p.crossed t)) || pawn_goes p x s t
     else reaches_as p.men x.colour x.kind s t || (has_unmoved p.unmoved s && steps_to x s t)
 
--- the word has each square that x on s reaches, whoever else stands on the board
+-- w holds each square that x on s reaches on some board
 pub record AreReached (x : Man) (s w : ℕ) : Type 0 where
   pub inside : (men : List (Option Man)) (t : ℕ) → t < 64
       → reaches_as men x.colour x.kind s t ≡ true
       → (bit_at w t == 1) ≡ true
 
--- this man, if there is one, is the mover's, isn't paralysed and goes to t, where no man of the mover and
--- no king stands
+-- this man, if there is one, is the mover's, isn't paralysed and goes to t, which holds no man of the mover
+-- and no king
 abbrev pub is_arrival_of : RuleSet → Position → Option Man → ℕ → ℕ → Bool
 is_arrival_of rule p None s t = false
 is_arrival_of rule p (Some x) s t =
     same_colour x.colour p.turn && not (is_paralysed rule p.men s)
     && is_arrival_free p.turn (man_on p.men t) && may_go p x s t
 
--- the man on s may go to t, the tests of castling and of the promotion apart
+-- the man on s may go to t, without the tests of castling and of the promotion
 unfoldable pub is_arrival : RuleSet → Position → ℕ → ℕ → Bool
 is_arrival rule p s t = is_arrival_of rule p (man_on p.men s) s t
 
@@ -56,29 +56,29 @@ is_arrival rule p s t = is_arrival_of rule p (man_on p.men s) s t
 abbrev pub is_promoting : Man → ℕ → Bool
 is_promoting x t = same_kind x.kind Pawn && rank_of t == last_rank x.colour
 
--- the move goes where the man on its origin may go, and names a promotion exactly where a pawn arrives on
--- its last rank
+-- the move goes to one of its man's arrival squares, and names a promotion exactly if a pawn arrives on its
+-- last rank
 pub record IsAimed (rule : RuleSet) (p : Position) (m : Move) : Type 0 where
   pub man : Man
   pub here : man_on p.men m.from ≡ Some man
   pub arrival : is_arrival rule p m.from m.to ≡ true
   pub promotion : is_some m.promo ≡ is_promoting man m.to
 
--- the man on s may go to each square of the word, and no move from s to another passes the test
+-- the man on s may go to each square of w, and no move from s to another square passes the test
 pub record AreCandidates (rule : RuleSet) (p : Position) (test : Move → Bool) (s w : ℕ) : Type
     0 where
   pub inside : (t : ℕ) → t < 64 → (bit_at w t == 1) ≡ true → is_arrival rule p s t ≡ true
   pub outside : (m : Move) → m.from ≡ s → m.to < 64 → (bit_at w m.to == 1) ≡ false → test m ≡ false
 
--- the move goes to a square of the word and passes the test
+-- the move goes to a square of w and passes the test
 abbrev pub passes_to : ℕ → (Move → Bool) → Move → Bool
 passes_to w test m = bit_at w m.to == 1 && test m
 
--- the word that is kept is that of the origin that is kept with it
+-- the kept squares are candidates of the kept origin
 pub record AreKept (rule : RuleSet) (p : Position) (test : Move → Bool) (k : Kept) : Type 0 where
   pub are : (s : ℕ) → k.origin ≡ Some s → AreCandidates rule p test s k.squares
 
--- no move from a square that isn't in the word passes the test
+-- no move from a square outside w passes the test
 pub record AreOrigins (test : Move → Bool) (w : ℕ) : Type 0 where
   pub elsewhere : (m : Move) → m.from < 64 → m.to < 64 → (bit_at w m.from == 1) ≡ false
       → test m ≡ false

@@ -1,4 +1,4 @@
-//! Castling into lines, out of them and through them.
+//! Castling into lines, out of them and across them.
 use crate::draw::Draw;
 use crate::plain::up;
 use crate::scene::{board, man, mark_homes, put, put_rider, rank_for, scatter, steps};
@@ -18,7 +18,7 @@ pub(crate) fn castling(draw: &mut Draw) -> Diagram {
     diagram
 }
 
-// King and rooks of the side to move.
+// Puts king and rooks of the side to move at home.
 fn put_home(diagram: &mut Diagram) {
     let mover = diagram.turn;
     let rank = rank_for(mover, 1);
@@ -28,7 +28,7 @@ fn put_home(diagram: &mut Diagram) {
     }
 }
 
-// Riders that see squares between them.
+// Puts riders that reach squares between king and rooks.
 fn put_attackers(diagram: &mut Diagram, draw: &mut Draw) {
     let mover = diagram.turn;
     let rank = rank_for(mover, 1);
@@ -40,7 +40,7 @@ fn put_attackers(diagram: &mut Diagram, draw: &mut Draw) {
     }
 }
 
-// The other king in a net, at his end or anywhere.
+// Puts the other king into a net, at its own end or anywhere.
 fn put_other(diagram: &mut Diagram, draw: &mut Draw) {
     if draw.once_in(3) {
         put_net(diagram, draw);
@@ -56,7 +56,7 @@ fn put_other(diagram: &mut Diagram, draw: &mut Draw) {
     let _other = put(diagram, other, man(mover.other(), Kind::King));
 }
 
-// A rook of the other side's on the fourth rank, once in four draws.
+// Puts a rook of the other side on the fourth rank, once in four draws.
 fn put_like(diagram: &mut Diagram, draw: &mut Draw) {
     if draw.once_in(4) {
         let at = Square::new(1 + draw.below(8), 4);
@@ -65,7 +65,7 @@ fn put_like(diagram: &mut Diagram, draw: &mut Draw) {
     }
 }
 
-// The other king on the file to which a rook castles, and rooks on the files beside him.
+// Puts the other king on the file where a rook castles to, and rooks on the files next to it.
 fn put_net(diagram: &mut Diagram, draw: &mut Draw) {
     let mover = diagram.turn;
     let file = draw.pick(2, 4u8, 6);
@@ -76,7 +76,7 @@ fn put_net(diagram: &mut Diagram, draw: &mut Draw) {
     put_guard(diagram, draw, file.wrapping_add(1));
 }
 
-// A queen or a rook of the mover's on a file.
+// Puts a queen or rook of the mover on a file.
 fn put_guard(diagram: &mut Diagram, draw: &mut Draw, file: u8) {
     let mover = diagram.turn;
     let at = Square::new(file, 4 + draw.below(2)).unwrap_or_default();
@@ -85,8 +85,8 @@ fn put_guard(diagram: &mut Diagram, draw: &mut Draw, file: u8) {
     let _guard = put(diagram, far, man(mover, guard));
 }
 
-// King and one rook at home, the other king behind the square from which the king castles, on their rank, and
-// a rook or a queen on the next.
+// King and one rook at home, the other king on their rank beyond the castling king's square, and a rook or
+// queen on the next rank.
 pub(crate) fn home_ranks(draw: &mut Draw) -> Diagram {
     let mut diagram = board(draw);
     let kinds = draw.kinds();
@@ -102,7 +102,7 @@ pub(crate) fn home_ranks(draw: &mut Draw) -> Diagram {
     diagram
 }
 
-// The files of the rook, of the other king and of the man on the next rank.
+// Returns the files of the rook, of the other king and of the man on the next rank.
 fn home_files(draw: &mut Draw) -> (u8, u8, u8) {
     let aside = draw.below(2);
     let bar = draw.below(5);
@@ -113,7 +113,7 @@ fn home_files(draw: &mut Draw) -> (u8, u8, u8) {
     }
 }
 
-// King and rook at home, and the other king on their rank.
+// Puts king and rook at home, and the other king on their rank.
 fn put_ranks(diagram: &mut Diagram, corner: u8, far: u8) {
     let mover = diagram.turn;
     let home = rank_for(mover, 1);

@@ -4,7 +4,7 @@ use crate::plain::next;
 use crate::scene::{board, man, put, put_battery, put_king, put_rider, scatter, steps};
 use chess_core::{Colour, Diagram, Kind, Square};
 
-// Grasshoppers on lines of a king, with a hurdle, with two, or with none yet.
+// Grasshoppers on lines of a king, with one hurdle, two or none.
 pub(crate) fn hurdles(draw: &mut Draw) -> Diagram {
     let mut diagram = board(draw);
     let mover = diagram.turn;
@@ -19,7 +19,7 @@ pub(crate) fn hurdles(draw: &mut Draw) -> Diagram {
     diagram
 }
 
-// A grasshopper on a line of the king of this colour, and men between them.
+// Puts a grasshopper on a line of the king of this colour, and men between them.
 fn put_hurdles(diagram: &mut Diagram, draw: &mut Draw, king: Square, target: Colour) {
     let line = draw.line();
     let far = 2 + draw.below(4);
@@ -33,7 +33,7 @@ fn put_hurdles(diagram: &mut Diagram, draw: &mut Draw, king: Square, target: Col
     }
 }
 
-// A second man of the mover's on the line, once in two draws.
+// Puts a second man of the mover on the line, once in two draws.
 fn put_second(diagram: &mut Diagram, draw: &mut Draw, king: Square, line: (u8, u8)) {
     if draw.once_in(2) {
         let second = man(diagram.turn, draw.kind(Kinds::All));
@@ -42,7 +42,7 @@ fn put_second(diagram: &mut Diagram, draw: &mut Draw, king: Square, line: (u8, u
     }
 }
 
-// Nightriders on lines of both kings, with men between or with none.
+// Nightriders on lines of both kings, with or without men between.
 pub(crate) fn nightrider_lines(draw: &mut Draw) -> Diagram {
     let mut diagram = board(draw);
     let mover = diagram.turn;
@@ -60,7 +60,7 @@ pub(crate) fn nightrider_lines(draw: &mut Draw) -> Diagram {
     diagram
 }
 
-// A nightrider of this colour on a line of the king, and a man of the mover's between them.
+// Puts a nightrider of this colour on a line of the king, and a man of the mover between them.
 fn put_nightrider(diagram: &mut Diagram, draw: &mut Draw, king: Square, rear: Colour) {
     let leap = draw.leap();
     let front = man(diagram.turn, draw.kind(Kinds::All));
@@ -70,7 +70,7 @@ fn put_nightrider(diagram: &mut Diagram, draw: &mut Draw, king: Square, rear: Co
     }
 }
 
-// A nightrider that checks the mover's king, or a battery of one before the other king.
+// Puts a nightrider that checks the mover's king, or a nightrider battery on the other king.
 fn put_leaps(diagram: &mut Diagram, draw: &mut Draw, own: Square, other: Square) {
     let mover = diagram.turn;
     let leap = draw.leap();

@@ -1,4 +1,4 @@
-//! Kings that flee, that have nowhere to go, or that are missing.
+//! Kings that flee, have nowhere to go, or are missing.
 use crate::draw::{Draw, Kinds};
 use crate::plain::{LINES, next, up};
 use crate::scene::{
@@ -7,7 +7,7 @@ use crate::scene::{
 };
 use chess_core::{Diagram, Kind, Square};
 
-// A king in check along a line that goes on behind him.
+// A king in check on a line that continues beyond it.
 pub(crate) fn king_steps(draw: &mut Draw) -> Diagram {
     let mut diagram = board(draw);
     let mover = diagram.turn;
@@ -24,7 +24,7 @@ pub(crate) fn king_steps(draw: &mut Draw) -> Diagram {
     diagram
 }
 
-// A grasshopper that checks over a man beside the king, once in two draws.
+// Puts a grasshopper that checks over a man next to the king, once in two draws.
 fn put_hopper(diagram: &mut Diagram, draw: &mut Draw, kinds: Kinds, king: Square) {
     if kinds == Kinds::All && draw.once_in(2) {
         let line = draw.line();
@@ -35,7 +35,7 @@ fn put_hopper(diagram: &mut Diagram, draw: &mut Draw, kinds: Kinds, king: Square
     }
 }
 
-// The other side's king at the edge, some of his squares taken by his men or seen by the mover's.
+// The other side's king at the edge, with some squares next to it taken by its men or attacked.
 pub(crate) fn flights(draw: &mut Draw) -> Diagram {
     let mut diagram = board(draw);
     let mover = diagram.turn;
@@ -49,7 +49,7 @@ pub(crate) fn flights(draw: &mut Draw) -> Diagram {
     diagram
 }
 
-// A square at the edge.
+// Returns a square at the edge.
 fn edge_square(draw: &mut Draw) -> Square {
     let edge = draw.pick(2, 1u8, 8);
     let other = 1 + draw.below(8);
@@ -61,7 +61,7 @@ fn edge_square(draw: &mut Draw) -> Square {
     at.unwrap_or_default()
 }
 
-// Three to five men of the mover's and a queen, anywhere.
+// Puts three to five men of the mover and a queen anywhere.
 fn put_attackers(diagram: &mut Diagram, draw: &mut Draw, kinds: Kinds) {
     let mover = diagram.turn;
     for _man in 0..3 + draw.below(3) {
@@ -71,8 +71,8 @@ fn put_attackers(diagram: &mut Diagram, draw: &mut Draw, kinds: Kinds) {
     let _queen = put(diagram, Some(draw.square()), man(mover, Kind::Queen));
 }
 
-// The other side's king among his men, riders of the mover on lines to him and to the squares beside him, and
-// one behind a man of the mover's on a line to such a square.
+// The other side's king among its men, riders of the mover that reach it and squares next to it, and one
+// rider masked by a man of the mover on a line to one of these squares.
 pub(crate) fn refuges(draw: &mut Draw) -> Diagram {
     let mut diagram = board(draw);
     let mover = diagram.turn;
@@ -90,7 +90,7 @@ pub(crate) fn refuges(draw: &mut Draw) -> Diagram {
     diagram
 }
 
-// Pawns and knights of the other side's on every second square beside his king.
+// Puts pawns and knights of the other side on about half of the squares next to its king.
 fn put_guards(diagram: &mut Diagram, draw: &mut Draw, king: Square) {
     let colour = diagram.turn.other();
     for way in &LINES {
@@ -101,7 +101,7 @@ fn put_guards(diagram: &mut Diagram, draw: &mut Draw, king: Square) {
     }
 }
 
-// Riders of the mover's that see squares beside the king.
+// Puts riders of the mover that reach squares next to the king.
 fn put_near_riders(diagram: &mut Diagram, draw: &mut Draw, king: Square) {
     for _rider in 0..3u8 {
         let near = next(king, draw.line()).unwrap_or(king);
@@ -109,7 +109,7 @@ fn put_near_riders(diagram: &mut Diagram, draw: &mut Draw, king: Square) {
     }
 }
 
-// Lines to kings that stand there and to squares where none does.
+// Lines to kings, and to squares where a king is missing.
 pub(crate) fn missing_kings(draw: &mut Draw) -> Diagram {
     let mut diagram = board(draw);
     let kinds = draw.kinds();
@@ -126,7 +126,7 @@ pub(crate) fn missing_kings(draw: &mut Draw) -> Diagram {
     diagram
 }
 
-// The mover's king, the other one or none, and the square.
+// Puts the mover's king, the other king or none, and returns the square.
 fn put_one_king(diagram: &mut Diagram, draw: &mut Draw) -> Square {
     let mover = diagram.turn;
     let present = draw.below(3);
@@ -138,8 +138,8 @@ fn put_one_king(diagram: &mut Diagram, draw: &mut Draw) -> Square {
     at
 }
 
-// The other side's king shut in by his men but for one square: there a pawn of the mover's may check him, or
-// from there on the mover's king or a pawn stands between him and a rider.
+// The other side's king shut in by its men but for one square. From there a pawn of the mover may give
+// check, or the mover's king or a pawn masks a rider on the line through it.
 pub(crate) fn nooks(draw: &mut Draw) -> Diagram {
     let mut diagram = board(draw);
     let mover = diagram.turn;
@@ -160,7 +160,8 @@ pub(crate) fn nooks(draw: &mut Draw) -> Diagram {
     diagram
 }
 
-// A pawn or the mover's king between the king and a rider, and the square beside him on their line.
+// Puts a pawn or the mover's king between the king and a rider. Returns the square next to the king on this
+// line.
 fn put_battery_before(diagram: &mut Diagram, draw: &mut Draw, king: Square) -> Square {
     let mover = diagram.turn;
     let line = draw.line();
@@ -169,8 +170,8 @@ fn put_battery_before(diagram: &mut Diagram, draw: &mut Draw, king: Square) -> S
     next(king, line).unwrap_or(king)
 }
 
-// A pawn of the mover's one step, two steps or a capture before a square from which it checks the king, and
-// that square.
+// Puts a pawn of the mover one step, one double step or one capture before a square from which it checks
+// the king. Returns that square.
 fn put_pawn_before(diagram: &mut Diagram, draw: &mut Draw, king: Square) -> Square {
     let mover = diagram.turn;
     let down = up(mover.other());
@@ -188,8 +189,8 @@ fn put_pawn_before(diagram: &mut Diagram, draw: &mut Draw, king: Square) -> Squa
     checked_from
 }
 
-// The king's own men on the other squares beside him, a rider that sees the hole, and one that sees another
-// square.
+// Puts the king's own men on the other squares next to it, a rider that reaches the hole, and one that
+// reaches another square.
 fn shut_in(diagram: &mut Diagram, draw: &mut Draw, king: Square, hole: Square) {
     let colour = diagram.turn.other();
     for way in &LINES {
@@ -204,7 +205,7 @@ fn shut_in(diagram: &mut Diagram, draw: &mut Draw, king: Square, hole: Square) {
     put_seer(diagram, draw, other);
 }
 
-// A rider of the mover's that sees the square.
+// Puts a rider of the mover that reaches the square.
 fn put_seer(diagram: &mut Diagram, draw: &mut Draw, seen: Square) {
     let line = draw.line();
     let mover = diagram.turn;

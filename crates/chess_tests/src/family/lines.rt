@@ -4,7 +4,7 @@ use crate::plain::next;
 use crate::scene::{board, man, put, put_battery, put_king, put_rider, scatter};
 use chess_core::{Colour, Diagram, Kind, Man};
 
-// A direction in which a rider of these kinds goes.
+// Returns a direction of a rider among these kinds.
 fn way(draw: &mut Draw, kinds: Kinds) -> (u8, u8) {
     if kinds == Kinds::All && draw.once_in(3) {
         draw.leap()
@@ -13,7 +13,7 @@ fn way(draw: &mut Draw, kinds: Kinds) -> (u8, u8) {
     }
 }
 
-// Puts the king that isn't there yet, most times, and men anywhere.
+// Puts the missing king, most times, and men anywhere.
 fn finish(diagram: &mut Diagram, draw: &mut Draw, kinds: Kinds, colour: Colour) {
     if !draw.once_in(8) {
         let _king = put_king(diagram, draw, colour);
@@ -22,7 +22,7 @@ fn finish(diagram: &mut Diagram, draw: &mut Draw, kinds: Kinds, colour: Colour) 
     scatter(diagram, draw, kinds, count);
 }
 
-// The front man of a battery.
+// Returns the front man of a battery.
 fn front(draw: &mut Draw, kinds: Kinds, colour: Colour) -> Man {
     man(colour, draw.kind(kinds))
 }
@@ -73,7 +73,7 @@ pub(crate) fn double_checks(draw: &mut Draw) -> Diagram {
     diagram
 }
 
-// The mover's king, and riders that see him.
+// Puts the mover's king, and riders that check it.
 fn put_checkers(diagram: &mut Diagram, draw: &mut Draw, kinds: Kinds) {
     let mover = diagram.turn;
     let king = put_king(diagram, draw, mover);
@@ -83,7 +83,7 @@ fn put_checkers(diagram: &mut Diagram, draw: &mut Draw, kinds: Kinds) {
     }
 }
 
-// The other king, batteries on lines to him, and a queen a leap away.
+// Puts the other king, batteries on lines to it, and a queen a leap away.
 fn put_double(diagram: &mut Diagram, draw: &mut Draw, kinds: Kinds) {
     let mover = diagram.turn;
     let target = put_king(diagram, draw, mover.other());

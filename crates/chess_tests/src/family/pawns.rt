@@ -1,4 +1,4 @@
-//! Captures en passant and promotions.
+//! En passant captures and promotions.
 use crate::draw::{Draw, Kinds};
 use crate::plain::next;
 use crate::scene::{
@@ -6,8 +6,8 @@ use crate::scene::{
 };
 use chess_core::{Colour, Diagram, Kind, Square};
 
-// A pawn of the side to move beside one that has just gone two squares. Between them and a rider stands a
-// king of either side, on one of the lines that the capture may open.
+// A pawn of the side to move next to one that has just gone two squares, and a king of either side with a
+// rider on a line that the capture may open.
 pub(crate) fn en_passant(draw: &mut Draw) -> Diagram {
     let mut diagram = board(draw);
     let (passing, capturer) = put_pawns(&mut diagram, draw);
@@ -25,7 +25,8 @@ pub(crate) fn en_passant(draw: &mut Draw) -> Diagram {
     diagram
 }
 
-// The pawn that has just gone two squares, and one of the side to move beside it. Answers their squares.
+// Puts the pawn that has just gone two squares, and a pawn of the side to move next to it. Returns their
+// squares.
 fn put_pawns(diagram: &mut Diagram, draw: &mut Draw) -> (Square, Square) {
     let mover = diagram.turn;
     let file = 1 + draw.below(8);
@@ -39,7 +40,7 @@ fn put_pawns(diagram: &mut Diagram, draw: &mut Draw) -> (Square, Square) {
     (passing, capturer)
 }
 
-// Queens and a rook of the mover's, once in two draws.
+// Puts two queens and a rook of the mover, once in two draws.
 fn put_helpers(diagram: &mut Diagram, draw: &mut Draw) {
     if draw.once_in(2) {
         let mover = diagram.turn;
@@ -49,7 +50,8 @@ fn put_helpers(diagram: &mut Diagram, draw: &mut Draw) {
     }
 }
 
-// A king and a rider on two ends of a line through the pawns: their rank, or another line through one.
+// Puts a king and a rider at the two ends of a line through the pawns: their rank, or another line through
+// one of them.
 fn put_line(diagram: &mut Diagram, draw: &mut Draw, passing: Square, capturer: Square) {
     let mover = diagram.turn;
     let king = draw.pick(3, mover.other(), mover);
@@ -61,7 +63,7 @@ fn put_line(diagram: &mut Diagram, draw: &mut Draw, passing: Square, capturer: S
     put_ends(diagram, draw, front, way, king);
 }
 
-// A king of this colour in a direction, and in the other a rider that sees him.
+// Puts a king of this colour in one direction, and in the opposite direction a rider that would reach it.
 fn put_ends(diagram: &mut Diagram, draw: &mut Draw, front: Square, way: (u8, u8), king: Colour) {
     let to_king = 1 + draw.below(3);
     let to_rider = 1 + draw.below(4);
@@ -71,7 +73,7 @@ fn put_ends(diagram: &mut Diagram, draw: &mut Draw, front: Square, way: (u8, u8)
     let _rider = put(diagram, behind, man(king.other(), rider));
 }
 
-// Pawns on the rank before the last, men to capture behind them, and kings near.
+// Pawns one step before promotion, men to capture on the last rank, and kings nearby.
 pub(crate) fn promotions(draw: &mut Draw) -> Diagram {
     let mut diagram = board(draw);
     let kinds = draw.kinds();
@@ -89,7 +91,7 @@ pub(crate) fn promotions(draw: &mut Draw) -> Diagram {
     diagram
 }
 
-// Both kings. Answers the square of the mover's.
+// Puts both kings. Returns the square of the mover's king.
 fn put_kings(diagram: &mut Diagram, draw: &mut Draw) -> Square {
     let mover = diagram.turn;
     let file = draw.pick(2, 2u8, 7);
@@ -104,7 +106,8 @@ fn put_kings(diagram: &mut Diagram, draw: &mut Draw) -> Square {
     own
 }
 
-// The other king in the corner, and the mover's two ranks before the end on the file beside him.
+// Returns the squares of both kings: the other king in the corner, the mover's two ranks below on the next
+// file.
 fn cornered(mover: Colour, file: u8) -> (Option<Square>, Option<Square>) {
     let corner = if file == 2 { 1u8 } else { 8 };
     (
@@ -113,7 +116,8 @@ fn cornered(mover: Colour, file: u8) -> (Option<Square>, Option<Square>) {
     )
 }
 
-// The mover's king on the last rank or the fourth, the other on the last or before it.
+// Returns the squares of both kings: the mover's on the last rank or rank 4, the other on one of the last
+// two ranks.
 fn near_the_end(draw: &mut Draw, mover: Colour) -> (Option<Square>, Option<Square>) {
     let last = rank_for(mover, 8);
     let rank = draw.pick(2, last, 4);
@@ -122,7 +126,7 @@ fn near_the_end(draw: &mut Draw, mover: Colour) -> (Option<Square>, Option<Squar
     (own, Square::new(1 + draw.below(8), other_rank))
 }
 
-// Men to capture on the last rank.
+// Puts men to capture on the last rank.
 fn put_victims(diagram: &mut Diagram, draw: &mut Draw, kinds: Kinds) {
     let mover = diagram.turn;
     for _victim in 0..3u8 {
@@ -132,7 +136,7 @@ fn put_victims(diagram: &mut Diagram, draw: &mut Draw, kinds: Kinds) {
     }
 }
 
-// A checker or a pinned pawn.
+// Puts a checker or a pinned pawn.
 fn put_pinned(diagram: &mut Diagram, draw: &mut Draw, own: Square) {
     let mover = diagram.turn;
     let line = draw.line();
@@ -144,7 +148,7 @@ fn put_pinned(diagram: &mut Diagram, draw: &mut Draw, own: Square) {
     }
 }
 
-// A nightrider anywhere, so that pawns may become one.
+// Puts a nightrider anywhere, so that pawns may promote to one.
 fn put_nightrider(diagram: &mut Diagram, draw: &mut Draw, kinds: Kinds) {
     if kinds == Kinds::All {
         let at = draw.square();

@@ -1,4 +1,4 @@
-//! What captures bring back, and what men of one kind do to each other.
+//! Rebirths after captures, and mutual paralysis.
 use crate::draw::{Draw, Kinds};
 use crate::plain::{home, next, up};
 use crate::scene::{
@@ -7,7 +7,7 @@ use crate::scene::{
 };
 use chess_core::{Colour, Diagram, Kind, Man, Square};
 
-// Kings on the ranks where the victims come back, and victims beside the mover's men.
+// Kings near the ranks where victims are reborn, and victims next to the mover's men.
 pub(crate) fn rebirths(draw: &mut Draw) -> Diagram {
     let mut diagram = board(draw);
     let kinds = draw.kinds();
@@ -23,7 +23,7 @@ pub(crate) fn rebirths(draw: &mut Draw) -> Diagram {
     diagram
 }
 
-// A king of this colour, and an enemy rider that sees him, or would but for a victim.
+// Puts a king of this colour, and an enemy rider that reaches it, with or without a victim between.
 fn put_aimed_king(diagram: &mut Diagram, draw: &mut Draw, kinds: Kinds, colour: Colour) {
     let mover = diagram.turn;
     let rank = draw.pick(3, rank_for(mover, 7), rank_for(mover, 8));
@@ -38,7 +38,7 @@ fn put_aimed_king(diagram: &mut Diagram, draw: &mut Draw, kinds: Kinds, colour: 
     }
 }
 
-// A victim, and a man of the mover's beside it.
+// Puts a victim, and a man of the mover next to it.
 fn put_pair(diagram: &mut Diagram, draw: &mut Draw, kinds: Kinds) {
     let mover = diagram.turn;
     let at = Square::new(1 + draw.below(8), 2 + draw.below(6)).unwrap_or_default();
@@ -49,8 +49,8 @@ fn put_pair(diagram: &mut Diagram, draw: &mut Draw, kinds: Kinds) {
     let _taker = put(diagram, beside, taker);
 }
 
-// Men to be captured who come back beside the other side's king, and behind their home squares grasshoppers
-// or other men of the mover.
+// Men to be captured that are reborn next to the other side's king, and beyond their home squares
+// grasshoppers or other men of the mover.
 pub(crate) fn reborn_hurdles(draw: &mut Draw) -> Diagram {
     let mut diagram = board(draw);
     if draw.once_in(2) {
@@ -65,7 +65,7 @@ pub(crate) fn reborn_hurdles(draw: &mut Draw) -> Diagram {
     diagram
 }
 
-// A victim on the last rank, a pawn of the mover's beside it, and a grasshopper anywhere.
+// Puts a victim on the last rank, a pawn of the mover that can capture it, and a grasshopper anywhere.
 fn put_promoting(diagram: &mut Diagram, draw: &mut Draw) {
     let mover = diagram.turn;
     let victim = man(mover.other(), draw.kind(Kinds::Orthodox));
@@ -78,7 +78,7 @@ fn put_promoting(diagram: &mut Diagram, draw: &mut Draw) {
     let _pawn = put(diagram, Square::new(file, rank_for(mover, 7)), pawn);
 }
 
-// A victim, a rider of the mover's that captures it, and a grasshopper behind its home square.
+// Puts a victim, a rider of the mover that captures it, and a grasshopper beyond its home square.
 fn put_captured(diagram: &mut Diagram, draw: &mut Draw) {
     let mover = diagram.turn;
     let victim = man(mover.other(), draw.kind(Kinds::Orthodox));
@@ -92,12 +92,13 @@ fn put_captured(diagram: &mut Diagram, draw: &mut Draw) {
     put_taker(diagram, draw, at, aside);
 }
 
-// A grasshopper, mostly of the mover's.
+// Returns a grasshopper, mostly of the mover.
 fn hopper_of(draw: &mut Draw, mover: Colour) -> Man {
     man(draw.pick(3, mover.other(), mover), Kind::Grasshopper)
 }
 
-// The victim, and the other king beside its home square. Answers the direction in which he stands.
+// Puts the victim, and the other king next to its home square. Returns the direction from there to the
+// king.
 fn put_victim(diagram: &mut Diagram, draw: &mut Draw, victim: Man, at: Square) -> (u8, u8) {
     let line = draw.line();
     let king = man(victim.colour, Kind::King);
@@ -106,14 +107,14 @@ fn put_victim(diagram: &mut Diagram, draw: &mut Draw, victim: Man, at: Square) -
     line
 }
 
-// A rider of the mover's that sees the square from this direction.
+// Puts a rider of the mover that reaches the square from this direction.
 fn put_taker(diagram: &mut Diagram, draw: &mut Draw, at: Square, line: (u8, u8)) {
     let taker = man(diagram.turn, rider(draw, line));
     let _taker = put(diagram, steps(at, line, 1 + draw.below(3)), taker);
 }
 
-// The other side's king in the corner, without a flight, and a grasshopper that sees him along the diagonal,
-// once a pawn captured aside has come back between them.
+// The other side's king in the corner without a flight, and a grasshopper on its diagonal that gives check
+// once a captured pawn is reborn between them.
 pub(crate) fn hurdle_nets(draw: &mut Draw) -> Diagram {
     let mut diagram = board(draw);
     let beside = put_corner(&mut diagram, draw);
@@ -129,8 +130,8 @@ pub(crate) fn hurdle_nets(draw: &mut Draw) -> Diagram {
     diagram
 }
 
-// The king in the corner, a bishop beside him, the mover's king before it and the grasshopper. Answers the file beside the
-// corner.
+// Puts the king in the corner, a bishop next to it, the mover's king opposite and the grasshopper. Returns
+// the file next to the corner.
 fn put_corner(diagram: &mut Diagram, draw: &mut Draw) -> u8 {
     let mover = diagram.turn;
     let last = rank_for(mover, 8);
@@ -151,7 +152,7 @@ fn put_corner(diagram: &mut Diagram, draw: &mut Draw) -> u8 {
     beside
 }
 
-// Riders that aim at the kings, and men of their kinds that face them or may come to.
+// Riders that attack the kings, and enemy men of the same kinds that attack them or may do so.
 pub(crate) fn paralysis(draw: &mut Draw) -> Diagram {
     let mut diagram = board(draw);
     let mover = diagram.turn;
@@ -170,7 +171,8 @@ pub(crate) fn paralysis(draw: &mut Draw) -> Diagram {
     diagram
 }
 
-// A rider of this colour on a line of the king, and one of its kind that faces it from the side.
+// Puts a rider of this colour on a line of the king, and an enemy man of its kind that attacks it from the
+// side.
 fn put_facing(diagram: &mut Diagram, draw: &mut Draw, king: Square, colour: Colour) {
     let line = draw.line();
     let gap = 1 + draw.below(4);
@@ -184,7 +186,7 @@ fn put_facing(diagram: &mut Diagram, draw: &mut Draw, king: Square, colour: Colo
     let _facing = put(diagram, steps(at, turned(line), aside), like);
 }
 
-// The other side's king on his home rank before the mover's, and captures that check him.
+// The other side's king on its home rank opposed by the mover's king, and captures that give check.
 pub(crate) fn nets(draw: &mut Draw) -> Diagram {
     let mut diagram = board(draw);
     if draw.once_in(2) {
@@ -199,7 +201,7 @@ pub(crate) fn nets(draw: &mut Draw) -> Diagram {
     diagram
 }
 
-// The other side's king on his home rank, and the mover's two ranks before it, on these files.
+// Puts the other side's king on its home rank, and the mover's two ranks before it, on these files.
 fn put_opposed(diagram: &mut Diagram, file: u8, own_file: u8) {
     let mover = diagram.turn;
     let king = Square::new(file, rank_for(mover, 8));
@@ -208,7 +210,8 @@ fn put_opposed(diagram: &mut Diagram, file: u8, own_file: u8) {
     let _own = put(diagram, own, man(mover, Kind::King));
 }
 
-// The king in a corner, a man before him, and a rook of the mover's on their rank that captures it.
+// Puts the king in a corner, a man before it, and a rook of the mover that captures this man along the
+// rank.
 fn put_corner_net(diagram: &mut Diagram, draw: &mut Draw) {
     let mover = diagram.turn;
     let (file, beside) = if draw.once_in(2) { (1u8, 2u8) } else { (8, 7) };
@@ -220,7 +223,7 @@ fn put_corner_net(diagram: &mut Diagram, draw: &mut Draw) {
     let _taker = put(diagram, taker, man(mover, Kind::Rook));
 }
 
-// Men to be captured on lines of the king by riders that then see him, and men beside him.
+// Puts men on lines of the king that riders may capture with check, and men next to the king.
 fn put_captures(diagram: &mut Diagram, draw: &mut Draw, file: u8) {
     let rank = rank_for(diagram.turn, 8);
     let king = Square::new(file, rank).unwrap_or_default();
@@ -234,7 +237,7 @@ fn put_captures(diagram: &mut Diagram, draw: &mut Draw, file: u8) {
     put_blockers(diagram, draw, Kinds::Orthodox, king);
 }
 
-// A man to be captured on a line, and a rider that goes along the line and captures it from the side.
+// Puts a man to be captured on a line, and a rider of this line that captures it from the side.
 fn put_capture(diagram: &mut Diagram, draw: &mut Draw, at: Square, line: (u8, u8)) {
     let mover = diagram.turn;
     let victim = man(mover.other(), draw.kind(Kinds::Orthodox));
@@ -244,7 +247,7 @@ fn put_capture(diagram: &mut Diagram, draw: &mut Draw, at: Square, line: (u8, u8
     let _taker = put(diagram, steps(at, turned(line), aside), taker);
 }
 
-// The direction turned by a right angle.
+// Returns the direction turned by a right angle.
 fn turned(way: (u8, u8)) -> (u8, u8) {
     (way.1.wrapping_neg(), way.0)
 }

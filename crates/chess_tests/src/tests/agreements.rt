@@ -1,8 +1,8 @@
-//! The moves one by one beside those of the plain rules.
+//! All moves of positions, compared with the plain rules.
 use crate::agreement::compare;
 use crate::plain::Rule;
 
-// A position, a number of moves, and how many positions are less than so many away.
+// A position, a length in moves, and the number of positions fewer moves away.
 const ORTHODOX: [(&str, u32, u64); 3] = [
     (
         "rsbqkbsr/pppppppp/8/8/8/8/PPPPPPPP/RSBQKBSR a1 e1 h1 a8 e8 h8",

@@ -1,10 +1,10 @@
-//! Counts of lines of moves that move generators agree on, and boards taken back along them.
+//! Counts of lines of moves that move generators agree on (perft), and boards restored along them.
 use crate::count::walk_lines;
 use crate::plain::Rule;
 
-// A position, a number of moves, and the lines of so many.
+// A position, a length in moves, and the number of lines of this length.
 const COUNTS: [(&str, u32, u64); 12] = [
-    // The game array.
+    // The initial position of the game.
     (
         "rsbqkbsr/pppppppp/8/8/8/8/PPPPPPPP/RSBQKBSR a1 e1 h1 a8 e8 h8",
         1,
@@ -31,12 +31,12 @@ const COUNTS: [(&str, u32, u64); 12] = [
         2,
         2_039,
     ),
-    // A covered castling square.
+    // An attacked square between king and rook.
     ("4kr2/8/8/8/8/8/8/4K2R e1 h1 e8", 1, 12),
     // Rooks and pawns.
     ("8/2p5/3p4/KP5r/1R3p1k/8/4P1P1/8", 1, 14),
     ("8/2p5/3p4/KP5r/1R3p1k/8/4P1P1/8", 2, 191),
-    // A check from afar.
+    // A check from a distance.
     (
         "r3k2r/Pppp1ppp/1b3sbS/sP6/BBP1P3/q4S2/Pp1P2PP/R2Q1RK1 a8 e8 h8",
         1,
@@ -47,7 +47,7 @@ const COUNTS: [(&str, u32, u64); 12] = [
         2,
         264,
     ),
-    // A pawn before promotion.
+    // A pawn one step before promotion.
     (
         "rsbq1k1r/pp1Pbppp/2p5/8/2B5/8/PPP1SsPP/RSBQK2R a1 e1 h1",
         1,
@@ -60,7 +60,8 @@ const COUNTS: [(&str, u32, u64); 12] = [
     ),
 ];
 
-// A position, a number of moves, and how many of the last ones are castlings: the game array, a full board, a check from afar.
+// A position, a length in moves, and how many of the last moves are castlings: the initial position, a full
+// board, a check from a distance.
 const CASTLINGS: [(&str, u32, u64); 4] = [
     (
         "rsbqkbsr/pppppppp/8/8/8/8/PPPPPPPP/RSBQKBSR a1 e1 h1 a8 e8 h8",
@@ -84,7 +85,7 @@ const CASTLINGS: [(&str, u32, u64); 4] = [
     ),
 ];
 
-// Positions whose boards are to come back along two moves.
+// Positions whose boards must be restored along two moves.
 const TAKEN_BACK: [(Rule, &str); 4] = [
     (Rule::Circe, "7k/8/6K1/3pP3/8/1B6/8/B7 d6"),
     (Rule::Circe, "b5k1/8/6K1/8/8/8/8/R7"),
@@ -104,9 +105,9 @@ fn counts(rt: HostRuntime) {
     }
 }
 
-// In orthodox chess no other move has to be played to be told legal.
+// In orthodox chess only castlings must be played to know that they are legal.
 #[test]
-fn castlings_alone_are_played(rt: HostRuntime) {
+fn only_castlings_are_played(rt: HostRuntime) {
     for (position, length, wanted) in &CASTLINGS {
         let played = match walk_lines(Rule::Orthodox, position, *length) {
             Some(walk) => walk.played,
@@ -117,7 +118,7 @@ fn castlings_alone_are_played(rt: HostRuntime) {
 }
 
 #[test]
-fn boards_come_back_under_conditions(rt: HostRuntime) {
+fn boards_are_restored_under_conditions(rt: HostRuntime) {
     for (rule, position) in &TAKEN_BACK {
         let changed = match walk_lines(*rule, position, 2) {
             Some(walk) => walk.changed,

@@ -1,12 +1,12 @@
-//! Positions before a defence, beside the plain rules.
+//! Positions before a defence, compared with the plain rules.
 use crate::defended::defended;
 use crate::family::Family;
 use crate::plain::Rule;
 use crate::plain::Rule::{Circe, Madrasi, Orthodox};
 use std::process::Abort;
 
-// A name, the rule, the family, how many of its positions are compared, and how many moves at least are told to be followed by
-// no mate.
+// A name, the rule, the family, the number of its positions compared, and the least number of moves after
+// which threats must rule out a mate.
 const FAMILIES: [(&str, Rule, Family, u64, u32); 6] = [
     ("flights", Circe, Family::Flights, 500, 300),
     ("rebirths before mates", Circe, Family::Nets, 1_500, 5_000),
@@ -27,7 +27,7 @@ fn defences(rt: HostRuntime) {
         );
         assert!(rt;
             told >= *least,
-            "{name}: {told} moves are told to be followed by no mate"
+            "{name}: threats rule out a mate after {told} moves"
         );
     }
 }

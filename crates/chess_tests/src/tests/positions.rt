@@ -2,7 +2,7 @@
 use crate::plain::Rule;
 use crate::probe::{Outcome, has_outcome, leads_in_circe_and_back};
 
-// The rules, the position, a move, and what comes of it.
+// The rules, the position, a move, and its outcome.
 const OUTCOMES: [(Rule, &str, &str, Outcome); 12] = [
     (
         Rule::Orthodox,
@@ -29,7 +29,7 @@ const OUTCOMES: [(Rule, &str, &str, Outcome); 12] = [
         "h1f1",
         Outcome::Legal,
     ),
-    // En passant is possible where the square was just crossed.
+    // En passant is possible only right after the double step.
     (
         Rule::Orthodox,
         "7k/8/6K1/3pP3/8/1B6/8/B7",
@@ -42,7 +42,7 @@ const OUTCOMES: [(Rule, &str, &str, Outcome); 12] = [
         "e5d6",
         Outcome::Mate,
     ),
-    // A pawn becomes a nightrider where one stands.
+    // A pawn may promote to a nightrider if one is on the board.
     (
         Rule::Orthodox,
         "n7/4P3/8/8/8/7p/5K1k/7b",
@@ -55,10 +55,11 @@ const OUTCOMES: [(Rule, &str, &str, Outcome); 12] = [
         "e7e8N",
         Outcome::Illegal,
     ),
-    // Captured on a8, a light square, the bishop comes back on c8 and stands between; the rook's home is a8 itself.
+    // Captured on a8, a light square, the bishop is reborn on c8 and blocks the line; the rook's home
+    // square is a8 itself.
     (Rule::Circe, "b5k1/8/6K1/8/8/8/8/R7", "a1a8", Outcome::Legal),
     (Rule::Circe, "r5k1/8/6K1/8/8/8/8/R7", "a1a8", Outcome::Mate),
-    // Like rooks paralyse each other.
+    // Enemy rooks that attack each other are paralysed.
     (
         Rule::Madrasi,
         "6k1/8/6K1/8/8/8/8/R6r",
@@ -73,15 +74,15 @@ const OUTCOMES: [(Rule, &str, &str, Outcome); 12] = [
     ),
 ];
 
-// A position, a move, and the position to which it leads in Circe, and from which taking it back leads to the first.
+// A position, a move, and the position to which it leads in Circe; taking it back restores the first.
 const REBIRTHS: [(&str, &str, &str); 2] = [
-    // The pawn captured en passant on d5 comes back on d7.
+    // The pawn captured en passant on d5 is reborn on d7.
     (
         "7k/8/6K1/3pP3/8/1B6/8/B7 d6",
         "e5d6",
         "7k/3p4/3P2K1/8/8/1B6/8/B7 b",
     ),
-    // The rook captured on b3 comes back on h1, unmoved.
+    // The rook captured on b3 is reborn on h1, with castling rights.
     (
         "1r2k3/8/8/8/8/1R6/8/4K3 e1 e8 b",
         "b8b3",

@@ -1,4 +1,4 @@
-//! Whole boards of positions, each family beside the plain rules.
+//! Families of positions, compared with the plain rules.
 use crate::family::Family;
 use crate::motif::Motif;
 use crate::plain::Rule;
@@ -6,7 +6,8 @@ use crate::survey::surveyed;
 use chess_core::Kind;
 use std::process::Abort;
 
-// A name, the rules, the family, how many of its positions are compared, the motifs, and how many moves at least show each.
+// A name, the rules, the family, the number of its positions compared, the motifs, and the least number of
+// moves that must show each.
 type Row<'a> = (&'a str, &'a [Rule], Family, u64, &'a [Motif], u32);
 
 const EACH: [Rule; 3] = [Rule::Orthodox, Rule::Circe, Rule::Madrasi];
@@ -65,7 +66,7 @@ const LINES: [Row<'static>; 3] = [
     ),
 ];
 
-// Captures en passant and promotions.
+// En passant captures and promotions.
 const PAWNS: [Row<'static>; 2] = [
     (
         "en passant",
@@ -186,7 +187,7 @@ const KINGS: [Row<'static>; 7] = [
     ),
 ];
 
-// What Circe and Madrasi alone bring.
+// Motifs of Circe and Madrasi only.
 const CONDITIONS: [Row<'static>; 7] = [
     (
         "rebirths",
@@ -297,7 +298,7 @@ fn agree(rt: &impl Abort, rows: &[Row]) {
                 let question = unlike.question;
                 assert!(rt;
                     false,
-                    "{name}: {question:?} {half_moves} half-moves behind number {number}"
+                    "{name}: {question:?} {half_moves} half-moves after number {number}"
                 );
             }
             for (motif, shown) in survey.shown.iter().enumerate() {

@@ -1,4 +1,4 @@
--- What the calls of a search leave of what they were handed.
+-- What the calls of a search leave unchanged, and what they return (own).
 use Rattle.chess_core.specs.Position.{Position}
 use Rattle.chess_core.specs.declared.man.Move.{Move}
 use Rattle.chess_rules.specs.Legal.{is_legal, moves as legal_moves}
@@ -14,8 +14,8 @@ use Rattle.pop_battle.specs.ties.Frames.{Frame}
 use Rattle.pop_battle.specs.ties.Values.{value}
 use Rattle.std.specs.Prelude.{◌≡◌, ◌+◌, ◌≤◌, ℕ, Bool, true, List, [], ◌∷◌, Option, Some, IfSome, MatchOption}
 
--- the first of some moves of p was looked for, which are `untried` before the call and `left` behind the move found: the
--- board stands on p as before, and what is known is still of its moves
+-- the call returned the first of the moves `untried` of p, if any, and `left` are the moves after it; the
+-- board is p as before, and what is known belongs to p
 pub record Finds (rule : RuleSet) (p board : Position) (known : Option LegalPlace)
     (found : Option Move) (untried left : List Move) : Type 0 where
   pub unchanged : board ≡ p
@@ -23,20 +23,20 @@ pub record Finds (rule : RuleSet) (p board : Position) (known : Option LegalPlac
   pub next : MatchOption found (untried ≡ [])
       (λ m. (untried ≡ m ∷ left) × (is_legal rule p m ≡ true))
 
--- the place stands on a legal move that mates
+-- the place is that of a legal move that mates
 pub record IsOnMate (rule : RuleSet) (p : Position) (place : ℕ) : Type 0 where
   pub by : Move
   pub here : place ≡ place_of (Some by)
   pub mates : mates rule p by ≡ true
 
--- board and frames are as they were, and the count of opened frames hasn't fallen
+-- board and frames are unchanged, and the count of tried positions hasn't fallen
 pub record Restores (p now : Position) (old new : List Frame) (before after : ℕ) : Type 0 where
   pub board : now ≡ p
   pub frames : new ≡ old
   pub grows : HasCounted before after 0
 
--- v is the value of p with `left` half-moves left: board and frames are as they were, no more frames were opened than the
--- moves allow, and no fewer than a smallest tree has positions
+-- v is the value of p with `left` half-moves left; board and frames are unchanged; the count grew by at
+-- most the walk count, and by at least the positions of a smallest tree
 pub record Evaluates (rule : RuleSet) (aim : Aim) (left : ℕ) (p now : Position)
     (old new : List Frame) (before after : ℕ) (v : Bool) : Type 0 where
   pub value : v ≡ value aim.battle (chess aim.goal rule) left p

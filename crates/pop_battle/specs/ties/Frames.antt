@@ -1,4 +1,4 @@
--- What the frames of a search stand for.
+-- What the frames of a search mean (own).
 use Rattle.chess_rules.specs.Play.{position_after}
 use Rattle.chess_rules.specs.Legal.{moves as legal_moves}
 use Rattle.pop_battle.specs.declared.aim.Aim.{Aim}
@@ -23,8 +23,8 @@ use Rattle.pop_battle.specs.declared.frame.Stretch.TheVariants.{Killer, Earlier,
 use Rattle.pop_battle.specs.declared.frame.Early.{Early}
 use Rattle.pop_battle.specs.declared.frame.Early.TheVariants.{AimedMoves, NoMoves}
 
--- how a test orders the moves of a position: the places on two killers, which may be any, and which moves come first
--- behind them
+-- how a test orders the moves of a position: two killers, each any number of a triple, and which moves come
+-- right after them
 pub record Order : Type 0 where
   pub killer : ℕ
   pub earlier : ℕ
@@ -34,9 +34,9 @@ pub record Order : Type 0 where
 abbrev pub unordered : Order
 unordered = record { killer = 0; earlier = 0; early = NoMoves }
 
--- a frame: the place up to which the moves of its position have been tried, the move that led there and what it
--- destroyed, and the half-moves that are tried there; in a test the order of the moves and the stretch on which the
--- place stands; and what is known of the position's legal moves
+-- a frame: the cursor up to which the moves of its position have been tried, the move that led there and
+-- what takes it back, and the half-moves to try there; in a test the order of the moves and the stage of
+-- the cursor; and what is known of the position's legal moves
 pub record Frame : Type 0 where
   pub place : ℕ
   pub by : Move
@@ -46,7 +46,7 @@ pub record Frame : Type 0 where
   pub stretch : Stretch
   pub known : Option LegalPlace
 
--- the frame of no position
+-- a frame of no position
 abbrev pub no_frame : Frame
 no_frame = record {
   place = 0;
@@ -58,21 +58,21 @@ no_frame = record {
   known = None;
 }
 
--- the frame with its place moved on
+-- the frame with its cursor moved
 abbrev pub moved : Frame → ℕ → Frame
 moved f place = record f { place = place }
 
--- the frame once something is known of its position's moves
+-- the frame with what is now known of its position's moves
 abbrev pub learned : Frame → Option LegalPlace → Frame
 learned f known = record f { known = known }
 
--- Frames are listed from the top down. The position on the top frame, the lowest being at p
+-- the position of the top frame, if the lowest is at p; frames are listed from the top down
 unfoldable pub position : RuleSet → Position → List Frame → Position
 position rule p [] = p
 position rule p (f ∷ []) = p
 position rule p (f ∷ (g ∷ below)) = position_after rule (position rule p (g ∷ below)) f.by
 
--- each frame but the lowest is reached by a legal move of the one below, and holds what undoes it
+-- each frame but the lowest is reached by a legal move from the one below, and holds what takes it back
 unfoldable pub IsLinked : RuleSet → Position → List Frame → Type 0
 IsLinked rule p [] = Unit {0}
 IsLinked rule p (f ∷ []) = Unit {0}
@@ -82,16 +82,16 @@ IsLinked rule p (f ∷ (g ∷ below)) =
     × (f.undo ≡ undo_of rule (position rule p (g ∷ below)) f.by)
     × IsLinked rule p (g ∷ below)
 
--- the move comes before others that are no killers either
+-- the move, no killer, comes before other moves
 abbrev pub comes_early : Early → Position → Move → Bool
 comes_early AimedMoves p m = aims_at_king p m
 comes_early NoMoves p m = false
 
--- the move stands at this place
+-- the move's place is this one
 abbrev pub is_at : ℕ → Move → Bool
 is_at place m = place_of (Some m) == place
 
--- the move belongs to the stretch, and so to none before it
+-- the move belongs to this stage, and so to no earlier one
 unfoldable pub belongs : Position → Order → Stretch → Move → Bool
 belongs p order Killer m = is_at order.killer m
 belongs p order Earlier m = not (is_at order.killer m) && is_at order.earlier m
@@ -100,18 +100,18 @@ belongs p order Aimed m =
 belongs p order Others m =
     not (is_at order.killer m) && (not (is_at order.earlier m) && not (comes_early order.early p m))
 
--- the legal moves of a stretch
+-- the legal moves of a stage
 abbrev pub all_moves_of : RuleSet → Position → Order → Stretch → List Move
 all_moves_of rule p order s = filter (belongs p order s) (legal_moves rule p)
 
--- those behind a place of the stretch
+-- the legal moves of a stage after a place in it
 unfoldable pub moves_here : RuleSet → Position → Order → Stretch → ℕ → List Move
 moves_here rule p order Killer place = moves_between rule p place order.killer
 moves_here rule p order Earlier place = moves_between rule p place order.earlier
 moves_here rule p order Aimed place = filter (belongs p order Aimed) (moves_behind rule p place)
 moves_here rule p order Others place = filter (belongs p order Others) (moves_behind rule p place)
 
--- those of the stretches behind it
+-- the legal moves of the stages after this one
 unfoldable pub moves_later : RuleSet → Position → Order → Stretch → List Move
 moves_later rule p order Killer = all_moves_of rule p order Earlier
     ++ (all_moves_of rule p order Aimed ++ all_moves_of rule p order Others)
@@ -124,12 +124,13 @@ moves_later rule p order Others = []
 abbrev pub moves_ahead : RuleSet → Position → Order → Stretch → ℕ → List Move
 moves_ahead rule p order s place = moves_here rule p order s place ++ moves_later rule p order s
 
--- the same where nothing may be known of the moves yet: of those ahead the killer alone has been looked at then
+-- the moves that a test has still to try, if perhaps only the killer has been tested and nothing is known
+-- of the moves
 abbrev pub moves_unlooked : RuleSet → Position → Order → Stretch → Option LegalPlace → List Move
 moves_unlooked rule p order s None = moves_later rule p order Killer
 moves_unlooked rule p order s (Some known) = moves_ahead rule p order s known.place
 
--- how many stretches lie behind one
+-- the number of stages after this one
 abbrev pub stretches_behind : Stretch → ℕ
 stretches_behind Killer = 3
 stretches_behind Earlier = 2
@@ -140,7 +141,7 @@ stretches_behind Others = 0
 abbrev pub untried_moves : RuleSet → Position → Frame → List Move
 untried_moves rule p f = moves_ahead rule p f.order f.stretch f.place
 
--- what the value of the lowest position will be, once that of the top position is known
+-- the value of the lowest position, once v is known for the top position
 unfoldable pub delivered_value : RuleSet → Aim → Position → List Frame → Bool → Bool
 delivered_value rule aim p [] v = v
 delivered_value rule aim p (f ∷ below) v =
@@ -148,7 +149,8 @@ delivered_value rule aim p (f ∷ below) v =
     (joined_value aim.battle (chess aim.goal rule) f.left (position rule p (f ∷ below))
     (untried_moves rule (position rule p (f ∷ below)) f)))
 
--- the same before the next move of the top frame is tried: the answer for its last move may be known
+-- the value of the lowest position before the next move of the top frame is tried; the value after its last
+-- move may be known
 unfoldable pub pending_value : RuleSet → Aim → Position → List Frame → Option Bool → Bool
 pending_value rule aim p [] answer = false
 pending_value rule aim p (f ∷ below) (Some v) = delivered_value rule aim p (f ∷ below) v
@@ -163,51 +165,51 @@ work_from rule zero p = 1
 work_from rule (suc h) p =
     1 + sum_by (λ m. 1 + work_from rule h (position_after rule p m)) (legal_moves rule p)
 
--- the same of the moves behind a place
+-- the most turns for the moves after a place
 unfoldable pub work_behind : RuleSet → ℕ → Position → ℕ → ℕ
 work_behind rule zero p place = 0
 work_behind rule (suc h) p place =
     sum_by (λ m. 1 + work_from rule h (position_after rule p m)) (moves_behind rule p place)
 
--- the same of some moves
+-- the most turns for these moves
 unfoldable pub work_among : RuleSet → ℕ → Position → List Move → ℕ
 work_among rule zero p ms = 0
 work_among rule (suc h) p ms = sum_by (λ m. 1 + work_from rule h (position_after rule p m)) ms
 
--- the turns that are left to all frames of a test
+-- the most turns left for all frames of a test
 unfoldable pub test_work : RuleSet → Position → List Frame → ℕ
 test_work rule p [] = 0
 test_work rule p (f ∷ below) =
     1 + work_among rule f.left (position rule p (f ∷ below))
     (untried_moves rule (position rule p (f ∷ below)) f) + test_work rule p below
 
--- the most frames that the moves behind a place can still open
+-- the most frames that the moves after a place can still open
 unfoldable pub walk_behind : RuleSet → ℕ → Position → ℕ → ℕ
 walk_behind rule zero p place = 0
 walk_behind rule (suc h) p place =
     sum_by (λ m. walk_count (legal_moves rule) (position_after rule) h (position_after rule p m))
     (moves_behind rule p place)
 
--- the same of all frames of a walk
+-- the most frames that all frames of a walk can still open
 unfoldable pub to_open : RuleSet → Position → List Frame → ℕ
 to_open rule p [] = 0
 to_open rule p (f ∷ below) =
     walk_behind rule f.left (position rule p (f ∷ below)) f.place + to_open rule p below
 
--- the same of some moves
+-- the most frames that these moves can still open
 unfoldable pub walk_among : RuleSet → ℕ → Position → List Move → ℕ
 walk_among rule zero p ms = 0
 walk_among rule (suc h) p ms = sum_by (λ m. walk_count (legal_moves rule) (position_after rule) h
     (position_after rule p m)) ms
 
--- the same of all frames of a test
+-- the most frames that all frames of a test can still open
 unfoldable pub to_test : RuleSet → Position → List Frame → ℕ
 to_test rule p [] = 0
 to_test rule p (f ∷ below) =
     walk_among rule f.left (position rule p (f ∷ below))
     (untried_moves rule (position rule p (f ∷ below)) f) + to_test rule p below
 
--- the fewest positions that a test has still to try, once v is the value of the position after the top frame's last move
+-- the fewest positions that a test has still to try, once v is the value after the top frame's last move
 unfoldable pub to_try_with : RuleSet → Aim → Position → List Frame → Bool → ℕ
 to_try_with rule aim p [] v = 0
 to_try_with rule aim p (f ∷ below) v =
@@ -218,7 +220,7 @@ to_try_with rule aim p (f ∷ below) v =
     (joined_value aim.battle (chess aim.goal rule) f.left (position rule p (f ∷ below))
     (untried_moves rule (position rule p (f ∷ below)) f)))
 
--- the same before the next move of the top frame is tried
+-- the fewest positions that a test has still to try, before the next move of the top frame is tried
 unfoldable pub to_try : RuleSet → Aim → Position → List Frame → Option Bool → ℕ
 to_try rule aim p [] answer = 0
 to_try rule aim p (f ∷ below) (Some v) = to_try_with rule aim p (f ∷ below) v
@@ -229,19 +231,19 @@ to_try rule aim p (f ∷ below) None =
     (joined_value aim.battle (chess aim.goal rule) f.left (position rule p (f ∷ below))
     (untried_moves rule (position rule p (f ∷ below)) f))
 
--- from the top down each frame has a half-move to make, and one less than the frame below it
+-- each frame has at least one half-move to make, and one less than the frame below it
 unfoldable pub IsDescending : List Frame → Type 0
 IsDescending [] = Unit {0}
 IsDescending (f ∷ []) = 0 < f.left
 IsDescending (f ∷ (g ∷ below)) = (0 < f.left) × (f.left + 1 ≡ g.left) × IsDescending (g ∷ below)
 
--- what each frame knows is of its own position
+-- what each frame knows belongs to its own position
 unfoldable pub AreKnown : RuleSet → Position → List Frame → Type 0
 AreKnown rule p [] = Unit {0}
 AreKnown rule p (f ∷ below) = IfSome f.known (IsPlaceIn rule (position rule p (f ∷ below)))
     × AreKnown rule p below
 
--- the board stands on the top frame of a test
+-- the board has the position of the top frame of a test
 pub record IsTesting (rule : RuleSet) (p : Position) (frames : List Frame) (board : Position) : Type
     0 where
   pub linked : IsLinked rule p frames
@@ -250,18 +252,18 @@ pub record IsTesting (rule : RuleSet) (p : Position) (frames : List Frame) (boar
   pub sound : IsWellFormed board
   pub board_at : board ≡ position rule p frames
 
--- the move led from the position p to the board, and its undo leads back
+-- the move led from position p to the board, and `undo` takes it back
 pub record CameBy (rule : RuleSet) (by : Move) (undo : Undo) (board p : Position) : Type 0 where
   pub sound : IsWellFormed p
   pub legal : is_legal rule p by ≡ true
   pub led : board ≡ position_after rule p by
   pub undone : undo ≡ undo_of rule p by
 
--- the same of the move of a frame
+-- the frame's move led from position p to the board
 abbrev pub CameFromAt : RuleSet → Frame → Position → Position → Type 0
 CameFromAt rule f board p = CameBy rule f.by f.undo board p
 
--- it led there from some position
+-- the frame's move led from some position to the board
 abbrev pub CameFrom : RuleSet → Frame → Position → Type 0
 CameFrom rule f board = (p : Position) × CameFromAt rule f board p
 
@@ -269,7 +271,7 @@ CameFrom rule f board = (p : Position) × CameFromAt rule f board p
 unfoldable pub tests : ℕ → List Frame → List Frame
 tests floor frames = reverse (drop floor frames)
 
--- what one turn of a test leaves: another state with the same value to come, or the value
+-- what one turn of a test leaves: another state that will have the same value
 pub record Turns (rule : RuleSet) (aim : Aim) (floor : ℕ) (p : Position) (old new : List Frame)
     (was is : Option Bool) (board : Position) (before after : ℕ) : Type 0 where
   pub testing : IsTesting rule p (tests floor new) board
@@ -282,8 +284,8 @@ pub record Turns (rule : RuleSet) (aim : Aim) (floor : ℕ) (p : Position) (old 
   pub tried : min (before + to_try rule aim p (tests floor old) was) (2 ^ 64 - 1)
       ≤ after + to_try rule aim p (tests floor new) is
 
--- the value, the board and the frames as they were before the test, and no more frames opened than its moves allow, and
--- no fewer than a smallest tree has positions
+-- what the last turn of a test leaves: its value, with board and frames as before the test; the count grew
+-- by at most what its moves allow, and by at least the positions of a smallest tree
 pub record Ends (rule : RuleSet) (aim : Aim) (floor : ℕ) (p : Position) (old new : List Frame)
     (was : Option Bool) (board : Position) (before after : ℕ) (v : Bool) : Type 0 where
   pub value : pending_value rule aim p (tests floor old) was ≡ v
@@ -304,7 +306,7 @@ opened_frame by undo left = record {
   known = None;
 }
 
--- the same in a test, where the killer is tried first
+-- the frame of a position that a move of a test has reached: its killer is tried first
 abbrev pub tested_frame : Order → Move → Undo → ℕ → Option LegalPlace → Frame
 tested_frame order by undo left known = record {
   place = order.killer - 1;
@@ -316,7 +318,7 @@ tested_frame order by undo left known = record {
   known = known;
 }
 
--- to some frames one of a test is added, which knows at most its own position
+-- one frame of a test was added, which knows at most its own position
 pub record IsOpenedOn (rule : RuleSet) (p : Position) (old new : List Frame) (by : Move)
     (undo : Undo) (left : ℕ) : Type 0 where
   pub order : Order

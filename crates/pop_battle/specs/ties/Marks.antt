@@ -1,4 +1,4 @@
--- Goals as the code tells them apart.
+-- The goals, as the code distinguishes them (own).
 use Rattle.std.specs.Prelude.{Bool, false, true}
 use Rattle.pop_input.specs.declared.stipulation.Goal.{Goal}
 use Rattle.pop_input.specs.declared.stipulation.Goal.TheVariants.{Mate, Stalemate}

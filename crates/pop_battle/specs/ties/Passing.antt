@@ -1,4 +1,4 @@
--- Moves that are passed over, since a sieve leaves them out.
+-- Moves that the search passes over, since a filter takes them (own).
 use Rattle.std.specs.Prelude.{◌≡◌, ℕ, ◌+◌, ◌-◌, ◌^◌, min, Bool, true, List, [], ◌∷◌, ◌++◌, length, filter, Option, MatchOption}
 use Rattle.chess_core.specs.Position.{Position}
 use Rattle.chess_core.specs.declared.man.Move.{Move}
@@ -7,7 +7,7 @@ use Rattle.chess_mates.specs.ties.Mates.{allows_mate}
 use Rattle.chess_rules.specs.Legal.{is_legal}
 use Rattle.chess_rules.specs.RuleSet.{RuleSet}
 
--- from a place to the moves `rest` behind a later one the moves `over` are passed over, of which `what` holds
+-- the moves after `place` are `over`, of which `what` holds, and then `rest`, the moves after a later place
 pub record Passes (rule : RuleSet) (p : Position) (place : ℕ) (rest : List Move)
     (what : List Move → Type 0) : Type 0 where
   pub mid : ℕ
@@ -16,16 +16,16 @@ pub record Passes (rule : RuleSet) (p : Position) (place : ℕ) (rest : List Mov
   pub here : moves_behind rule p mid ≡ rest
   pub fits : what over
 
--- none of these moves passes the test, and from `before` to `after` each has counted as one opened frame
+-- none of these moves passes the test, and each has counted as one tried position
 pub record AreTaken (test : Move → Bool) (before after : ℕ) (over : List Move) : Type 0 where
   pub none : filter test over ≡ []
   pub counts : after ≡ min (before + length over) (2 ^ 64 - 1)
 
--- so where no reply to any of them mates
+-- no reply to any of these moves mates, and each has counted as one tried position
 abbrev pub AreSettled : RuleSet → Position → (before after : ℕ) → List Move → Type 0
 AreSettled rule p = AreTaken (allows_mate rule p)
 
--- an answer, of the next move behind a place that a sieve for the test leaves
+-- `found` is the next move after `place` that a filter for the test leaves
 abbrev pub IsNextLeft : RuleSet → Position → (Move → Bool) → (place next before after : ℕ)
     → Option Move → Type 0
 IsNextLeft rule p test place next before after found =
@@ -33,7 +33,7 @@ IsNextLeft rule p test place next before after found =
     (λ m. Passes rule p place (m ∷ moves_behind rule p next) (AreTaken test before after)
     × (is_legal rule p m ≡ true))
 
--- and of the next one that isn't settled
+-- `found` is the next move after `place` to which a reply may mate
 abbrev pub IsNextUnsettled : RuleSet → Position → (place next before after : ℕ) → Option Move → Type
     0
 IsNextUnsettled rule p = IsNextLeft rule p (allows_mate rule p)

@@ -1,11 +1,11 @@
--- Battle play by half-moves: one value for both sides and both battles.
+-- Battle play by half-moves: one value for both sides and both battles (own).
 use Rattle.pop_battle.specs.declared.aim.Battle.{Battle}
 use Rattle.pop_battle.specs.declared.aim.Battle.TheVariants.{Direct, Selfmate}
 use Rattle.std.specs.Prelude.{ℕ, zero, suc, ◌%◌, ◌==◌, Bool, false, not, ◌&&◌, ◌||◌, if◌then◌else◌, List}
 use Rattle.std.specs.List.{list_any, list_all}
 use Rattle.pop_battle.specs.Game.{Game, can_move, some_move, every_move}
 
--- with t half-moves left: whether the side to move is White, who needs one good move
+-- with t half-moves left White is to move, who needs one good move
 abbrev pub seeks : Battle → ℕ → Bool
 seeks Direct t = t % 2 == 1
 seeks Selfmate t = t % 2 == 0
@@ -14,12 +14,12 @@ seeks Selfmate t = t % 2 == 0
 abbrev pub join : Bool → Bool → Bool → Bool
 join seeking v rest = if seeking then v || rest else v && rest
 
--- a value that decides: a good one where one good move is enough, else a bad one
+-- the value decides: a good one if one good move is enough, otherwise a bad one
 abbrev pub decides : Bool → Bool → Bool
 decides seeking v = if seeking then v else not v
 
 module _ {P M : Type 0} where
-  -- whether White reaches his aim from p with t half-moves left
+  -- White reaches the aim from p with t half-moves left
   unfoldable pub value : Battle → Game P M → ℕ → P → Bool
   value battle game zero p = game.goal p
   value battle game (suc t) p =
@@ -27,7 +27,7 @@ module _ {P M : Type 0} where
       || (if seeks battle (suc t) then some_move game (value battle game t) p
       else (can_move game p && every_move game (value battle game t) p))
 
-  -- the value of some moves of p joined
+  -- the joined value of these moves of p
   unfoldable pub joined_value : Battle → Game P M → ℕ → P → List M → Bool
   joined_value battle game zero p moves = false
   joined_value battle game (suc t) p moves =

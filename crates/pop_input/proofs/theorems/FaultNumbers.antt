@@ -2,7 +2,7 @@
 use Rattle.pop_input.proofs.Words.{BadLimit, BadStipulation, BeginProblemMissing, ColourMissing, DeviceFailed, EnPassantImpossible, EndProblemMissing, FaultKind, KingMissing, NoMen, NoneCastlesThere, PawnOnOuterRank, SecondCondition, SecondKing, SecondStipulation, Some, SquareMissing, SquareTaken, StipulationMissing, WaitingSideInCheck, WordMisplaced, WordTooLong, kind_numbered, number_of, refl, ◌≡◌}
 use Rattle.pop_input.specs.declared.fault_kind.FaultKind.TheVariants.{InputTooLong}
 
--- The kind that has the number of a kind is this one: so a fault that is told by its number is told by its own text.
+-- The kind with the number of a kind is this kind: so a fault that is known by its number gets its own text.
 pub numbered_is : (kind : FaultKind) → kind_numbered (number_of kind) ≡ Some kind
 unfolding kind_numbered
 numbered_is BeginProblemMissing = refl

@@ -1,35 +1,35 @@
--- Lines of an input: their words are their own, up to the numbers of their lines.
+-- The words of lines of an input depend on these lines alone, apart from their line numbers.
 use Rattle.pop_input.proofs.Words.{Clean, Input, List, None, Words, [], ap, append-nil, append_assoc, arith, cond, count_by, drop_all, inl, inr, is_line_end, length, length-append, limit, no_words, put_before, refl, sym, words_by, words_from, words_of, ℕ, ◌++◌, ◌+◌, ◌-◌, ◌<◌, ◌∙◌, ◌∷◌, ◌≡◌, ◌≤◌, ◌⊎◌}
 use Rattle.std.proofs.lemmas.List.{take_all}
 use Rattle.pop_text.specs.Words.{End, tail_of}
 use Rattle.std.proofs.lemmas.List.Sums.{sum_by-append}
 use Rattle.pop_input.proofs.Pieces.{tokens_at, words_behind, words_from_behind}
 
--- Whole lines: none, or bytes that end with a line end.
+-- Whole lines: no byte, or bytes that end with a line end.
 abbrev pub AreWholeLines : List ℕ → Type 0
 AreWholeLines lines = (lines ≡ []) ⊎ ((front : List ℕ) × (lines ≡ front ++ 10 ∷ []))
 
--- A line is over before these bytes of an input, its last ones: they begin with a line end, or the input ends cleanly.
+-- A line is over before these last bytes of an input: they begin with a line end, or there are none and the input ends cleanly.
 abbrev pub IsLineOver : Input → List ℕ → Type 0
 IsLineOver input behind = ((rest : List ℕ) × (behind ≡ 10 ∷ rest)) ⊎ ((behind ≡ []) × (input.ending ≡ Clean))
 
--- The number of the line behind whole lines.
+-- The number of the line after whole lines.
 abbrev pub line_behind : List ℕ → ℕ
 line_behind lines = 1 + count_by is_line_end lines
 
--- What stands behind whole lines, as an input of its own.
+-- What comes after whole lines, as an input of its own.
 abbrev pub rest_of : Input → List ℕ → Input
 rest_of input rest = record { bytes = rest; ending = input.ending }
 
--- the words of whole lines are those of the lines without their last line end
+-- whole lines have the same words without their last line end
 last_end : (front : List ℕ) → tokens_at 1 (front ++ 10 ∷ []) ≡ tokens_at 1 front
 last_end front = ap (λ (w : Words). w.tokens) (words_behind 1 front [] End) ∙ append-nil (tokens_at 1 front)
 
 count_end : (front : List ℕ) → count_by is_line_end (front ++ 10 ∷ []) ≡ count_by is_line_end front + 1
 count_end front = sum_by-append (λ b. cond (is_line_end b) 1 0) front (10 ∷ [])
 
--- The words of an input of whole lines and more: those of the lines, and then those of what is behind, read from the next line on, with so many
--- bytes less of the limit.
+-- The words of an input of whole lines and a rest: the words of the lines, then the words of the rest, with line numbers that continue and a limit
+-- that is lower by the length of the lines.
 pub words_of_lines_and_rest : (input : Input) (lines rest : List ℕ) → input.bytes ≡ lines ++ rest → AreWholeLines lines → length lines ≤ limit
     → words_of input ≡ put_before (tokens_at 1 lines) (words_from None (limit - length lines) (line_behind lines) (rest_of input rest))
 words_of_lines_and_rest input lines rest is (inl none) few = grind arith
@@ -41,7 +41,7 @@ words_of_lines_and_rest input lines rest is (inr (front, whole)) few =
     ∙ rw (number, sym size) (ap (λ tokens. put_before tokens (words_from None (limit - length lines) (line_behind lines) (rest_of input rest)))
     (sym (ap (tokens_at 1) whole ∙ last_end front)))
 
--- the words of a line's own bytes, and some behind them
+-- the words of a line's own bytes, and words after them
 own_words : (room n : ℕ) (input : Input) (own behind : List ℕ) → input.bytes ≡ own ++ behind → IsLineOver input behind → length own < room
     → (words : Words) × (words_from None room n input ≡ put_before (tokens_at n own) words)
 own_words room n input own behind is (inl (rest, over)) few = (
@@ -52,8 +52,8 @@ own_words room n input own behind is (inl (rest, over)) few = (
 own_words room n input own behind is (inr (over, clean)) few =
     (no_words End (n + count_by is_line_end own), grind (arith, append-nil, take_all, drop_all))
 
--- The words of lines in an input: behind those of whole lines before them stand their own, read from the line in which they begin, and then those of
--- what is behind, if anything is.
+-- The words of an input of whole lines, a line and a rest: the words of the lines before, the line's own words with line numbers that continue, and
+-- then the words of the rest.
 pub words_of_lines_and_own : (input : Input) (lines own behind : List ℕ) → input.bytes ≡ lines ++ (own ++ behind) → AreWholeLines lines
     → IsLineOver input behind → length lines + length own < limit
     → (words : Words) × (words_of input ≡ put_before (tokens_at 1 lines) (put_before (tokens_at (line_behind lines) own) words))
@@ -64,7 +64,7 @@ words_of_lines_and_own input lines own behind is whole over few =
       words_of_lines_and_rest input lines (own ++ behind) is whole (omega (arith, few)) ∙ ap (put_before (tokens_at 1 lines)) own_ones.1,
     )
 
--- The words of bytes with which an input ends so, whichever whole lines stand before: they are those of the bytes alone.
+-- The words of the last bytes of an input, after any whole lines, are the words of these bytes alone.
 pub words_of_last : (room n : ℕ) (input : Input) → length input.bytes ≤ room
     → words_from None room n input ≡ words_by None n input.bytes (tail_of [] input.ending)
 words_of_last room n input few = grind (arith, take_all, drop_all)

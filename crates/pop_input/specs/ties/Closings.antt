@@ -1,4 +1,4 @@
--- The item of a block that ends (own).
+-- The block while it is read, and its item at its end (own).
 use Rattle.pop_input.specs.FaultKinds.{at_line, fault_at}
 use Rattle.pop_input.specs.declared.fault_kind.FaultKind.TheVariants.{InputTooLong, DeviceFailed}
 use Rattle.std.specs.Prelude.{◌≡◌, ℕ, Bool, true, false, Option, None, Some}
@@ -21,23 +21,23 @@ use Rattle.pop_input.specs.declared.names.TextWord.{TextWord}
 use Rattle.pop_input.specs.declared.names.TextWord.TheVariants.{Title, Author}
 use Rattle.std.specs.Prelude.{List, [], not}
 
--- what is said with one more word: the first one of the input says nothing
+-- the draft after one more word: the first word of the input says nothing
 abbrev pub said_after : Bool → Draft → List ℕ → Draft
 said_after true draft text = draft_after draft text
 said_after false draft text = draft
 
--- the text behind a text word, after one more text line
+-- the text of a wanted text word after one more text line
 abbrev pub text_with : TextWord → List ℕ → TextWord → List ℕ → List ℕ
 text_with Title old Title text = text
 text_with Author old Author text = text
 text_with _ old _ text = old
 
--- a text line before the first problem has no effect
+-- the text of a wanted text word after one more text line, which has no effect before the first problem
 abbrev pub noted_text : Bool → TextWord → List ℕ → TextWord → List ℕ → List ℕ
 noted_text true wanted old keyword text = text_with wanted old keyword text
 noted_text false wanted old keyword text = old
 
--- nothing of a block is read yet
+-- nothing of a block is read
 pub record IsNew (first : Bool) (block : Block) : Type 0 where
   pub fault : block.fault ≡ None
   pub begun : block.begun ≡ not first
@@ -45,7 +45,7 @@ pub record IsNew (first : Bool) (block : Block) : Type 0 where
   pub title : block.title ≡ []
   pub author : block.author ≡ []
 
--- a block read a word in this line: what it knows then, where that is no fault
+-- a block before and after reading a word in this line
 pub record ReadsWord (old new : Block) (line : ℕ) (text : List ℕ) : Type 0 where
   pub fault : new.fault ≡ or_else old.fault (at_line line (fault_of old.begun old.draft text))
   pub begun : new.fault ≡ None → new.begun ≡ true
@@ -53,7 +53,7 @@ pub record ReadsWord (old new : Block) (line : ℕ) (text : List ℕ) : Type 0 w
   pub title : new.title ≡ old.title
   pub author : new.author ≡ old.author
 
--- a block took a text line
+-- a block before and after taking a text line
 pub record TakesLine (old new : Block) (keyword : TextWord) (text : List ℕ) : Type 0 where
   pub fault : new.fault ≡ old.fault
   pub begun : new.begun ≡ old.begun
@@ -61,21 +61,21 @@ pub record TakesLine (old new : Block) (keyword : TextWord) (text : List ℕ) : 
   pub title : new.title ≡ noted_text old.begun Title old.title keyword text
   pub author : new.author ≡ noted_text old.begun Author old.author keyword text
 
--- the item of an entry, the last or not
+-- the item of an entry, the last one or not
 abbrev pub item_of : Entry → Last → Item
 item_of (SoundEntry problem) last = Sound problem last
 item_of (FaultyEntry fault) last = Faulty fault last
 
--- the entry of a block that a word in this line closes
+-- the entry of a block if a word in this line closes it
 abbrev pub entry_now : Block → ℕ → Entry
 entry_now block line = judged_entry block.fault block.draft block.title block.author line
 
--- the fault of a block, if it has one, before that of its end
+-- the fault of a block, if any, else the other fault
 abbrev pub ended_by : Option Fault → Fault → Fault
 ended_by (Some fault) other = fault
 ended_by None other = other
 
--- and of one in which the input ends
+-- the item of a block in which the input ends
 abbrev pub ended_item : Block → ℕ → Item
 ended_item block line = Faulty (ended_by block.fault (fault_at (tail_fault block.begun End) line))
     Yes
@@ -86,12 +86,13 @@ cut_fault (TooLong line) = fault_at InputTooLong line
 cut_fault (PastLimit line) = fault_at InputTooLong line
 cut_fault (Device line) = fault_at DeviceFailed line
 
--- what is told of an input that is cut in a block with this fault or none: behind a fault the cut is an item of its own
+-- the fault to report if the input is cut in a block with this fault or none, and whether it is the last: after a fault
+-- the cut is an item of its own
 abbrev pub told_of_cut : Option Fault → ReadFault → Fault × Last
 told_of_cut (Some fault) cut = (fault, No)
 told_of_cut None cut = (cut_fault cut, Yes)
 
--- whether the item that the word closes is the last; none if it closes none
+-- whether the item that a command closes is the last, if it closes one
 abbrev pub last_of : Option Command → Option Last
 last_of (Some NextProblem) = Some No
 last_of (Some EndProblem) = Some Yes

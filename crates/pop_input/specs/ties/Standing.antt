@@ -1,4 +1,4 @@
--- Where a reader stands among the items, and what it reads of them (own).
+-- The state of a reader, and which items a call reads (own).
 use Rattle.std.specs.Prelude.{◌≡◌, ◌≤◌, ℕ, List, [], ◌∷◌, ◌++◌, Option, None, Bool, true, false, ◌+◌, ◌-◌, length}
 use Rattle.pop_text.specs.Bytes.{Consumes}
 use Rattle.pop_text.specs.Words.{Input, limit}
@@ -13,26 +13,27 @@ use Rattle.pop_text.specs.declared.scanner.End.TheVariants.{Broken}
 use Rattle.pop_input.specs.declared.reader.Next.{Next}
 use Rattle.pop_input.specs.declared.reader.Next.TheVariants.{First, Later, Nothing}
 
--- which block is next, and the place in the input
+-- the state of a reader: which block is next, and the state of its scanner
 pub record Standing : Type 0 where
   pub next : Next
   pub at : Reading
 
--- before all items
+-- the state before the first item
 abbrev pub first_standing : Standing
 first_standing = record { next = First; at = first_reading }
 
--- the items of what is left of an input, where this block is next
+-- the entries of the rest of an input, if this block is next
 abbrev pub entries_at : Next → Reading → Input → List Entry
 entries_at First place rest = entries_of true (words_left None place rest)
 entries_at Later place rest = entries_of false (words_left None place rest)
 entries_at Nothing place rest = []
 
--- the items still to come, where the source goes on so
+-- the entries still to come, if the source continues with this rest
 abbrev pub entries_left : Standing → Input → List Entry
 entries_left standing rest = entries_at standing.next standing.at rest
 
--- From old to new these items were read: some bytes were taken from the source, and however it goes on, they begin the items still to come.
+-- A call that reads these entries: it takes some bytes from the source, and however the source continues, these entries
+-- are the first of those still to come.
 pub record Reads (old new : Standing) (had left : Option (List ℕ)) (entries : List Entry) : Type
     0 where
   pub bytes : List ℕ
@@ -44,12 +45,12 @@ pub record Reads (old new : Standing) (had left : Option (List ℕ)) (entries : 
   pub amount : length bytes + (old.at.used + length old.at.window)
       ≡ new.at.used + length new.at.window
 
--- which block is next behind an item
+-- which block is next after an item
 abbrev pub next_behind : Last → Next
 next_behind Yes = Nothing
 next_behind No = Later
 
--- what next_problem does
+-- what `next_problem` does
 abbrev pub NextItem : Standing → Standing → Option (List ℕ) → Option (List ℕ) → Item → Type 0
 NextItem old new had left (Sound problem last) = Reads old new had left (SoundEntry problem ∷ [])
     × (new.next ≡ next_behind last)
@@ -57,23 +58,23 @@ NextItem old new had left (Faulty fault last) = Reads old new had left (FaultyEn
     × (new.next ≡ next_behind last)
 NextItem old new had left End = (old.next ≡ Nothing) × (new ≡ old) × Reads old new had left []
 
--- how much may still be read: it falls with every item
+-- how much may still be read, if this block is next: a measure that falls with every item
 abbrev pub work_by : Next → ℕ → ℕ
 work_by Nothing used = 0
 work_by First used = limit - used + 1
 work_by Later used = limit - used + 1
 
--- how much may still be read at a place
+-- how much may still be read in this state
 abbrev pub work_left : Standing → ℕ
 work_left standing = work_by standing.next standing.at.used
 
--- the answer is an item, and not the end
+-- whether the result of a call is an item, and not the end
 abbrev pub is_item : Item → Bool
 is_item End = false
 is_item (Sound problem last) = true
 is_item (Faulty fault last) = true
 
--- The fault of an item has one of the 21 numbers, and number 21 where the source has failed.
+-- the fault of an item has a number from 1 to 21, and number 21 only if the source has failed
 abbrev pub IsNumbered : Reading → Item → Type 0
 IsNumbered place (Sound problem last) = Unit {0}
 IsNumbered place (Faulty fault last) = (1 ≤ fault.number) × (fault.number ≤ 21)

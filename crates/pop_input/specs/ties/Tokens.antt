@@ -1,4 +1,4 @@
--- What next_token does (own).
+-- What `next_token` does (own).
 use Rattle.std.specs.Prelude.{◌≡◌, ◌<◌, ◌≤◌, ℕ, List, [], ◌∷◌, length, Option, Some, None, Ok, Err}
 use Rattle.pop_text.specs.Words.{Token, Word, TextLine, Tail, End as AtEnd, Long, Broken as Failing, text_of_line}
 use Rattle.pop_text.specs.ties.Reading.{Reading, Uses}
@@ -12,29 +12,29 @@ use Rattle.pop_text.specs.declared.word.Word.{Word as Room}
 use Rattle.pop_input.specs.declared.token.ReadToken.{ReadToken}
 use Rattle.pop_input.specs.declared.token.ReadToken.TheVariants.{Word as AWord, TooLong, Line, Ended, Cut}
 
--- a part of the input was taken
+-- the call takes this token of the input
 abbrev pub TakesPart : Reading → Reading → Option (List ℕ) → Option (List ℕ) → Token → Type 0
 TakesPart old new had left part = Takes (among old) (among new) had left (part ∷ [])
     × GoesOn old new
 
--- none is left
+-- the call takes no token: none is left
 abbrev pub TakesNothing : Reading → Reading → Option (List ℕ) → Option (List ℕ) → Tail → ℕ → Type 0
 TakesNothing old new had left tail line = Takes (among old) (among new) had left []
     × IsOver new tail × (line ≡ new.line) × StaysWithin old new
 
--- the input is cut
+-- the call takes no token: the input is cut
 abbrev pub CutsOff : Reading → Reading → Option (List ℕ) → Option (List ℕ) → ReadFault → Type 0
 CutsOff old new had left (LongWord line) = ⊥
 CutsOff old new had left (InputTooLong line) = TakesNothing old new had left Long line
 CutsOff old new had left (Device line) = TakesNothing old new had left Failing line
     × (new.end ≡ Broken)
 
--- some bytes were used
+-- the call uses some bytes
 pub record UsesSome (old new : Reading) (had left : Option (List ℕ)) : Type 0 where
   pub bytes : List ℕ
   pub uses : Uses old new had left bytes
 
--- which bytes next_token uses: of a word those up to its end, and none behind it; where the input ends, or is cut, all up to there
+-- which bytes `next_token` uses: for a word exactly those up to its end; if the input ends or is cut, all up to there
 abbrev pub UsesToken : Reading → Reading → Option (List ℕ) → Option (List ℕ) → Room → ReadToken
     → Type 0
 UsesToken old new had left word AWord = UsesRun old new had left word.line word.bytes.items
@@ -44,7 +44,7 @@ UsesToken old new had left word (Line keyword) = UsesSome old new had left
 UsesToken old new had left word (Ended line) = UsesSome old new had left × Peeks new (Ok None)
 UsesToken old new had left word (Cut fault) = UsesSome old new had left × Peeks new (Err fault)
 
--- what next_token does, with the word and the text that it leaves
+-- what `next_token` does, with the word and the text that it stores
 abbrev pub NextToken : Reading → Reading → Option (List ℕ) → Option (List ℕ) → Room → List ℕ
     → ReadToken
     → Type 0

@@ -14,13 +14,13 @@ use Rattle.pop_input.specs.declared.item.Item.{Item}
 use Rattle.pop_input.specs.declared.item.Item.TheVariants.{Sound, Faulty, End}
 use Rattle.pop_input.specs.declared.item.Last.{Last}
 
--- Between old and new these bytes were used, and these words and text lines taken.
+-- Between old and new these bytes are used, and these tokens taken.
 pub record UsesTokens (old new : Reading) (had left : Option (List ℕ)) (bytes : List ℕ)
     (tokens : List Token) : Type 0 where
   pub uses : Uses old new had left bytes
   pub takes : Takes (among old) (among new) had left tokens
 
--- A word closes the item, the first one that closes any: exactly the bytes up to its end were used, and nothing behind it.
+-- A word closes the item, the first word that can: exactly the bytes up to its end are used.
 pub record IsClosed (old new : Standing) (had left : Option (List ℕ)) : Type 0 where
   pub front : List Token
   pub plain : list_all closes_none front ≡ true
@@ -34,11 +34,11 @@ pub record IsClosed (old new : Standing) (had left : Option (List ℕ)) : Type 0
   pub used : UsesTokens old.at new.at had left (before ++ word) (front ++ Word line word ∷ [])
   pub over : IsRunOver new.at
 
--- the input ends at the place, or is cut there
+-- the input ends here, or is cut here
 abbrev pub IsInputOver : Reading → Type 0
 IsInputOver place = Peeks place (Ok None) ⊎ ((fault : ReadFault) × Peeks place (Err fault))
 
--- No word closes the item: all bytes up to the end of the input were used, or up to where it is cut.
+-- No word closes the item: all bytes up to the end of the input are used, or up to where it is cut.
 pub record IsUnclosed (old new : Standing) (had left : Option (List ℕ)) : Type 0 where
   pub tokens : List Token
   pub plain : list_all closes_none tokens ≡ true
@@ -52,7 +52,7 @@ UsesEntry old new had left (SoundEntry posed) = IsClosed old new had left
 UsesEntry old new had left (FaultyEntry fault) = IsClosed old new had left
     ⊎ IsUnclosed old new had left
 
--- which bytes next_problem uses: none behind the last item
+-- which bytes `next_problem` uses: none after the last item
 abbrev pub UsesItem : Standing → Standing → Option (List ℕ) → Option (List ℕ) → Item → Type 0
 UsesItem old new had left (Sound problem last) = UsesEntry old new had left (SoundEntry problem)
 UsesItem old new had left (Faulty fault last) = UsesEntry old new had left (FaultyEntry fault)

@@ -1,4 +1,4 @@
-//! Values that options await.
+//! The values that options expect.
 ghost use Rattle.std.specs.Prelude.{◌≡◌, ◌≤◌, ◌<◌, length, None, Some, fold, if◌then◌else◌};
 ghost use Rattle.std.specs.List.{list_all};
 ghost use Rattle.chess_core.specs.Castling.{is_castling_square, with_unmoved};
@@ -16,7 +16,7 @@ use chess_core::man::Unmoved;
 use chess_core::square::Square;
 
 impl Draft {
-    /// The number of MaxSolutions.
+    /// Reads the number after MaxSolutions.
     pub(crate) fn take_limit(&mut self, word: &ShortWord<'_>) -> Option<FaultKind>
         ensures fault { result ≡ role_fault self.old Limit word.now }
         ensures draft { result ≡ None → self.new ≡ draft_by Limit self.old word.now }
@@ -31,7 +31,7 @@ impl Draft {
         }
     }
 
-    /// The square of EnPassant.
+    /// Reads the square after EnPassant.
     pub(crate) fn take_crossed(&mut self, word: &ShortWord<'_>) -> Option<FaultKind>
         ensures fault { result ≡ role_fault self.old CrossedSquare word.now }
         ensures draft { result ≡ None → self.new ≡ draft_by CrossedSquare self.old word.now }
@@ -46,7 +46,7 @@ impl Draft {
         }
     }
 
-    /// Squares of NoCastling.
+    /// Reads squares after NoCastling, as one word. More words with squares may follow.
     pub(crate) fn take_barred(&mut self, word: &ShortWord<'_>) -> Option<FaultKind>
         ensures fault { result ≡ role_fault self.old BarredSquares word.now }
         ensures draft { result ≡ None → self.new ≡ draft_by BarredSquares self.old word.now }
@@ -65,7 +65,7 @@ impl Draft {
     }
 }
 
-// The castling squares of the set and of the list, if all of the list are such.
+// Adds the squares to the set. Returns `None` if one of them isn't a castling square.
 fn barred_with(barred: Unmoved, squares: &[Square]) -> Option<Unmoved>
     ensures { result ≡ (if list_all is_castling_square squares.now
         then Some (fold with_unmoved barred squares.now) else None) }

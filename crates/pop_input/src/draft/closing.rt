@@ -1,4 +1,4 @@
-//! The tests at the end of a problem.
+//! The tests at the end of a problem (own).
 ghost use Rattle.std.specs.Prelude.{◌≡◌, ◌<◌, None, Some, MatchBool};
 ghost use Rattle.chess_core.specs.Castling.{mark_unmoved};
 ghost use Rattle.chess_core.specs.Diagrams.{position_of};
@@ -24,8 +24,10 @@ use chess_rules::rules::{Circe, Madrasi, Orthodox, in_check};
 use pop_text::text::Text;
 
 impl Draft {
-    /// The problem that the words pose, or the fault at their end, in this line. The tests in their order: a stipulation,
-    /// men, the crossed square, the king of the side to be mated, check to the side that isn't to move.
+    /// Returns the problem that the words pose, or the fault at its end, in this line.
+    ///
+    /// The first test that fails decides. In order: there is a stipulation; there are men; a pawn can have just passed
+    /// over the en passant square; the side to be mated has a king; the side that isn't to move isn't in check.
     #[tactic(auto, unfolding(crate::specs::Blocks::posed_entry))]
     pub(crate) fn posed_item(&self, title: &Text, author: &Text, line: u64, last: Last) -> Item
         ensures { result ≡ item_of (posed_entry self.now title.now author.now line) last }
@@ -50,7 +52,7 @@ impl Draft {
         }
     }
 
-    // The diagram, where the problem has this form.
+    // Returns the diagram for a problem of this form.
     fn diagram_for(&self, form: Form) -> Diagram
         ensures { result ≡ diagram_of self.now form }
     {
@@ -61,7 +63,7 @@ impl Draft {
         diagram
     }
 
-    // The fault of that diagram.
+    // Returns the fault of the diagram that `diagram_for` returned, if any.
     fn diagram_fault(&self, diagram: &Diagram, stipulation: Stipulation) -> Option<FaultKind>
         requires { diagram.now ≡ diagram_of self.now stipulation.form }
         ensures fault { result ≡ diagram_fault self.now stipulation diagram.now }
@@ -80,7 +82,7 @@ impl Draft {
         position_fault(has_king, in_check)
     }
 
-    // Whether that diagram is well formed: only the crossed square may be wrong in it.
+    // Returns whether the diagram that `diagram_for` returned is well formed. Only its en passant square can be wrong.
     fn is_well_formed(&self, diagram: &Diagram, form: Form) -> bool
         requires { diagram.now ≡ diagram_of self.now form }
         ensures { MatchBool result (IsWellFormed (position_of diagram.now))
@@ -92,7 +94,7 @@ impl Draft {
         }
     }
 
-    // The castling squares that count as unmoved.
+    // Returns the castling rights, as squares (Codex).
     #[tactic(auto, unfolding(crate::specs::Ends::unmoved_of))]
     fn unmoved(&self) -> Unmoved
         ensures { result ≡ unmoved_of self.now.men self.now.barred }
@@ -105,7 +107,7 @@ impl Draft {
         set
     }
 
-    // The set with the square if it counts as unmoved, else without it.
+    // Adds the square to the set if it has castling rights, else removes it, as the definition does.
     fn with_counted(&self, set: Unmoved, square: Square) -> Unmoved
         ensures { result ≡ mark_unmoved set square
             (counts_as_unmoved self.now.men self.now.barred square) }
@@ -118,8 +120,8 @@ impl Draft {
     }
 }
 
-// The fault of a position by whether the king that is to be mated stands in it, and whether the side that isn't to move
-// is in check.
+// Returns the fault of a position. `has_king` says whether the king to be mated is on the board, `in_check` whether the
+// side that isn't to move is in check.
 fn position_fault(has_king: bool, in_check: bool) -> Option<FaultKind>
     ensures { result ≡ position_fault has_king in_check }
 {
@@ -132,14 +134,14 @@ fn position_fault(has_king: bool, in_check: bool) -> Option<FaultKind>
     }
 }
 
-// Whether the king that is to be mated stands on the board; stalemate asks for none.
+// Returns whether the king to be mated is on the board. Stalemate needs no king.
 fn has_king_to_mate(stipulation: Stipulation, board: &Board) -> bool
     ensures { result ≡ has_king_to_mate stipulation board.now.men }
 {
     stipulation.goal.is_for_stalemate() || board.king_of(stipulation.form.goal_side()).is_some()
 }
 
-// Whether the colour is in check under the condition.
+// Returns whether the side is in check, by the rules of the condition.
 fn is_in_check(board: &Board, condition: Option<Condition>, colour: Colour) -> bool
     ensures { result ≡ in_check (rule_of condition) board.now.men colour }
 {

@@ -1,4 +1,4 @@
-//! Words of the section of the condition.
+//! The words of the section Condition.
 ghost use Rattle.std.specs.Prelude.{◌≡◌, ◌≤◌, ◌<◌, length, None, Some};
 ghost use Rattle.pop_input.specs.Drafts.{draft_by};
 ghost use Rattle.pop_input.specs.WordFaults.{role_fault};
@@ -11,7 +11,7 @@ use crate::names::condition_of;
 use crate::short_word::ShortWord;
 
 impl Draft {
-    /// A word of the section of the condition.
+    /// Reads a word of the section Condition, and returns its fault, if any.
     pub(crate) fn take_condition(&mut self, word: &ShortWord<'_>) -> Option<FaultKind>
         ensures fault { result ≡ role_fault self.old (Within (Some Conditions)) word.now }
         ensures draft { result ≡ None → self.new

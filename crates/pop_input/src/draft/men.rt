@@ -1,4 +1,4 @@
-//! Words of the section of men.
+//! The words of the section Pieces.
 ghost use Rattle.std.specs.Prelude.{◌≡◌, ◌≤◌, ◌<◌, [], length, None, Some, Ok, Err, unwrap_or};
 ghost use Rattle.std.specs.List.{list_any};
 ghost use Rattle.chess_core.specs.Position.{with_man};
@@ -18,7 +18,7 @@ use chess_core::man::{Kind, Man};
 use chess_core::square::Square;
 
 impl Draft {
-    /// A colour, or men on squares.
+    /// Reads a colour, or the letter of a kind and the squares of its men, and returns the word's fault, if any.
     pub(crate) fn take_pieces(&mut self, word: &ShortWord<'_>) -> Option<FaultKind>
         ensures fault { result ≡ role_fault self.old (Within (Some Pieces)) word.now }
         ensures draft { result ≡ None → self.new
@@ -36,7 +36,7 @@ impl Draft {
         }
     }
 
-    // A letter and squares.
+    // Reads a letter, and the text after it as squares.
     fn take_men(&mut self, letter: u8, text: &[u8]) -> Option<FaultKind>
         requires { length text.now ≤ 160 }
         ensures fault { result ≡ letter_fault self.old (kind_of letter) text.now }
@@ -52,7 +52,7 @@ impl Draft {
         }
     }
 
-    // Squares behind a letter.
+    // Reads the squares of men of this kind.
     fn take_kind(&mut self, kind: Kind, text: &[u8]) -> Option<FaultKind>
         requires { length text.now ≤ 160 }
         ensures fault { result ≡ letter_fault self.old (Some kind) text.now }
@@ -79,7 +79,7 @@ impl Draft {
         }
     }
 
-    // Puts the man on the squares in turn, up to a fault.
+    // Puts a man on each of the squares in turn, and stops at the first fault.
     fn put_men(&mut self, man: Man, squares: &[Square]) -> Option<FaultKind>
         ensures fault { result ≡ men_fault self.old.men man squares.now }
         ensures draft { result ≡ None → self.new
@@ -107,7 +107,7 @@ impl Draft {
         }
     }
 
-    // Why the man may not be put there.
+    // Returns why the man may not be put on the square, if so.
     fn man_fault(&self, man: Man, square: Square) -> Option<FaultKind>
         ensures { result ≡ man_fault self.now.men man square }
     {
@@ -123,7 +123,7 @@ impl Draft {
     }
 }
 
-// Two bytes or more, and no digit among them.
+// Returns whether the text has two bytes or more and no digit: then the word isn't a letter and squares at all.
 fn is_foreign(text: &[u8]) -> bool
     ensures { result ≡ is_foreign text.now }
 {

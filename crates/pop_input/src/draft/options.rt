@@ -1,4 +1,4 @@
-//! Words of the section of options.
+//! The words of the section Option.
 ghost use Rattle.std.specs.Prelude.{◌≡◌, ◌≤◌, ◌<◌, length, None, Some};
 ghost use Rattle.pop_input.specs.Drafts.{awaited_by, draft_by, switches_with};
 ghost use Rattle.pop_input.specs.WordFaults.{role_fault};
@@ -11,7 +11,7 @@ use crate::names::{OptionWord, option_of};
 use crate::short_word::ShortWord;
 
 impl Draft {
-    /// A word of the section of options.
+    /// Reads a word of the section Option, and returns its fault, if any.
     pub(crate) fn take_option(&mut self, word: &ShortWord<'_>) -> Option<FaultKind>
         ensures fault { result ≡ role_fault self.old (Within (Some Options)) word.now }
         ensures draft { result ≡ None → self.new
@@ -26,7 +26,7 @@ impl Draft {
         }
     }
 
-    // An option holds from now on, or awaits its value.
+    // Sets an option without a value, or notes which value the option expects.
     fn apply(&mut self, option: OptionWord)
         ensures { self.new ≡ record self.old {
           place = record { section = self.old.place.section; awaited = awaited_by (Some option) };

@@ -1,4 +1,4 @@
-//! Words of the section of the stipulation.
+//! The words of the section Stipulation.
 ghost use Rattle.std.specs.Prelude.{◌≡◌, ◌≤◌, ◌<◌, length, None, Some};
 ghost use Rattle.pop_input.specs.Drafts.{draft_by};
 ghost use Rattle.pop_input.specs.WordFaults.{role_fault};
@@ -11,7 +11,7 @@ use crate::short_word::ShortWord;
 use crate::values::stipulation_of;
 
 impl Draft {
-    /// A word of the section of the stipulation.
+    /// Reads a word of the section Stipulation, and returns its fault, if any.
     pub(crate) fn take_stipulation(&mut self, word: &ShortWord<'_>) -> Option<FaultKind>
         ensures fault { result ≡ role_fault self.old (Within (Some Stipulations)) word.now }
         ensures draft { result ≡ None → self.new

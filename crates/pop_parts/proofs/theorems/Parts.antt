@@ -1,4 +1,5 @@
--- The parts of a phase, by the moves with which its solutions begin: joined they are the phase, and no solution stands in two of them.
+-- The parts of a phase, by the first moves of its solutions: joined they are the phase, and no solution is
+-- in two of them.
 use Rattle.pop_parts.proofs.Words.{AllPairs, Contains, IsSound, List, Move, Phase, Posed, Precedes, RuleSet, StandsBefore, ap, arith, begins_so, count_by, false, flat_map, is_barred, length, length-take, min, never_before_itself, pairs_weaker, part_count, part_depth, part_solutions, parts, phase_count, phase_half_moves, phase_start, refl, solutions, start_sound, sum_by, sym, take, ℕ, ◌↔◌, ◌∙◌, ◌≡◌, ◌≢◌, ◌≤◌}
 use Rattle.std.proofs.lemmas.List.Concat.{length-flat_map}
 use Rattle.std.proofs.lemmas.List.Sums.{length-filter}
@@ -8,18 +9,19 @@ use Rattle.pop_solve.proofs.PhasePaths.{never_itself}
 use Rattle.pop_solve.proofs.theorems.HelpLines.{IsLegalLine, playable_is_legal}
 
 module _ (rule : RuleSet) (problem : Posed) (phase : Phase) (depth : ℕ) where
-  -- The parts of a phase stand in lexicographic order of the moves.
+  -- The parts of a phase come in lexicographic order of the moves.
   pub parts_in_order : AllPairs (StandsBefore Precedes) (parts rule problem phase depth)
   parts_in_order = parts-stand rule problem phase depth
 
-  -- No two of them are alike.
+  -- No two parts are equal.
   pub parts_differ : AllPairs (λ a b. a ≢ b) (parts rule problem phase depth)
   parts_differ = pairs_weaker (StandsBefore Precedes) (λ a b. a ≢ b) (parts rule problem phase depth)
       (never_before_itself Precedes never_itself) parts_in_order
 
--- A sound problem, one of its phases that isn't barred, and any number of moves to tell its parts apart.
+-- A sound problem, one of its possible phases, and any number of moves that distinguish its parts.
 module _ (rule : RuleSet) (problem : Posed) (phase : Phase) (depth : ℕ) (free : is_barred rule problem phase ≡ false) (sound : IsSound problem) where
-  -- The parts are the lists of so many moves, each legal where it is made; where the phase has no half-move there is none.
+  -- The parts are the lists of this many moves, each legal in its position; if the phase has no half-move
+  -- there is none.
   pub parts_are : (front : List Move)
       → Contains (parts rule problem phase depth) front
       ↔ ((1 ≤ phase_half_moves problem phase) × IsLegalLine rule (phase_start problem phase) front × (length front ≡ part_depth problem phase depth))
@@ -28,7 +30,7 @@ module _ (rule : RuleSet) (problem : Posed) (phase : Phase) (depth : ℕ) (free 
       let may = playable_is_legal problem.stipulation.goal rule (phase_start problem phase) front (start_sound problem sound phase) in
       (λ c. let w = are.0 c in (w.0, may.0 w.1, w.2), λ w. are.1 (w.0, may.1 w.1, w.2))
 
-  -- The solutions of the parts, one part after another, are those of the phase, in the same order.
+  -- The solutions of the parts, one part after another, are the solutions of the phase, in the same order.
   pub parts_joined : flat_map (part_solutions rule problem phase) (parts rule problem phase depth) ≡ solutions rule problem phase
   parts_joined = joined rule problem phase depth free sound
 
@@ -38,13 +40,15 @@ module _ (rule : RuleSet) (problem : Posed) (phase : Phase) (depth : ℕ) (free 
   in_one_part solution c = sym (length-filter (λ front. begins_so front solution) (parts rule problem phase depth))
       ∙ once rule problem phase depth free sound solution c
 
-  -- Where each part is searched up to a limit, the first of what they give, up to that limit, are the first solutions of the phase.
+  -- If each part is searched up to a limit, the first of all these solutions, up to that limit, are the
+  -- first solutions of the phase.
   pub first_of_parts : (n : ℕ)
       → take n (flat_map (λ front. take n (part_solutions rule problem phase front)) (parts rule problem phase depth))
       ≡ take n (solutions rule problem phase)
   first_of_parts n = first-of-firsts (part_solutions rule problem phase) n n (omega arith) (parts rule problem phase depth) ∙ ap (take n) parts_joined
 
-  -- So the phase's number of solutions, up to the problem's limit, is the sum of the parts' numbers, up to that limit.
+  -- The phase's number of solutions, up to the problem's limit, is the sum of the parts' numbers, up to
+  -- that limit.
   pub counted_by_parts : phase_count rule problem phase
       ≡ min problem.max_solutions (sum_by (part_count rule problem phase) (parts rule problem phase depth))
   counted_by_parts =

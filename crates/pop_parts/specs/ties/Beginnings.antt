@@ -1,4 +1,4 @@
--- What the frames of a walk over the beginnings of parts stand for: no half-move is left at any of them.
+-- What the frames of the walk over the parts' first moves mean (own): no half-move is left at any of them.
 use Rattle.std.specs.Prelude.{◌≡◌, ℕ, ◌-◌, ◌≤◌, ◌<◌, ◌==◌, Bool, true, false, List, [], ◌∷◌, ◌++◌, drop, map, length, Option, Some, None, IfSome, slice_get}
 use Rattle.std.specs.Option.{option_map}
 use Rattle.std.specs.List.{flat_map, list_all}
@@ -22,13 +22,13 @@ use Rattle.pop_solve.specs.ties.Walk.{IsWalking, path, walk_work}
 unfoldable pub are_idle : List Frame → Bool
 are_idle frames = list_all (λ f. f.left == 0) frames
 
--- the lists of moves from p that begin with these, k moves behind each
+-- the lists of moves from p that begin with one of these moves, with k moves after it
 unfoldable pub beginnings_by : Goal → RuleSet → ℕ → Position → List Move → List Path
 beginnings_by goal rule k p ms =
     flat_map (λ m. map (λ rest. m ∷ rest) (beginnings (chess goal rule) k
     (position_after rule p m))) ms
 
--- the beginnings of d moves still to come from all frames, in order
+-- the lists of d first moves still to come from all frames, in order
 unfoldable pub beginnings_to_come : Goal → RuleSet → ℕ → Position → List Frame → List Path
 beginnings_to_come goal rule d p [] = []
 beginnings_to_come goal rule d p (f ∷ below) =
@@ -37,7 +37,7 @@ beginnings_to_come goal rule d p (f ∷ below) =
     (moves_behind rule (position rule p (f ∷ below)) f.place))
     ++ beginnings_to_come goal rule d p below
 
--- the board stands on the top frame of a walk over beginnings of d moves
+-- the board has the position of the top frame of a walk over lists of d first moves
 pub record IsSeeking (rule : RuleSet) (h d : ℕ) (p : Position) (frames : List Frame)
     (board : Position) : Type 0 where
   pub walking : IsWalking rule h p frames board
@@ -45,12 +45,12 @@ pub record IsSeeking (rule : RuleSet) (h d : ℕ) (p : Position) (frames : List 
   pub within : length frames ≤ d
   pub room : d ≤ h
 
--- the path to the top frame and the move behind it, if there is one
+-- the path to the top frame and then the move, if there is one
 abbrev pub path_found : List Frame → Option Move → List Path
 path_found frames None = []
 path_found frames (Some m) = (path frames ++ m ∷ []) ∷ []
 
--- what a step of such a walk leaves, which may have found the last move of the next beginning
+-- what a step of the walk leaves; it may have found the last move of the next list
 pub record Seeks (rule : RuleSet) (h d : ℕ) (p : Position) (old new : List Frame)
     (board : Position) (found : Option Move) : Type 0 where
   pub seeking : IsSeeking rule h d p new board
@@ -60,8 +60,8 @@ pub record Seeks (rule : RuleSet) (h d : ℕ) (p : Position) (old new : List Fra
   pub full : IfSome found (λ m. length new ≡ d)
   pub falls : walk_work rule h p new < walk_work rule h p old
 
--- of the beginnings to come the one with a number, counted from 1, was found, or there are fewer; those behind it are
--- still to come
+-- the walk found the list with this number, counted from 1 among the lists to come, or there are fewer; the
+-- lists after it are still to come
 pub record FindsNumbered (rule : RuleSet) (h d : ℕ) (p : Position) (old new : List Frame)
     (board : Position) (number : ℕ) (found : Option Move) : Type 0 where
   pub here : (goal : Goal) → slice_get (beginnings_to_come goal rule d p old) (number - 1)
@@ -72,7 +72,7 @@ pub record FindsNumbered (rule : RuleSet) (h d : ℕ) (p : Position) (old new : 
   pub stands : IfSome found (λ m. IsSeeking rule h d p new board × (is_legal rule board m ≡ true)
       × (length new ≡ d))
 
--- the board stands on the top frame of the walk that goes from part to part of a phase
+-- the board has the position of the top frame of the walk from part to part of a phase
 pub record IsBetweenParts (rule : RuleSet) (problem : Posed) (phase : Phase) (d : ℕ)
     (frames : List Frame) (board : Position) : Type 0 where
   pub seeking : IsSeeking rule (phase_half_moves problem phase) d (phase_start problem phase)

@@ -1,4 +1,4 @@
--- Items as entries.
+-- Items as entries (own).
 use Rattle.std.specs.Prelude.{ℕ, List, [], Bool, false, Option, Some, None}
 use Rattle.pop_input.specs.Blocks.{Entry, Sound as SoundEntry, Faulty as FaultyEntry}
 use Rattle.pop_input.specs.declared.item.Item.{Item}
@@ -12,13 +12,13 @@ use Rattle.pop_run.specs.declared.status.Status.{Status}
 use Rattle.pop_run.specs.ties.Sessions.{status_with}
 use Rattle.pop_parts.specs.Parts.{parts_line, part_text}
 
--- the entry that an item is, none behind the last
+-- the entry of an item; none after the last
 abbrev pub entry_in : Item → Option Entry
 entry_in (Sound posed last) = Some (SoundEntry posed)
 entry_in (Faulty fault last) = Some (FaultyEntry fault)
 entry_in End = None
 
--- its line
+-- the line of an entry, if there is one
 abbrev pub parts_line_if : ℕ → ℕ → Option Entry → List ℕ
 parts_line_if number depth None = []
 parts_line_if number depth (Some entry) = parts_line number depth entry
@@ -28,12 +28,12 @@ abbrev pub status_after : Status → Option Entry → Status
 status_after so_far None = so_far
 status_after so_far (Some entry) = status_with so_far (tells_failure entry) (is_faulty entry)
 
--- whether it tells of a failed device
+-- the entry reports a failed device
 abbrev pub is_failure : Option Entry → Bool
 is_failure None = false
 is_failure (Some entry) = tells_failure entry
 
--- the text of a part, none where there is none
+-- the text of a part, if there is one
 abbrev pub text_if : RuleSet → Posed → Phase → Option Path → List ℕ
 text_if rule posed phase None = []
 text_if rule posed phase (Some front) = part_text rule posed phase front

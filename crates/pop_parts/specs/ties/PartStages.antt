@@ -1,4 +1,4 @@
--- What a search of one part has still to give.
+-- What the search of one part has still to emit (own).
 use Rattle.std.specs.Prelude.{◌≡◌, ℕ, ◌+◌, ◌-◌, ◌≤◌, ◌==◌, true, false, List, [], ◌∷◌, ◌++◌, map, length}
 use Rattle.chess_core.specs.Position.{Position}
 use Rattle.chess_rules.specs.RuleSet.{RuleSet}
@@ -15,7 +15,7 @@ use Rattle.pop_solve.specs.ties.Phases.{beginning_count, kept_paths, phase_paths
 use Rattle.pop_solve.specs.ties.Plans.{plan_of}
 use Rattle.pop_solve.specs.ties.Walk.{IsCounted, IsEnded, IsWalking, path}
 
--- the solutions begun before a stage
+-- the number of solutions that have begun at a stage
 abbrev pub begun_at : PartStage → ℕ
 begun_at First = 0
 begun_at (Within count) = count
@@ -27,13 +27,13 @@ part_paths rule problem phase First frames = path frames ∷ phase_paths rule pr
 part_paths rule problem phase (Within count) frames = phase_paths rule problem phase frames
 part_paths rule problem phase Behind frames = []
 
--- how many solutions have begun and are still to begin
+-- the number of solutions that have begun or are still to begin
 abbrev pub begun_in_all : RuleSet → Posed → Phase → PartStage → List Frame → ℕ
 begun_in_all rule problem phase stage frames =
     begun_at stage + beginning_count (is_help problem.stipulation.form)
     (problem.max_solutions - begun_at stage) (part_paths rule problem phase stage frames)
 
--- the events of some paths, where `count` solutions have begun
+-- the events of some paths, after `count` solutions have begun
 abbrev pub events_left : Posed → Phase → ℕ → List Path → List BareEvent
 events_left problem phase count paths =
     map (path_event problem phase)
@@ -51,7 +51,7 @@ part_left rule problem phase (Within count) frames =
     events_left problem phase count (part_paths rule problem phase (Within count) frames)
 part_left rule problem phase Behind frames = []
 
--- the board stands on the top frame of a part's walk, whose solutions come to the part's
+-- the board has the position of the top frame of a part's walk, and the solutions add up to the part's
 pub record IsInPart (rule : RuleSet) (problem : Posed) (phase : Phase) (front : Path)
     (stage : PartStage) (frames : List Frame) (board : Position) : Type 0 where
   pub walking : IsWalking rule (phase_half_moves problem phase) (phase_start problem phase) frames
@@ -70,7 +70,8 @@ StandsInPart rule problem phase front (Within count) frames board =
 StandsInPart rule problem phase front Behind frames board = (frames ≡ [])
     × (board ≡ play_start problem)
 
--- in help play, if no limit ends the part, all positions of the part's walk but those still to be opened were opened
+-- in help play, if no limit stops the part, exactly the positions of its walk that aren't still to be tried
+-- have counted
 abbrev pub IsPartOpened : RuleSet → Posed → Phase → Path → List Frame → ℕ → Type 0
 IsPartOpened rule problem phase front frames opened =
     is_help problem.stipulation.form ≡ true → is_part_stopped rule problem phase front ≡ false

@@ -1,4 +1,5 @@
--- What a contract sees of a search of one part and of the parts still to come, and how many positions a part's walk opens.
+-- What contracts see of a search of one part and of the parts still to come, and how many positions a
+-- part's walk has (own).
 use Rattle.std.specs.Prelude.{ℕ, ◌-◌, ◌==◌, Bool, true, ◌&&◌, List, [], ◌∷◌, length}
 use Rattle.chess_core.specs.Position.{Position}
 use Rattle.chess_rules.specs.Legal.{is_legal, moves as legal_moves}
@@ -12,8 +13,9 @@ use Rattle.pop_events.specs.declared.event.Phase.{Phase}
 use Rattle.pop_battle.specs.declared.killers.Killers.{Killers}
 use Rattle.pop_battle.specs.Walks.{walk_count}
 
--- what a contract sees of a search of a part: the problem, the phase, the part's first moves, the events still to come, the
--- position on the board, the frames in use, those opened so far, up to the greatest u64, and the moves that decided its tests last
+-- what contracts see of a search of a part: the problem, the phase, the part's first moves, the events
+-- still to come, the position on the board, the frames in use, the positions tried so far, up to the
+-- greatest u64, and the moves that last decided tests
 pub record PartSeen (R : Type 0) : Type 0 where
   pub problem : Posed
   pub phase : Phase
@@ -24,25 +26,26 @@ pub record PartSeen (R : Type 0) : Type 0 where
   pub opened : ℕ
   pub killers : Killers R
 
--- what a contract sees of the parts still to come: the problem, the phase, and the first moves of each
+-- what contracts see of the parts still to come: the problem, the phase, and the first moves of each part
 pub record LeftSeen : Type 0 where
   pub problem : Posed
   pub phase : Phase
   pub left : List Path
 
--- how many lists of fewer moves than are left behind a part's first moves there are there, each legal where it stands
+-- the walk count of a part: the number of lists of moves after its first moves, shorter than the half-moves
+-- left, each legal in its position
 abbrev pub part_walk : RuleSet → Posed → Phase → Path → ℕ
 part_walk rule problem phase front =
     walk_count (legal_moves rule) (position_after rule)
     (phase_half_moves problem phase - length front)
     (path_end (position_after rule) (phase_start problem phase) front)
 
--- whether the limit of solutions ended a part
+-- the limit of solutions stopped the part
 abbrev pub is_part_stopped : RuleSet → Posed → Phase → Path → Bool
 is_part_stopped rule problem phase front =
     part_count rule problem phase front == problem.max_solutions
 
--- each of the moves from p on is legal where it is made
+-- each of the moves from p on is legal in its position
 unfoldable pub are_legal : RuleSet → Position → Path → Bool
 are_legal rule p [] = true
 are_legal rule p (m ∷ ms) = is_legal rule p m && are_legal rule (position_after rule p m) ms

@@ -1,5 +1,5 @@
--- The text of a move tells the move: two moves that are written alike castle to the same side, or the same man goes
--- between the same squares and is promoted alike.
+-- The text of a move determines the move: two moves with one text castle to one side, or one man goes between the same
+-- squares and is promoted to the same kind.
 use Rattle.std.proofs.Common.{◌≡◌, ℕ, ◌+◌, ◌<◌, Bool, true, false, cond, eqb, nat_lt, List, [], ◌∷◌, ◌++◌, Option, Some, None, refl, sym, ap, ◌∙◌, arith, append_assoc, drop, get_or, ◌⊎◌, inl}
 use Rattle.std.specs.Prelude.{codes}
 use Rattle.std.proofs.lemmas.Bool.{and_from, and_parts, cases_Bool, cond-false, cond-true, eqb-true, le-ltb, lt-ltb, or_cases, true≢false}
@@ -40,7 +40,7 @@ capital_letter k = grind arith
 same_square : (s t : ℕ) → 96 + file_of s ≡ 96 + file_of t → 48 + rank_of s ≡ 48 + rank_of t → s ≡ t
 same_square s t f r = omega (arith, f, r)
 
--- What stands behind the arrival, a capture en passant apart.
+-- The text after the arrival square, without ` ep.`.
 abbrev end_text : Option Kind → Option (Man × ℕ) → Mark → List ℕ
 end_text promo rebirth mark = promotion_text promo ++ rebirth_text rebirth ++ mark_text mark
 
@@ -59,7 +59,7 @@ no_blank k r m rest e = grind arith
 above : (k : Kind) → 60 < letter_of k
 above k = grind arith
 
--- A promotion is told from none: "=" with a letter behind it, and not alone as the mark of stalemate.
+-- A text shows whether there is a promotion: "=" with a letter after it, and not alone as the mark of stalemate.
 promotes : (k : Kind) (rest : List ℕ) (r : Option (Man × ℕ)) (m : Mark) → 61 ∷ letter_of k ∷ rest ≡ end_text None r m → ⊥
 promotes k rest r m e = grind (arith, above)
 
@@ -72,14 +72,14 @@ same_promotion true true j k r s m n e = let tails : end_text j r m ≡ end_text
 same_promotion false false j k r s m n e = same_end j k r s m n e
 same_promotion b c j k r s m n e = grind (arith, no_blank)
 
--- The same man goes between the same squares, and is promoted alike.
+-- One man goes between the same squares in both moves, and is promoted to the same kind.
 pub record GoAlike (a b : Shown) : Type 0 where
   pub kind : a.man.kind ≡ b.man.kind
   pub from : a.from ≡ b.from
   pub to : a.to ≡ b.to
   pub promo : a.promo ≡ b.promo
 
--- From the origin on: five bytes, and what is behind the arrival.
+-- The text from the origin on: five bytes, and the text after the arrival square.
 abbrev ways : ℕ → ℕ → ℕ → List ℕ → List ℕ
 ways s step q tail = (96 + file_of s) ∷ (48 + rank_of s) ∷ step ∷ (96 + file_of q) ∷ (48 + rank_of q) ∷ tail
 
@@ -87,7 +87,7 @@ abbrev step_byte : Bool → ℕ
 step_byte true = 42
 step_byte false = 45
 
--- What stands behind the arrival.
+-- The text after the arrival square.
 abbrev tail_text : Shown → List ℕ
 tail_text a = en_passant_text a.ep ++ end_text a.promo a.rebirth a.mark
 
@@ -100,16 +100,16 @@ same_way a b k e = record {
   promo = same_promotion a.ep b.ep a.promo b.promo a.rebirth b.rebirth a.mark b.mark (ap (drop 5) e);
 }
 
--- A pawn has no letter, and each other man has his.
+-- A pawn has no letter, and each other man has its own.
 man_case : (k : Kind) → (k ≡ Pawn) ⊎ ((rest : List ℕ) → man_text k ++ rest ≡ letter_of k ∷ rest)
 man_case Pawn = inl refl
 man_case k = grind arith
 
--- A letter isn't a file: a man who isn't a pawn isn't written as a pawn.
+-- A man's letter isn't a file's letter: a man that isn't a pawn isn't written as a pawn.
 no_file : (k : Kind) (s : ℕ) → letter_of k ≡ 96 + file_of s → ⊥
 no_file k s e = omega (arith, e, capital_letter k)
 
--- Two moves of this text, neither castling: the letter tells the man.
+-- Two moves with one text, neither of them castling: the letter determines the man.
 same_going : (a b : Shown) (j k : Kind) → a.man.kind ≡ j → b.man.kind ≡ k
     → man_text j ++ ways a.from (step_byte a.capture) a.to (tail_text a) ≡ man_text k ++ ways b.from (step_byte b.capture) b.to (tail_text b)
     → GoAlike a b
@@ -148,14 +148,14 @@ alike : (a b : Shown) (c d : Option Side) → unmarked_text c a ++ mark_text a.m
     → (c ≡ d) × (c ≡ None → GoAlike a b)
 alike a b c d e = grind (arith, same_going, going_is, no_castling, no_mark)
 
--- Moves that are written alike both castle to the same side, or neither castles and the same man goes between the
--- same squares, promoted alike.
+-- Moves with one text both castle to one side, or neither castles and one man goes between the same squares and is
+-- promoted to the same kind.
 pub written_alike : (a b : Shown) → move_text a ≡ move_text b
     → (a.castling ≡ b.castling) × (a.castling ≡ None → GoAlike a b)
 unfolding move_text
 written_alike a b e = alike a b a.castling b.castling e
 
--- A castling man is a king, who goes two files along his rank to the side that is shown.
+-- A castling man is a king, which goes two files along its rank to the side that is shown.
 record IsCastled (x : Man) (m : Move) (side : Side) : Type 0 where
   king : same_kind x.kind King ≡ true
   way : ((m.to ≡ m.from + 2) × (side ≡ H)) ⊎ ((m.to + 2 ≡ m.from) × (side ≡ A))
@@ -179,7 +179,7 @@ same_triple : (m n : Move) → m.from ≡ n.from → m.to ≡ n.to → m.promo �
 same_triple m n from to promo = grind arith
 
 module _ (goal : Goal) (rule : RuleSet) (p : Position) (well : IsWellFormed p) where
-  -- A legal move's man, and what is shown of it.
+  -- The man of a legal move, and what is shown of the move.
   record IsShown (m : Move) (x : Man) : Type 0 where
     made : IsMade rule p x m
     castling : (shown_move goal rule p m).castling ≡ castling_side x m
@@ -192,7 +192,7 @@ module _ (goal : Goal) (rule : RuleSet) (p : Position) (well : IsWellFormed p) w
   shown_by_man m None here h = grind (arith, is_pseudo_legal-from_legal rule p m h, true≢false)
   shown_by_man m (Some x) here h = grind (arith, made rule p m x (is_pseudo_legal-from_legal rule p m h) here, is_pseudo_legal-from_legal rule p m h, made)
 
-  -- The move is known by what is written of it, where neither castles or both castle to one side.
+  -- The text determines the move, if neither move castles or both castle to one side.
   same_move : (m n : Move) (x y : Man) (c d : Option Side) → IsShown m x → IsShown n y
       → castling_side x m ≡ c → castling_side y n ≡ d → c ≡ d
       → (c ≡ None → GoAlike (shown_move goal rule p m) (shown_move goal rule p n)) → m ≡ n
@@ -206,7 +206,7 @@ module _ (goal : Goal) (rule : RuleSet) (p : Position) (well : IsWellFormed p) w
       grind (arith, same_castling, no_promotion, same_triple)
   same_move m n x y c d a b e f s goes = grind arith
 
-  -- No two legal moves of a position are written alike.
+  -- No two legal moves of a position have one text.
   pub moves_are_written_apart : (m n : Move) → is_legal rule p m ≡ true → is_legal rule p n ≡ true
       → move_text (shown_move goal rule p m) ≡ move_text (shown_move goal rule p n) → m ≡ n
   moves_are_written_apart m n h k e =

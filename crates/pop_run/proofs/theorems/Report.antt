@@ -1,4 +1,4 @@
--- The report of an input is the texts of its items, each a function of its own block, its number and what is chosen: no neighbour changes it.
+-- The report of an input is the texts of its items joined. Each text depends on its own block, its number and the flags: no neighbour changes it.
 use Rattle.pop_run.proofs.Basics.{Choice, Entry, Input, List, None, Words, [], ap, arith, drop, entries_in, entries_of, entry_text, enumerate_from, flat_map, get_or, length, limit, map, put_before, refl, report, report_from, sym, words_from, words_of, ℕ, ◌++◌, ◌+◌, ◌-◌, ◌<◌, ◌∙◌, ◌∷◌, ◌≡◌, ◌≤◌}
 use Rattle.pop_run.proofs.Running.{report-append}
 use Rattle.pop_input.proofs.theorems.Entries.{AreNext, ClosedBlock, blocks_first, entries_are, entries_behind, is_first, length-own_entries, own_entries, own_entry, tokens_in}
@@ -31,7 +31,7 @@ module _ (choice : Choice) where
   pub report_is_texts : (input : Input) → report choice input ≡ flat_map (λ text. text) (texts input)
   report_is_texts input = report_from_is_texts 1 (entries_in input)
 
-  -- Of items one after another the report is that of the first ones, and then that of the others, which are numbered on.
+  -- The report of two lists of items joined is the report of the first, then the report of the second, with numbers that continue.
   pub report_of_both : (number : ℕ) (first others : List Entry)
       → report_from choice number (first ++ others) ≡ report_from choice number first ++ report_from choice (number + length first) others
   report_of_both number first others = report-append choice number first others
@@ -46,8 +46,8 @@ module _ (choice : Choice) where
   texts_behind number [] others = let e : number + 0 ≡ number = omega arith in rw e refl
   texts_behind number (other ∷ first) others = grind (arith, texts_behind (number + 1) first others)
 
-  -- The report of an input of blocks that NextProblem closes, one more that a word closes, and whatever words follow: the report of the blocks
-  -- before; the text of this one's own entry, with its number; and the report of what follows, which is nothing behind EndProblem.
+  -- The report of an input of blocks that NextProblem closes, one more closed block and any words after it: the report of the blocks before; the text
+  -- of the block's own entry, with its number; then the report of the rest, none after EndProblem.
   pub report_around_a_block : (input : Input) (before : List ClosedBlock) (block : ClosedBlock) (words : Words) → AreNext before
       → words_of input ≡ put_before (flat_map tokens_in before) (put_before (tokens_in block) words)
       → report choice input
@@ -56,15 +56,15 @@ module _ (choice : Choice) where
   unfolding entries_in
   report_around_a_block input before block words next are = grind (arith, entries_are, report_of_both, length-own_entries)
 
-  -- In such an input the text at the block's place is that of its own entry.
+  -- In an input of blocks, one more closed block and any words after it, the text at the block's position is the text of its own entry.
   pub text_of_a_block : (input : Input) (before : List ClosedBlock) (block : ClosedBlock) (words : Words) → AreNext before
       → words_of input ≡ put_before (flat_map tokens_in before) (put_before (tokens_in block) words)
       → get_or (texts input) (length before) [] ≡ entry_text choice (1 + length before) (own_entry (is_first before) block)
   unfolding entries_in
   text_of_a_block input before block words next are = grind (arith, entries_are before block words next, length-own_entries before, text_behind)
 
-  -- No neighbour changes a text: in two inputs with as many blocks before the same block, of the same lines, its text is the same, whatever
-  -- the words of the blocks before are, whatever words follow, and however the inputs end.
+  -- No neighbour changes a text: if two inputs have equally many blocks before one block with the same lines, its text is the same in both, whatever
+  -- the blocks before are, whatever words follow, and however the inputs end.
   pub text_is_its_own : (input other : Input) (before instead : List ClosedBlock) (block : ClosedBlock) (words after : Words) → AreNext before → AreNext instead
       → words_of input ≡ put_before (flat_map tokens_in before) (put_before (tokens_in block) words)
       → words_of other ≡ put_before (flat_map tokens_in instead) (put_before (tokens_in block) after) → length before ≡ length instead
@@ -72,8 +72,8 @@ module _ (choice : Choice) where
   text_is_its_own input other before instead block words after next these are is as_many =
       grind (arith, text_of_a_block input before block words next are, text_of_a_block other instead block after these is)
 
-  -- The same in bytes: change the bytes before some lines, which hold a block, and those behind them, as you like, but so that as many blocks
-  -- and as many line ends stand before: the text at the block's place is the same. The lines may be the first of the input, its last, or all.
+  -- No neighbour's bytes change a text: some lines hold a block. Change the bytes before and after them in any way that keeps the number of blocks and
+  -- of line ends before them. The text of the block stays the same. The lines may be the first of the input, its last, or all.
   pub bytes_around_change_nothing : (input other : Input) (lines instead own rest after : List ℕ) (before those : List ClosedBlock) (block : ClosedBlock)
       → input.bytes ≡ lines ++ (own ++ rest) → other.bytes ≡ instead ++ (own ++ after) → AreWholeLines lines → AreWholeLines instead
       → IsLineOver input rest → IsLineOver other after → length lines + length own < limit → length instead + length own < limit
@@ -92,16 +92,16 @@ module _ (choice : Choice) where
   texts_of_rest input before words next are =
       grind (arith, blocks_first before words next, length-own_entries before, texts_behind 1 (own_entries before))
 
-  -- The texts of all items behind some blocks are theirs alone: in two inputs with as many blocks before the same words, which end alike, they are the
-  -- same, the text of an item among them in which the input ends or breaks off.
+  -- The texts of all items after some blocks depend on their own words: if two inputs have equally many blocks before the same words and end alike,
+  -- these texts are the same, also the text of an item in which the input ends or breaks off.
   pub texts_are_their_own : (input other : Input) (before instead : List ClosedBlock) (words : Words) → AreNext before → AreNext instead
       → words_of input ≡ put_before (flat_map tokens_in before) words → words_of other ≡ put_before (flat_map tokens_in instead) words
       → length before ≡ length instead → drop (length before) (texts input) ≡ drop (length instead) (texts other)
   texts_are_their_own input other before instead words next these are is as_many = texts_of_rest input before words next are
       ∙ rw (as_many, same_first before instead as_many) refl ∙ sym (texts_of_rest other instead words these is)
 
-  -- The same in bytes: change the bytes before the last lines of an input as you like, but so that as many blocks and as many line ends stand
-  -- before: the texts of all items in these lines are the same, however they end.
+  -- Earlier bytes change no later text: change the bytes before the last lines of an input in any way that keeps the number of blocks and of line ends
+  -- before them. The texts of all items in these lines stay the same, however they end.
   pub bytes_before_change_nothing : (input other : Input) (lines instead own : List ℕ) (before those : List ClosedBlock)
       → input.bytes ≡ lines ++ own → other.bytes ≡ instead ++ own → input.ending ≡ other.ending → AreWholeLines lines → AreWholeLines instead
       → length lines + length own ≤ limit → length instead + length own ≤ limit → AreNext before → AreNext those

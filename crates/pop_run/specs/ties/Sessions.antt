@@ -1,4 +1,4 @@
--- Where a session stands among the items, and what a step does.
+-- The state of a session, and what a step does (own).
 use Rattle.std.specs.Prelude.{◌≡◌, ℕ, ◌+◌, List, [], ◌∷◌, Option, Result, Ok, Err, Bool, true, false, not}
 use Rattle.pop_text.specs.Bytes.{Appends, Begins, Keeps}
 use Rattle.pop_text.specs.declared.sink.SinkFault.{SinkFault}
@@ -15,7 +15,8 @@ use Rattle.pop_run.specs.declared.status.Status.TheVariants.{Sound, Faulty, Inpu
 use Rattle.pop_run.specs.declared.status.Step.{Step}
 use Rattle.pop_run.specs.declared.status.Step.TheVariants.{Problem, Finished}
 
--- the place among the items, the next item's number, the status so far, whether the sink failed, and what is printed
+-- the state of a session: the reader's state, the next item's number, the status so far, whether the sink has failed,
+-- and the flags
 pub record RunState : Type 0 where
   pub at : Standing
   pub number : ℕ
@@ -29,7 +30,7 @@ ends First = false
 ends Later = false
 ends Nothing = true
 
--- the item says that it is the last
+-- whether the item is the last
 abbrev pub says_last : Last → Bool
 says_last Yes = true
 says_last No = false
@@ -39,7 +40,7 @@ pub record HasMore (place : RunState) : Type 0 where
   pub more : ends place.at.next ≡ false
   pub running : place.stopped ≡ false
 
--- before all items
+-- the state before the first item
 abbrev pub first_state : Choice → RunState
 first_state choice = record {
   at = first_standing;
@@ -49,14 +50,14 @@ first_state choice = record {
   choice = choice;
 }
 
--- the status after one more item: a failed device outweighs all, and a fault what is sound
+-- the status after one more item: a failed device outweighs everything, and a fault outweighs `Sound`
 abbrev pub status_with : Status → Bool → Bool → Status
 status_with so_far true faulty = InputFailed
 status_with so_far false false = so_far
 status_with Sound false true = Faulty
 status_with so_far false true = so_far
 
--- One item was read, with the bytes that it uses, and the number and the status count it in.
+-- A step reads one item and the bytes that it uses, and counts it in the number and the status.
 pub record TakesItem (old new : RunState) (had left : Option (List ℕ)) (entry : Entry) : Type 0
   where
     pub reads : Reads old.at new.at had left (entry ∷ [])
@@ -65,7 +66,7 @@ pub record TakesItem (old new : RunState) (had left : Option (List ℕ)) (entry 
     pub status : new.status ≡ status_with old.status (tells_failure entry) (is_faulty entry)
     pub choice : new.choice ≡ old.choice
 
--- what a step does that begins at old
+-- what a step does
 abbrev pub Steps : RunState → RunState → Option (List ℕ) → Option (List ℕ) → Option (List ℕ)
     → Option (List ℕ) → Result Step SinkFault → Type 0
 Steps old new had left before now (Ok (Problem sound)) =
@@ -79,13 +80,13 @@ Steps old new had left before now (Err fault) =
     (entry : Entry) × TakesItem old new had left entry
     × Begins before now (entry_text old.choice old.number entry) × (new.stopped ≡ true)
 
--- the step is a problem
+-- whether a step reported an item
 abbrev pub is_problem : Result Step SinkFault → Bool
 is_problem (Ok (Problem sound)) = true
 is_problem (Ok (Finished status)) = false
 is_problem (Err fault) = false
 
--- what a step answers where an item was printed so
+-- the result of a step that printed an item, by the result of printing
 abbrev pub step_of : {A : Type 0} → Result A SinkFault → Bool → Result Step SinkFault
 step_of (Ok done) sound = Ok (Problem sound)
 step_of (Err fault) sound = Err fault

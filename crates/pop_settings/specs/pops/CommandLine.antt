@@ -23,24 +23,24 @@ abbrev pub command : App
 command = with_rule (with_rule (with_rule (new_app (codes "pops")) check) no_board)
     (new_rule (codes "file"))
 
--- the settings are those that clap's matches choose
+-- the settings that clap's matches choose
 pub record IsChosen (rows : List Row) (s : Settings) : Type 0 where
   pub file : option_map string_bytes s.file ≡ first_of (codes "file") rows
   pub check : s.check ≡ is_set (codes "check") rows
   pub no_board : s.no_board ≡ is_set (codes "no-board") rows
 
--- the settings are those of the words, of which the first is the program's name
+-- the settings of a command line, whose first word is the program's name
 abbrev pub IsSettings : List Text → Settings → Type 0
 IsSettings words = IsChosen (matches_of command words)
 
--- the kinds of error that clap may give at the words for another cause than memory: none where it takes them
+-- the kinds of error that clap may return for the words, apart from memory: none if it takes them
 abbrev pub refusals : List Text → Kinds
 refusals words = fault_of command words
 
--- words that the command takes are refused for want of memory alone
+-- words that the command takes fail only for lack of memory
 abbrev pub IsMemoryIfTaken : List Text → ArgFault → Type 0
 IsMemoryIfTaken words fault = takes command words ≡ true → fault ≡ Memory
 
--- words are wrong only where the command refuses them
+-- the fault `Usage` comes only if the command refuses the words
 abbrev pub IsUsageIfRefused : List Text → ArgFault → Type 0
 IsUsageIfRefused words fault = fault ≡ Usage → refusals words ≢ []

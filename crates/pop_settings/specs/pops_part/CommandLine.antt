@@ -23,26 +23,26 @@ command = with_rule (with_rule (with_rule (with_rule (with_rule (with_rule
     (option_with_value (codes "phase"))) (option_with_value (codes "part")))
     (new_rule (codes "file"))
 
--- an option is there
+-- whether an option is there
 abbrev pub is_given : Text → List Row → Bool
 is_given name rows = is_some (first_of name rows)
 
--- an option is there that names parts
+-- whether an option that names parts is there
 abbrev pub has_others : List Row → Bool
 has_others rows = is_given (codes "item") rows
     || (is_given (codes "phase") rows || is_given (codes "part") rows)
 
--- how many moves tell parts apart: 1 where nothing is said
+-- how many first moves a part of help play fixes: 1 without the option
 abbrev pub depth_said : Option Text → Option ℕ
 depth_said None = Some 1
 depth_said (Some text) = depth_in text
 
--- the list, which none of the other options may stand beside
+-- the list, which excludes the options that name parts
 abbrev pub list_wanted : Bool → Option ℕ → Option Wanted
 list_wanted true depth = None
 list_wanted false depth = option_map ListOf depth
 
--- the parts that the options name, where each is there and can be read
+-- the parts that the options name, if each option is there and readable
 abbrev pub parts_wanted : Option ℕ → Option PhaseName → Option Range → Option ℕ → Option Wanted
 parts_wanted (Some item) (Some phase) (Some range) (Some depth) = Some (Parts (record {
   item = item;
@@ -53,7 +53,7 @@ parts_wanted (Some item) (Some phase) (Some range) (Some depth) = Some (Parts (r
 }))
 parts_wanted _ _ _ _ = None
 
--- what the words want, by clap's matches of them; none where they are of neither form
+-- what a command line wants, by clap's matches: none if it has neither form
 unfoldable pub wanted_by : List Row → Option Wanted
 wanted_by rows = if is_set (codes "list") rows
     then list_wanted (has_others rows) (depth_said (first_of (codes "depth") rows))
@@ -62,35 +62,35 @@ wanted_by rows = if is_set (codes "list") rows
     (option_and_then range_in (first_of (codes "part") rows))
     (depth_said (first_of (codes "depth") rows))
 
--- the settings are those that clap's matches choose
+-- the settings that clap's matches choose
 pub record IsChosen (rows : List Row) (s : Settings) : Type 0 where
   pub file : option_map string_bytes s.file ≡ first_of (codes "file") rows
   pub wanted : wanted_by rows ≡ Some s.wanted
 
--- the settings are those of the words, of which the first is the program's name
+-- the settings of a command line, whose first word is the program's name
 abbrev pub IsSettings : List Text → Settings → Type 0
 IsSettings words = IsChosen (matches_of command words)
 
--- what is told where there are no settings though clap took the words: by whether they are of one of the forms
+-- the fault if clap takes the words but there are no settings: `Usage` if they have neither form, else `Memory`
 abbrev pub fault_by : Option Wanted → ArgFault
 fault_by None = Usage
 fault_by (Some wanted) = Memory
 
--- the kinds of error that clap may give at the words for another cause than memory: none where it takes them
+-- the kinds of error that clap may return for the words, apart from memory: none if it takes them
 abbrev pub refusals : List Text → Kinds
 refusals words = fault_of command words
 
--- words that the command takes, and that are of one of its forms, are refused for want of memory alone
+-- words that the command takes and that have one of its forms fail only for lack of memory
 abbrev pub IsMemoryIfTaken : List Text → ArgFault → Type 0
 IsMemoryIfTaken words fault = takes command words ≡ true
     → is_some (wanted_by (matches_of command words)) ≡ true → fault ≡ Memory
 
--- words are told as wrong only where the command refuses them or they are of neither form
+-- the fault `Usage` comes only if the command refuses the words or they have neither form
 abbrev pub IsUsageIfRefused : List Text → ArgFault → Type 0
 IsUsageIfRefused words fault = fault ≡ Usage
     → (refusals words ≢ []) ⊎ (wanted_by (matches_of command words) ≡ None)
 
--- at least one move tells parts apart
+-- a part of help play fixes at least one move
 abbrev pub IsDeep : Wanted → Type 0
 IsDeep (ListOf depth) = 1 ≤ depth
 IsDeep (Parts asked) = 1 ≤ asked.depth

@@ -1,4 +1,4 @@
--- The numbers, ranges and names that options take (own).
+-- The values of options: numbers, ranges and names (own).
 use Rattle.std.specs.Prelude.{ℕ, ◌+◌, ◌-◌, ◌*◌, ◌==◌, ◌&&◌, nat_le, nat_lt, Bool, if◌then◌else◌, List, [], ◌∷◌, fold, take, drop, length, codes, Option, Some, None}
 use Rattle.std.specs.List.{list_all, prefix_len}
 use Rattle.std.specs.Str.{bytes_eq}
@@ -26,11 +26,11 @@ digit_4 = 52
 abbrev pub digit_9 : ℕ
 digit_9 = 57
 
--- a digit in ASCII
+-- whether a byte is a decimal digit
 abbrev pub is_digit : ℕ → Bool
 is_digit b = nat_le digit_0 b && nat_le b digit_9
 
--- the number that digits write
+-- the value of decimal digits
 abbrev pub value_of : List ℕ → ℕ
 value_of text = fold (λ value digit. 10 * value + (digit - digit_0)) 0 text
 
@@ -38,41 +38,41 @@ value_of text = fold (λ value digit. 10 * value + (digit - digit_0)) 0 text
 abbrev pub greatest_number : ℕ
 greatest_number = 999999999999999999
 
--- the number that decimal digits write
+-- the number that decimal digits write, if it is at most the greatest number
 unfoldable pub number_in : List ℕ → Option ℕ
 number_in text = if nat_lt 0 (length text) && (list_all is_digit text
     && nat_le (value_of text) greatest_number)
     then Some (value_of text) else None
 
--- the last number of a range, by its first and what stands behind: nothing, or two points and a number
+-- the last number of a range, by its first number and the text after it: nothing, or two points and a number
 abbrev pub last_in : ℕ → List ℕ → Option ℕ
 last_in first [] = Some first
 last_in first (a ∷ []) = None
 last_in first (a ∷ b ∷ text) = if a == point && b == point then number_in text else None
 
--- from the first to the last number, where they are in order
+-- the range from a first to a last number, if they are in order
 abbrev pub ordered_range : ℕ → Option ℕ → Option Range
 ordered_range first None = None
 ordered_range first (Some last) =
     if nat_le first last then Some (record { first = first; last = last }) else None
 
--- the range of the first number and what stands behind
+-- the range of a first number and the text after it
 abbrev pub range_from : Option ℕ → List ℕ → Option Range
 range_from None behind = None
 range_from (Some first) behind = ordered_range first (last_in first behind)
 
--- a range: `A`, or `A..B` where B isn't less than A
+-- a range: `A`, or `A..B` with B at least A
 unfoldable pub range_in : List ℕ → Option Range
 range_in text = range_from (number_in (take (prefix_len is_digit text) text))
     (drop (prefix_len is_digit text) text)
 
--- how many moves tell parts apart: a digit from 1 to 4
+-- how many first moves a part of help play fixes: a digit from 1 to 4
 unfoldable pub depth_in : List ℕ → Option ℕ
 depth_in [] = None
 depth_in (a ∷ []) = if nat_le digit_1 a && nat_le a digit_4 then Some (a - digit_0) else None
 depth_in (a ∷ b ∷ text) = None
 
--- a phase by its name
+-- the phase with this name
 unfoldable pub phase_in : List ℕ → Option PhaseName
 phase_in text = if bytes_eq text (codes "set") then Some Set
     else (if bytes_eq text (codes "play") then Some Play else None)

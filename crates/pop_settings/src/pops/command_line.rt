@@ -15,10 +15,12 @@ use clap::{ArgMatches, Command, Error};
 use run_settings::Settings;
 use std::alloc::Global;
 
-/// The settings of the words, of which the first is the program's name.
+/// Returns the settings of a command line. Its first word is the program's name.
 ///
-/// `Usage` is all that clap refuses for another cause than memory: an unknown option, an option given twice, a
-/// second FILE, `--help`. `Memory` comes where a growth was refused, whatever the words.
+/// # Errors
+///
+/// `Usage` if clap refuses the words: an unknown option, an option twice, a second FILE, `--help`. `Memory` if an
+/// allocation fails, whatever the words.
 pub fn settings(alloc: Global, words: &[&str]) -> Result<Settings, ArgFault>
     ensures chosen { IfOk result (IsSettings (map (λ s. s.now) words.now)) }
     ensures memory { IfErr result (IsMemoryIfTaken (map (λ s. s.now) words.now)) }
@@ -31,7 +33,7 @@ pub fn settings(alloc: Global, words: &[&str]) -> Result<Settings, ArgFault>
     }
 }
 
-// What the options choose, or `Memory`.
+// Returns the settings that clap's matches choose. Fails only with `Memory`.
 fn settings_of(alloc: Global, matches: &ArgMatches<'_>) -> Result<Settings, ArgFault>
     ensures chosen { IfOk result (IsChosen (rows_of (found_of matches.now))) }
     ensures refused { IfErr result (λ fault. fault ≡ ArgFault.Memory) }
@@ -50,7 +52,7 @@ fn settings_of(alloc: Global, matches: &ArgMatches<'_>) -> Result<Settings, ArgF
     })
 }
 
-// The words as clap matches them.
+// Returns clap's matches of the words.
 fn arg_matches<'a>(alloc: Global, words: &'a [&'a str]) -> Result<ArgMatches<'a>, Error>
     ensures rows { IfOk result (λ m. rows_of (found_of m)
         ≡ matches_of command (map (λ s. s.now) words.now)) }

@@ -18,10 +18,11 @@ use clap::error::ErrorKind;
 use clap::{ArgMatches, Command, Error};
 use std::alloc::Global;
 
-/// The settings of the words, of which the first is the program's name.
+/// Returns the settings of a command line. Its first word is the program's name.
 ///
-/// `Usage` is all that clap refuses for another cause than memory, and words of neither form. `Memory` comes where a
-/// growth was refused, whatever the words.
+/// # Errors
+///
+/// `Usage` if clap refuses the words or they have neither form. `Memory` if an allocation fails, whatever the words.
 pub fn settings(alloc: Global, words: &[&str]) -> Result<Settings, ArgFault>
     ensures chosen { IfOk result (IsSettings (map (λ s. s.now) words.now)) }
     ensures memory { IfErr result (IsMemoryIfTaken (map (λ s. s.now) words.now)) }
@@ -35,7 +36,7 @@ pub fn settings(alloc: Global, words: &[&str]) -> Result<Settings, ArgFault>
     }
 }
 
-// What the options choose: the settings, or `Usage` where they are of neither form, or `Memory`.
+// Returns the settings that clap's matches choose, `Usage` if the words have neither form, or `Memory`.
 fn settings_of(alloc: Global, matches: &ArgMatches<'_>) -> Result<Settings, ArgFault>
     ensures chosen { IfOk result (IsChosen (rows_of (found_of matches.now))) }
     ensures refused { IfErr result (λ fault.
@@ -55,7 +56,7 @@ fn settings_of(alloc: Global, matches: &ArgMatches<'_>) -> Result<Settings, ArgF
     Ok(Settings { file, wanted })
 }
 
-// What the options want, where they are of one of the two forms.
+// Returns what the options want, if they have one of the two forms.
 #[tactic(auto, unfolding(crate::specs::pops_part::CommandLine::wanted_by))]
 fn wanted_of(matches: &ArgMatches<'_>) -> Option<Wanted>
     ensures value { result ≡ wanted_by (rows_of (found_of matches.now)) }
@@ -72,7 +73,7 @@ fn wanted_of(matches: &ArgMatches<'_>) -> Option<Wanted>
     }
 }
 
-// Whether one of these options is there.
+// Returns whether one of these options is there.
 fn is_any(item: Option<&str>, phase: Option<&str>, part: Option<&str>) -> bool
     ensures { result ≡ (is_some (option_map (λ s. s.now) item.entry)
         || (is_some (option_map (λ s. s.now) phase.entry)
@@ -81,7 +82,7 @@ fn is_any(item: Option<&str>, phase: Option<&str>, part: Option<&str>) -> bool
     item.is_some() || phase.is_some() || part.is_some()
 }
 
-// How many moves tell parts apart, by what is said of it.
+// Returns how many first moves a part of help play fixes, by the value of `--depth`: 1 without one.
 fn depth_told(said: Option<&str>) -> Option<usize>
     ensures value { result ≡ depth_said (option_map (λ s. s.now) said.entry) }
     ensures range { IfSome result (λ depth. 1 ≤ depth) }
@@ -92,7 +93,7 @@ fn depth_told(said: Option<&str>) -> Option<usize>
     }
 }
 
-// A list, which nothing else may stand beside.
+// Returns a list, unless options that name parts are there too.
 fn list_of(has_others: bool, depth: Option<usize>) -> Option<Wanted>
     requires { IfSome depth (λ depth. 1 ≤ depth) }
     ensures value { result ≡ list_wanted has_others depth }
@@ -104,7 +105,7 @@ fn list_of(has_others: bool, depth: Option<usize>) -> Option<Wanted>
     Some(Wanted::List { depth: depth? })
 }
 
-// The parts that the options name, where each is there and can be read.
+// Returns the parts that the options name, if each option is there and readable.
 fn parts_of(
     item: Option<&str>,
     phase: Option<&str>,
@@ -130,7 +131,7 @@ fn parts_of(
     }))
 }
 
-// The words as clap matches them.
+// Returns clap's matches of the words.
 fn arg_matches<'a>(alloc: Global, words: &'a [&'a str]) -> Result<ArgMatches<'a>, Error>
     ensures rows { IfOk result (λ m. rows_of (found_of m)
         ≡ matches_of command (map (λ s. s.now) words.now)) }

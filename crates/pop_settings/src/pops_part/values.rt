@@ -1,21 +1,21 @@
-//! Values of options.
+//! The values of options.
 ghost use Rattle.std.specs.Prelude.{◌≡◌, ◌≤◌, IfSome};
 ghost use Rattle.std.specs.List.{prefix_len};
 ghost use Rattle.pop_settings.specs.pops_part.Numbers.{depth_in, is_digit, last_in, number_in, ordered_range, phase_in, range_from, range_in};
 
 use crate::pops_part::wanted::PhaseName;
 
-// The greatest number.
+// The greatest number that an option takes (own).
 const MOST: u64 = 999_999_999_999_999_999;
 
-/// Numbers from a first to a last one.
+/// The numbers from `first` to `last`.
 #[derive(Clone, Copy)]
 pub struct Range {
     pub first: u64,
     pub last: u64,
 }
 
-/// How many moves tell parts apart: 1 to 4.
+/// Returns how many first moves a part of help play fixes: the digit 1, 2, 3 or 4.
 #[tactic(auto, unfolding(crate::specs::pops_part::Numbers::depth_in))]
 pub fn depth_of(text: &[u8]) -> Option<usize>
     ensures value { result ≡ depth_in text.now }
@@ -27,7 +27,7 @@ pub fn depth_of(text: &[u8]) -> Option<usize>
     }
 }
 
-/// A phase by its name.
+/// Returns the phase with this name, `set` or `play`.
 #[tactic(auto, unfolding(crate::specs::pops_part::Numbers::phase_in))]
 pub fn phase_of(text: &[u8]) -> Option<PhaseName>
     ensures { result ≡ phase_in text.now }
@@ -41,14 +41,14 @@ pub fn phase_of(text: &[u8]) -> Option<PhaseName>
     }
 }
 
-// Whether the byte is a decimal digit.
+// Returns whether the byte is a decimal digit.
 fn is_digit(byte: u8) -> bool
     ensures { result ≡ is_digit byte }
 {
     byte >= b'0' && byte <= b'9'
 }
 
-/// The number that decimal digits write, where it isn't greater than the greatest one.
+/// Returns the number that decimal digits write, if it is at most 999,999,999,999,999,999.
 #[tactic(auto, unfolding(crate::specs::pops_part::Numbers::number_in))]
 pub fn number_of(text: &[u8]) -> Option<u64>
     ensures { result ≡ number_in text.now }
@@ -69,7 +69,7 @@ pub fn number_of(text: &[u8]) -> Option<u64>
     }
 }
 
-/// `A`, or `A..B` where B isn't less than A.
+/// Returns the range of the text `A`, or `A..B` with B at least A.
 #[tactic(auto, unfolding(crate::specs::pops_part::Numbers::range_in))]
 pub fn range_of(text: &[u8]) -> Option<Range>
     ensures { result ≡ range_in text.now }
@@ -79,7 +79,7 @@ pub fn range_of(text: &[u8]) -> Option<Range>
     range_in_order(first, last_of(first, &text[at..]))
 }
 
-// How many digits the text begins with.
+// Returns how many digits the text begins with.
 fn digits_in_front(text: &[u8]) -> usize
     ensures { result ≡ prefix_len is_digit text.now }
 {
@@ -90,7 +90,7 @@ fn digits_in_front(text: &[u8]) -> usize
     at
 }
 
-// The last number of a range, by its first and what stands behind it.
+// Returns the last number of a range, by its first number and the text after it.
 fn last_of(first: u64, behind: &[u8]) -> Option<u64>
     ensures { result ≡ last_in first behind.now }
 {
@@ -101,7 +101,7 @@ fn last_of(first: u64, behind: &[u8]) -> Option<u64>
     }
 }
 
-// Both numbers, where they are in order.
+// Returns the range from `first` to `last`, if they are in order.
 fn range_in_order(first: u64, last: Option<u64>) -> Option<Range>
     ensures { result ≡ ordered_range first last }
 {

@@ -1,27 +1,27 @@
-//! What the command line chooses.
+//! The settings of `pops-part`.
 
-/// A phase by its name: set play or the play itself.
+/// The name of a phase: set play or the play.
 #[derive(Clone, Copy)]
 pub enum PhaseName {
     Set,
     Play,
 }
 
-/// Parts of a phase of an item: those with the numbers from `first` to `last`. Items and parts are counted from 1.
+/// The parts with the numbers from `first` to `last` of an item's phase. Items and parts are counted from 1.
 #[derive(Clone, Copy)]
 pub struct NamedParts {
     pub item: u64,
     pub phase: PhaseName,
     pub first: u64,
     pub last: u64,
-    /// How many moves tell the parts of help play apart.
+    /// How many first moves a part of help play fixes, 1 to 4.
     pub depth: usize,
 }
 
-/// What is told of the input.
+/// What to report of the input.
 #[derive(Clone, Copy)]
 pub enum Wanted {
-    /// How many parts the phases of each item have, where so many moves tell those of help play apart.
+    /// The number of parts of each item's phases. A part of help play fixes `depth` first moves, 1 to 4.
     List { depth: usize },
     /// The solutions of some parts.
     Parts(NamedParts),
@@ -30,7 +30,7 @@ pub enum Wanted {
 /// The settings of a run.
 #[derive(Drop)]
 pub struct Settings {
-    /// The file that is read in place of standard input.
+    /// The path of the input file, or `None` for standard input.
     pub file: Option<String>,
     pub wanted: Wanted,
 }

@@ -3,7 +3,7 @@ use Rattle.pop_solve.proofs.Words.{AllPairs, BareEvent, Bool, Contains, Contains
 use Rattle.pop_solve.proofs.theorems.Lists.{paths}
 use Rattle.pop_solve.proofs.theorems.Solutions.{shown_paths_differ}
 
--- The event gives a path: it is a line or a node.
+-- The event has a path: it is a line or a node.
 abbrev pub GivesPath : BareEvent → Type 0
 GivesPath (opening phase) = ⊥
 GivesPath impossible = ⊥

@@ -1,4 +1,4 @@
--- What a move of a walk counts.
+-- What a move of a walk counts (own).
 use Rattle.chess_core.specs.Position.{Position}
 use Rattle.chess_rules.specs.Legal.{moves as legal_moves}
 use Rattle.chess_rules.specs.Play.{position_after}
@@ -14,9 +14,9 @@ use Rattle.pop_solve.specs.ties.Walk.{fewest_for}
 use Rattle.pop_battle.specs.ties.Values.{seeks}
 use Rattle.std.specs.Prelude.{◌≡◌, ◌+◌, ◌-◌, ◌^◌, ◌<◌, ◌≤◌, min, ℕ, Bool, false, true}
 
--- what a move to q has counted, with `left` half-moves left there: in help play the frame that is opened, where moves are
--- tried from it; where keys alone are shown no more than the moves allow; and in a battle no fewer positions than have to be
--- tried
+-- what a move to q has counted, with `left` half-moves left there: in help play one frame, if moves are
+-- tried from it; if only keys are shown, at most the walk count; and in a battle at least the positions
+-- that have to be tried
 pub record Counts (rule : RuleSet) (plan : Plan) (root : Bool) (left : ℕ) (q : Position)
     (before after : ℕ) : Type 0 where
   pub more : plan.play ≡ HelpPlay → 0 < left → after ≡ min (before + 1) (2 ^ 64 - 1)

@@ -1,4 +1,4 @@
--- What a search that stands in a phase has still to give.
+-- What a search in a phase has still to emit (own).
 use Rattle.pop_battle.specs.Plays.{play_of}
 use Rattle.pop_battle.specs.declared.aim.Battle.{Battle}
 use Rattle.pop_battle.specs.declared.aim.Play.TheVariants.{Help as HelpPlay, Battle as BattlePlay}
@@ -21,18 +21,19 @@ use Rattle.pop_solve.specs.declared.plan.Plan.{Plan}
 use Rattle.pop_solve.specs.ties.Plans.{plan_of, walk_of}
 
 module _ {M : Type 0} where
-  -- whether a path begins a solution: each line does, and each node above which none stands
+  -- the path begins a solution: it is a line, or a node with no node above it
   abbrev pub begins_solution : Bool → List M → Bool
   begins_solution help path = help || length path == 1
 
-  -- the paths of the first n solutions, where the paths before the first beginning belong to one that was begun earlier
+  -- the paths of the first n solutions; paths before the first beginning belong to a solution that began
+  -- earlier
   unfoldable pub kept_paths : Bool → ℕ → List (List M) → List (List M)
   kept_paths help n [] = []
   kept_paths help zero (x ∷ xs) = if begins_solution help x then [] else x ∷ kept_paths help zero xs
   kept_paths help (suc n) (x ∷ xs) =
       x ∷ (if begins_solution help x then kept_paths help n xs else kept_paths help (suc n) xs)
 
-  -- how many solutions begin among them
+  -- the number of solutions that begin among the first n
   unfoldable pub beginning_count : Bool → ℕ → List (List M) → ℕ
   beginning_count help n [] = 0
   beginning_count help zero (x ∷ xs) =
@@ -70,7 +71,7 @@ IsStanding rule problem (Within walk count) frames board =
     × (count ≤ problem.max_solutions) × (walk ≡ walk_of problem walk.phase)
 IsStanding rule problem Behind frames board = (frames ≡ []) × (board ≡ play_start problem)
 
--- what walking on in a phase leaves, at most `limit` solutions being still to begin
+-- what walking on in a phase leaves, if at most `limit` solutions may still begin
 pub record Walks (rule : RuleSet) (plan : Plan) (help : Bool) (h : ℕ) (p : Position) (limit : ℕ)
     (old new : List Frame) (board : Position) (given : Bool) : Type 0 where
   pub walking : IsWalking rule h p new board
@@ -89,7 +90,7 @@ pub record Walks (rule : RuleSet) (plan : Plan) (help : Bool) (h : ℕ) (p : Pos
   pub none : given ≡ false → beginning_count help limit (to_come rule plan h p old)
       ≡ 0
 
--- what a call gives: the first event still to come, as it is shown, with board and frames where it stands
+-- what a call returns: the first event still to come, as it is shown, with board and frames at its path
 pub record Gives (rule : RuleSet) (problem : Posed) (old new : List BareEvent) (event : Event)
     (board : Position) (depth : ℕ) : Type 0 where
   pub bare : BareEvent
@@ -97,7 +98,7 @@ pub record Gives (rule : RuleSet) (problem : Posed) (old new : List BareEvent) (
   pub event_is : event ≡ event_of rule problem bare
   pub stands : StandsOn rule problem bare board depth
 
--- the frames that can still be opened
+-- the most frames that can still be opened
 unfoldable pub rest_open : RuleSet → Posed → Stage → List Frame → ℕ
 rest_open rule problem (Before phase) frames = walk_from rule problem phase
 rest_open rule problem Barred frames = walk_from rule problem Play
@@ -116,14 +117,14 @@ rest_fewest rule problem (Within walk count) frames =
     + (if is_set walk.phase then fewest_from rule problem Play else 0)
 rest_fewest rule problem Behind frames = 0
 
--- the play of a battle, whose keys alone are shown
+-- the phase is the play of a battle, and only keys are shown
 pub record IsKeys (problem : Posed) (phase : Phase) : Type 0 where
   pub battle : Battle
   pub fought : play_of problem.stipulation.form ≡ BattlePlay battle
   pub keys : problem.variation ≡ false
   pub play : is_set phase ≡ false
 
--- help play, or keys alone, for which White alone has frames
+-- help play, or only keys are shown, so that White alone has frames
 unfoldable pub IsNarrow : Posed → Stage → List Frame → Type 0
 IsNarrow problem (Before phase) frames = (play_of problem.stipulation.form ≡ HelpPlay)
     ⊎ IsKeys problem phase
@@ -133,7 +134,7 @@ IsNarrow problem (Within walk count) frames =
     ⊎ ((keys : IsKeys problem walk.phase) × (are_whites keys.battle frames ≡ true))
 IsNarrow problem Behind frames = Unit {0}
 
--- what a call opens, `left` being the events still to come before it
+-- what a call opens; `left` are the events still to come before it
 pub record OpensOn (rule : RuleSet) (problem : Posed) (old new : Stage) (frames last : List Frame)
     (before after : ℕ) (left : List BareEvent) : Type 0 where
   pub narrow : IsNarrow problem old frames → IsNarrow problem new last
@@ -148,8 +149,8 @@ pub record OpensOn (rule : RuleSet) (problem : Posed) (old new : Stage) (frames 
       → min (before + rest_fewest rule problem old frames) (2 ^ 64 - 1)
       ≤ after + rest_fewest rule problem new last
 
--- the frames opened so far: never too many, in help play exactly those that aren't still to be opened, and in a battle no
--- fewer than have to be
+-- the count of tried positions so far: never more than the walk allows; in help play exactly the frames
+-- that aren't still to be opened; in a battle no fewer than have to be tried
 pub record IsOpened (rule : RuleSet) (problem : Posed) (stage : Stage) (frames : List Frame)
     (opened : ℕ) : Type 0 where
   pub narrow : is_walked_once problem ≡ true → IsNarrow problem stage frames
@@ -162,7 +163,8 @@ pub record IsOpened (rule : RuleSet) (problem : Posed) (stage : Stage) (frames :
       → min (fewest_tried rule problem) (2 ^ 64 - 1)
       ≤ opened + rest_fewest rule problem stage frames
 
--- the events given, counted up to the greatest u64; the events still to come are an ending of all
+-- the count of events returned so far, up to the greatest u64; the events still to come are the end of all
+-- events
 pub record IsGiven (rule : RuleSet) (problem : Posed) (left : List BareEvent)
     (given : ℕ) : Type 0 where
   pub within : length left ≤ length (events rule problem)

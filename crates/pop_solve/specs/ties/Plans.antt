@@ -1,4 +1,4 @@
--- What is walked: help play, or a battle with its keys alone or with variations.
+-- What a search walks: help play, or a battle with only its keys or with variations (own).
 use Rattle.std.specs.Prelude.{Bool, true, false}
 use Rattle.pop_input.specs.Posed.{Posed}
 use Rattle.pop_battle.specs.Plays.{play_of}
@@ -21,7 +21,7 @@ abbrev pub has_variations : Tree → Bool
 has_variations Keys = false
 has_variations Variations = true
 
--- what is walked of a problem
+-- the plan of a problem
 abbrev pub plan_of : Posed → Plan
 plan_of problem = record {
   play = play_of problem.stipulation.form;
@@ -29,7 +29,7 @@ plan_of problem = record {
   tree = tree_with problem.variation;
 }
 
--- how a phase of it is walked
+-- how a phase of a problem is walked
 abbrev pub walk_of : Posed → Phase → Walk
 walk_of problem phase = record {
   phase = phase;

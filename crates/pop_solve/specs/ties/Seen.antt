@@ -1,4 +1,5 @@
--- What contracts see of a search: the events still to come, the board, the frames in use, and the counts.
+-- What contracts see of a search: the events still to come, the board, the frames in use, and the counts
+-- (own).
 use Rattle.chess_rules.specs.Play.{position_after}
 use Rattle.chess_rules.specs.Legal.{moves as legal_moves}
 use Rattle.std.specs.Prelude.{◌≡◌, ℕ, ◌+◌, ◌==◌, true, if◌then◌else◌, List, length}
@@ -13,7 +14,8 @@ use Rattle.pop_events.specs.declared.event.Phase.TheVariants.{Set, Play}
 use Rattle.pop_solve.specs.Events.{BareEvent, first_phase, impossible, is_barred, is_set, line, opening, phase_half_moves, phase_start, total, tree_node}
 use Rattle.pop_solve.specs.ties.Plans.{plan_of}
 
--- after an event: the board where its path leads, and one frame more than the path has moves
+-- after a line or node the board has the position to which its path leads, and there is one frame more than
+-- the path has moves
 abbrev pub StandsOn : RuleSet → Posed → BareEvent → Position → ℕ → Type 0
 StandsOn rule problem (opening phase) board depth = Unit {0}
 StandsOn rule problem impossible board depth = Unit {0}
@@ -25,8 +27,9 @@ StandsOn rule problem (tree_node phase path) board
     × (depth ≡ length path + 1)
 StandsOn rule problem (total count stopped) board depth = Unit {0}
 
--- the fewest positions that have to be tried to show a phase of a battle: the first, and for each move of White and each first
--- move those of a smallest tree that decides it, for any other move that is shown the position behind it
+-- the fewest positions that have to be tried to show a phase of a battle: the first position; for each of
+-- White's moves and each first move the positions of a smallest tree that decides it; for any other shown
+-- move the position after it
 abbrev pub phase_fewest : RuleSet → Posed → Phase → ℕ
 phase_fewest rule problem phase =
     if is_barred rule problem phase then 0
@@ -35,17 +38,17 @@ phase_fewest rule problem phase =
     (phase_half_moves problem phase) (phase_half_moves problem phase)
     (phase_start problem phase) (legal_moves rule (phase_start problem phase))
 
--- the same of all phases from one on
+-- the fewest positions that have to be tried for all phases from one on
 abbrev pub fewest_from : RuleSet → Posed → Phase → ℕ
 fewest_from rule problem phase =
     if is_set phase then phase_fewest rule problem Set + phase_fewest rule problem Play
     else phase_fewest rule problem Play
 
--- the same of all phases of a problem
+-- the fewest positions that have to be tried for a problem
 abbrev pub fewest_tried : RuleSet → Posed → ℕ
 fewest_tried rule problem = fewest_from rule problem (first_phase problem)
 
--- what a contract sees of a search
+-- what contracts see of a search
 pub record Seen : Type 0 where
   pub problem : Posed
   -- the events still to come
@@ -53,6 +56,6 @@ pub record Seen : Type 0 where
   -- the position on the board, and the frames in use
   pub board : Position
   pub depth : ℕ
-  -- the events given and the frames opened so far, each up to the greatest u64
+  -- the events returned and the positions tried so far, each up to the greatest u64
   pub given : ℕ
   pub opened : ℕ

@@ -1,4 +1,4 @@
--- What the frames of a walk stand for.
+-- What the frames of a walk mean (own).
 use Rattle.pop_solve.specs.Events.{Path}
 use Rattle.pop_battle.specs.declared.aim.Battle.{Battle}
 use Rattle.pop_battle.specs.declared.aim.Battle.TheVariants.{Direct, Selfmate}
@@ -26,19 +26,21 @@ use Rattle.pop_solve.specs.declared.plan.Plan.{Plan}
 use Rattle.pop_battle.specs.ties.Marks.{is_for_mate}
 use Rattle.pop_solve.specs.ties.Plans.{has_variations}
 
--- the fewest half-moves with which a move of White is tried
+-- the fewest half-moves with which a move by White is tried
 abbrev pub fewest_half_moves : Battle → ℕ
 fewest_half_moves Direct = 1
 fewest_half_moves Selfmate = 2
 
 module _ {P M : Type 0} where
-  -- the first of n + 1 numbers of half-moves, from a on by twos, with which White reaches his aim; the last untried
+  -- the first of n + 1 numbers of half-moves, rising by twos from a, with which White reaches the aim; the
+  -- last needs no try
   unfoldable pub least_length_from : Battle → Game P M → P → ℕ → ℕ → ℕ
   least_length_from battle game q zero a = a
   least_length_from battle game q (suc n) a = if value battle game a q then a
       else least_length_from battle game q n (a + 2)
 
-  -- with how many half-moves the moves of q are shown in battle play, where t are left: 0 for none
+  -- the number of half-moves for which the moves of q are shown in battle play, with t left; 0 if they
+  -- aren't shown
   unfoldable pub shown_length : Battle → Game P M → ℕ → P → ℕ
   shown_length battle game t q =
       if t == 0 || game.goal q then 0
@@ -46,25 +48,25 @@ module _ {P M : Type 0} where
       then least_length_from battle game q ((t - fewest_half_moves battle) / 2)
       (fewest_half_moves battle) else t)
 
-  -- whether the walk follows a move to q, with t half-moves left there: in a battle moves of White and those of a root are
-  -- tested
+  -- the walk follows a move to q, with t half-moves left: in a battle, White's moves and the moves of a
+  -- phase's first position are tested
   unfoldable pub is_followed : Play → Game P M → Bool → ℕ → P → Bool
   is_followed HelpPlay game root t q = true
   is_followed (BattlePlay battle) game root t q = not (root || seeks battle (t + 1))
       || value battle game t q
 
-  -- whether it gives the path to q: in help play where the last half-move reaches the goal
+  -- the path to q is emitted: in help play if the last half-move reaches the goal
   unfoldable pub is_given : Play → Game P M → ℕ → P → Bool
   is_given HelpPlay game t q = t == 0 && game.goal q
   is_given (BattlePlay battle) game t q = true
 
-  -- with how many half-moves the walk goes on from q, with variations or without
+  -- the number of half-moves for which the walk goes on from q, with variations or without
   unfoldable pub walk_length : Play → Bool → Game P M → ℕ → P → ℕ
   walk_length HelpPlay variation game t q = t
   walk_length (BattlePlay battle) variation game t q =
       if not variation && seeks battle (t + 1) then 0 else shown_length battle game t q
 
-  -- the paths that the walk gives from P by these moves, with `left` half-moves; `fuel` is at least `left`
+  -- the paths that the walk emits from p by these moves, with `left` half-moves; `fuel` is at least `left`
   unfoldable pub shown_paths : Plan → Game P M → Bool → ℕ → ℕ → P → List M → List (List M)
   shown_paths plan game root zero left p ms = []
   shown_paths plan game root (suc fuel) zero p ms = []
@@ -76,15 +78,16 @@ module _ {P M : Type 0} where
       (walk_length plan.play (has_variations plan.tree) game t q) q (game.moves q))
       else []) ms
 
-  -- the fewest positions that are tried for a move to q, with t half-moves left there: where the move is tested those of a
-  -- smallest tree, else q itself if the walk goes on from it
+  -- the fewest positions that have to be tried for a move to q, with t half-moves left: for a tested move
+  -- the positions of a smallest tree, otherwise q itself if the walk goes on from it
   abbrev pub fewest_for : Play → Bool → Game P M → Bool → ℕ → P → ℕ
   fewest_for HelpPlay variation game root t q = if t == 0 then 0 else 1
   fewest_for (BattlePlay battle) variation game root t q =
       if root || seeks battle (t + 1) then smallest_tree battle game t q
       else (if walk_length (BattlePlay battle) variation game t q == 0 then 0 else 1)
 
-  -- the same for these moves of p, with `left` half-moves, and for all that the walk gives below them
+  -- the fewest positions that have to be tried for these moves of p, with `left` half-moves, and for all
+  -- that the walk emits below them
   unfoldable pub fewest_walked : Plan → Game P M → Bool → ℕ → ℕ → P → List M → ℕ
   fewest_walked plan game root zero left p ms = 0
   fewest_walked plan game root (suc fuel) zero p ms = 0
@@ -109,7 +112,7 @@ to_come rule plan h p (f ∷ below) =
     (position rule p (f ∷ below)) (moves_behind rule (position rule p (f ∷ below)) f.place))
     ++ to_come rule plan h p below
 
--- the fewest positions that are still to be tried for all frames
+-- the fewest positions that have still to be tried for all frames
 unfoldable pub fewest_left : RuleSet → Plan → ℕ → Position → List Frame → ℕ
 fewest_left rule plan h p [] = 0
 fewest_left rule plan h p (f ∷ below) =
@@ -122,7 +125,7 @@ unfoldable pub IsRoomy : ℕ → List Frame → Type 0
 IsRoomy h [] = Unit {0}
 IsRoomy h (f ∷ below) = (f.left + length below ≤ h) × IsRoomy h below
 
--- the board stands on the top frame of a walk
+-- the board has the position of the top frame of a walk
 pub record IsWalking (rule : RuleSet) (h : ℕ) (p : Position) (frames : List Frame)
     (board : Position) : Type 0 where
   pub linked : IsLinked rule p frames
@@ -131,14 +134,14 @@ pub record IsWalking (rule : RuleSet) (h : ℕ) (p : Position) (frames : List Fr
   pub sound : IsWellFormed board
   pub board_at : board ≡ position rule p frames
 
--- the turns that a walk can still take, which fall at each one
+-- the most turns that a walk can still take; it falls with each turn
 unfoldable pub walk_work : RuleSet → ℕ → Position → List Frame → ℕ
 walk_work rule h p [] = 0
 walk_work rule h p (f ∷ below) =
     1 + work_behind rule (h - length below) (position rule p (f ∷ below)) f.place
     + walk_work rule h p below
 
--- of `walk` frames all but `rest` have been opened, counted up to the greatest u64
+-- all but `rest` of `walk` frames have been opened, counted up to the greatest u64
 pub record IsCounted (walk opened rest : ℕ) : Type 0 where
   pub within : rest ≤ walk
   pub counts : opened ≡ min (walk - rest) (2 ^ 64 - 1)
@@ -147,8 +150,8 @@ pub record IsCounted (walk opened rest : ℕ) : Type 0 where
 unfoldable pub are_whites : Battle → List Frame → Bool
 are_whites battle frames = list_all (λ f. f.left == 0 || seeks battle f.left) frames
 
--- the frames opened and still to be opened, before a part of a walk and after it: in help play and where keys alone are
--- shown they grow by nothing
+-- the frames opened and still to be opened before and after some steps of a walk: in help play, and if only
+-- keys are shown, their sum doesn't grow
 pub record Opens (rule : RuleSet) (plan : Plan) (p : Position) (old new : List Frame)
     (before after : ℕ) : Type 0 where
   pub whites : (battle : Battle) → plan.play ≡ BattlePlay battle → has_variations plan.tree ≡ false
@@ -161,7 +164,7 @@ pub record Opens (rule : RuleSet) (plan : Plan) (p : Position) (old new : List F
   pub counted : plan.play ≡ HelpPlay → (walk : ℕ) → IsCounted walk before (to_open rule p old)
       → IsCounted walk after (to_open rule p new)
 
--- a part of a walk counts on, and in a battle it tries no fewer positions than have to be
+-- what some steps of a walk count: in a battle no fewer positions than have to be tried
 pub record Tries (rule : RuleSet) (plan : Plan) (h : ℕ) (p : Position) (old new : List Frame)
     (before after : ℕ) : Type 0 where
   pub grows : min before (2 ^ 64 - 1) ≤ after
@@ -169,19 +172,19 @@ pub record Tries (rule : RuleSet) (plan : Plan) (h : ℕ) (p : Position) (old ne
       → min (before + fewest_left rule plan h p old) (2 ^ 64 - 1)
       ≤ after + fewest_left rule plan h p new
 
--- the side that makes the last half-move seeks the goal: each side in help play, and White in direct play
+-- the side that makes the last half-move wants the goal: each side in help play, White in direct play
 abbrev pub seeks_last : Play → Bool
 seeks_last HelpPlay = true
 seeks_last (BattlePlay battle) = seeks battle 1
 
--- the position after a move, with `left` half-moves left there: where that was the last half-move, by a side that seeks
--- mate, it mated
+-- if the move to q was the last half-move, by a side that wants mate, then it mated
 abbrev pub IsMatedAtLast : RuleSet → Plan → ℕ → Position → Type 0
 IsMatedAtLast rule plan left q =
     is_for_mate plan.goal ≡ true → seeks_last plan.play ≡ true → left ≡ 0 → is_mate rule q ≡ true
 
--- these moves of p have no paths, with `left` half-moves left: there are none, or with one left, by a side that seeks
--- mate, they don't mate; with two left in help play for mate they are settled, and counted
+-- these moves of p, with `left` half-moves left, lead to no path: there are none; or one half-move is left,
+-- for a side that wants mate, and they don't mate; or two are left in help play for mate, no reply to them
+-- mates, and they have counted
 abbrev pub HaveNoPaths : RuleSet → Plan → ℕ → Position → (before after : ℕ) → List Move → Type 0
 HaveNoPaths rule plan left p before after over =
     ((after ≡ before) × ((over ≡ []) ⊎ ((seeks_last plan.play ≡ true) × (plan.goal ≡ Mate)
@@ -189,12 +192,12 @@ HaveNoPaths rule plan left p before after over =
     ⊎ ((plan.play ≡ HelpPlay) × (plan.goal ≡ Mate) × (left ≡ 2)
     × AreSettled rule p before after over)
 
--- from a place to the moves `rest` behind a later one only moves are passed over that have no paths
+-- the walk passes over only moves without paths, from `place` to the moves `rest` after a later place
 abbrev pub GoesTo : RuleSet → Plan → ℕ → Position → ℕ → List Move → (before after : ℕ) → Type 0
 GoesTo rule plan left p place rest before after =
     Passes rule p place rest (HaveNoPaths rule plan left p before after)
 
--- an answer, of the next move behind a place that may have a path
+-- `found` is the next move after `place` that may have a path
 abbrev pub IsNextOf : RuleSet → Plan → ℕ → Position → (place next before after : ℕ) → Option Move
     → Type 0
 IsNextOf rule plan left p place next before after found =
@@ -217,19 +220,20 @@ pub record MovesOn (rule : RuleSet) (plan : Plan) (p : Position) (old new : List
   pub next : IsNextOf rule plan top.left p top.place place before after found
   pub mated : IfSome found (λ m. IsMatedAtLast rule plan (top.left - 1) (position_after rule p m))
 
--- whether a path that is given ends with the goal, at a frame with `left` half-moves: in help play each does, and in direct
--- play with variations each variation
+-- the path that ends at a frame with `left` half-moves reaches the goal: always in help play, and in direct
+-- play with variations if it is a whole variation
 abbrev pub ends_at_goal : Play → Bool → ℕ → Bool
 ends_at_goal HelpPlay variation left = true
 ends_at_goal (BattlePlay battle) variation left = left == 0 && (variation && seeks battle 1)
 
--- where it does so at the top frame, the goal is reached on the board
+-- if the path to the top frame ends with the goal, the board's position reaches it
 abbrev pub IsEnded : RuleSet → Plan → List Frame → Position → Type 0
 IsEnded rule plan frames board = ends_at_goal plan.play (has_variations plan.tree)
     (left_at_top frames) ≡ true
     → (chess plan.goal rule).goal board ≡ true
 
--- what one step of a walk leaves, for frames listed from the top down; `given` says whether the path to the new top is given
+-- what one step of a walk leaves, with frames listed from the top down; `given`: the path to the new top
+-- frame is emitted
 pub record Steps (rule : RuleSet) (plan : Plan) (h : ℕ) (p : Position) (old new : List Frame)
     (board : Position) (before after : ℕ) (given : Bool) : Type 0 where
   pub walking : IsWalking rule h p new board

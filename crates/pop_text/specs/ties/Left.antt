@@ -1,4 +1,4 @@
--- The words still to come from a place, and what a call of the scanner takes of them (own).
+-- The words still to come, and which of them a call of the scanner takes (own).
 use Rattle.std.specs.Prelude.{◌≡◌, ◌<◌, ◌≤◌, ℕ, ◌+◌, ◌-◌, List, [], ◌∷◌, ◌++◌, length, Option, None, Some, Result, Ok, Err, Bool, true, false}
 use Rattle.pop_text.specs.Bytes.{Consumes}
 use Rattle.pop_text.specs.Words.{Input, Clean, Failed, Words, Token, Word, TextLine, Tail, End as AtEnd, Long, Broken as Failing, limit, words_from, is_text_word, text_of_line}
@@ -12,22 +12,22 @@ use Rattle.pop_text.specs.declared.read_fault.ReadFault.TheVariants.{TooLong, In
 use Rattle.pop_text.specs.declared.word.Word.{Word as Read}
 use Rattle.pop_text.specs.declared.text.Text.{Text}
 
--- the input that begins with these bytes and goes on so
+-- an input of these bytes and then a rest
 abbrev pub onto_input : List ℕ → Input → Input
 onto_input bytes rest = record { bytes = bytes ++ rest.bytes; ending = rest.ending }
 
--- what the source may still give
+-- what may still come from the source
 abbrev pub MayFollow : End → Input → Type 0
 MayFollow Open rest = Unit {0}
 MayFollow Ended rest = rest ≡ record { bytes = []; ending = Clean }
 MayFollow Broken rest = rest ≡ record { bytes = []; ending = Failed }
 
--- the words still to come from a place, behind a text word of its line or behind none, where the source goes on so
+-- the words still to come, after a text word of the line or after none, if the source continues with this rest
 abbrev pub words_left : Option (List ℕ) → Reading → Input → Words
 words_left behind place rest = words_from behind (limit - place.used) place.line
     (onto_input place.window rest)
 
--- tokens before the words still to come
+-- these tokens put before words
 abbrev pub put_before : List Token → Words → Words
 put_before tokens words = record {
   tokens = tokens ++ words.tokens;
@@ -35,12 +35,13 @@ put_before tokens words = record {
   tail_line = words.tail_line;
 }
 
--- a place, and the text word behind which it is
+-- the state of a scanner, and the text word that it has just read, if any
 pub record Spot : Type 0 where
   pub behind : Option (List ℕ)
   pub at : Reading
 
--- From old to new these tokens were taken: some bytes were taken from the source, and however it goes on, the tokens begin the words still to come.
+-- From old to new these tokens are taken: some bytes are taken from the source, and however it continues, these tokens
+-- are the first of the words still to come.
 pub record Takes (old new : Spot) (had left : Option (List ℕ)) (tokens : List Token) : Type 0 where
   pub bytes : List ℕ
   pub taken : Consumes had left bytes
@@ -52,31 +53,31 @@ pub record Takes (old new : Spot) (had left : Option (List ℕ)) (tokens : List 
   pub amount : length bytes + (old.at.used + length old.at.window)
       ≡ new.at.used + length new.at.window
 
--- among words
+-- a scanner that has read no text word
 abbrev pub among : Reading → Spot
 among place = record { behind = None; at = place }
 
--- behind a text word, in whose line it stands
+-- a scanner that has just read this text word
 abbrev pub behind_word : List ℕ → Reading → Spot
 behind_word keyword place = record { behind = Some keyword; at = place }
 
--- no word is still to come
+-- no words, with this tail and the line of the end
 abbrev pub no_words : Tail → ℕ → Words
 no_words tail line = record { tokens = []; tail = tail; tail_line = line }
 
--- however the source goes on, the input ends here so
+-- the input ends here in this way, however the source continues
 abbrev pub IsOver : Reading → Tail → Type 0
 IsOver place tail = (rest : Input) → MayFollow place.end rest
     → words_left None place rest ≡ no_words tail place.line
 
--- a word was taken, or the place is now behind it if it is a text word
+-- a word is taken; if it is a text word, its text line isn't taken yet
 abbrev pub TakesWord : Bool → Reading → Reading → Option (List ℕ) → Option (List ℕ) → ℕ → List ℕ
     → Type 0
 TakesWord true old new had left line text = Takes (among old) (behind_word text new) had left []
 TakesWord false old new had left line text = Takes (among old) (among new) had left
     (Word line text ∷ [])
 
--- the place is not before the old one, and within the limit
+-- no byte is put back, and the limit holds
 abbrev pub StaysWithin : Reading → Reading → Type 0
 StaysWithin old new = (old.used ≤ new.used) × (new.used ≤ limit)
 
@@ -88,23 +89,23 @@ TakesNone old new had left (InputTooLong line) = Takes old (among new) had left 
 TakesNone old new had left (Device line) = Takes old (among new) had left [] × IsOver new Failing
     × (line ≡ new.line) × StaysWithin old.at new × (new.end ≡ Broken)
 
--- bytes were used, within the limit
+-- bytes are used, and the limit holds
 abbrev pub GoesOn : Reading → Reading → Type 0
 GoesOn old new = (old.used < new.used) × (new.used ≤ limit)
 
--- what was found, with the word that was put into the room of another one
+-- the result of `next_word`, by the word that `read_word` stored and its result
 abbrev pub found_by : Read → Result Found ReadFault → Result (Option Read) ReadFault
 found_by word (Ok AWord) = Ok (Some word)
 found_by word (Ok Nothing) = Ok None
 found_by word (Err fault) = Err fault
 
--- what is found where a run was taken so, which begins in the line with this number: a word where it fits
+-- the result of `read_word`, by the outcome of a run that begins in the line with this number
 abbrev pub found_of : Result Bool ReadFault → ℕ → Result Found ReadFault
 found_of (Ok true) line = Ok AWord
 found_of (Ok false) line = Err (TooLong line)
 found_of (Err fault) line = Err fault
 
--- what next_word does
+-- what `next_word` does
 abbrev pub NextWord : Reading → Reading → Option (List ℕ) → Option (List ℕ)
     → Result (Option Read) ReadFault → Type 0
 NextWord old new had left (Ok None) = Takes (among old) (among new) had left [] × IsOver new AtEnd
@@ -117,7 +118,7 @@ NextWord old new had left (Err (InputTooLong line)) = TakesNone (among old) new 
     (InputTooLong line)
 NextWord old new had left (Err (Device line)) = TakesNone (among old) new had left (Device line)
 
--- what rest_of_line does behind a text word, whichever it is
+-- what `rest_of_line` does after a text word
 abbrev pub RestOfLine : List ℕ → Reading → Reading → Option (List ℕ) → Option (List ℕ)
     → Result Text ReadFault → Type 0
 RestOfLine keyword old new had left (Ok text) = (line : List ℕ)

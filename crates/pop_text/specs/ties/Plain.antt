@@ -1,4 +1,5 @@
--- Words that say nothing in skipped text: those that begin like no text word and no word that closes a problem (own).
+-- Plain words: words that begin like no text word and no word that closes a problem. They say nothing in skipped text
+-- (own).
 use Rattle.std.specs.Prelude.{◌≡◌, ◌≤◌, ℕ, ◌+◌, ◌==◌, ◌&&◌, ◌||◌, not, List, [], ◌∷◌, ◌++◌, length, count_by, take, drop, Option, None, Bool, true, false, ◌⊎◌}
 use Rattle.std.specs.List.{list_all}
 use Rattle.std.specs.Char.{to_ascii_lowercase}
@@ -13,7 +14,7 @@ is_named_front a b c =
     || ((a == 111 && b == 114) && c == 105)) || ((a == 114 && b == 101) && c == 109))
     || ((a == 110 && b == 101) && c == 120)) || ((a == 101 && b == 110) && c == 100))
 
--- three letters or more that begin like one of these, in capitals or not
+-- a word that begins with one of these triples, in capitals or not
 abbrev pub is_named : List ℕ → Bool
 is_named [] = false
 is_named (a ∷ []) = false
@@ -21,12 +22,12 @@ is_named (a ∷ b ∷ []) = false
 is_named (a ∷ b ∷ c ∷ word) = is_named_front (to_ascii_lowercase a) (to_ascii_lowercase b)
     (to_ascii_lowercase c)
 
--- a word that says nothing in skipped text
+-- whether a token is a plain word
 abbrev pub is_plain : Token → Bool
 is_plain (Word line text) = not (is_named text)
 is_plain (TextLine line keyword text) = false
 
--- these bytes are none, or a gap or nothing stands behind them
+-- there are no bytes, or a gap or nothing follows them
 abbrev pub RunsOut : List ℕ → List ℕ → Type 0
 RunsOut bytes [] = bytes ≡ []
 RunsOut bytes (b ∷ behind) = (bytes ≡ []) ⊎ (is_gap b ≡ true)
@@ -40,14 +41,14 @@ pub record IsPlain (bytes : List ℕ) : Type 0 where
       → tokens_from None cut line (bytes ++ behind) ≡ tokens line
       ++ tokens_from None cut (line + count_by is_line_end bytes) behind
 
--- so many bytes stand first in the view and are plain words, and so many of them are line ends
+-- the first `count` bytes of the view are plain words, and `line_ends` of them are line ends
 pub record ArePlain (view : List ℕ) (count line_ends : ℕ) : Type 0 where
   pub within : count ≤ length view
   pub plain : IsPlain (take count view)
   pub over : RunsOut (take count view) (drop count view)
   pub lines : line_ends ≡ count_by is_line_end (take count view)
 
--- plain words of the window were used
+-- plain words of the window are used
 pub record Skips (old new : Reading) : Type 0 where
   pub tokens : List Token
   pub plain : list_all is_plain tokens ≡ true

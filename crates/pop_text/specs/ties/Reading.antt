@@ -1,4 +1,4 @@
--- What a scanner has read and not used (own).
+-- The state of a scanner, and which bytes a call uses (own).
 use Rattle.std.specs.Prelude.{◌≡◌, ◌≤◌, ◌<◌, ℕ, ◌+◌, ◌-◌, List, [], ◌∷◌, ◌++◌, take, length, count_by, Option, Bool, true, ◌⊎◌}
 use Rattle.std.specs.List.{list_all}
 use Rattle.pop_text.specs.Words.{is_line_end, limit}
@@ -6,18 +6,20 @@ use Rattle.pop_text.specs.Bytes.{Consumes, IsAtEnd}
 use Rattle.pop_text.specs.declared.scanner.End.{End}
 use Rattle.pop_text.specs.declared.scanner.End.TheVariants.{Open, Ended, Broken}
 
--- the bytes that were taken and are not used, how many are used, the line of the next byte, and how the input ends as far as that is known
+-- the state of a scanner: the window of bytes that are read but not used, how many bytes are used, the line of the next
+-- byte, and how the input ends, if that is known
 pub record Reading : Type 0 where
   pub window : List ℕ
   pub used : ℕ
   pub line : ℕ
   pub end : End
 
--- before all bytes
+-- the state before the first byte
 abbrev pub first_reading : Reading
 first_reading = record { window = []; used = 0; line = 1; end = Open }
 
--- Between old and new these bytes were used: some bytes were taken from the source, and the unread bytes begin with those used.
+-- Between old and new these bytes are used: some bytes are taken from the source, and the unused bytes begin with those
+-- that are used now.
 pub record Uses (old new : Reading) (had left : Option (List ℕ)) (bytes : List ℕ) : Type 0 where
   pub taken : List ℕ
   pub consumed : Consumes had left taken
@@ -26,31 +28,32 @@ pub record Uses (old new : Reading) (had left : Option (List ℕ)) (bytes : List
   pub line : new.line ≡ old.line + count_by is_line_end bytes
   pub still : old.end ≡ Open ⊎ ((taken ≡ []) × (new.end ≡ old.end))
 
--- Between old and new bytes were used that pass the test.
+-- Between old and new bytes that pass the test are used.
 pub record UsesAll (test : ℕ → Bool) (old new : Reading) (had left : Option (List ℕ)) : Type 0 where
   pub bytes : List ℕ
   pub all : list_all test bytes ≡ true
   pub uses : Uses old new had left bytes
 
--- So many bytes stand first in the view and pass the test, and so many of them are line ends.
+-- The first `count` bytes of the view pass the test, and `line_ends` of them are line ends.
 pub record AreFirst (test : ℕ → Bool) (view : List ℕ) (count line_ends : ℕ) : Type 0 where
   pub within : count ≤ length view
   pub all : list_all test (take count view) ≡ true
   pub lines : line_ends ≡ count_by is_line_end (take count view)
   pub few : line_ends ≤ count
 
--- So many bytes stand first in the view and pass the test: one at least where the first one passes.
+-- The first `count` bytes of the view pass the test; `count` is at least 1 if the first byte passes.
 pub record Leads (test : ℕ → Bool) (view : List ℕ) (count : ℕ) : Type 0 where
   pub within : count ≤ length view
   pub all : list_all test (take count view) ≡ true
   pub some : (b : ℕ) → (rest : List ℕ) → view ≡ b ∷ rest → test b ≡ true → 0 < count
 
--- the bytes of the window that belong to the input
+-- the view: the bytes of the window that are within the limit of the input
 pub record IsView (now : Reading) (view : List ℕ) : Type 0 where
   pub bytes : view ≡ take (limit - now.used) now.window
   pub within : now.used ≤ limit
 
--- The part is the front of the window, belongs to the input, passes the test and ends no line. It has a byte where the window's first one passes.
+-- The part is a prefix of the window within the limit, passes the test and has no line end. It has at least one byte if
+-- the window's first byte passes.
 pub record IsFront (test : ℕ → Bool) (now : Reading) (part : List ℕ) : Type 0 where
   pub front : take (length part) now.window ≡ part
   pub flat : 0 ≡ count_by is_line_end (take (length part) now.window)
@@ -60,18 +63,19 @@ pub record IsFront (test : ℕ → Bool) (now : Reading) (part : List ℕ) : Typ
   pub some : (b : ℕ) → (rest : List ℕ) → now.window ≡ b ∷ rest → test b ≡ true → now.used < limit
       → 0 < length part
 
--- a seen end is one
+-- an end that the scanner has seen is the end of the source
 abbrev pub IsSeen : End → Option (List ℕ) → Type 0
 IsSeen Open left = Unit {0}
 IsSeen Ended left = IsAtEnd left
 IsSeen Broken left = Unit {0}
 
--- the count of failures grows where the input breaks off
+-- the count of failures after a call: it grows if the input breaks off
 abbrev pub failures_after : End → End → ℕ → ℕ
 failures_after Open Broken n = n + 1
 failures_after _ _ n = n
 
--- Between two ends the source was asked as far as the first was open: an end that was seen is still seen, one that is known stays, and a failure is counted.
+-- Between two states the source is called only if its end isn't known: a known end stays, an end that was seen is still
+-- the end of the source, and a failure is counted.
 pub record Asks (old new : End) (had left : Option (List ℕ)) (before after : ℕ) : Type 0 where
   pub seen : IsSeen old had → IsSeen new left
   pub ends : old ≡ Open ⊎ new ≡ old

@@ -1,4 +1,4 @@
--- What stands at a place, and runs of a word (own).
+-- The next byte, and the runs of words (own).
 use Rattle.std.specs.Prelude.{◌≡◌, ◌<◌, ◌≤◌, ℕ, ◌+◌, List, [], ◌∷◌, ◌++◌, length, count_by, Option, Some, None, Result, Ok, Err, Bool, true, false, ◌⊎◌}
 use Rattle.std.specs.List.{list_all}
 use Rattle.pop_text.specs.ties.Reading.{Reading, Uses, UsesAll}
@@ -9,7 +9,7 @@ use Rattle.pop_text.specs.declared.read_fault.ReadFault.TheVariants.{TooLong, In
 use Rattle.pop_text.specs.declared.text.Text.{Text}
 use Rattle.pop_text.specs.declared.word.Word.{Word}
 
--- what stands at the place
+-- what comes next: a byte, the end of the input, or a fault
 abbrev pub Peeks : Reading → Result (Option ℕ) ReadFault → Type 0
 Peeks new (Ok (Some b)) = (rest : List ℕ) × (new.window ≡ b ∷ rest) × (new.used < limit)
 Peeks new (Ok None) = (new.window ≡ []) × (new.end ≡ Ended) × (new.used ≤ limit)
@@ -19,7 +19,7 @@ Peeks new (Err (TooLong line)) = ⊥
 Peeks new (Err (Device line)) = (new.window ≡ []) × (new.end ≡ Broken) × (line ≡ new.line)
     × (new.used ≤ limit)
 
--- a fault is found at the place, and so again by every later call; a word too long is behind it
+-- a fault that every later call finds again; a word that is too long isn't one, since it is used
 abbrev pub Sticks : Reading → ReadFault → Type 0
 Sticks new (TooLong line) = Unit {0}
 Sticks new (InputTooLong line) = Peeks new (Err (InputTooLong line))
@@ -30,12 +30,12 @@ abbrev pub IsRunOver : Reading → Type 0
 IsRunOver new = ((b : ℕ) × (rest : List ℕ) × (new.window ≡ b ∷ rest) × (is_gap b ≡ true)
     × (new.used < limit)) ⊎ ((new.window ≡ []) × (new.end ≡ Ended) × (new.used ≤ limit))
 
--- these bytes of a run were used
+-- these bytes of a run are used
 pub record UsesSolid (old new : Reading) (had left : Option (List ℕ)) (run : List ℕ) : Type 0 where
   pub solid : list_all is_in_word run ≡ true
   pub uses : Uses old new had left run
 
--- a whole run was used, which the word has or which is too long for it, or a beginning of one up to a fault
+-- a whole run is used, which the word keeps or which is too long for it; or a beginning of a run, up to a fault
 abbrev pub RunsTo : Reading → Reading → Option (List ℕ) → Option (List ℕ) → List ℕ
     → Result Bool ReadFault → Type 0
 RunsTo old new had left kept (Ok true) = UsesSolid old new had left kept × IsRunOver new
@@ -44,7 +44,7 @@ RunsTo old new had left kept (Ok false) = (run : List ℕ) × (160 < length run)
 RunsTo old new had left kept (Err fault) = (run : List ℕ) × UsesSolid old new had left run
     × Peeks new (Err fault)
 
--- a gap and the run behind it were used, and no byte behind that; the run begins in the line with this number
+-- a gap and the run after it are used, and no byte after the run; the run begins in the line with this number
 pub record UsesRun (old new : Reading) (had left : Option (List ℕ)) (number : ℕ)
     (run : List ℕ) : Type 0 where
   pub gap : List ℕ
@@ -53,7 +53,8 @@ pub record UsesRun (old new : Reading) (had left : Option (List ℕ)) (number : 
   pub uses : Uses old new had left (gap ++ run)
   pub line : number ≡ old.line + count_by is_line_end gap
 
--- which bytes next_word uses: the gap and the word, which is over there; where there is none the gap up to the end of the input, and a run that a fault cuts
+-- which bytes `next_word` uses: a gap and the word; without a word the gap up to the end of the input, or a gap and the
+-- beginning of a run that a fault cuts
 abbrev pub UsesWord : Reading → Reading → Option (List ℕ) → Option (List ℕ)
     → Result (Option Word) ReadFault → Type 0
 UsesWord old new had left (Ok None) = UsesAll is_gap old new had left × Peeks new (Ok None)
@@ -65,18 +66,18 @@ UsesWord old new had left (Err (InputTooLong line)) = (run : List ℕ)
     × UsesRun old new had left line run
 UsesWord old new had left (Err (Device line)) = (run : List ℕ) × UsesRun old new had left line run
 
--- what is known of the place behind a search for a word, by its answer
+-- what holds of the state after `next_word`, by its result
 abbrev pub Stands : Reading → Result (Option Word) ReadFault → Type 0
 Stands new (Ok None) = Peeks new (Ok None)
 Stands new (Ok (Some word)) = 0 < length word.bytes.items
 Stands new (Err fault) = Sticks new fault
 
--- a line and its line end were used, or a line that the input ends
+-- a line and its line end are used, or a line that ends with the input
 abbrev pub UsesWhole : Reading → Reading → Option (List ℕ) → Option (List ℕ) → List ℕ → Type 0
 UsesWhole old new had left line = Uses old new had left (line ++ 10 ∷ [])
     ⊎ (Uses old new had left line × (new.window ≡ []) × (new.end ≡ Ended))
 
--- which bytes rest_of_line uses: those of the line, whose text is answered, or up to a fault some of them
+-- which bytes `rest_of_line` uses: the whole line, whose text it returns, or some bytes of the line up to a fault
 abbrev pub UsesLine : Reading → Reading → Option (List ℕ) → Option (List ℕ) → Result Text ReadFault
     → Type 0
 UsesLine old new had left (Ok text) = (line : List ℕ) × (list_all is_in_line line ≡ true)

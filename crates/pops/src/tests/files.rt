@@ -1,4 +1,4 @@
-//! The program over words and files, with writers of fixed room.
+//! The program on words and files, with writers into fixed buffers.
 use crate::program::program;
 use std::fs;
 use std::test::Fail;
@@ -9,12 +9,12 @@ const PROBLEM: &[u8] =
 const REPORT: &[u8] =
     b"problem 1\n8 ......k.\n7 ........\n6 ......K.\n5 ........\n4 ........\n3 ........\n2 ........\n1 R.......\n  abcdefgh\n#1\nplay\n1.Ra1-a8#\nsolutions: 1\n\n";
 
-// In the folder in which the test runs.
+// A file in the folder in which the test runs.
 const PATH: &str = "mate_in_one_of_a_test.pop";
 
 const MISSING: &str = "a_file_that_is_not_there.pop";
 
-// What the program answers, and all that it writes.
+// The exit status of the program, and all that it writes.
 #[derive(Drop)]
 struct Outcome {
     status: u8,
@@ -22,7 +22,7 @@ struct Outcome {
     errors: &'static [u8],
 }
 
-// Whether the text is at the front of the room, and nothing after it.
+// Returns whether the buffer holds the text at its front, and nothing after it.
 fn holds(room: &[u8], text: &[u8]) -> bool {
     match room.strip_prefix(text) {
         Some(free) => free.iter().all(|byte| *byte == 0),
@@ -30,7 +30,7 @@ fn holds(room: &[u8], text: &[u8]) -> bool {
     }
 }
 
-// Whether these words have the outcome, where standard input is empty.
+// Returns whether the program on these words has the outcome, with an empty standard input.
 fn has_outcome(rt: &HostRuntime, words: &[&str], wanted: &Outcome) -> bool {
     let mut output = [0; 256];
     let mut errors = [0; 64];

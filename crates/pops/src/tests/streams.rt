@@ -1,17 +1,17 @@
-//! The program over writers that fail.
+//! The program on writers that fail.
 use crate::program::program;
 use std::io;
 use std::io::{ErrorKind, Write};
 use std::test::Fail;
 
-/// What of a writer fails.
+/// Which calls of a writer fail.
 #[derive(Clone, Copy, PartialEq, Eq)]
 enum Failing {
     Writes,
     Flushes,
 }
 
-/// A writer that takes nothing, or whose flush fails, and counts its calls.
+/// A writer that takes nothing or whose flush fails. It counts its calls.
 #[derive(Drop)]
 struct FailingWriter {
     failing: Failing,
@@ -50,7 +50,7 @@ impl Write for FailingWriter {
 const PROBLEM: &[u8] =
     b"BeginProblem\nPieces White Kg6 Ra1 Black Kg8\nStipulation #1\nEndProblem\n";
 
-// A refused write is the last one.
+// The program writes nothing more after a failed write.
 #[test]
 fn an_output_that_refuses_its_first_byte(rt: HostRuntime) -> Result<(), Fail> {
     let mut output = FailingWriter::new(Failing::Writes);
@@ -73,7 +73,7 @@ fn an_output_whose_flush_fails(rt: HostRuntime) -> Result<(), Fail> {
     Ok(())
 }
 
-// The status stays where nothing can be told of it.
+// The exit status doesn't depend on whether standard error can be written.
 #[test]
 fn errors_that_can_not_be_written(rt: HostRuntime) {
     let mut output = FailingWriter::new(Failing::Writes);

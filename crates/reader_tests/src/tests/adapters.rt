@@ -1,4 +1,4 @@
-//! Readers and writers of the standard library as sources and sinks: each call makes one call, and none is tried again.
+//! Readers and writers of the standard library as sources and sinks: each call makes one call and never retries.
 use pop_text::read_source::ReadSource;
 use pop_text::sink::Sink;
 use pop_text::source::Source;
@@ -6,7 +6,7 @@ use pop_text::write_sink::WriteSink;
 use std::io;
 use std::io::{ErrorKind, Read, Write};
 
-/// A reader whose first call is interrupted, and that would give a byte at each later one.
+/// A reader whose first call is interrupted. Each later call would return a byte.
 #[derive(Drop)]
 struct InterruptedReader {
     calls: u64,
@@ -23,7 +23,7 @@ impl Read for InterruptedReader {
     }
 }
 
-/// A reader that gives so many bytes a call, and counts its calls.
+/// A reader that returns `given` bytes a call and counts its calls.
 #[derive(Drop)]
 struct CountingReader {
     given: usize,
@@ -37,7 +37,7 @@ impl Read for CountingReader {
     }
 }
 
-/// What the first call of a writer does; each later one would take all.
+/// What the first call of a writer does. Each later call would take the whole text.
 #[derive(Clone, Copy, PartialEq, Eq)]
 enum First {
     IsInterrupted,
@@ -72,7 +72,7 @@ impl Write for CountingWriter {
     }
 }
 
-// A read that is tried again would answer a byte.
+// With a retry the first read would return a byte.
 #[test]
 fn an_interrupted_read_is_a_failure(rt: HostRuntime) {
     let mut source = ReadSource::new(InterruptedReader { calls: 0 });
@@ -82,7 +82,7 @@ fn an_interrupted_read_is_a_failure(rt: HostRuntime) {
     assert!(rt; buffer == [b'x', 0, 0, 0]);
 }
 
-// What one call of a source answers, none for a fault, and how many calls of its reader it made.
+// Returns the result of one call of a source, `None` for a failure, and how many calls of its reader it made.
 fn read(given: usize) -> (Option<usize>, u64) {
     let mut reader = CountingReader { given, calls: 0 };
     let mut buffer = [0u8; 4];
@@ -90,14 +90,14 @@ fn read(given: usize) -> (Option<usize>, u64) {
     (answer, reader.calls)
 }
 
-// No byte is the end, and no failure.
+// A read of no byte is the end and no failure.
 #[test]
 fn a_read_makes_one_call(rt: HostRuntime) {
     assert!(rt; read(3) == (Some(3), 1));
     assert!(rt; read(0) == (Some(0), 1));
 }
 
-// What one call of a sink answers, none for a fault, and how many calls of its writer it made.
+// Returns the result of one call of a sink, `None` for a failure, and how many calls of its writer it made.
 fn written_of(text: &[u8], first: First) -> (Option<usize>, u64) {
     let mut sink = WriteSink::new(CountingWriter { first, calls: 0 });
     let answer = sink.write(text).ok();

@@ -1,4 +1,4 @@
-//! Inputs of which both readers have to tell the same.
+//! Inputs on which both readers must agree.
 use crate::compared::{agree, mark};
 use crate::long::{PERIOD, long_text};
 use crate::made::text;
@@ -28,25 +28,25 @@ fn made_texts(rt: HostRuntime) {
         assert!(rt; agree(made.as_slice(), 1 + (number % 7) as usize));
         assert!(rt; agree(made.as_slice(), 4096));
     }
-    // All but the limit of 2^30 bytes comes up.
+    // Every kind of item occurs, except fault 20, the limit of 2^30 bytes.
     for number in 0..22usize {
         assert_eq!(rt; seen[number], number != 20);
     }
 }
 
-// Each place of a long text stands at a window's end once.
+// Each byte of a long text is at a window's end once.
 #[test]
 fn long_texts(rt: HostRuntime) -> Result<(), Fail> {
     for shift in 0..PERIOD {
         let text = long_text(&rt, shift)?;
-        // Twenty sound problems, twenty faulty ones, and the last.
+        // Twenty sound problems, twenty faulty ones, and the last one.
         assert_eq!(rt; items(text.as_slice(), false).len(), 41);
         assert!(rt; agree(text.as_slice(), 4096), "{shift} blanks");
     }
     Ok(())
 }
 
-// A source that hands out each count of bytes a call, up to more than a window.
+// Sources of each number of bytes a call, up to more than a window.
 #[test]
 fn bytes_a_call(rt: HostRuntime) -> Result<(), Fail> {
     for bytes in 1..4098usize {

@@ -1,4 +1,4 @@
-//! Inputs longer than the reading window, and sources and sinks that fail.
+//! Inputs that are longer than the reading window, and sources and sinks that fail.
 ghost use Rattle.std.specs.Prelude.{◌<◌};
 
 use crate::counted::Counted;
@@ -15,15 +15,15 @@ const PROBLEM: &[u8] = crate::tests::rows::MATE_IN_ONE_INPUT;
 
 const REPORT: &[u8] = crate::tests::rows::MATE_IN_ONE_REPORT;
 
-// A faulty problem, a sound one, and one that the end of the input cuts off.
+// A faulty problem, a sound one, and one that the input ends in.
 const THREE: &[u8] = crate::tests::rows::THREE_PROBLEMS_INPUT;
 
 const THREE_REPORT: &[u8] = crate::tests::rows::THREE_PROBLEMS_REPORT;
 
-// The room of a sink, more than any report here takes.
+// The size of a sink, more than any report of these tests.
 const ROOM: usize = 1024;
 
-// The front, so many bytes, and the back.
+// Returns a text of `front`, `count` times `byte`, and `back`.
 fn text(
     rt: &HostRuntime,
     front: &[u8],
@@ -63,9 +63,9 @@ fn texts_past_a_window(rt: HostRuntime) -> Result<(), Fail> {
     Ok(())
 }
 
-// What stands behind the last problem is in the window: nothing is left in the source.
+// The text after the last problem is in the window: nothing is left in the source.
 #[test]
-fn blanks_behind_the_end(rt: HostRuntime) -> Result<(), Fail> {
+fn blanks_after_the_end(rt: HostRuntime) -> Result<(), Fail> {
     let input = text(&rt, PROBLEM, b' ', 1000, b"")?;
     let mut source = TrialSource::new(input.as_slice(), 65_536, None);
     let mut sink = TrialSink::<ROOM>::new(4096, None);
@@ -76,7 +76,7 @@ fn blanks_behind_the_end(rt: HostRuntime) -> Result<(), Fail> {
     Ok(())
 }
 
-// Whether the report is given over a source and a sink that move at most so many bytes a call.
+// Returns whether the report is right with a source of `given` bytes a call and a sink of `taken` bytes a call.
 fn reports_three(given: usize, taken: usize) -> bool
     requires given { 0 < given }
     requires taken { 0 < taken }
@@ -87,7 +87,7 @@ fn reports_three(given: usize, taken: usize) -> bool
     status == Status::Faulty && sink.text() == THREE_REPORT
 }
 
-// How many bytes a source gives or a sink takes a call changes nothing.
+// The report doesn't depend on how many bytes a source or a sink moves a call.
 #[test]
 fn bytes_a_call(rt: HostRuntime) {
     for given in &[1, 2, 3, 4095, 4096, 4097] {
@@ -100,10 +100,11 @@ fn bytes_a_call(rt: HostRuntime) {
     }
 }
 
-// What stands before the last line of the report where the source fails behind so many bytes. A word counts where the
-// byte behind it was read. The second rook, the man on a square given twice, is bytes 30 to 32; the second NextProblem
-// is bytes 149 to 159; the last K, which has no square, is byte 174. Before the first NextProblem, bytes 91 to 101, the
-// failure is told behind the fault of problem 1 as an item of its own, and behind it as the fault of problem 2.
+// Returns the report before its last line, if the source fails after `bytes` bytes. A word is complete once the byte
+// after it was read. The second rook, on an occupied square, is bytes 30 to 32; the second NextProblem is bytes 149 to
+// 159; the last K, without a square, is byte 174. If the source fails before the end of the first NextProblem, bytes 91
+// to 101, the failure is an item of its own after the fault of problem 1; later it is the fault of problem 2. Both have
+// the number 2.
 fn before_the_failure(bytes: usize) -> &'static [u8] {
     match bytes {
         0..=33 => b"problem 1\n",
@@ -117,7 +118,7 @@ fn before_the_failure(bytes: usize) -> &'static [u8] {
     }
 }
 
-// The last line of that report: the failure, in the line that the bytes have reached.
+// Returns the last line of the report: the failure, in the line after these bytes.
 fn failure_in(bytes: &[u8]) -> &'static [u8] {
     let line_ends = bytes.iter().filter(|byte| **byte == b'\n').count();
     match line_ends {
@@ -134,7 +135,7 @@ fn failure_in(bytes: &[u8]) -> &'static [u8] {
     }
 }
 
-// Whether the failure of a source behind this beginning is told, and the source isn't asked again.
+// Returns whether a source that fails after this beginning is reported and isn't called again.
 fn tells_failure(beginning: &[u8], given: usize) -> bool
     requires { 0 < given }
 {
@@ -148,7 +149,7 @@ fn tells_failure(beginning: &[u8], given: usize) -> bool
         && source.calls_after_failure == 0
 }
 
-// The source fails once, behind each count of bytes. It would work again, and isn't asked again.
+// The source fails once, after each number of bytes. It would work again, but isn't called again.
 #[test]
 fn a_source_that_fails(rt: HostRuntime) {
     for bytes in 0..THREE.len() + 1 {
@@ -158,7 +159,7 @@ fn a_source_that_fails(rt: HostRuntime) {
     }
 }
 
-// Whether a sink that fails behind this beginning of the report holds just that, and isn't asked again.
+// Returns whether a sink that fails after this beginning of the report holds exactly that and isn't called again.
 fn holds(beginning: &[u8], taken: usize) -> bool
     requires { 0 < taken }
 {
@@ -171,8 +172,8 @@ fn holds(beginning: &[u8], taken: usize) -> bool
         && sink.calls_after_failure == 0
 }
 
-// The sink fails once, behind each count of bytes of the report, and holds just those. It would work again, and isn't
-// asked again.
+// The sink fails once, after each number of bytes of the report, and holds exactly these. It would work again, but
+// isn't called again.
 #[test]
 fn a_sink_that_fails(rt: HostRuntime) {
     for bytes in 0..THREE_REPORT.len() {
@@ -190,9 +191,9 @@ fn a_sink_that_fails_after_seven_bytes(rt: HostRuntime) {
     assert!(rt; sink.text() == b"problem".as_slice());
 }
 
-// Step by step: behind the step that met the failure each further step answers it again, and asks neither device.
+// After the step that fails, each further step returns the failure again and calls neither device.
 #[test]
-fn steps_behind_a_failed_write(rt: HostRuntime) {
+fn steps_after_a_failed_write(rt: HostRuntime) {
     for bytes in 0..THREE_REPORT.len() {
         let mut source = Counted::new(TrialSource::new(THREE, 1, None));
         let mut sink = Counted::new(TrialSink::<ROOM>::new(4096, Some(bytes)));
@@ -220,12 +221,12 @@ fn steps_behind_a_failed_write(rt: HostRuntime) {
     }
 }
 
-// Two problems, and words behind them.
+// Two problems, and words after them.
 const TWO: &[u8] =
     b"BeginProblem\nPieces White Kg6 Ra1 Black Kg8\nStipulation #1\nNextProblem\nPieces White Kg6 Ra1 Black Kg8\nStipulation #1\nEndProblem\nPieces White Kh1\nEndProblem\n";
 
-// One byte a call: a step asks for the bytes up to the end of the closing word, for the one behind it, by which the word
-// is over, and for no more. NextProblem is bytes 59 to 69, and EndProblem is bytes 117 to 126.
+// With one byte a call, a step reads up to the end of the closing word, one byte more, which ends the word, and nothing
+// else. NextProblem is bytes 59 to 69, and EndProblem is bytes 117 to 126.
 #[test]
 fn calls_of_a_step(rt: HostRuntime) {
     let mut source = Counted::new(TrialSource::new(TWO, 1, None));
@@ -242,9 +243,9 @@ fn calls_of_a_step(rt: HostRuntime) {
     assert!(rt; (calls_of_first, calls_of_both, source.calls) == (71, 128, 128));
 }
 
-// Behind a fault, where words are passed over, the same: the first NextProblem is bytes 91 to 101.
+// After a fault, with words that are skipped, a step reads no further either. The first NextProblem is bytes 91 to 101.
 #[test]
-fn calls_of_a_step_behind_a_fault(rt: HostRuntime) {
+fn calls_of_a_step_after_a_fault(rt: HostRuntime) {
     let mut source = Counted::new(TrialSource::new(THREE, 1, None));
     let mut sink = TrialSink::<ROOM>::new(4096, None);
     let mut session = Session::new(&settings(false));
@@ -252,9 +253,9 @@ fn calls_of_a_step_behind_a_fault(rt: HostRuntime) {
     assert_eq!(rt; source.calls, 103);
 }
 
-// Behind the last item each step answers the status of all, and asks neither device.
+// After the last item each step returns the status of all items and calls neither device.
 #[test]
-fn steps_behind_the_last_item(rt: HostRuntime) {
+fn steps_after_the_last_item(rt: HostRuntime) {
     let mut source = Counted::new(TrialSource::new(PROBLEM, 1, None));
     let mut sink = Counted::new(TrialSink::<ROOM>::new(4096, None));
     let mut session = Session::new(&settings(false));

@@ -1,4 +1,4 @@
-//! Inputs without end: 2^30 + 8,192 bytes, more than a run reads. The limit is 2^30 bytes.
+//! Endless inputs: 2^30 + 8,192 bytes, more than a run reads. The limit is 2^30 bytes.
 use crate::report::settings;
 use pop_run::{Status, run};
 use pop_text::trial_sink::TrialSink;
@@ -8,7 +8,7 @@ const LIMIT: usize = 1 << 30;
 
 const WITHOUT_END: usize = LIMIT + 8192;
 
-// Whether so many bytes of the text over and over give this report of faults.
+// Returns whether the text over and over, `bytes` bytes in all, has this report of faults.
 fn tells(text: &[u8], bytes: usize, report: &[u8]) -> bool {
     let mut source = TrialSource::repeated(text, bytes, 4096, None);
     let mut sink = TrialSink::<256>::new(256, None);
@@ -22,21 +22,21 @@ fn letters_without_end(rt: HostRuntime) {
     assert!(rt; tells(&[b'x'; 4096], WITHOUT_END, report));
 }
 
-// The line behind 2^30 line ends.
+// The line after 2^30 line ends.
 #[test]
 fn line_ends_without_end(rt: HostRuntime) {
     let report = b"problem 1\nline 1073741825: fault 20: input too long\n\n";
     assert!(rt; tells(&[b'\n'; 4096], WITHOUT_END, report));
 }
 
-// A clean end right at the limit is an end.
+// An input that ends cleanly at the limit isn't too long.
 #[test]
 fn blanks_up_to_the_limit(rt: HostRuntime) {
     let report = b"problem 1\nline 1: fault 1: BeginProblem expected\n\n";
     assert!(rt; tells(&[b' '; 4096], LIMIT, report));
 }
 
-// The first word is a fault, and skipping meets the limit.
+// The first word is a fault, and the text that is skipped reaches the limit.
 #[test]
 fn letters_and_blanks_without_end(rt: HostRuntime) {
     let mut text = [b' '; 4096];

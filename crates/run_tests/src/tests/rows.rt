@@ -895,7 +895,7 @@ const WORD_FAULTS: [Row; 11] = [
         status: Status::Faulty,
     },
     Row {
-        name: "word_behind_the_stipulation",
+        name: "word_after_the_stipulation",
         input: b"BeginProblem\nPieces White Kg6 Ra1 Black Kg8\nStipulation #1 foo\nEndProblem\n",
         check: false,
         no_board: false,

@@ -1,7 +1,7 @@
-//! Searches beside the plain solutions, on small positions.
+//! Searches on small positions, compared with the plain solver.
 use crate::row::agrees;
 
-/// Men of small positions, with all kinds of men, castling, promotions and en passant.
+/// Small positions with all kinds of men, castling, promotions and en passant.
 const POSITIONS: [&str; 10] = [
     "White Kc7 Rb2 Black Ka8",
     "White Kg6 Ra1 Black Kh8",
@@ -15,7 +15,7 @@ const POSITIONS: [&str; 10] = [
     "White Kg6 Qe4 Black Kg8 Sf8 Bc8",
 ];
 
-/// Stipulations, with what stands behind them.
+/// Stipulations, with the words after them.
 const STIPULATIONS: [(&str, &str); 38] = [
     ("#1", ""),
     ("#1", "Option SetPlay Variation"),
@@ -58,7 +58,7 @@ const STIPULATIONS: [(&str, &str); 38] = [
     ("h=2", "Option MaxSolutions 5"),
 ];
 
-/// Men with longer stipulations; those of stalemate have pawns that stop one another, or no kings.
+/// Men with longer stipulations. The positions for stalemate have pawns that block each other, or no kings.
 const LONGER: [(&str, [&str; 4]); 6] = [
     ("White Kc7 Rb2 Black Ka8", ["#3", "s#2", "h#2", "h#2.5"]),
     ("White Kg6 Ra1 Black Kh8", ["#3", "s#2", "h#2", "h#2.5"]),

@@ -1,4 +1,4 @@
-//! The frames that a search has opened, beside plain counts and published ones.
+//! The number of positions that a search has tried, compared with plain counts and published ones.
 use crate::counts::{fewest_tried, walk_of};
 use crate::made::made;
 use crate::row::{half_moves, posed};
@@ -9,7 +9,7 @@ use pop_input::problem::Problem;
 use pop_input::stipulation::Goal;
 use std::process::Abort;
 
-/// How many of the made problems are of each sort.
+/// The number of generated problems of each sort.
 #[derive(Clone, Copy, Default)]
 struct Tally {
     problems: u32,
@@ -70,7 +70,7 @@ impl Tally {
     }
 }
 
-/// The made problem of this number, which is sound with any options.
+/// Runs the generated problem with this number, which is sound with any options.
 fn seen_with(rt: &impl Abort, number: u64, set_play: bool, limit: Option<u32>, most: u64) -> Seen {
     match made(number, set_play, limit) {
         Some(problem) => watch(rt, &problem, most),
@@ -81,8 +81,8 @@ fn seen_with(rt: &impl Abort, number: u64, set_play: bool, limit: Option<u32>, m
     }
 }
 
-/// A made problem with set play and without, with a limit that isn't reached and with limits that are. Unless a limit ends
-/// it, a phase opens a frame for each list of moves.
+/// Tries a generated problem with and without set play, with a limit that isn't reached and with limits
+/// that are. Unless a limit stops it, a phase opens a frame for each list of moves.
 fn try_help(rt: &impl Abort, problem: &Problem, number: u64, tally: &mut Tally) {
     let in_set = walk_of(problem, true);
     let in_play = walk_of(problem, false);
@@ -131,9 +131,9 @@ fn made_help_problems(rt: HostRuntime) {
     }
 }
 
-// The numbers of moves of one half-move, two and so on are those that move generators agree on (Chess Programming Wiki, perft
-// results), and the sums are taken from the first position, 1, on. The last was counted by a program in another language that
-// shares nothing with this one.
+// The numbers of moves of one half-move, two half-moves and so on are perft results (Chess Programming
+// Wiki), and the sums begin with the first position, 1. The last one was counted by an independent program
+// in another language.
 #[test]
 fn known_counts(rt: HostRuntime) {
     let rows: [(&[u8], &str, u64); 6] = [
@@ -174,8 +174,9 @@ fn known_counts(rt: HostRuntime) {
     }
 }
 
-/// A battle. To find the keys a smallest tree has to be tried for each first move, and no list of moves is tried twice. With
-/// variations one is tried once to be shown, and for each of its positions at most once more in a test of that position.
+/// Tries a battle. To find the keys, a search must try a smallest tree for each first move, and it tries no
+/// list of moves twice. With variations it tries each list of moves once to show it, and at most once for a
+/// test of each of its positions.
 fn try_battle(rt: &impl Abort, men: &[u8], stipulation: &str) {
     let Some(problem) = posed(men, stipulation, "") else {
         assert!(rt; false, "{stipulation} is sound");
@@ -211,10 +212,11 @@ fn battles(rt: HostRuntime) {
     try_battle(&rt, b"White Kc7 Rb2 Black Ka8", "=2");
 }
 
-// Each side has one move at a time, so that no order and no cutoff saves a trial. In the first White's only half-move is tried
-// from the diagram, and none behind it. In the second h3-h4 h6-h5 stops both pawns: tried from the diagram and from the
-// position after h3-h4. In the third b3-b4 is White's only move and a6-a5 Black's only answer, and then White takes the last
-// black man: tried from the diagram and from the positions after these two moves.
+// Each side has one move at a time, so no order and no cutoff saves a try. In the first problem White's
+// only half-move is tried from the diagram, and none after it. In the second, h3-h4 h6-h5 blocks both
+// pawns: moves are tried from the diagram and from the position after h3-h4. In the third, b3-b4 is White's
+// only move and a6-a5 Black's only reply, and then White takes the last black man: moves are tried from the
+// diagram and from the positions after these two moves.
 #[test]
 fn battles_by_hand(rt: HostRuntime) {
     let rows: [(&[u8], &str, u64); 3] = [

@@ -1,4 +1,4 @@
-//! Events that no search of today makes, and some that it does, as they are printed.
+//! Events as they are printed, some of which no search returns today.
 use arrayvec::ArrayVec;
 use chess_core::man::{Colour, Kind, Man};
 use chess_core::square::Square;
@@ -7,7 +7,7 @@ use pop_events::shown::{Mark, Shown, Side};
 use pop_print::print_event;
 use pop_text::trial_sink::TrialSink;
 
-// A move of a man between two squares, numbered from a1, 0, to h8, 63.
+// Returns a move of a man between two squares, numbered from a1, 0, to h8, 63.
 fn shown(colour: Colour, kind: Kind, from: u8, to: u8, mark: Mark) -> Shown {
     Shown {
         man: Man { colour, kind },

@@ -1,4 +1,4 @@
-//! All that is asked of a search, for each row that is one problem with its solutions. Written from `tests/rows` by `tests/rows_agree --write`: make changes there.
+//! All that a search must do, for each row that is one problem with its solutions. Written from `tests/rows` by `tests/rows_agree --write`: make changes there.
 use crate::row::{Row, is_searched};
 
 // Circe, Madrasi, grasshopper and nightrider.

@@ -1,7 +1,7 @@
 use Rattle.chess_rules.proofs.Chess.{IsNamed, length, moves_between, per_origin, ◌*◌, ◌+◌, ◌-◌, ◌<◌, ◌≡◌, ◌≤◌}
 use Rattle.chess_rules.proofs.counting.count_of_pawn.Given as goal
 
--- those counted and those still to come are all
+-- at each turn the moves counted and those still to count are all moves
 abbrev pub invariant-loop-at : goal.invariant-loop-at
 invariant-loop-at g l = record {
   board : l.board ≡ l.fn.board;

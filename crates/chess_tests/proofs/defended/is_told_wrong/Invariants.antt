@@ -3,7 +3,7 @@ use Rattle.chess_mates.specs.ties.Threats.{AreThreatsOf}
 use Rattle.chess_rules.specs.ties.Places.{moves_behind}
 use Rattle.chess_tests.proofs.defended.is_told_wrong.Given as goal
 
--- no move is played, and the threats stay those of the board
+-- no move is played, and the threats still belong to the board
 abbrev pub invariant-loop-m : goal.invariant-loop-m
 invariant-loop-m g l = (l.board ≡ l.fn.board) × AreThreatsOf g.R.Rules.rule l.fn.board l.threats
 

@@ -2,7 +2,7 @@ use Rattle.pop_run.proofs.Basics.{event_of, event_text, events_of, length, map, 
 use Rattle.pop_run.proofs.Findings.{IsPrinting}
 use Rattle.pop_run.proofs.solutions.print_solutions.Given as goal
 
--- the events so far are printed, and the search has the others still to give
+-- the events so far are printed, and the search still has the others
 abbrev pub invariant-loop-event : goal.invariant-loop-event
 invariant-loop-event g l = record {
   problem : l.search.problem ≡ l.problem;

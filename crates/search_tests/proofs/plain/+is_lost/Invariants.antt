@@ -19,6 +19,6 @@ decreases-loop-defence g l = length (moves_behind g.R.Rules.rule l.here l.defenc
 abbrev pub invariant-loop-answer : goal.invariant-loop-answer
 invariant-loop-answer g l = IsWellFormed l.there
 
--- fewer answers are still to come
+-- fewer replies are still to come
 abbrev pub decreases-loop-answer : goal.decreases-loop-answer
 decreases-loop-answer g l = length (moves_behind g.R.Rules.rule l.there l.answers)

@@ -2,7 +2,7 @@ use Rattle.std.proofs.Common.{◌≡◌, ◌≤◌, ◌+◌, ◌*◌, ◌++◌, 
 use Rattle.pop_print.specs.Events.{moves_text}
 use Rattle.pop_print.proofs.line.LineBuffer.add_moves.Given as goal
 
--- what is added, and what the moves from here on still add
+-- what is added so far, and what the moves from here on add
 abbrev pub invariant-loop-shown : goal.invariant-loop-shown
 invariant-loop-shown g l = record {
   text : l.self ++ moves_text l.first l.number (drop l.shown-index l.moves) ≡ l.fn.self ++ moves_text true l.fn.half l.moves;

@@ -3,7 +3,7 @@ use Rattle.std.specs.List.{prefix_len}
 use Rattle.pop_settings.specs.pops_part.Numbers.{is_digit}
 use Rattle.pop_settings.proofs.pops_part.values.digits_in_front.Given as goal
 
--- up to the place stand digits alone
+-- all bytes before `at` are digits
 abbrev pub invariant-loop-at : goal.invariant-loop-at
 invariant-loop-at l = record {
   front : prefix_len is_digit l.text ≡ l.at + prefix_len is_digit (drop l.at l.text);
