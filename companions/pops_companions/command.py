@@ -1,4 +1,4 @@
-"""What every companion does alike as a command: its texts in and out, its messages, its status."""
+"""What all companions share as commands: input and output, messages, exit status."""
 
 import argparse
 import io
@@ -14,7 +14,7 @@ from pops_companions import places
 
 
 class Status(IntEnum):
-    """How a companion ends; the numbers are those of pops where they mean the same."""
+    """How a companion ends. The numbers are the statuses of pops where they mean the same."""
 
     GOOD = 0
     FAULTY = 1
@@ -24,7 +24,7 @@ class Status(IntEnum):
 
 
 class CommandError(Exception):
-    """What ends a companion, with the line that it says and its status."""
+    """Ends a companion with a message and an exit status."""
 
     def __init__(self, status: Status, message: str):
         super().__init__(message)
@@ -32,7 +32,7 @@ class CommandError(Exception):
 
 
 def parser(name: str, description: str, **more: object) -> argparse.ArgumentParser:
-    """The reader of a companion's arguments; `--version` is among them."""
+    """Returns a reader of a companion's arguments, which knows `--version`."""
     made = argparse.ArgumentParser(
         prog=name,
         description=description,
@@ -67,7 +67,7 @@ def run(name: str, command: Callable[[list[str]], int]) -> NoReturn:
 
 
 def _status_of(command: Callable[[list[str]], int]) -> int:
-    """A command's status, also where the reader of its arguments ends it, as for `--help`."""
+    """Returns a command's status, also where argparse ends it, as for `--help`."""
     try:
         return command(sys.argv[1:])
     except SystemExit as end:
@@ -77,7 +77,7 @@ def _status_of(command: Callable[[list[str]], int]) -> int:
 def _buffer_output() -> None:
     """Buffers standard output where Python doesn't (PYTHONUNBUFFERED).
 
-    An unbuffered write may take a part of its bytes alone, and says nothing of the rest.
+    An unbuffered write may take only some of its bytes without an error.
     """
     if sys.stdout is None:
         raise CommandError(Status.DEVICE, "standard output is closed")
@@ -92,7 +92,7 @@ def _buffer_output() -> None:
 
 
 def _close_output() -> None:
-    """Lets go of what an output that failed refused; else Python would fail on it once more."""
+    """Drops what a failed output refused, so that Python doesn't fail on it again at its end."""
     try:
         if sys.stdout is not None:
             sys.stdout.flush()
@@ -101,14 +101,14 @@ def _close_output() -> None:
 
 
 def number_from_one(text: str) -> int:
-    """The number that an option wants."""
+    """Reads the number of an option."""
     if not text.isascii() or not text.isdigit() or int(text) == 0:
         raise argparse.ArgumentTypeError(f"{text!r} is no number from 1")
     return int(text)
 
 
 def add_encoding(parser: argparse.ArgumentParser) -> None:
-    """Adds the option that says how titles and authors are written."""
+    """Adds the option for the encoding of titles and authors."""
 
     def encoding(name: str) -> str:
         try:
@@ -128,7 +128,7 @@ def add_encoding(parser: argparse.ArgumentParser) -> None:
 
 @contextmanager
 def opened(file: Optional[str]) -> Iterator[BinaryIO]:
-    """A file's bytes, or those of standard input where no file is named."""
+    """Opens a file for its bytes, or standard input where no file is named."""
     if file is None:
         if sys.stdin is None:
             raise CommandError(Status.DEVICE, "standard input is closed")
@@ -144,10 +144,10 @@ def opened(file: Optional[str]) -> Iterator[BinaryIO]:
 
 @contextmanager
 def written(file: Optional[str]) -> Iterator[BinaryIO]:
-    """Where a companion writes: a file, or standard output where no file is named.
+    """Opens the file that a companion writes, or standard output where no file is named.
 
-    A file is there under its name once all of it is written: a run that fails leaves what stood
-    there before. Devices and pipes are written as they are.
+    A file gets its name once all of it is written: a run that fails leaves the old file as it
+    was. Devices and pipes are written directly.
     """
     if file is None:
         yield sys.stdout.buffer
@@ -182,7 +182,7 @@ def _created(file: str) -> BinaryIO:
 
 
 def _mask() -> int:
-    """The rights that new files of this process don't get."""
+    """Returns the permissions that new files of this process don't get."""
     mask = os.umask(0)
     os.umask(mask)
     return mask

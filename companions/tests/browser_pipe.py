@@ -83,7 +83,7 @@ class Browser:
         return found
 
     def call(self, method: str, **parameters: Any) -> dict[str, Any]:
-        """Asks the browser for something and answers what it says."""
+        """Calls a method of the browser; returns its result."""
         self._number += 1
         asked: dict[str, Any] = {"id": self._number, "method": method, "params": parameters}
         if self._session is not None:

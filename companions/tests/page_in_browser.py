@@ -300,7 +300,7 @@ LOOKS: list[Callable[[Page], None]] = [
 
 
 def look(program: str, file: Path, pictures: Optional[Path] = None) -> list[str]:
-    """Uses the page in a browser. Answers what is wrong."""
+    """Uses the page in a browser. Returns what is wrong."""
     browser = Browser(program)
     page = Page(browser, file, pictures)
     try:

@@ -1,7 +1,7 @@
-"""What pops-part tells of an input of one problem: by itself where it is built, else by a stand-in.
+"""What pops-part writes for an input of one problem; a stand-in writes it where it isn't built.
 
 The stand-in shares out what pops finds. Parts without solutions are made up: one before each part
-whose first moves have an even sum of bytes, and one behind all.
+whose first moves have an even sum of bytes, and one after all.
 """
 
 import functools
@@ -38,9 +38,9 @@ class Told(NamedTuple):
 
 @functools.lru_cache(maxsize=64)
 def told(text: bytes, depth: int) -> Told:
-    """What pops-part tells of a problem that is cut by so many moves.
+    """What pops-part writes for a problem that is cut by `depth` half-moves.
 
-    Of a problem that a limit alone brings to an end the stand-in tells it.
+    For a problem that only a limit ends, the stand-in writes it.
     """
     path = program()
     asked = None if path is None else _asked(path, text, depth)
@@ -48,7 +48,7 @@ def told(text: bytes, depth: int) -> Told:
 
 
 def count(text: bytes, depth: int) -> int:
-    """How many parts a problem has; 0 where the program doesn't tell."""
+    """How many parts a problem has; 0 where the program doesn't say."""
     path = program()
     listed = b"" if path is None else _run([path, "--list", "--depth", str(depth)], text).stdout
     return sum(map(int, re.findall(rb" (\d+)", listed)))
@@ -65,7 +65,7 @@ def answer(words: Sequence[str], text: bytes) -> bytes:
 
 
 def _run(words: Sequence[str], text: bytes) -> "subprocess.CompletedProcess[bytes]":
-    """Runs a program, for so many seconds of processor time at the most."""
+    """Runs a program, with a limit of processor seconds."""
 
     def limited() -> None:
         resource.setrlimit(resource.RLIMIT_CPU, (_SECONDS, _SECONDS))
@@ -75,7 +75,7 @@ def _run(words: Sequence[str], text: bytes) -> "subprocess.CompletedProcess[byte
 
 
 def _asked(path: str, text: bytes, depth: int) -> Optional[Told]:
-    """What the program itself tells; all parts of a phase at once."""
+    """What the program itself writes, all parts of a phase at once."""
     how = ["--depth", str(depth)]
     listed = _run([path, "--list", *how], text)
     parts: dict[str, list[bytes]] = {}
@@ -139,7 +139,7 @@ def _phases(lines: bytes) -> dict[str, list[bytes]]:
 
 
 def _by_first_moves(lines: list[bytes], depth: int) -> list[list[bytes]]:
-    """The lines of a phase, those of each part together."""
+    """The lines of a phase, part by part."""
     parts: list[list[bytes]] = []
     last: Optional[list[bytes]] = None
     for line in lines:
@@ -165,7 +165,7 @@ def _moves(line: bytes) -> list[bytes]:
 
 
 def _limited(lines: list[bytes], limit: float) -> bytes:
-    """The report of a part, with so many solutions at the most."""
+    """The report of a part, up to a limit of solutions."""
     shown: list[bytes] = []
     count = 0
     for line in lines:

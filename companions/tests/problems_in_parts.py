@@ -40,7 +40,7 @@ ALL = list(map("\n".join, itertools.product(_POSITIONS, _CONDITIONS, _OPTIONS)))
 
 
 def made_inputs(number: int) -> list[bytes]:
-    """So many inputs of a few problems; together they have all of them."""
+    """Makes this many inputs of a few problems; together they have all problems."""
     inputs = []
     each = -(-len(ALL) // number)
     for place in range(number):

@@ -43,7 +43,7 @@ def wait_for(seen: Callable[[], object]) -> None:
 
 
 def _fields(folder: Path) -> list[bytes]:
-    """What the system tells of a process, from its state on; nothing where it is gone."""
+    """What the system knows of a process, from its state on; nothing where it is gone."""
     try:
         return (folder / "stat").read_bytes().rpartition(b")")[2].split()
     except OSError:
@@ -119,7 +119,7 @@ class SixProblems(unittest.TestCase):
         run.communicate()
 
     def programs(self, run: "subprocess.Popen[bytes]", number: int) -> list[int]:
-        """The programs that a run of pops-many has at work, once there are so many."""
+        """The programs that a run of pops-many has at work, once there are as many as wanted."""
         wait_for(lambda: len(children(run.pid)) == number)
         found = children(run.pid)
         for program in found:

@@ -62,7 +62,7 @@ class SplitRoom(SixProblems):
         return str(path)
 
     def tell(self, name: str, text: bytes) -> None:
-        """Writes files of what pops-part tells of a problem."""
+        """Writes files of what pops-part writes for a problem."""
         folder = self.room / "told" / name
         folder.mkdir(parents=True, exist_ok=True)
         for depth in (1, 2):

@@ -37,7 +37,7 @@ _ROW_INPUTS = _written_rows()
 
 
 class Outcome(NamedTuple):
-    """What a program left behind."""
+    """What a program left: status, output, message."""
 
     status: int
     output: bytes
@@ -45,7 +45,7 @@ class Outcome(NamedTuple):
 
 
 def needs(name: str) -> Callable[[Test], Test]:
-    """Leaves a test out, with a line that says so, where no such module or program is installed."""
+    """Leaves a test out, with a line that says so, where this module or program isn't installed."""
     is_there = shutil.which(name) is not None or importlib.util.find_spec(name) is not None
     return unittest.skipUnless(is_there, f"{name} isn't installed")
 
@@ -86,7 +86,7 @@ def row_options(stored_input: Path) -> list[str]:
 
 
 def is_for_check(stored_input: Path) -> bool:
-    """Whether a row's report tells `--check` alone: no search of it ends in a lifetime."""
+    """Whether a row's report is that of `--check`: no search of it ends in a lifetime."""
     return "--check" in row_options(stored_input)
 
 
@@ -115,7 +115,7 @@ class PlainItem(NamedTuple):
 
 
 def plain_items(report: bytes) -> list[PlainItem]:
-    """The items of a report whose titles are ASCII: parted by the empty lines behind them."""
+    """The items of a report whose titles are ASCII: parted by the empty lines after them."""
     blocks = report.decode("ascii").split("\n\n")
     assert blocks[-1] == ""
     return [PlainItem(block.split("\n")) for block in blocks[:-1]]

@@ -37,7 +37,7 @@ class Chain(unittest.TestCase):
                 self.assertEqual(len(article.men), men if one["sound"] else 0)
 
     def test_positions_with_published_keys(self) -> None:
-        """The file of data holds mates in two whose keys are those of the literature."""
+        """The file of data holds mates in two whose keys are known from the literature."""
         source = support.COMPANIONS / "data" / "mates_in_two.epd"
         problems = support.companion("fen2pop", "-f", str(source)).output
         report = support.companion("pops-many", "--pops", support.pops(), text=problems).output

@@ -29,7 +29,7 @@ CHARACTERS = {
 
 
 class Slip(NamedTuple):
-    """A slip of the list, with what is to be told of it."""
+    """A slip of the list, with its wanted explanation."""
 
     place: int
     text: bytes
@@ -40,7 +40,7 @@ class Slip(NamedTuple):
 
 
 def slips() -> Iterator[Slip]:
-    """The slips of the list, behind its introduction."""
+    """The slips of the list, after its introduction."""
     lines = (support.COMPANIONS / "data" / "slips.txt").read_text("utf-8").split("\n")
     first = next(place for place, line in enumerate(lines) if line.startswith("== "))
     block: list[str] = []
@@ -96,7 +96,7 @@ def character(name: str) -> bytes:
 
 
 def explained(text: bytes) -> list[ExplainedFault]:
-    """The faults that pops tells of a text, explained."""
+    """The faults that pops reports of a text, explained."""
     report = support.run([support.pops(), "--check", "--no-board"], text).output
     return list(explain(text, read_report(io.BytesIO(report))))
 

@@ -1,7 +1,7 @@
-"""pops-import: other collections become problems of pops, and what is left out is told.
+"""pops-import: other collections become problems of pops, and what is left out is reported.
 
 The made files of data/import have the wanted output (.pop) and the wanted lines on standard error
-(.told) beside them, both written by hand.
+(`.told`) next to them, both written by hand.
 """
 
 import contextlib
@@ -30,7 +30,7 @@ IMPORT = support.loaded("pops-import")
 
 
 class Imported(NamedTuple):
-    """What an import in this process left behind; lines of error without the program's name."""
+    """What an import in this process left; lines of error without the program's name."""
 
     status: int
     output: bytes
@@ -50,7 +50,7 @@ def imported(*words: str) -> Imported:
 
 
 def imported_text(text: bytes, *words: str) -> Imported:
-    """Imports a text, which is called `text` in what is told."""
+    """Imports a text, which messages call `text`."""
     with tempfile.TemporaryDirectory() as room:
         source = Path(room) / "text"
         source.write_bytes(text)
@@ -211,7 +211,7 @@ class RoundTrips(unittest.TestCase):
         self.assertGreater(tried, 70)
 
     def test_the_example_of_faults(self) -> None:
-        """Of its seven problems a comma and a lost number are no faults of Popeye's."""
+        """A comma and a lost number in two of its seven problems are no faults for Popeye."""
         made = imported(str(support.REPOSITORY / "examples" / "faults.pop"))
         self.assertEqual(made.status, 1)
         self.assertEqual(made.output.count(b"Pieces "), 4)
@@ -261,7 +261,7 @@ def translated(text: str, place: int) -> str:
 
 
 def made_problems(chance: random.Random) -> str:
-    """Problems of this profile, as pops-import writes them; some have a fault that pops tells."""
+    """Problems of this profile, as pops-import writes them; some have a fault that pops reports."""
     problems = []
     for number in range(chance.randrange(1, 5)):
         squares = [f"{file}{rank}" for file in "abcdefgh" for rank in range(2, 8)]

@@ -1,4 +1,4 @@
-"""Many problems at once: the bytes and the status are those of one run of pops."""
+"""Many problems at once: bytes and status as of one run of pops."""
 
 import io
 import os

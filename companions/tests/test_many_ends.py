@@ -1,4 +1,4 @@
-"""pops-many that is stopped or killed: what ends, what is left behind, what --resume takes up."""
+"""pops-many that is stopped or killed: what ends, what is left, what --resume takes up."""
 
 import os
 import pty

@@ -367,7 +367,7 @@ class Answers(unittest.TestCase):
 class Collection(unittest.TestCase):
     """A collection whose soundness was worked out by hand; Morphy's and the array's are published.
 
-    Of pawn e6 White makes a queen or a rook, and both mate. The mate in two of Kf6 and Qa7 is one
+    Pawn e6 becomes a queen or a rook, and both mate. The mate in two of Kf6 and Qa7 is one
     in one as well; Black has one first move alone, so that its two lines part later. In the array's
     lines f7-f5 or f7-f6 and g7-g5 come in either order, with e2-e3 or e2-e4 between. Four moves
     along the eighth rank leave Black b3-b2 alone.
@@ -498,7 +498,7 @@ class Collection(unittest.TestCase):
         self.assertIn(b"2 keys, 1 wanted", both.output)
 
     def test_published_keys_are_the_only_ones(self) -> None:
-        """Of the game endings and problems in examples/ each published key is the only one."""
+        """Each published key of the game endings and problems in examples/ is the only one."""
         for name in ("morphy_1856", "legal_paris_1750", "boden_london_1853", "reti_vienna_1910"):
             report = support.REPOSITORY / "examples" / f"{name}.report"
             outcome = run_here.companion("pops-test", str(report))
@@ -695,7 +695,7 @@ class Command(unittest.TestCase):
         self.assertIn("given.pop isn't the report's input: it has no problem 2", outcome.error)
 
     def test_problems_that_the_report_lacks_are_undecided(self) -> None:
-        """As those behind the place where a run was interrupted."""
+        """As after the place where a run was interrupted."""
         with tempfile.TemporaryDirectory() as room:
             given = Path(room) / "given.pop"
             given.write_bytes(b"Beg Stipulation #1 Next Stipulation #1 Next Stipulation #2 End")

@@ -30,7 +30,7 @@ from pops_companions.many.tasks import UNFINISHED, Source, Task, tasks_of
 from tests import made_inputs, parts_told, problems_in_parts, support
 
 MANY = support.loaded("pops-many")
-# A program that is there; what it tells is asked for within this process.
+# A program that is there; this process makes what it writes.
 NAMED = "/bin/true"
 DATA = support.COMPANIONS / "data"
 
@@ -420,7 +420,7 @@ class Problems(unittest.TestCase):
             self.part(2).key: b"1.e\n  1...f\n    2.g\nsolutions: 1\n",
             self.part(4).key: b"1.i\n1.j\nsolutions: 2\n",
         }
-        # Of the first part less is known than pops wrote, of the second one more.
+        # Less is known of the first part than pops wrote, and more of the second.
         begun = {self.part(1).key: b"1.a\n  1...b\n", self.part(3).key: b"1.h\n"}
         for number in (1, 2):
             problem.keep(self.part(number, "set"), self.report(0))

@@ -29,7 +29,7 @@ class Runs(SplitRoom):
         runs, asked = self.runs_on_parts(), self.parts()
         self.assertGreater(len(runs), 4)
         self.assertEqual(len(set(asked)), 26)
-        # A run that is stopped behind its last part may have begun the next one.
+        # A run that is stopped after its last part may have begun the next one.
         self.assertLess(len(asked), 26 + len(runs))
 
     def test_a_run_goes_through_several_parts(self) -> None:
@@ -85,7 +85,7 @@ class Runs(SplitRoom):
         self.assertEqual(
             outcome.error,
             f"pops-many: part 2 of the play of problem 1 ({self.input}, line 1):"
-            " pops-part ended with status 4; tried once more\n",
+            " pops-part ended with status 4; tried again\n",
         )
         self.assertEqual(self.report.read_bytes(), self.wanted)
         self.assertEqual(self.parts().count("play-2"), 2)
@@ -98,7 +98,7 @@ class Runs(SplitRoom):
         number = len(set(self.parts()))
         self.assertEqual(
             outcome.error,
-            f"pops-many: part 2 of the play of {where}: {ended}; tried once more\n"
+            f"pops-many: part 2 of the play of {where}: {ended}; tried again\n"
             f"pops-many: {where}: part 2 of the play: {ended}\n"
             f"pops-many: 1 of 1 problems aren't done: what was found of them is in {self.rest}\n"
             f"pops-many: 0 of 1 problems are done and kept in {self.journal}:"

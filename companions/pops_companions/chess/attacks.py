@@ -1,4 +1,4 @@
-"""Which men attack a square: so a king in check is told with the men that check it."""
+"""Finds the men that attack a square, and so the men that give check."""
 
 from collections.abc import Iterable, Iterator
 from typing import Optional

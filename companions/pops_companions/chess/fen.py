@@ -1,6 +1,6 @@
 """Positions of chess games and problems in FEN and EPD.
 
-FEN and EPD are those of the PGN Standard (section 16.1 and 16.2), orthodox men alone.
+FEN and EPD as the PGN Standard defines them (sections 16.1 and 16.2), with orthodox men only.
 """
 
 import re
@@ -39,7 +39,7 @@ class Position:
 
     @property
     def turned(self) -> "Position":
-        """The same position with the colours turned round, rank 1 becoming rank 8."""
+        """Returns the position with colours and ranks reversed."""
         men = {
             square.mirrored: Man(man.colour.opponent, man.kind) for square, man in self.men.items()
         }

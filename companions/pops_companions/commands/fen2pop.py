@@ -14,7 +14,7 @@ from pops_companions.command import Status
 from pops_companions.input.writing import Wishes, is_turned, problem_lines, text_of_problems
 
 NAME = "fen2pop"
-# So many positions whose colours are turned round are named.
+# At most this many positions with reversed colours are named.
 _TURNED_NAMED = 3
 
 
@@ -96,7 +96,7 @@ def tell_turned(places: list[str]) -> None:
 
 
 def mate_of(position: Position) -> Optional[Stipulation]:
-    """The stipulation that an EPD's operation `dm`, direct mate, tells."""
+    """Returns the stipulation of an EPD's operation `dm`, direct mate."""
     moves = position.operations.get("dm", "")
     return Stipulation.of_text(f"#{int(moves)}") if re.fullmatch("[0-9]{1,3}", moves) else None
 

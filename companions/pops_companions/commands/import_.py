@@ -39,7 +39,7 @@ class Import:
         self.is_whole = True
 
     def read(self, file: Optional[str], encoding: str) -> None:
-        """Makes the problems of a file, or of standard input, and tells what there is to tell."""
+        """Converts the problems of a file, or of standard input, and reports what is left out."""
         name = file or "standard input"
         with command.opened(file) as source:
             data = source.read()

@@ -29,11 +29,11 @@ NAME = "pops-many"
 _FILES_TOLD = 3
 # What the file's name ends in that has what was found of problems that aren't done.
 UNFINISHED = ".unfinished"
-# With --split problems that take so many seconds are cut into parts, sooner where some processors
+# With --split a problem is cut into parts after this many seconds, sooner where some processors
 # would have nothing to do.
 SPLIT_AFTER = 2.0
 SPLIT_SOON_AFTER = 0.02
-# By so many half-moves: on another machine each part costs a process.
+# The half-moves by which help play is cut. On another machine each part costs a process.
 DEPTHS = range(1, 5)
 DEPTH_HERE = 2
 DEPTH_THERE = 1
@@ -279,7 +279,7 @@ def open_journal(
 
 
 def try_out(targets: Sequence[Target]) -> None:
-    """Tells a file that can't be written before anything is solved."""
+    """Refuses a file that can't be written before anything is solved."""
     for target in targets:
         try:
             target.try_out()
@@ -355,7 +355,7 @@ def elsewhere_of(
 
 
 def solve(settings: Settings, output: BinaryIO) -> int:
-    """Runs all that is asked for. Answers the exit status of the runs of pops."""
+    """Runs all that the command line asks for; returns the exit status of the runs of pops."""
     options = ["--check"] * settings.check + ["--no-board"] * settings.no_board
     programs = programs_of(settings, options)
     progress = Progress(NAME)

@@ -10,7 +10,7 @@ from pops_companions.input.reading import COMMANDS, CONDITIONS, OPTIONS, Reading
 from pops_companions.input.words import TEXT_WORDS, Span, TextLine, Word, named
 
 _LONGEST_QUOTED = 48
-# The word before is looked for in so many bytes.
+# The word before is looked for in this many bytes.
 _NEAR = 400
 _LAST_WORD = re.compile(rb"([^\t\n\x0b\x0c\r ]+)[\t\n\x0b\x0c\r ]+$")
 NAMES = (*COMMANDS, *TEXT_WORDS, *CONDITIONS, *OPTIONS, "White", "Black")
@@ -49,7 +49,7 @@ class Case:
         return self.reading.neighbour(-1)
 
     @property
-    def behind(self) -> Optional[Word]:
+    def after(self) -> Optional[Word]:
         return self.reading.neighbour(1)
 
     @property
@@ -105,7 +105,7 @@ class Case:
         return [it for it in self.reading.openers if named(it.bytes, [section.value])]
 
     def last_colour(self) -> Optional[Word]:
-        """The colour behind which the faulty word stands."""
+        """The colour before the faulty word."""
         return self.reading.colours[-1][1] if self.reading.colours else None
 
 

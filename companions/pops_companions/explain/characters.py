@@ -73,7 +73,7 @@ def is_wide_blank(character: str) -> bool:
 
 
 def with_blanks(text: str) -> str:
-    """The text with a blank for each such character that takes room, and nothing for the others."""
+    """Returns the text with a blank for each invisible character that takes room, without the others."""
     changed = (
         (" " if is_wide_blank(it) else "") if _is_invisible(it) else it
         for it in text

@@ -1,4 +1,4 @@
-"""Faults 10, 11 and 19 to 21: what was left out above, told where a problem or the text ends."""
+"""Faults 10, 11 and 19 to 21, which pops reports where a problem or the text ends."""
 
 from collections.abc import Iterator
 from typing import Optional
@@ -48,7 +48,7 @@ def _causes_of_no_men(case: Case) -> Iterator[Optional[Explanation]]:
 
 
 def _absent(case: Case, what: str, example: str) -> Explanation:
-    """What the problem hasn't at all, with the word behind which it may stand."""
+    """Returns what the problem lacks, with the word after which it may be."""
     before = case.before
     assert before is not None
     place = sentence(
@@ -81,9 +81,9 @@ def _line_with(reading: Reading, name: str) -> Optional[TextLine]:
     """A text line that holds the command with what may follow it."""
     for line in reading.text_lines:
         words = line.text.split()
-        for word, behind in zip(words, [*words[1:], b""]):
+        for word, after in zip(words, [*words[1:], b""]):
             short = named(word, [name]) is not None
-            if short and (word.lower() == name.lower().encode("ascii") or behind):
+            if short and (word.lower() == name.lower().encode("ascii") or after):
                 return line
     return None
 

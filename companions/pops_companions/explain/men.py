@@ -43,11 +43,11 @@ def _causes_of_no_colour(case: Case) -> Iterator[Optional[Explanation]]:
             sentence("colour_of_each", opener=quoted(opener)),
             opener.span,
         )
-    behind = case.behind
-    if behind is not None and named(behind.bytes, COLOURS, 1):
+    after = case.after
+    if after is not None and named(after.bytes, COLOURS, 1):
         yield case.says(
-            sentence("colour_first", colour=decoded(behind.bytes), word=case.quoted),
-            behind.span,
+            sentence("colour_first", colour=decoded(after.bytes), word=case.quoted),
+            after.span,
         )
     yield case.says(
         sentence("no_colour", word=case.quoted, opener=quoted(opener)),
@@ -165,12 +165,12 @@ def _causes_of_no_square(case: Case) -> Iterator[Optional[Explanation]]:
 def _letter_alone(case: Case) -> Optional[Explanation]:
     if len(case.word.bytes) > 2:
         return None
-    if case.behind is not None:
-        whole = case.plain + decoded(case.behind.bytes)
+    if case.after is not None:
+        whole = case.plain + decoded(case.after.bytes)
         if case.fits(whole):
             return case.says(
                 sentence("squares_parted", whole=whole),
-                case.behind.span,
+                case.after.span,
             )
     if len(case.word.bytes) > 1:
         return None

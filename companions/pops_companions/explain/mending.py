@@ -117,7 +117,7 @@ def _with_rest(made: Mended) -> Mended:
 
 
 def read_number(text: bytes, number: int) -> Optional[Reading]:
-    """Reads a problem by its number; None where the text has no such problem."""
+    """Reads a problem by its number; None where the text has no problem of this number."""
     pieces = cut(text)
     if number > len(pieces):
         return None

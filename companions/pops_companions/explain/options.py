@@ -75,7 +75,7 @@ def _missing(case: Case, option: Word, what: str, example: str) -> Optional[Expl
 
 
 def square_missing(case: Case) -> Explanation:
-    """Fault 14 behind EnPassant and NoCastling."""
+    """Fault 14 after EnPassant and NoCastling."""
     return first_of(_causes_of_no_square(case))
 
 

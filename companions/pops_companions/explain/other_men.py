@@ -81,7 +81,7 @@ def _kind(alphabet: Alphabet, letter: str) -> Kind:
 
 
 def men_words(case: Case) -> list[Word]:
-    """The words of the problem's Pieces sections that have the form of a man, before and behind
+    """The words of the problem's Pieces sections that have the form of a man, before and after
     the fault."""
     words = []
     inside = False

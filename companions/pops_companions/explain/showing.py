@@ -65,7 +65,7 @@ class Shower:
 def marked(line: bytes, marks: list[tuple[int, int]]) -> tuple[str, str]:
     """A line as it is shown, and the line of signs below its marked bytes.
 
-    Of a long line the part around the marks is shown.
+    A long line is shown as far as its marks reach.
     """
     line = line.rstrip(b"\r").translate(_BLANKS)
     start, stop = _part(line, marks)

@@ -36,7 +36,7 @@ def looks_like_stipulation(word: str) -> bool:
 
 
 def solution_numbers(case: Case) -> Optional[Explanation]:
-    """A wanted number of solutions behind a stipulation, as `2.1.1.1`."""
+    """A wanted number of solutions after a stipulation, as `2.1.1.1`."""
     if case.reading.section is not Section.STIPULATION or not _COUNTS.fullmatch(case.plain):
         return None
     return case.says(sentence("count_of_solutions", word=case.quoted))
@@ -113,12 +113,12 @@ def _section_empty(case: Case) -> Optional[Explanation]:
 def _without_number(case: Case) -> Optional[Explanation]:
     if not re.fullmatch("[sh]?[#=]", case.plain, re.IGNORECASE):
         return None
-    if case.behind is not None:
-        whole = case.plain + decoded(case.behind.bytes)
+    if case.after is not None:
+        whole = case.plain + decoded(case.after.bytes)
         if case.fits(whole):
             return case.says(
                 sentence("number_parted", whole=whole),
-                case.behind.span,
+                case.after.span,
             )
     return case.says(sentence("number_missing_in_word", plain=case.plain))
 

@@ -105,10 +105,10 @@ def signs(case: Case) -> Optional[Explanation]:
 def parted(case: Case) -> Optional[Explanation]:
     """A word that a blank parts in two."""
     word = case.plain
-    if case.behind is not None:
-        whole = word + characters.decoded(case.behind.bytes)
+    if case.after is not None:
+        whole = word + characters.decoded(case.after.bytes)
         if case.fits(whole) and _is_name(whole):
-            return case.says(sentence("parted", whole=whole), case.behind.span)
+            return case.says(sentence("parted", whole=whole), case.after.span)
     before = case.span_before
     if before is not None:
         whole = characters.decoded(case.text[before.start : before.stop]) + word
@@ -175,7 +175,7 @@ def accented(case: Case) -> Optional[Explanation]:
 
 
 def lengthened(case: Case) -> Optional[Explanation]:
-    """A word of pops with letters behind it."""
+    """A word of pops with letters after it."""
     word = case.plain.lower()
     for name in NAMES:
         if word.startswith(name.lower()) and word[len(name) :].isalpha():

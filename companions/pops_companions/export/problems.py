@@ -42,7 +42,7 @@ class Problem:
         return self.pieces, self.stipulation, self.condition, self.options
 
     def lines(self) -> list[str]:
-        """The lines between BeginProblem or NextProblem and the next such word."""
+        """Returns the lines of the problem, without BeginProblem, NextProblem and EndProblem."""
         texts = [("Title", self.title), ("Author", self.author)]
         texts += [("Origin", text) for text in self.origins]
         texts += [("Remark", text) for text in self.remarks]

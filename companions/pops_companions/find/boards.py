@@ -80,7 +80,7 @@ def hashes(board: str) -> list[int]:
 def variants(board: str) -> Iterator[Variant]:
     """The position itself, mirrored, turned, shifted, with colours reversed, and all of these.
 
-    Of two ways to the same position the simpler one is given.
+    Where two ways lead to one position, the simpler one comes.
     """
     best: dict[str, tuple[str, ...]] = {}
     for reversed_colours in (False, True):

@@ -43,7 +43,7 @@ class Entry:
     play: Optional[str]
 
     def with_play(self, play: Optional[str]) -> "Entry":
-        """The same problem with this play, if there is one."""
+        """Returns the problem with this play, if there is one."""
         return self if play is None else replace(self, play=play)
 
     @property

@@ -1,4 +1,4 @@
-"""Problems as other programs give them, before it is asked whether pops can read them."""
+"""Problems as other programs have them, before pops's limits are applied."""
 
 import re
 from collections.abc import Callable

@@ -73,7 +73,7 @@ class Option(Enum):
     QUODLIBET = "Quodlibet"
 
 
-# Those that pops reads; of the words that a short form may stand for they come first.
+# The commands that pops reads. A short form that fits several commands means one of these.
 OWN_OPTIONS = frozenset(
     (
         Option.SET_PLAY,

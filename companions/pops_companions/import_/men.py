@@ -97,8 +97,8 @@ def _man(colour: str, attributes: str, letters: str, kinds: Mapping[str, Kind]) 
 def read_forsyth(text: str, kinds: Mapping[str, Kind]) -> dict[Square, Placed]:
     """The men of a position in Popeye's form of Forsyth. ValueError, with why, for another text.
 
-    The letters are those of the language, small for Black. `=` stands before a neutral man, a point
-    before a man of two letters. Where no strokes part the ranks, numbers above 9 are read as such.
+    The letters are the language's own, small for Black. `=` stands before a neutral man, a point
+    before a man of two letters. Where no strokes part the ranks, a number above 9 is one number.
     """
     diagram = list(Square.of_diagram())
     has_strokes = "/" in text

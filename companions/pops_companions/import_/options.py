@@ -13,7 +13,7 @@ _LEAST_LETTERS = 3
 
 _ALL_SHOWN = "all solutions are shown, whatever the defences"
 _SHOWN_OTHERWISE = "the report has its own form"
-# What isn't asked of pops, since the problem stays the same without it.
+# Options that are left out, since the problem is the same without them.
 _LEFT_OUT = {
     Option.TRY: "tries aren't shown",
     Option.DEFENCE: "tries aren't shown",

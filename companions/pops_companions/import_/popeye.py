@@ -224,7 +224,7 @@ class _Reader:
 
 
 def label_of_twin(number: int) -> str:
-    """As `a)` for 0 and `b)` for 1; behind `z)` comes `27)`."""
+    """As `a)` for 0 and `b)` for 1; `27)` follows `z)`."""
     return f"{chr(ord('a') + number)})" if number < 26 else f"{number + 1})"
 
 

@@ -18,7 +18,7 @@ _MOST_MOVES = 16
 
 
 class Posed(NamedTuple):
-    """A problem for pops: its lines, or why it has none. Its label tells it from its twins."""
+    """A problem for pops: its lines, or why it has none. Its label is another one than its twins'."""
 
     label: str
     line: int
@@ -188,7 +188,7 @@ class _Checked:
             return None
 
     def _check_men(self) -> None:
-        """What pops would tell as a fault of the diagram; checks are left to it."""
+        """Returns what pops would report as a fault of the diagram, but for checks."""
         stipulation = self._stipulation
         assert stipulation is not None
         if not self._men:
@@ -207,7 +207,7 @@ class _Checked:
         self._check_crossed(stipulation.starter)
 
     def _check_crossed(self, starter: Colour) -> None:
-        """In a duplex the crossed square may be meant for one side's first move alone."""
+        """In a duplex the en passant square may be meant for the first move of only one side."""
         options = self._version.options
         if options.crossed is None or self._was_crossed(options.crossed, starter):
             return
@@ -281,6 +281,6 @@ def _texts(draft: Draft, version: _Version, notes: list[Told], is_first: bool) -
 
 
 def _shortened(text: str, most: int) -> str:
-    """As many letters of the text as fit into so many bytes."""
+    """Returns as many letters of the text as fit into this many bytes."""
     data = text.encode("utf-8", "replace")
     return text if len(data) <= most else data[:most].decode("utf-8", "ignore").rstrip()

@@ -1,4 +1,4 @@
-"""Tells the forms of collections apart."""
+"""Recognizes the form of a collection."""
 
 import re
 

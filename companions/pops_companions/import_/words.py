@@ -12,7 +12,7 @@ _WORD = re.compile(rf"(?:[^\W_]|[{_SIGNS}])+")
 _OTHER = re.compile(r"\S+")
 # What is cut off at both ends of a line of text, as pops does.
 _ENDS = " \t\v\f\r"
-# Text lines that stand among the words of a command are known by so many letters.
+# The fewest letters of a text line's word among the words of a command.
 _LEAST_TEXT_WORD = 3
 
 
@@ -80,7 +80,7 @@ class Words:
         return word
 
     def take_rest(self) -> str:
-        """The rest of the line behind the word taken last."""
+        """Returns the rest of the line after the word taken last."""
         stop = self._text.find("\n", self._at)
         stop = len(self._text) if stop < 0 else stop
         rest = self._text[self._at : stop]
@@ -88,7 +88,7 @@ class Words:
         return (rest[1:] if rest.startswith(":") else rest).strip(_ENDS)
 
     def take_all(self) -> str:
-        """All that stands behind the word taken last."""
+        """Returns all that follows the word taken last."""
         rest = self._text[self._at :]
         self._at, self._next = len(self._text), None
         return rest

@@ -69,7 +69,7 @@ def _read_later(_: str, __: Node, ___: Draft) -> None:
 
 
 def _texts(node: Node) -> list[Scalar]:
-    """The texts of a node; those of keys have their keys before them."""
+    """Returns the texts of a node, the text of a key with the key before it."""
     if node is None:
         return []
     if isinstance(node, list):

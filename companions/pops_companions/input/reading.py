@@ -1,6 +1,6 @@
 """Reads a problem as pops does, up to its fault.
 
-What pops says of a problem decides; this reading finds the word of which it says it.
+The report of pops decides what the fault is; this reading finds the faulty word.
 """
 
 import re
@@ -34,7 +34,7 @@ class Section(Enum):
 
 
 class Awaited(Enum):
-    """What the next word has to be behind an option, or may be behind squares of NoCastling."""
+    """What the next word has to be after an option, or may be after squares of NoCastling."""
 
     NUMBER = "number"
     SQUARE = "square"
@@ -53,7 +53,7 @@ OPTIONS = ("SetPlay", "Variation", "NoBoard", *_AWAITED)
 
 
 class FaultKind(IntEnum):
-    """What a fault is about; its value is the number that a report tells."""
+    """What a fault is about; its value is the number in a report."""
 
     BEGIN_MISSING = 1
     MISPLACED = 2
@@ -136,7 +136,7 @@ class Placed:
 
 @dataclass
 class Reading:
-    """A problem as far as it was read: up to its fault, where it has one.
+    """A problem as far as it was read: up to its fault, if it has one.
 
     `at` is the place of the faulty word among the tokens; the end of the text has none.
     """
@@ -164,7 +164,7 @@ class Reading:
 
     @property
     def word(self) -> Word:
-        """The word of which the fault is told."""
+        """The faulty word."""
         assert self.at is not None
         token = self.tokens[self.at]
         assert isinstance(token, Word)
@@ -212,7 +212,7 @@ def read_piece(text: bytes, piece: Piece) -> Reading:
 
 
 def step(reading: Reading, word: Word) -> Optional[FaultKind]:
-    """Takes one more word of a problem. Answers its fault."""
+    """Takes the next word of a problem; returns its fault, if it has one."""
     if reading.awaited is not None:
         squares = squares_of(word.bytes)
         if reading.awaited is not Awaited.MORE_SQUARES:
@@ -337,7 +337,7 @@ _READERS = {
 
 
 def _end_fault(reading: Reading) -> Optional[FaultKind]:
-    """What is told at the word that ends a problem."""
+    """Returns the fault that shows at the word that ends a problem."""
     if reading.stipulation is None:
         return FaultKind.STIPULATION_MISSING
     if not reading.men:
@@ -352,7 +352,7 @@ def _end_fault(reading: Reading) -> Optional[FaultKind]:
 
 @dataclass(frozen=True)
 class EnPassantWants:
-    """What the crossed square of a problem wants, and whether it has it."""
+    """What the en passant square of a problem needs, and whether it has it."""
 
     rank: int
     pawn: Square

@@ -1,4 +1,4 @@
-"""Batches: parts of a phase that stand one behind another, which one run of pops-part goes through.
+"""Batches: consecutive parts of a phase, which one run of pops-part goes through.
 
 A run that is free takes over half of what is left of the longest batch. So each run goes through many
 parts, which costs few processes, and in battle play each part's search goes on with the moves that
@@ -14,7 +14,7 @@ from pops_companions.many.parts import Part
 
 
 class Batch:
-    """The parts that a run still goes through; those behind the first may be taken from it."""
+    """The parts that a run still goes through; another run may take over all but the first."""
 
     def __init__(self, parts: Sequence[Part]):
         self._left: deque[Part] = deque(parts)
@@ -30,37 +30,37 @@ class Batch:
 
     @property
     def last(self) -> Part:
-        """The last one that wasn't taken from it."""
+        """The last part that no other run took over."""
         return self._left[-1]
 
     @property
     def left(self) -> list[Part]:
-        """All of them, in their order."""
+        """All parts, in their order."""
         with self._lock:
             return list(self._left)
 
     def pass_first(self) -> Part:
-        """Takes off the first, with which the run is done."""
+        """Removes the first part, which is done, and returns it."""
         with self._lock:
             return self._left.popleft()
 
     def half(self) -> list[Part]:
-        """Takes off the last half, without the first, for another run."""
+        """Removes the last half, never the first part, and returns it for another run."""
         with self._lock:
             return [self._left.pop() for _ in range(len(self._left) // 2)][::-1]
 
 
 def numbers_of(parts: Sequence[Part]) -> str:
-    """The numbers of parts that stand one behind another, as pops-part takes them."""
+    """Returns the numbers of consecutive parts as pops-part takes them."""
     first, last = parts[0].number, parts[-1].number
     return str(first) if first == last else f"{first}..{last}"
 
 
 class Batches:
-    """Parts that are handed out in batches."""
+    """Hands parts out in batches."""
 
     def __init__(self, parts: Sequence[Part], is_alone: Callable[[Part], bool]):
-        """Some parts are batches of their own."""
+        """Makes batches of consecutive parts; `is_alone` says which parts are batches by themselves."""
         self._waiting: deque[Batch] = deque()
         self._running: list[Batch] = []
         batch: list[Part] = []
@@ -73,7 +73,7 @@ class Batches:
             self._waiting.append(Batch(batch))
 
     def next(self, is_needless: Callable[[Part], bool]) -> Optional[Batch]:
-        """The next batch that matters still, or half of one that runs; None where there is none."""
+        """Returns the next batch that still matters, or half of a running one; None where there is none."""
         while self._waiting:
             batch = self._waiting.popleft()
             if not is_needless(batch.first):
@@ -86,7 +86,7 @@ class Batches:
         return self._running[-1]
 
     def end(self, batch: Batch) -> None:
-        """Takes note that the run of a batch ended."""
+        """Notes that the run of a batch ended."""
         self._running.remove(batch)
 
 

@@ -18,7 +18,7 @@ Stream = Union[None, int, IO[bytes]]
 
 
 class ChildProcess:
-    """A program in a session of its own, on its leash until `let_go`."""
+    """A program in a session of its own, which ends when this process does, until `release`."""
 
     def __init__(
         self,
@@ -27,7 +27,7 @@ class ChildProcess:
         errors: Stream,
         environment: Optional[dict[str, str]] = None,
     ):
-        """Starts it with its standard output in a pipe. OSError where it can't be started."""
+        """Starts the program with its standard output in a pipe. OSError where it can't be started."""
         watched, self._held = os.pipe()
         try:
             self.run = subprocess.Popen(
@@ -49,13 +49,13 @@ class ChildProcess:
             os.close(watched)
 
     def send(self, sign: int) -> None:
-        """Signals it and all in its process group, where it hasn't ended."""
+        """Sends a signal to the program's process group, unless the program has ended."""
         if self.run.returncode is None:
             try:
                 os.killpg(self.run.pid, sign)
             except ProcessLookupError:
                 pass
 
-    def let_go(self) -> None:
-        """Takes the leash off, once it has ended."""
+    def release(self) -> None:
+        """Closes the pipe, once the program has ended."""
         os.close(self._held)

@@ -13,7 +13,7 @@ _COLUMNS = ("start", "bytes", "status", "problem", "line", "file")
 
 
 class Report(NamedTuple):
-    """A report that is to be written, and those of its problems that come to no end beside it.
+    """A report that is to be written, with a second file for its unfinished problems.
 
     Without a file it goes to standard output.
     """
@@ -24,16 +24,16 @@ class Report(NamedTuple):
 
 
 def path_of_report(file: str, folder: Optional[str]) -> str:
-    """Where the report of one FILE goes: NAME.report for NAME.pop, beside it or in a folder."""
+    """Returns the report's file for a FILE: NAME.report for NAME.pop, next to it or in a folder."""
     path = (file[: -len(".pop")] if file.endswith(".pop") else file) + ".report"
     return path if folder is None else os.path.join(folder, os.path.basename(path))
 
 
 class Joined:
-    """The reports of a run. Each file is written once all of its problems are settled.
+    """The reports of a run. Each file is written once all of its problems are done or stopped.
 
-    On standard output a problem is written once it and all before it are settled. Unfinished ones
-    are passed over.
+    On standard output a problem is written once it and all before it are done or stopped.
+    Unfinished problems are left out.
     """
 
     def __init__(self, journal: Journal, reports: Sequence[Report], output: BinaryIO):
@@ -44,7 +44,7 @@ class Joined:
         self._unsettled = {id(report): len(report.tasks) for report in reports}
         self._to_write = {id(report) for report in reports if report.tasks}
         self._streamed = 0
-        # What is known of a problem in parts that isn't done, and how far it is.
+        # Returns what is known of an unfinished problem in parts, and how far it is.
         self.in_parts: Callable[[int], Optional[tuple[bytes, str]]] = lambda place: None
 
     def begin(self) -> None:
@@ -54,7 +54,7 @@ class Joined:
                 self.settle(place)
 
     def settle(self, place: int) -> None:
-        """Writes what is due now that this task is settled."""
+        """Writes what is due now that this task is done or stopped."""
         report = self._report_of[place]
         self._unsettled[id(report)] -= 1
         if report.file is None:
@@ -88,7 +88,7 @@ class Joined:
         return not self._to_write
 
     def write_unfinished(self) -> list[str]:
-        """Writes what is kept of unfinished problems; answers the files. Older ones are removed."""
+        """Writes what is kept of unfinished problems; returns the files. Older files are removed."""
         written = []
         for report in self._reports:
             if report.unfinished is None:
@@ -110,7 +110,7 @@ class Joined:
         return self._journal.has_unfinished(place) or self.in_parts(place) is not None
 
     def _marked(self, task: Task) -> bytes:
-        """The lines of an unfinished problem, with one that says so in place of those that lack."""
+        """Returns the lines of an unfinished problem, with a last line that says so."""
         assert task.piece is not None
         known = self.in_parts(task.place)
         if known is None:
@@ -121,7 +121,7 @@ class Joined:
 
 
 def write_index(target: Target, tasks: Sequence[Task], journal: Journal) -> None:
-    """Writes a table of the items of a report on all tasks: where each stands and whence it is."""
+    """Writes a table of the items of a report on all tasks: their places and their sources."""
     start = 0
     with target.opened() as file:
         file.write("\t".join(_COLUMNS).encode("ascii") + b"\n")

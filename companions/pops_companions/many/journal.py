@@ -1,9 +1,9 @@
 """The journal of a run: the reports of all its problems, in the order in which they came.
 
-It begins with a line that tells the run's inputs and options by a fingerprint. Each report stands
-behind a line with its task, status, length and checksum, so that one that was cut is noticed; an
-unfinished one has the seconds that its run took too. Parts of a problem stand among them in the
-same way, each with its phase, its number and by how many moves the problem was cut.
+Its first line is a fingerprint of the run's inputs and options. Each report follows a line with its
+task, status, length and checksum, so that a cut report is noticed; an unfinished report's line also
+has the seconds that its run took. Parts of a problem are kept in the same way, each with its phase,
+its number and the number of moves by which the problem was cut.
 """
 
 import fcntl
@@ -28,7 +28,7 @@ class JournalError(Exception):
 
 
 class Kept(NamedTuple):
-    """Where a report stands in the journal; of an unfinished one, after how many seconds."""
+    """Where a report is in the journal, and the seconds of an unfinished problem."""
 
     status: int
     seconds: Optional[float]
@@ -37,7 +37,7 @@ class Kept(NamedTuple):
 
 
 def fingerprint(sources: Sequence[Source], options: Sequence[str]) -> bytes:
-    """What tells the inputs and options of one run from those of another."""
+    """Returns a checksum of a run's inputs and options."""
     total = hashlib.sha256(repr(list(options)).encode("utf-8", "surrogateescape"))
     for source in sources:
         text = source.text
@@ -47,7 +47,7 @@ def fingerprint(sources: Sequence[Source], options: Sequence[str]) -> bytes:
 
 
 class Journal:
-    """An open journal, new or gone on with, of a run that gives each problem so many seconds."""
+    """An open journal, new or of a run that goes on. `seconds` is the time limit of each problem."""
 
     def __init__(self, path: str, run: bytes, resume: bool, seconds: Optional[float]):
         """Opens the journal. JournalError where it isn't there to be gone on with, or is another's.
@@ -151,7 +151,7 @@ class Journal:
         self.parts[part.key] = Kept(0, None, self._add(head, report), len(report))
 
     def _add(self, head: bytes, report: bytes) -> int:
-        """Writes a record. Answers where its report stands."""
+        """Writes a record; returns where its report is."""
         left, end = memoryview(head + report), self._end
         while left:
             written = os.pwrite(self._file.fileno(), left, end)

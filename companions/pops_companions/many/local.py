@@ -6,9 +6,9 @@ from concurrent.futures import FIRST_COMPLETED, Future, ThreadPoolExecutor, wait
 from pops_companions.many.program import Program, RunError
 from pops_companions.many.tasks import Result, Task
 
-# A run that came to no end is tried so many times in all.
+# How often a run that fails is tried in all.
 _TRIES = 2
-# After so many seconds without a result `wait_on` is called, so that a person sees that time passes.
+# After this many seconds without a result `wait_on` is called, to show that time passes.
 _SECONDS_OF_SILENCE = 0.5
 
 
@@ -29,9 +29,9 @@ def run_locally(
     keep: Callable[[Result], None],
     wait_on: Callable[[], None] = lambda: None,
 ) -> list[tuple[Task, str]]:
-    """Runs tasks, so many at a time, and hands each result on as it comes.
+    """Runs tasks, `jobs` at a time, and passes each result on as it comes.
 
-    Answers the tasks that came to no end, with the reasons.
+    Returns the tasks that failed, with the reasons.
     """
     failed: list[tuple[Task, str]] = []
     waiting = iter(tasks)

@@ -1,9 +1,9 @@
 """Runs tasks on other machines, through GNU parallel and ssh.
 
 A machine needs pops, sh, base64 and perl (which GNU parallel wants there), and timeout where
-problems are given so many seconds; nothing is stored on it.
+a time limit is set; nothing is stored on it.
 Problems go out as words of a command line, a few at a login where there are many, and each report
-comes back as a line, both in base64. A machine that fails is told and left out; what it had at hand
+comes back as a line, both in base64. A machine that fails is reported and left out; what it had at hand
 goes to the others.
 """
 
@@ -21,10 +21,10 @@ from pops_companions.many.tasks import UNFINISHED, Result, Task, is_whole
 _LONGEST_WORD = 60_000
 # A machine that fails so often without a report in between is left out.
 _FAILURES = 2
-# A problem that so many rounds brought no report of is given up.
+# A problem without a report after this many rounds is given up.
 ROUNDS_WITHOUT_REPORT = 3
 PROBE = b"BeginProblem Pieces White Kg6 Ra1 Black Kg8 Stipulation #1 EndProblem"
-# The program is $0; the one word behind it holds number and text of each problem in turn.
+# The program is $0; the one word after it holds number and text of each problem in turn.
 _SCRIPT = (
     'set -f; set -- $1; while [ $# -gt 1 ]; do printf "%s " "$1"; '
     '{{ printf %s "$2" | base64 -d | {limit}"$0" {options}; printf "\\n%d" "$?"; }} | base64 -w 0; '
@@ -33,7 +33,7 @@ _SCRIPT = (
 # Without --foreground it would leave the process group, with which GNU parallel ends a run.
 _LIMIT = "timeout --foreground {seconds} "
 _STATUS_OUT_OF_TIME = 124
-# At most so many problems go out at a login, and so few that each place gets this many logins.
+# The most problems of a login, and the fewest logins of each place.
 _PROBLEMS_AT_A_LOGIN = 20
 _LOGINS_OF_A_PLACE = 10
 _PLACES_OF_A_MACHINE = 8
@@ -48,7 +48,7 @@ def coded(text: bytes) -> str:
 
 
 def logins_of(words: Sequence[str], places: int) -> list[list[str]]:
-    """The words of each login, where so many places are to have some logins each."""
+    """Returns the words of each login, so that each of `places` gets some logins."""
     wished = len(words) // (places * _LOGINS_OF_A_PLACE)
     most = min(max(wished, 1), _PROBLEMS_AT_A_LOGIN)
     logins: list[list[str]] = []
@@ -76,7 +76,7 @@ def _decoded(line: bytes) -> Optional[tuple[int, int, bytes]]:
 
 
 class Machines:
-    """Machines that answer as pops on this one does."""
+    """Machines whose pops gives the reports of pops here."""
 
     def __init__(
         self,
@@ -128,7 +128,7 @@ class Machines:
         return task.piece is not None and len(task.text) * 4 // 3 + 4 <= _LONGEST_WORD
 
     def run(self, tasks: Sequence[Task], keep: Callable[[Result], None]) -> list[tuple[Task, str]]:
-        """Runs tasks and hands each result on. Answers those without a report, with the reasons."""
+        """Runs tasks and passes each result on; returns the tasks without a report, with the reasons."""
         left = list(tasks)
         rounds_without = 0
         while left and self.alive and rounds_without < ROUNDS_WITHOUT_REPORT:
@@ -139,7 +139,7 @@ class Machines:
         return [(task, reason) for task in left]
 
     def _round(self, tasks: Sequence[Task], keep: Callable[[Result], None]) -> set[int]:
-        """Hands out all tasks once. Answers the places of those that are done."""
+        """Hands out all tasks once; returns the places of the tasks that are done."""
         done: set[int] = set()
         task_at = {task.place: task for task in tasks}
 
@@ -168,7 +168,7 @@ class Machines:
         return done
 
     def leave_out(self, machine: str) -> None:
-        """Hands nothing more out to a machine that failed."""
+        """Hands out nothing more to a machine that failed."""
         with self._lock:
             for login in [login for login in self.alive if machine_of(login) == machine]:
                 self.alive.remove(login)

@@ -1,7 +1,7 @@
 """Runs of GNU parallel, which hands jobs out to machines through ssh.
 
-A job is a line of words for a script. Where it can't matter any more it is stopped, and not begun
-at all: GNU parallel tells each job its number, and a file of this number says so.
+A job is a line of words for a script. A job that no longer matters is stopped, or never begins:
+each job knows its number from GNU parallel, and a file of this number stops it.
 """
 
 import os
@@ -70,7 +70,7 @@ class _Log:
 
 
 class Parallel:
-    """GNU parallel, with so many jobs at a time on each machine."""
+    """GNU parallel, with `jobs` jobs at a time on each machine."""
 
     def __init__(self, jobs: Optional[int], ssh: Optional[str]):
         """ParallelError where it isn't here: another program of this name is about."""
@@ -81,7 +81,7 @@ class Parallel:
         self._words = [parallel, "--will-cite", "--line-buffer"]
         self._words += ["--jobs", str(jobs)] if jobs else []
         self._ssh = ssh or _SSH
-        # Of the run at hand.
+        # About the run at hand.
         self._room: Optional[Path] = None
         self._session = 0
         self._said = ""
@@ -94,10 +94,10 @@ class Parallel:
         take: Callable[[bytes], None],
         look: Callable[[list[Ended]], bool] = lambda ended: True,
     ) -> None:
-        """Runs a script with its own words and those of a line, once for each line.
+        """Runs a script with its own words and a line's words, once for each line.
 
         `take` gets each line that comes back, at once. `look` gets the jobs that ended now and
-        then; it may take logins out of their list, and ends the run where it answers False.
+        then; it may take logins out of their list, and ends the run where it returns False.
         """
         with tempfile.TemporaryDirectory(prefix="pops-many-") as name:
             room = Path(name)
@@ -120,7 +120,7 @@ class Parallel:
                     _take_all(child, take)
                 finally:
                     looks.join()
-                    child.let_go()
+                    child.release()
                     self._said = self.last_error
                     self._room = None
 

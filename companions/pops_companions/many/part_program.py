@@ -35,7 +35,7 @@ def _whole(texts: Sequence[bytes]) -> bytes:
 def _pauses(batch: Batch, asked: Sequence[Part]) -> Callable[[], int]:
     """How long a run on a batch may go on unread, in milliseconds, before each piece that it writes.
 
-    Where the last parts were taken from it, it isn't to go on for long behind those that are left.
+    Where another run took over its last parts, it is read soon after the parts that are left.
     """
     before = len(asked)
 
@@ -60,7 +60,7 @@ class PartProgram(Runs):
         self._dropped: set[Key] = set()
 
     def phases(self, text: bytes) -> list[Phase]:
-        """The phases of the one problem of an input. PartsError where they can't be told."""
+        """The phases of the one problem of an input. PartsError where pops-part doesn't list them."""
         status, listed, error = self._answer(["--list", "--depth", str(self.depth)], text)
         if status != SOUND:
             raise PartsError(self._reason(status, error))

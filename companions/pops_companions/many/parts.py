@@ -1,4 +1,4 @@
-"""Parts of a problem: what tells them apart, and what the program pops-part says of them.
+"""Parts of a problem, and what the program pops-part says of them.
 
 A phase is cut by its first moves, one or a few of them. pops-part lists how many parts there are
 and solves each; in their order they make the phase.
@@ -31,8 +31,7 @@ class Phase(NamedTuple):
 
 
 class Key(NamedTuple):
-    """What tells a part from all others of a run: a problem's place, and by how many moves it is
-    cut."""
+    """Identifies a part in a run. `place` is its problem's, `depth` the moves by which it is cut."""
 
     place: int
     phase: str
@@ -117,7 +116,7 @@ def without_totals(text: bytes) -> list[bytes]:
 
 
 def up_to_totals(pieces: Iterable[bytes]) -> Iterator[tuple[bytes, bool]]:
-    """The same text in pieces of its own, with whether each ends with a total; none has another."""
+    """Yields the text in other pieces, each with at most one total, at its end, and whether it has."""
     rest = b""
     for piece in pieces:
         whole, end, rest = (rest + piece).rpartition(b"\n")
@@ -157,7 +156,7 @@ def solutions_of(report: bytes) -> list[bytes]:
 
 
 def count_in(report: bytes) -> Optional[int]:
-    """How many solutions a part has; None where its report lacks this number or another one came."""
+    """Returns how many solutions a part has; None where its report is cut or has another number."""
     start = report.rfind(b"\n", 0, -1) + 1
     total = lines.TOTAL.fullmatch(report, start, len(report) - 1) if report.endswith(b"\n") else None
     above = report[:start]

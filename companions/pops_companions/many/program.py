@@ -17,8 +17,8 @@ from pops_companions.places import COMPANIONS
 # A run of pops ends with one of these where every byte of its report was written.
 SOUND, FAULTY = 0, 1
 
-# What a run writes is read after pauses of so many milliseconds, unless it ends sooner or writes
-# much: it writes each line by itself, and to be woken by each would cost more than the search.
+# What a run writes is read after pauses of this many milliseconds, unless it ends sooner or writes
+# much: it writes line by line, and waking for each line would cost more than the search.
 PAUSE = 20
 _PIECE = 1 << 16
 
@@ -116,7 +116,7 @@ def _unbuilt(repository: Path, name: str = "pops") -> MissingError:
 
 
 class Runs:
-    """Runs of a program; `stop` ends those at hand for good."""
+    """Runs of a program; `stop` ends all runs and lets none begin."""
 
     def __init__(self, name: str, words: Sequence[str]):
         self._name = name
@@ -153,17 +153,17 @@ class Runs:
         finally:
             with self._lock:
                 self._running.discard(child)
-            child.let_go()
+            child.release()
 
     def _written(
         self, child: ChildProcess, text: bytes, pause: Callable[[], int]
     ) -> Generator[bytes, None, None]:
-        """What a run writes, piece by piece, after such pauses in milliseconds. It is stopped where
+        """Yields what a run writes, piece by piece, after pauses in milliseconds. It is stopped where
         it isn't read on."""
         run, is_read = child.run, False
         assert run.stdin is not None and run.stdout is not None
         output = run.stdout.fileno()
-        # (without an event of its own it tells of the end alone)
+        # (without an event of its own it reports only the end)
         end = select.poll()
         end.register(output, 0)
         try:
@@ -187,7 +187,7 @@ class Runs:
             run.wait()
             with self._lock:
                 self._running.discard(child)
-            child.let_go()
+            child.release()
 
     def _reason(self, status: int, error: bytes) -> str:
         """Why a run came to no end."""
@@ -207,7 +207,7 @@ class Runs:
 class Program(Runs):
     """pops with the options of its runs.
 
-    A run on one problem is stopped after so many seconds, where they are given.
+    A run on one problem is stopped after `seconds`, if there is a limit.
     """
 
     def __init__(self, path: str, options: Sequence[str], seconds: Optional[float]):
@@ -246,7 +246,7 @@ class Program(Runs):
     def _whole(self, task: Task) -> Result:
         """A source that is left to pops: it reads it by itself.
 
-        What it says goes to standard error, but of a file that was told already.
+        What it says goes to standard error, unless the file was reported already.
         """
         name, text = task.source.name, task.source.text
         source = subprocess.PIPE if name is None else None

@@ -1,4 +1,4 @@
-"""What a person who waits is told, on a terminal alone."""
+"""Shows how far a run is, only on a terminal."""
 
 import os
 import sys
@@ -19,10 +19,9 @@ def duration(seconds: float) -> str:
 
 
 class Progress:
-    """One line that is written anew: how much is done, and the time left.
+    """One line that is rewritten: how much is done, and the time left.
 
-    It tells of problems, and once some of them are in parts, of the one of which a part was done
-    last.
+    It counts problems, and once problems are in parts, the parts of the problem that got on last.
     """
 
     def __init__(self, name: str):
@@ -31,18 +30,18 @@ class Progress:
         self._parts_before = self._parts_left = 0
         self._is_of_parts = False
         self._began = self._next = 0.0
-        # Whether anybody sees it: on a terminal.
+        # Whether standard error is a terminal.
         self.is_shown = sys.stderr.isatty()
         self._width = 0
 
     def begin(self, done: int, total: int) -> None:
-        """So many problems of all are done when the run begins."""
+        """Begins a run of `total` problems, of which `done` are done."""
         self._before = self._done = done
         self._total = total
         self._began = self._next = time.monotonic()
 
     def one_more(self) -> None:
-        """Another problem is done."""
+        """Counts another problem as done."""
         self._done += 1
         is_last = self._done == self._total
         if is_last or not self._is_of_parts:
@@ -54,7 +53,7 @@ class Progress:
             self._tell(self.line, False)
 
     def line(self, seconds: float) -> str:
-        """The line after so many seconds of this run."""
+        """Returns the line after `seconds` of this run."""
         text = f"{self._name}: {self._done} of {self._total} problems"
         left = self._total - self._done
         if left and self._done > self._before:
@@ -64,18 +63,18 @@ class Progress:
         return text
 
     def begin_parts(self, left: int) -> None:
-        """So many parts are to be solved, of all problems that are in parts."""
+        """Begins to count the `left` parts of all problems in parts."""
         self._is_of_parts = True
         self._parts_before = self._parts_left = left
         self._began = self._next = time.monotonic()
 
     def part(self, problem: str, tally: tuple[int, int], found: int, left: int) -> None:
-        """How far the problem with this name is, in parts and solutions; so many are left in all."""
+        """Shows how far a problem is, in parts and solutions; `left` parts are left in all."""
         self._parts_left = left
 
         def line(seconds: float) -> str:
             text = self.line_of_parts(problem, tally, found, seconds)
-            # In a narrow terminal without the FILE: a line that is broken can't be written anew.
+            # In a narrow terminal without the FILE: a broken line can't be rewritten.
             if len(text) < _columns() or not _columns():
                 return text
             return self.line_of_parts(problem.partition(" (")[0], tally, found, seconds)
@@ -85,7 +84,7 @@ class Progress:
     def line_of_parts(
         self, problem: str, tally: tuple[int, int], found: int, seconds: float
     ) -> str:
-        """The line of a problem in parts, after so many seconds."""
+        """Returns the line of a problem in parts after `seconds`."""
         plural = "" if found == 1 else "s"
         text = f"{self._name}: {problem}: {tally[0]} of {tally[1]} parts, {found} solution{plural}"
         done = self._parts_before - self._parts_left
@@ -124,9 +123,7 @@ def _columns() -> int:
 
 
 def _tell(text: str) -> None:
-    """Writes on standard error. Once nobody is there to read, as behind a terminal that was closed,
-    no later message fails either.
-    """
+    """Writes on standard error. If nobody reads it, as on a closed terminal, no later write fails."""
     try:
         sys.stderr.write(text)
         sys.stderr.flush()

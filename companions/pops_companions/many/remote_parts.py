@@ -26,7 +26,7 @@ from pops_companions.many.parts import Key, Part, PartsError, count_in
 from pops_companions.many.program import SOUND, RunError
 from pops_companions.many.tasks import Source, Task
 
-# The program is $0; the one word behind it holds number, phase, part and text of each in turn.
+# The program is $0; the one word after it holds number, phase, part and text of each in turn.
 _SCRIPT = (
     UNLESS_OVER + "set -f; set -- $1; while [ $# -gt 3 ]; do "
     '{{ printf %s "$4" | base64 -d | '
@@ -56,8 +56,8 @@ def _decoded(line: bytes) -> Optional[tuple[int, bytes]]:
 
 
 class Handling(NamedTuple):
-    """What is done with parts: one that is done is kept, which tells whether others matter no more
-    by it; those that failed on a machine for a reason are told; and whether one still matters."""
+    """What is done with parts. `keep` takes a part that is done and returns whether others no longer
+    matter, `fail` reports parts that failed on a machine, with the reason."""
 
     keep: Callable[[Part, bytes], bool]
     fail: Callable[[Sequence[Part], str, str], None]
@@ -119,7 +119,7 @@ class _Round:
         self._stop(self._jobs if fewer else [self._job_of[number]])
 
     def _stop(self, jobs: Iterable[int]) -> None:
-        """Stops those jobs of which no part matters any more."""
+        """Stops the jobs that have no part left that matters."""
         stale = []
         for job in jobs:
             left = [self._parts[number] for number in self._jobs[job] if number in self._open]
@@ -130,14 +130,14 @@ class _Round:
             self._parallel.stop(stale)
 
     def note(self, jobs: Sequence[Ended]) -> None:
-        """Takes note of jobs that ended."""
+        """Notes jobs that ended."""
         for job in jobs:
             if not job.well and job.job not in self._stopped:
                 self._broken.append(job)
                 self._watch.note(job.machine, False)
 
     def close(self) -> None:
-        """Once all jobs ended: a login that broke had failed at the first of its parts that is open."""
+        """Ends the round, after all jobs: a broken login failed at the first of its open parts."""
         failed: dict[str, list[Part]] = {}
         for job, machine, _ in self._broken:
             left = [number for number in self._jobs[job] if number in self._open]
@@ -147,7 +147,7 @@ class _Round:
             self._handling.fail(parts, machine, self._parallel.last_error)
 
     def begun(self) -> dict[Key, bytes]:
-        """What came back of parts that came to no end."""
+        """Returns what came back of parts that failed."""
         written = self._written.items()
         return {self._parts[number].key: b"".join(lines) for number, lines in written}
 
@@ -165,7 +165,7 @@ class RemoteParts:
     ):
         """Asks each machine for a part of one problem, and leaves out those that fail.
 
-        MachinesError where none is left, or the program on this machine has no such part.
+        MachinesError where none is left, or the program here doesn't solve this part.
         """
         self._machines = machines
         self._parallel = parallel
@@ -210,9 +210,9 @@ class RemoteParts:
         keep: Callable[[Part, bytes], bool],
         is_needless: Callable[[Part], bool],
     ) -> None:
-        """Runs parts; one that fails on a machine is tried on another, and told.
+        """Runs parts. A part that fails on a machine is reported, and tried on another.
 
-        Those that failed on each machine are left over. MachinesError where no machine is left.
+        Parts that failed on each machine are left over. MachinesError where no machine is left.
         """
         failed_on: dict[Key, set[str]] = {}
         idle_rounds = 0

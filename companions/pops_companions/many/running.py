@@ -1,4 +1,4 @@
-"""A run over the problems that its journal lacks."""
+"""Solves the problems that the journal lacks."""
 
 from collections.abc import Sequence
 from typing import NamedTuple, Optional
@@ -14,7 +14,7 @@ from pops_companions.many.remote_parts import RemoteParts
 from pops_companions.many.splitting import Splitting
 from pops_companions.many.tasks import Result, Task
 
-# So many problems that came to no end are told one by one.
+# At most this many failed problems are reported one by one.
 _FAILURES_TOLD = 10
 
 
@@ -42,8 +42,7 @@ class Elsewhere(NamedTuple):
 class Run:
     """A run over all tasks that the journal lacks.
 
-    With programs of parts those are cut up that take longer than a moment, once all others are
-    done.
+    With programs of parts, problems that take long are cut up once all others are done.
     """
 
     def __init__(
@@ -88,7 +87,7 @@ class Run:
             self._settle(result)
 
     def go(self, elsewhere: Optional[Elsewhere], jobs: int) -> None:
-        """Runs what is left, and tells what came to no end."""
+        """Runs what is left, and reports what failed."""
         self._joined.begin()
         if self._splitting is not None:
             self._splitting.cut(self._long)

@@ -1,8 +1,8 @@
-"""Ends sessions: with all their processes, whatever groups these are in.
+"""Ends sessions with all their processes, in any process group.
 
-GNU parallel puts each job into a process group of its own, where no leash reaches it; but all of
-them are in its session. As a program of its own this watches the one that started it: where that is
-killed, it ends the session and removes a folder.
+GNU parallel puts each job into a process group of its own, which a `ChildProcess` doesn't end; but
+all of them are in its session. Run as a program, this module watches the program that started it:
+if that is killed, it ends the session and removes a folder.
 """
 
 import os
@@ -20,11 +20,11 @@ _ROUNDS = 100
 
 
 def members(session: int) -> list[int]:
-    """The processes of a session that haven't ended."""
+    """Returns the processes of a session that haven't ended."""
     found = []
     for folder in Path("/proc").glob("[0-9]*"):
         try:
-            # The name stands in brackets and may hold anything; behind it come the fields.
+            # The name is in brackets and may hold anything; the fields follow it.
             fields = (folder / "stat").read_bytes().rpartition(b")")[2].split()
         except OSError:
             continue
@@ -34,7 +34,7 @@ def members(session: int) -> list[int]:
 
 
 def end(session: int) -> None:
-    """Kills all processes of a session, also those that come meanwhile."""
+    """Kills all processes of a session, new ones too."""
     for _ in range(_ROUNDS):
         left = members(session)
         if not left:
@@ -49,7 +49,7 @@ def end(session: int) -> None:
 
 @contextmanager
 def watched(session: int, folder: str) -> Iterator[None]:
-    """Meanwhile the session ends and the folder is removed where this process is killed."""
+    """Ends the session and removes the folder if this process is killed meanwhile."""
     watcher = subprocess.Popen(
         [sys.executable, "-I", __file__, str(session), folder],
         stdin=subprocess.PIPE,
@@ -59,7 +59,7 @@ def watched(session: int, folder: str) -> Iterator[None]:
     try:
         yield
     finally:
-        # Killed before its input ends: it is to do nothing.
+        # Killed before its input ends, it does nothing.
         watcher.kill()
         watcher.communicate()
 

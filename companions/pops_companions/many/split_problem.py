@@ -1,7 +1,7 @@
 """A problem in parts: how far it is, and the report that its parts make.
 
-Joined in their order the solutions of the parts are those of the phase. The limit of MaxSolutions,
-which holds in each part by itself, cuts them once more.
+The solutions of the parts, joined in their order, are the solutions of the phase. The limit of
+MaxSolutions, which holds in each part by itself, cuts them again.
 """
 
 import bisect
@@ -42,14 +42,14 @@ class _PhaseInParts:
         self._all = parts
         self._limit = limit
         self._done: set[int] = set()
-        # Those that have solutions, in their order, and how many.
+        # The parts that have solutions, in their order, and how many.
         self._counts: list[tuple[int, int]] = []
         self._found = 0
-        # Those up to it have as many solutions as are wanted.
+        # The parts up to it have as many solutions as are wanted.
         self._last = parts
 
     def keep(self, number: int, count: int) -> bool:
-        """Takes note of a part with so many solutions. Whether others matter no more by it."""
+        """Notes a part with this many solutions; returns whether others no longer matter."""
         self._done.add(number)
         if count == 0:
             return False
@@ -141,12 +141,12 @@ class SplitProblem:
         return sum(phase.found for phase in self._of.values())
 
     def report(self, read: Reader) -> bytes:
-        """The report of the whole problem, as pops writes it of an input of this one."""
+        """Returns the report of the whole problem, as pops writes it for an input of this problem."""
         return b"".join([*self._lines(read, {}, b""), b"\n"])
 
     def lines_found(self, read: Reader, begun: dict[Key, bytes], first: bytes) -> bytes:
-        """What is known of a problem that isn't done, in its order: the first lines of the whole,
-        those of its parts, and of those that were begun. A phase that isn't done has no total."""
+        """Returns what is known of an unfinished problem, in its order: its first lines, the reports
+        of its parts, and the lines of unfinished parts. An unfinished phase has no total."""
         return b"".join(self._lines(read, begun, first))
 
     def _lines(self, read: Reader, begun: dict[Key, bytes], first: bytes) -> Iterator[bytes]:

@@ -16,12 +16,12 @@ from pops_companions.many.remote_parts import RemoteParts
 from pops_companions.many.split_problem import SplitProblem, Tally
 from pops_companions.many.tasks import Result, Task
 
-# A part that came to no end is tried so many times in all on this machine.
+# How often a part that fails is tried on this machine in all.
 _TRIES = 2
 
 
 class Came(NamedTuple):
-    """What came of a part: its report, or why it came to no end."""
+    """What came of a part: its report, or why it failed."""
 
     part: Part
     report: Optional[bytes]
@@ -49,7 +49,7 @@ class Splitting:
 
     @property
     def failed(self) -> list[tuple[Task, str]]:
-        """The problems that came to no end, with the reasons."""
+        """The problems that failed, with the reasons."""
         return list(self._failed.values())
 
     def cut(self, tasks: Sequence[Task]) -> None:
@@ -77,7 +77,7 @@ class Splitting:
         self._join(problem)
 
     def run(self, there: Optional[RemoteParts], jobs: int) -> None:
-        """Solves the parts, so many at a time on this machine, where no others take them."""
+        """Solves the parts: on other machines where there are any, else here, `jobs` at a time."""
         self._tell()
         barred: list[Part] = []
         if there is not None:
@@ -103,7 +103,7 @@ class Splitting:
                     yield part
 
     def _tell(self) -> None:
-        """Tells how far the first problem is that isn't done."""
+        """Shows how far the first unfinished problem is."""
         for _, problem in sorted(self._problems.items()):
             if not problem.is_done:
                 self._progress.begin_parts(self._parts_left())
@@ -123,7 +123,7 @@ class Splitting:
     def _keep(self, part: Part, report: bytes) -> bool:
         """Takes a part that is done; the problem's report is made with its last one.
 
-        Whether others matter no more by it.
+        Returns whether others no longer matter.
         """
         if self._is_needless(part):
             return False
@@ -173,7 +173,7 @@ class Splitting:
         pool: ThreadPoolExecutor,
         came: "SimpleQueue[Union[Came, Future[None]]]",
     ) -> None:
-        """Hands batches out to so many runs at a time, and takes what comes of them."""
+        """Hands batches out to `jobs` runs at a time, and takes what comes of them."""
         running: "dict[Future[None], Batch]" = {}
         while True:
             while len(running) < jobs:
@@ -196,7 +196,7 @@ class Splitting:
                         self._program.drop(left[0])
 
     def _take(self, came: "Came") -> bool:
-        """Takes what came of a part. Whether others matter no more by it."""
+        """Takes what came of a part. Returns whether others no longer matter."""
         if came.report is not None:
             return self._keep(came.part, came.report)
         self._fail([came.part], came.error)
@@ -205,7 +205,7 @@ class Splitting:
     def _go_through(self, batch: Batch, hand_on: Callable[["Came"], None]) -> None:
         """Hands on what comes of the parts of a batch.
 
-        One that came to no end is tried once more with those behind it, and then passed over.
+        A part that fails is tried again with the parts after it, and then skipped.
         """
         tried = 0
         while batch:
@@ -217,7 +217,7 @@ class Splitting:
                 tried += 1
                 is_over = self._program.is_over(batch.first)
                 if tried < _TRIES and not is_over:
-                    self._progress.say(f"{batch.first.shown}: {error}; tried once more")
+                    self._progress.say(f"{batch.first.shown}: {error}; tried again")
                     continue
                 hand_on(Came(batch.pass_first(), None, str(error)))
                 tried = 0

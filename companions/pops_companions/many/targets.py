@@ -10,7 +10,7 @@ class Target:
     """A file to be written by a run.
 
     Until it is whole it has a name that is made of its own one and the run's fingerprint: so the
-    same run finds what it left behind where it was killed. Devices and pipes are written as they
+    same run finds what it left where it was killed. Devices and pipes are written as they
     are.
     """
 
@@ -21,7 +21,7 @@ class Target:
         self._direct = os.path.exists(path) and not os.path.isfile(path)
 
     def try_out(self) -> None:
-        """Sweeps what the run left behind. OSError where the file couldn't be written."""
+        """Removes what the run left. OSError where the file couldn't be written."""
         if os.path.isdir(self.path):
             raise IsADirectoryError(None, "Is a directory")
         if not self._direct:

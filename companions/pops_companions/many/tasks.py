@@ -7,8 +7,8 @@ from pops_companions.command import Status
 from pops_companions.input.pieces import LONGEST_INPUT, Piece, cut
 from pops_companions.report import lines
 
-# As many line ends are put before a problem at once. Of a problem further down, the first run goes
-# without them, and only a faulty one is run again with them: sound reports tell no lines.
+# The most line ends that a first run gets before its problem. A problem further down first runs
+# without them, and only a faulty one runs again with them: reports of sound problems name no lines.
 LINE_ENDS_AT_ONCE = 4096
 # In place of an exit status of pops: the run was stopped when its time was over.
 UNFINISHED = int(Status.UNFINISHED)
@@ -67,7 +67,7 @@ class Task(NamedTuple):
         return self.piece.alone(self.source.text, False)
 
     def wants_line_ends(self, report: bytes) -> bool:
-        """Whether the report of the first run is a fault told with a wrong line."""
+        """Whether the report of the first run is a fault with a wrong line."""
         assert self.piece is not None
         lacking = self.piece.number > 1 and self.piece.line_ends > LINE_ENDS_AT_ONCE
         line = report[len(_HEAD) :].partition(b"\n")[0]
@@ -83,7 +83,7 @@ class Task(NamedTuple):
 class Result(NamedTuple):
     """A task's report, with its number, and the exit status of its run.
 
-    Of an unfinished one the report is the lines that were written in so many seconds.
+    The report of an unfinished problem is the lines that were written in `seconds`.
     """
 
     task: Task

@@ -80,7 +80,7 @@ class Board:
 
 @dataclass(frozen=True)
 class Fault:
-    """The fault of a problem, with the line of the input that it is told of."""
+    """The fault of a problem, with the faulty line of the input."""
 
     line: int
     number: int
@@ -133,9 +133,9 @@ NamedItem = TypeVar("NamedItem", FaultyItem, SoundItem, Item, AnyItem)
 
 
 def named_items(items: Iterable[NamedItem]) -> Iterator[tuple[str, NamedItem]]:
-    """Each item with a name of its own: its number, and from a second report on the report's too.
+    """Yields each item with a unique name: its number, and from the second report on also the report's.
 
-    Of reports one behind the other the second has `2-1`, `2-2` and so on.
+    Where reports follow each other, the items of the second are `2-1`, `2-2` and so on.
     """
     report = 1
     last = 0

@@ -16,7 +16,7 @@ class Castling(Enum):
 
 
 class Mark(Enum):
-    """What stands behind a move; its value is the printed sign."""
+    """What a move does to the king; its value is the sign after the move."""
 
     CHECK = "+"
     MATE = "#"
@@ -33,9 +33,9 @@ class Rebirth:
 
 @dataclass(frozen=True)
 class PlayedMove:
-    """A move of a solution. `text` is what the report prints, its number left out.
+    """A move of a solution. `text` is what the report prints, without the number.
 
-    Of castling, man, origin and arrival are the king's.
+    A castling has the king's kind, origin and arrival.
     """
 
     text: str
@@ -63,7 +63,7 @@ _MOVE = re.compile(
 
 
 def prefix(half: int) -> str:
-    """The number printed before a half-move: `2.` for the odd one, `2...` for the even one."""
+    """Returns the number printed before a half-move: `2.` for half-move 3, `2...` for half-move 4."""
     return f"{(half + 1) // 2}." if half % 2 == 1 else f"{half // 2}..."
 
 

@@ -43,7 +43,7 @@ CUT = "the report ends here"
 
 
 class _Broken(Exception):
-    """The end of what is known of an unfinished problem, with the reason."""
+    """Ends the reading of an unfinished problem, with the reason."""
 
 
 class _Lines:
@@ -74,7 +74,7 @@ class _Lines:
 
     @property
     def ahead(self) -> bytes:
-        """The line at hand. Refused at the end of the report, which is inside an item then."""
+        """The line at hand. Refused at the end of the report, where an item is cut."""
         if self._ahead is None:
             if self.may_break:
                 raise _Broken(CUT)
@@ -102,9 +102,9 @@ class _Lines:
 
 
 def read_report(source: Iterable[bytes]) -> Iterator[Item]:
-    """The items of a report, given by its lines with their line ends, as a binary file gives them.
+    """Yields the items of a report, whose lines come with their line ends, as from a binary file.
 
-    ReportError where the text departs from the grammar; the items before were given.
+    ReportError where the text departs from the grammar, after the items before.
     """
     for item in _items(_Lines(source, may_break=False)):
         assert not isinstance(item, HeadlessItem)
@@ -112,9 +112,9 @@ def read_report(source: Iterable[bytes]) -> Iterator[Item]:
 
 
 def read_unfinished_report(source: Iterable[bytes]) -> Iterator[AnyItem]:
-    """As `read_report`, for a report that may end inside a problem and hold stopped problems.
+    """Yields items as `read_report` does, also of stopped problems and of a report that is cut.
 
-    Such problems have what the report shows of them; a line that was cut is left out.
+    These problems have what the report shows of them. A cut line is left out.
     """
     return _items(_Lines(source, may_break=True))
 
@@ -184,7 +184,7 @@ def _read_item(source: _Lines, number: int) -> AnyItem:
 
 
 def _read_head(source: _Lines, head: _Head) -> Stipulation:
-    """Reads what stands above the solutions into `head`; returns the stipulation."""
+    """Reads the lines above the solutions into `head`; returns the stipulation."""
     head.title = _read_text(source, lines.TITLE)
     head.author = _read_text(source, lines.AUTHOR)
     head.board = _read_board(source) if source.text.startswith("8 ") else None

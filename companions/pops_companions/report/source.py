@@ -58,7 +58,7 @@ def _merged(
 ) -> Iterable[AnyItem]:
     """The items of one report and its unfinished ones in the order of their numbers.
 
-    Several reports joined have no such order: they stay as they are, or are refused.
+    Several joined reports have no order of numbers: they stay as they are, or are refused.
     """
     numbers = [item.number for item in items]
     others = {item.number: item for item in more}

@@ -65,7 +65,7 @@ class Differences:
     counts: Counts = field(default_factory=Counts)
 
     def change(self, name: str, old: str, new: str) -> None:
-        """Tells what changed, if it did."""
+        """Says what changed, if anything did."""
         if old != new:
             self.lines.append(f"  {name}: {old or 'none'} -> {new or 'none'}")
 
@@ -203,7 +203,7 @@ def _compare_lines(found: Differences, old: list[str], new: list[str]) -> None:
 def _compare_nodes(
     found: Differences, old: Sequence[Node], new: Sequence[Node], path: tuple[PlayedMove, ...]
 ) -> set[str]:
-    """Compares trees node by node. Answers which report alone shows what stands below a node."""
+    """Compares trees node by node; returns which report alone shows moves below a node."""
     before = {node.move.text: node for node in old}
     after = {node.move.text: node for node in new}
     deeper: set[str] = set()

@@ -17,7 +17,7 @@ class Place(Enum):
 
 @dataclass(frozen=True)
 class Dual:
-    """A choice behind some moves. The last of its half-moves, by number, reaches the goal."""
+    """A choice after some moves. The last of its half-moves, by number, reaches the goal."""
 
     before: tuple[PlayedMove, ...]
     choices: tuple[PlayedMove, ...]
@@ -61,7 +61,7 @@ def line_text(moves: Sequence[PlayedMove]) -> str:
 
 
 def tree_duals(keys: Iterable[Node]) -> Iterator[Dual]:
-    """The duals of battle play: more than one continuation of White behind a move of Black.
+    """The duals of battle play: more than one continuation of White after a move of Black.
 
     White's last move is the one at the end, in a selfmate too, where it forces the goal.
     """

@@ -12,7 +12,7 @@ from pops_companions.review.judging import Finding, Judgement, Verdict
 from pops_companions.review.naming import counted, described, shown
 from pops_companions.show.titles import printable
 
-# So many moves of a finding are shown where not all are asked for.
+# How many moves of a finding are shown without --all.
 MOST_LINES = 10
 
 COLUMNS = (
@@ -35,7 +35,7 @@ COLUMNS = (
 
 
 def lines_of(finding: Finding, most: Optional[int]) -> list[str]:
-    """The moves of a finding, so many at most, with a line for the rest."""
+    """Returns the first moves of a finding, and a line for the rest."""
     if most is None or len(finding.lines) <= most:
         return list(finding.lines)
     return [*finding.lines[:most], f"and {len(finding.lines) - most} more"]
@@ -55,7 +55,7 @@ def as_text(judged: JudgedGroup, encoding: str, most: Optional[int]) -> str:
 
 
 def name_of(judged: JudgedGroup, encoding: str) -> str:
-    """Stipulation, title and author; of twins those of the first, its title without the label."""
+    """Returns stipulation, title and author; for twins the first one's, without the title's label."""
     first, group = judged.judgements[0], judged.group
     whole = described(first.item, encoding, first.given)
     if group.is_alone:

@@ -298,7 +298,7 @@ def _with_continuations(node: Node) -> str:
 
 
 def _unprovided_checks(provided: list[Node], keys: list[Node]) -> tuple[str, ...]:
-    """The checks of Black behind the keys that set play doesn't show, by their squares."""
+    """Returns the checks of Black after the keys that set play doesn't show, by their squares."""
     known = {_step(node.move) for node in provided}
     checks: dict[str, None] = {}
     for key in keys:

@@ -20,13 +20,13 @@ Places = dict[Hashable, list[int]]
 
 
 def pairs_of(old: Sequence[Item], new: Sequence[Item]) -> list[Pair]:
-    """The problems of both reports, each once, in the order of the new one; those of the old one
-    alone stand where they stood.
+    """Returns the problems of both reports, each once, in the order of the new report. Problems
+    that only the old report has keep their places.
 
-    First come problems that are the same in title, author, board, stipulation and condition, those
-    of one number before others. Then those with a title and author that no other has, then those
-    with a board that no other has. Those left over are taken by their place: right behind or right
-    before two that belong together; but not where title and board both say that they differ.
+    Problems with the same title, author, board, stipulation and condition are paired first, the
+    ones with the same number before others. Then follow problems with a title and author that no
+    other has, then with a board that no other has. The rest is paired by place, right after or
+    right before a pair, unless both title and board differ.
     """
     matching = _Matching(old, new)
     matching.by_number(_whole)
@@ -96,7 +96,7 @@ class _Matching:
         return places
 
     def in_order(self, key: Key) -> None:
-        """Pairs those of one key in their order."""
+        """Pairs problems with the same key in their order."""
         new_places = self._left(self._new, self._to_old, key)
         for one, places in self._left(self._old, self._to_new, key).items():
             for old, new in zip(places, new_places.get(one, [])):

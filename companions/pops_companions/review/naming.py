@@ -16,7 +16,7 @@ def shown(text: Optional[bytes], encoding: str) -> str:
 def described(item: Optional[AnyItem], encoding: str, given: Optional[GivenProblem] = None) -> str:
     """Stipulation, title and author: `#5, Excelsior (Sam Loyd)`; empty where none are known.
 
-    Of a problem without these in its report, `given` has them.
+    `given` has them for a problem whose report lacks them.
     """
     if isinstance(item, SoundItem):
         return ", ".join(filter(None, (item.asked, _name(item.title, item.author, encoding))))

@@ -1,4 +1,4 @@
-"""Short solutions: the input that asks for them, and what its report answers."""
+"""Short solutions: the input that asks for them, and its report."""
 
 import re
 from collections.abc import Iterable, Iterator
@@ -33,7 +33,7 @@ def shorter(stipulation: Stipulation) -> list[Stipulation]:
 
 
 def posed_problems(problems: Iterable[GivenProblem]) -> Iterator[list[str]]:
-    """The lines of each problem with a shorter stipulation; its title tells whose it is.
+    """The lines of each problem with a shorter stipulation; its title names the problem.
 
     Options stay, but for SetPlay and Variation: only the solutions are asked for.
     """
@@ -95,8 +95,8 @@ class ShortAnswers:
     def of(self, item: SoundItem) -> Optional[tuple[str, ...]]:
         """The short solutions of a problem, as far as they are known.
 
-        None where none is known and some of its answers are missing. AnswersError where they are
-        those of another problem.
+        None where none is known and a report of them is missing. AnswersError where the reports are
+        of another problem.
         """
         lines: list[str] = []
         complete = True

@@ -140,7 +140,7 @@ class Page:
 
 
 def _twin(group: Group, twin: Twin) -> str:
-    """The solutions of a problem; those of twins have their label above them."""
+    """Returns the solutions of a problem, under its label for a twin."""
     if group.is_alone:
         return _solutions(twin.item)
     item = twin.item
