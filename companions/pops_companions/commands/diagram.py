@@ -91,7 +91,7 @@ def beginning_of_names(place: Optional[str], report: Optional[str]) -> str:
     return os.path.join(place, name) if place.endswith("/") or os.path.isdir(place) else place
 
 
-def arguments(words: list[str]) -> Settings:
+def command_line() -> argparse.ArgumentParser:
     parser = command.parser(
         NAME,
         "Writes the diagrams of a report of pops, one file per problem, and prints their names.\n"
@@ -130,6 +130,12 @@ def arguments(words: list[str]) -> Settings:
         "--apart", action="store_true", help="with --latex: each twin in a file of its own"
     )
     command.add_encoding(parser)
+    return parser
+
+
+def arguments(words: list[str]) -> Settings:
+    """Reads the words of the command line."""
+    parser = command_line()
     settings = parser.parse_args(words, Settings())
     if not 1 <= settings.width <= 20_000:
         parser.error("--width needs a number from 1 to 20000")

@@ -101,7 +101,40 @@ def mate_of(position: Position) -> Optional[Stipulation]:
     return Stipulation.of_text(f"#{int(moves)}") if re.fullmatch("[0-9]{1,3}", moves) else None
 
 
-def arguments(words: list[str]) -> Settings:
+def _add_options(parser: argparse.ArgumentParser) -> None:
+    """Adds the options that stand in each problem."""
+    add = parser.add_argument
+    add(
+        "--set-play",
+        action="append_const",
+        dest="options",
+        const="SetPlay",
+        default=[],
+        help="show set play too",
+    )
+    add(
+        "--variation",
+        action="append_const",
+        dest="options",
+        const="Variation",
+        help="show defences and continuations",
+    )
+    add(
+        "--no-board",
+        action="append_const",
+        dest="options",
+        const="NoBoard",
+        help="print no board",
+    )
+    add(
+        "--max-solutions",
+        metavar="N",
+        type=command.number_from_one,
+        help="no more than N solutions in a phase",
+    )
+
+
+def command_line() -> argparse.ArgumentParser:
     parser = command.parser(
         NAME,
         "Turns positions in FEN or EPD into input for pops, one problem from each.\n\n"
@@ -132,36 +165,15 @@ def arguments(words: list[str]) -> Settings:
         choices=[condition.value for condition in Condition],
         help="the condition of each problem",
     )
-    add(
-        "--set-play",
-        action="append_const",
-        dest="options",
-        const="SetPlay",
-        default=[],
-        help="show set play too",
-    )
-    add(
-        "--variation",
-        action="append_const",
-        dest="options",
-        const="Variation",
-        help="show defences and continuations",
-    )
-    add(
-        "--no-board",
-        action="append_const",
-        dest="options",
-        const="NoBoard",
-        help="print no board",
-    )
-    add(
-        "--max-solutions",
-        metavar="N",
-        type=command.number_from_one,
-        help="no more than N solutions in a phase",
-    )
+    _add_options(parser)
     add("--keep-colours", action="store_true", help="ignore the side to move")
     add("-o", "--output", metavar="FILE", help="the input of pops (default: standard output)")
+    return parser
+
+
+def arguments(words: list[str]) -> Settings:
+    """Reads the words of the command line."""
+    parser = command_line()
     settings = parser.parse_args(words, Settings())
     if settings.max_solutions is not None:
         settings.options.append(f"MaxSolutions {settings.max_solutions}")

@@ -38,7 +38,7 @@ class Settings(argparse.Namespace):
     wanted: Wanted
 
 
-def arguments(words: list[str]) -> Settings:
+def command_line() -> argparse.ArgumentParser:
     parser = command.parser(
         NAME,
         "Keeps problems in COLLECTION, an SQLite file, and finds them again: by words and men, by\n"
@@ -77,6 +77,12 @@ def arguments(words: list[str]) -> Settings:
     )
     add("-o", "--output", metavar="PAGE", help="an HTML page with the diagrams of what was found")
     command.add_encoding(parser)
+    return parser
+
+
+def arguments(words: list[str]) -> Settings:
+    """Reads the words of the command line."""
+    parser = command_line()
     settings = parser.parse_args(words, Settings())
     is_search = any(getattr(settings, name) is not None for name in _WORDS)
     actions_given = [settings.add, settings.near, settings.play]

@@ -38,7 +38,7 @@ class Settings(argparse.Namespace):
     encoding: str
 
 
-def arguments(words: list[str]) -> Settings:
+def command_line() -> argparse.ArgumentParser:
     parser = command.parser(
         NAME,
         "Solves the problems of COLLECTION, looks for short solutions, and writes one sheet with a\n"
@@ -76,6 +76,12 @@ def arguments(words: list[str]) -> Settings:
     add("--pops", metavar="PROGRAM", help=LOOKED_FOR)
     add("--pops-tries", metavar="PROGRAM", help=TRIES_LOOKED_FOR)
     command.add_encoding(parser)
+    return parser
+
+
+def arguments(words: list[str]) -> Settings:
+    """Reads the words of the command line."""
+    parser = command_line()
     settings = parser.parse_args(words, Settings())
     if not 0 <= settings.seconds < float("inf"):
         parser.error("--seconds needs a number from 0")

@@ -1,210 +1,40 @@
 """Solves many problems on all processors, and on other machines, as one run of pops would."""
 
-import argparse
-import math
 import os
 import signal
 import sys
 import tempfile
 from collections.abc import Sequence
+from dataclasses import dataclass
 from pathlib import Path
 from typing import BinaryIO, NoReturn, Optional
 
 from pops_companions import command
 from pops_companions.command import CommandError, Status
+from pops_companions.commands.many_options import (
+    NAME,
+    SPLIT_AFTER,
+    Settings,
+    arguments,
+    depth_of,
+    moment_of,
+)
 from pops_companions.input.pieces import rest_of
 from pops_companions.many.joining import Joined, Report, path_of_report, write_index
 from pops_companions.many.journal import Journal, JournalError, fingerprint
 from pops_companions.many.machines import Machines, MachinesError
 from pops_companions.many.parallel import Parallel, ParallelError
 from pops_companions.many.part_program import PartProgram
-from pops_companions.many.program import LOOKED_FOR, MissingError, Program, find, find_part_program
+from pops_companions.many.program import MissingError, Program, find, find_part_program
 from pops_companions.many.progress import Progress
 from pops_companions.many.remote_parts import RemoteParts
 from pops_companions.many.running import Elsewhere, PartPrograms, Programs, Run
 from pops_companions.many.targets import Target
 from pops_companions.many.tasks import Source, Task, tasks_of
 
-NAME = "pops-many"
 _FILES_TOLD = 3
 # What the file's name ends in that has what was found of problems that aren't done.
 UNFINISHED = ".unfinished"
-# With --split a problem is cut into parts after this many seconds, sooner where some processors
-# would have nothing to do.
-SPLIT_AFTER = 2.0
-SPLIT_SOON_AFTER = 0.02
-# The half-moves by which help play is cut. On another machine each part costs a process.
-DEPTHS = range(1, 5)
-DEPTH_HERE = 2
-DEPTH_THERE = 1
-
-
-class Settings(argparse.Namespace):
-    """The words of the command line."""
-
-    files: list[str]
-    output: Optional[str]
-    each: bool
-    index: Optional[str]
-    jobs: Optional[int]
-    check: bool
-    no_board: bool
-    seconds: Optional[float]
-    unfinished: Optional[str]
-    split: bool
-    split_after: Optional[float]
-    split_depth: Optional[int]
-    pops_part: Optional[str]
-    resume: bool
-    journal: Optional[str]
-    pops: Optional[str]
-    sshlogin: list[str]
-    ssh: Optional[str]
-    remote_pops: str
-    remote_pops_part: Optional[str]
-
-    @property
-    def inputs(self) -> Sequence[Optional[str]]:
-        """The inputs; None is standard input."""
-        inputs: list[Optional[str]] = [*self.files]
-        return inputs or [None]
-
-
-def arguments(words: list[str]) -> Settings:
-    parser = command.parser(
-        NAME,
-        "Solves the problems of each FILE, or of standard input, on all processors.\n"
-        "The output and the exit status are those of pops on each FILE in turn.",
-        epilog="example: pops-many collection.pop -o collection.report\n"
-        "exit status: that of pops; 6 if the run was stopped, or some problems took longer than\n"
-        "--seconds or couldn't be run. A journal then keeps the finished ones, and --resume goes\n"
-        "on from there.",
-    )
-    add = parser.add_argument
-    add("files", nargs="*", metavar="FILE", help="an input of pops")
-    add(
-        "-o",
-        "--output",
-        metavar="REPORT",
-        help="the report, or the folder of --each (default: standard output)",
-    )
-    add(
-        "--each",
-        action="store_true",
-        help="one report per FILE, NAME.report for NAME.pop, next to it or in the folder of -o",
-    )
-    add("--index", metavar="TABLE", help="a table of the report's items, with the FILE of each")
-    add(
-        "-j",
-        "--jobs",
-        type=int,
-        metavar="N",
-        help="runs at a time on each machine (default: one per processor)",
-    )
-    add("--check", action="store_true", help="as in pops: test the problems without solving them")
-    add("--no-board", action="store_true", help="as in pops: print no board")
-    add(
-        "--seconds",
-        type=float,
-        metavar="N",
-        help="stop a problem after N seconds, and go on with the others",
-    )
-    add(
-        "--unfinished",
-        metavar="FILE",
-        help="where to put what was found of stopped problems (default: REPORT.unfinished)",
-    )
-    add(
-        "--split",
-        action="store_true",
-        help="cut problems that take long into parts, for all processors and machines",
-    )
-    add(
-        "--split-after",
-        type=float,
-        metavar="N",
-        help=f"how many seconds a problem has before it is cut ({SPLIT_AFTER:g}, or"
-        f" {SPLIT_SOON_AFTER:g} if there are fewer problems than processors)",
-    )
-    add(
-        "--split-depth",
-        type=int,
-        choices=DEPTHS,
-        metavar="D",
-        help=f"cut help play by its first D half-moves, 1 to 4 ({DEPTH_HERE}, with --sshlogin"
-        f" {DEPTH_THERE}): more make more and smaller parts",
-    )
-    add(
-        "--pops-part",
-        metavar="PROGRAM",
-        help="the program pops-part (default: $POPS_PART, the one next to pops or built with it,"
-        " the one on the PATH)",
-    )
-    add("--resume", action="store_true", help="go on where a run stopped; needs its journal")
-    add("--journal", metavar="FILE", help="the journal (default: REPORT.journal)")
-    add("--pops", metavar="PROGRAM", help=LOOKED_FOR)
-    add(
-        "--sshlogin",
-        action="append",
-        default=[],
-        metavar="HOST,..",
-        help="run on these machines, through GNU parallel and ssh; : is this machine",
-    )
-    add("--remote-pops", default="pops", metavar="PROGRAM", help="pops on those machines (pops)")
-    add(
-        "--remote-pops-part",
-        metavar="PROGRAM",
-        help="pops-part on those machines (pops-part)",
-    )
-    add("--ssh", metavar="COMMAND", help="the ssh that GNU parallel uses, with its options")
-    settings = parser.parse_args(words, Settings())
-    if settings.jobs is not None and settings.jobs < 1:
-        parser.error("--jobs needs a number from 1")
-    if settings.seconds is not None and not 0 < settings.seconds < math.inf:
-        parser.error("--seconds needs a number above 0")
-    if settings.resume and not (settings.output or settings.journal):
-        parser.error("--resume needs --output or --journal: the journal of the run that stopped")
-    if settings.each and not settings.files:
-        parser.error("--each needs FILEs")
-    if settings.each and (settings.index or settings.unfinished):
-        parser.error(
-            "--each has no single report: --index and --unfinished can't be combined with it"
-        )
-    if settings.seconds and not (settings.output or settings.each or settings.unfinished):
-        parser.error("--seconds needs --output, --each or --unfinished: a second file for the rest")
-    refuse_split(parser, settings)
-    return settings
-
-
-def refuse_split(
-    parser: argparse.ArgumentParser, settings: Settings
-) -> None:
-    """Refuses what doesn't go together with parts, or is nothing without them."""
-    if not settings.split:
-        for option in ("split_after", "split_depth", "pops_part", "remote_pops_part"):
-            if getattr(settings, option) is not None:
-                parser.error(f"--{option.replace('_', '-')} needs --split")
-        return
-    if settings.check:
-        parser.error("--check solves nothing: there is nothing to --split")
-    if settings.seconds is not None:
-        parser.error("--seconds and --split can't be combined: a problem in parts has no limit")
-    if settings.split_after is not None and not 0 < settings.split_after < math.inf:
-        parser.error("--split-after needs a number above 0")
-
-
-def moment_of(settings: Settings, problems: int, jobs: int) -> float:
-    """How many seconds a problem has before it is cut into parts."""
-    if settings.split_after is not None:
-        return float(settings.split_after)
-    return SPLIT_SOON_AFTER if problems < jobs else SPLIT_AFTER
-
-
-def depth_of(settings: Settings) -> int:
-    """By how many half-moves help play is cut."""
-    if settings.split_depth is not None:
-        return int(settings.split_depth)
-    return DEPTH_THERE if settings.sshlogin else DEPTH_HERE
 
 
 def read_source(name: Optional[str], progress: Progress) -> Source:
@@ -354,74 +184,115 @@ def elsewhere_of(
     return Elsewhere(machines, there)
 
 
+@dataclass(frozen=True)
+class Files:
+    """What a run writes besides its journal."""
+
+    reports: list[Report]
+    index: Optional[Target]
+
+    @property
+    def targets(self) -> list[Target]:
+        """All files, in the order in which they are refused."""
+        files = [report.file for report in self.reports]
+        seconds = [report.unfinished for report in self.reports]
+        return [target for target in [*files, *seconds, self.index] if target is not None]
+
+
+class Solving:
+    """A run on what the command line asks for."""
+
+    def __init__(self, settings: Settings):
+        self._settings = settings
+        self._options = ["--check"] * settings.check + ["--no-board"] * settings.no_board
+        self._programs = programs_of(settings, self._options)
+        self._progress = Progress(NAME)
+        sources = [read_source(name, self._progress) for name in settings.inputs]
+        self._tasks = tasks_of(sources)
+        self._jobs = settings.jobs or len(os.sched_getaffinity(0))
+        if settings.split:
+            self._programs.whole.seconds = moment_of(settings, len(self._tasks), self._jobs)
+        self._name = fingerprint(sources, self._options)
+
+    def solve(self, output: BinaryIO) -> int:
+        """Runs what is left to run; returns the exit status of the runs of pops."""
+        settings = self._settings
+        index = Target(settings.index, self._name) if settings.index else None
+        files = Files(reports_of(settings, self._tasks, self._name), index)
+        journal_path = path_of_journal(settings)
+        beside = [journal_path, *[journal_path + UNFINISHED] * settings.split] if journal_path else []
+        refuse_shared(settings.files, [file.path for file in files.targets] + beside)
+        elsewhere = elsewhere_of(settings, self._options, self._programs, self._progress)
+        journal = open_journal(journal_path, settings, self._name)
+        try:
+            try_out(files.targets)
+        except CommandError:
+            journal.close(kept=settings.resume)
+            raise
+        reports = files.reports
+        if settings.split:
+            second = Target(journal.path + UNFINISHED, self._name)
+            reports = [it._replace(unfinished=it.unfinished or second) for it in reports]
+        return self._go(journal, Joined(journal, reports, output), index, elsewhere)
+
+    def _go(
+        self, journal: Journal, joined: Joined, index: Optional[Target], where: Optional[Elsewhere]
+    ) -> int:
+        """Runs the tasks and writes the index; ends the command where not all is done."""
+        kept_in: list[str] = []
+        complete = False
+        try:
+            try:
+                run = Run(self._tasks, self._programs, journal, joined, self._progress)
+                run.go(where, self._jobs)
+            finally:
+                kept_in = joined.write_unfinished()
+            if joined.complete and index is not None:
+                write_index(index, self._tasks, journal)
+            complete = joined.complete
+        except KeyboardInterrupt:
+            self._progress.say("stopped")
+        except BrokenPipeError:
+            settings = self._settings
+            journal.close(kept=settings.output is not None or settings.journal is not None)
+            raise
+        except OSError as error:
+            self._progress.say(f"cannot write: {error.strerror}")
+        self._progress.end()
+        if complete and self._done(journal) == len(self._tasks):
+            worst = max(journal.statuses())
+            journal.close(kept=False)
+            return worst
+        if kept_in:
+            self._say_unfinished(joined, kept_in)
+        journal.close(kept=True)
+        raise self._end(journal, complete)
+
+    def _done(self, journal: Journal) -> int:
+        return sum(journal.is_finished(task.place) for task in self._tasks)
+
+    def _say_unfinished(self, joined: Joined, kept_in: Sequence[str]) -> None:
+        """Says how many problems are unfinished, and in which files their solutions are."""
+        how = "aren't done" if self._settings.split else "took longer"
+        unfinished = sum(joined.has_unfinished(task.place) for task in self._tasks)
+        more = f" and {len(kept_in) - _FILES_TOLD} more" if kept_in[_FILES_TOLD:] else ""
+        self._progress.say(
+            f"{unfinished} of {len(self._tasks)} problems {how}:"
+            f" what was found of them is in {', '.join(kept_in[:_FILES_TOLD])}{more}"
+        )
+
+    def _end(self, journal: Journal, complete: bool) -> CommandError:
+        more = ", and more --seconds or none" if complete else ""
+        return CommandError(
+            Status.UNFINISHED,
+            f"{self._done(journal)} of {len(self._tasks)} problems are done and kept in"
+            f" {journal.path}: go on with --resume --journal {journal.path}{more}",
+        )
+
+
 def solve(settings: Settings, output: BinaryIO) -> int:
     """Runs all that the command line asks for; returns the exit status of the runs of pops."""
-    options = ["--check"] * settings.check + ["--no-board"] * settings.no_board
-    programs = programs_of(settings, options)
-    progress = Progress(NAME)
-    sources = [read_source(name, progress) for name in settings.inputs]
-    tasks = tasks_of(sources)
-    jobs = settings.jobs or len(os.sched_getaffinity(0))
-    if settings.split:
-        programs.whole.seconds = moment_of(settings, len(tasks), jobs)
-    run_name = fingerprint(sources, options)
-    reports = reports_of(settings, tasks, run_name)
-    index = Target(settings.index, run_name) if settings.index else None
-    targets = [each.file for each in reports] + [each.unfinished for each in reports] + [index]
-    files = [target for target in targets if target is not None]
-    journal_path = path_of_journal(settings)
-    beside = [journal_path] + [journal_path + UNFINISHED] * settings.split if journal_path else []
-    refuse_shared(settings.files, [file.path for file in files] + beside)
-    elsewhere = elsewhere_of(settings, options, programs, progress)
-    journal = open_journal(journal_path, settings, run_name)
-    try:
-        try_out(files)
-    except CommandError:
-        journal.close(kept=settings.resume)
-        raise
-    if settings.split:
-        beside_journal = Target(journal.path + UNFINISHED, run_name)
-        reports = [it._replace(unfinished=it.unfinished or beside_journal) for it in reports]
-    joined = Joined(journal, reports, output)
-    stopped_in: list[str] = []
-    complete = False
-    try:
-        try:
-            run = Run(tasks, programs, journal, joined, progress)
-            run.go(elsewhere, jobs)
-        finally:
-            stopped_in = joined.write_unfinished()
-        if joined.complete and index is not None:
-            write_index(index, tasks, journal)
-        complete = joined.complete
-    except KeyboardInterrupt:
-        progress.say("stopped")
-    except BrokenPipeError:
-        journal.close(kept=settings.output is not None or settings.journal is not None)
-        raise
-    except OSError as error:
-        progress.say(f"cannot write: {error.strerror}")
-    progress.end()
-    done = sum(journal.is_finished(task.place) for task in tasks)
-    if complete and done == len(tasks):
-        worst = max(journal.statuses())
-        journal.close(kept=False)
-        return worst
-    if stopped_in:
-        how = "aren't done" if settings.split else "took longer"
-        unfinished = sum(joined.has_unfinished(task.place) for task in tasks)
-        progress.say(
-            f"{unfinished} of {len(tasks)} problems {how}:"
-            f" what was found of them is in {', '.join(stopped_in[:_FILES_TOLD])}"
-            + (f" and {len(stopped_in) - _FILES_TOLD} more" if stopped_in[_FILES_TOLD:] else "")
-        )
-    journal.close(kept=True)
-    raise CommandError(
-        Status.UNFINISHED,
-        f"{done} of {len(tasks)} problems are done and kept in {journal.path}:"
-        f" go on with --resume --journal {journal.path}"
-        + (", and more --seconds or none" if complete else ""),
-    )
+    return Solving(settings).solve(output)
 
 
 def main(words: list[str]) -> int:

@@ -43,7 +43,24 @@ class Settings(argparse.Namespace):
     encoding: str
 
 
-def arguments(words: list[str]) -> Settings:
+def _add_forms(parser: argparse.ArgumentParser) -> None:
+    """Adds the options for what is written."""
+    add = parser.add_argument
+    form = parser.add_mutually_exclusive_group()
+    form.add_argument("--csv", action="store_true", help="one row of CSV per problem")
+    form.add_argument("--page", action="store_true", help="an HTML page with diagrams")
+    add(
+        "--heading",
+        metavar="TEXT",
+        default="Soundness",
+        help="the page's heading (Soundness)",
+    )
+    add("--apart", action="store_true", help="judge each twin by itself, as --csv always does")
+    add("--all", action="store_true", help=f"show all moves of a finding, not only {MOST_LINES}")
+    add("-o", "--output", metavar="FILE", help="what is written (default: standard output)")
+
+
+def command_line() -> argparse.ArgumentParser:
     parser = command.parser(
         NAME,
         "Says which problems of a report of pops are sound, and what is wrong with the others:\n"
@@ -85,19 +102,14 @@ def arguments(words: list[str]) -> Settings:
         metavar="FILE",
         help="what pops-many kept of problems that it stopped (REPORT.unfinished, if it is there)",
     )
-    form = parser.add_mutually_exclusive_group()
-    form.add_argument("--csv", action="store_true", help="one row of CSV per problem")
-    form.add_argument("--page", action="store_true", help="an HTML page with diagrams")
-    add(
-        "--heading",
-        metavar="TEXT",
-        default="Soundness",
-        help="the page's heading (Soundness)",
-    )
-    add("--apart", action="store_true", help="judge each twin by itself, as --csv always does")
-    add("--all", action="store_true", help=f"show all moves of a finding, not only {MOST_LINES}")
-    add("-o", "--output", metavar="FILE", help="what is written (default: standard output)")
+    _add_forms(parser)
     command.add_encoding(parser)
+    return parser
+
+
+def arguments(words: list[str]) -> Settings:
+    """Reads the words of the command line."""
+    parser = command_line()
     settings = parser.parse_args(words, Settings())
     beside = (settings.input, settings.short, settings.unfinished, settings.csv, settings.page)
     if settings.pose and any(beside):

@@ -4,7 +4,7 @@ import re
 from collections.abc import Iterator
 from typing import Optional
 
-from pops_companions.chess.men import Colour
+from pops_companions.chess.men import Colour, Square
 from pops_companions.explain import wordings
 from pops_companions.explain.case import Case, Explanation, at, first_of, listed, quoted
 from pops_companions.explain.men import span_of
@@ -16,6 +16,7 @@ from pops_companions.input.reading import (
     MOST_SOLUTIONS,
     OPTIONS,
     Awaited,
+    EnPassantWants,
     en_passant_wants,
     is_man,
     is_number,
@@ -112,45 +113,31 @@ def en_passant_impossible(case: Case) -> Explanation:
     assert stipulation is not None and given is not None and crossed is not None
     assert reading.stipulation_word is not None
     wants = en_passant_wants(reading)
-    starter, other = stipulation.starter, stipulation.starter.opponent
+    starter = stipulation.starter
     head = sentence(
         "moves_first", given=quoted(reading.stipulation_word), side=starter.name.title()
     )
-    pawn = f"{other.value} pawn"
+    about = {"head": head, "pawn": f"{starter.opponent.value} pawn"}
     if not wants.right_rank:
-        text = sentence("passed_rank", head=head, pawn=pawn, rank=wants.rank)
-        there = 5 if starter is Colour.WHITE else 4
-        if crossed.rank == there:
-            name = f"{crossed.name[0]}{wants.rank}"
-            text = sentence("passed_where", text=text, square=crossed.name, name=name)
-        else:
-            text = sentence("passed_other", text=text, square=crossed.name, there=crossed.rank)
-        return case.says(text, given.span)
+        text = sentence("passed_rank", **about, rank=wants.rank)
+        return case.says(_with_rank(text, wants, starter, crossed), given.span)
+    about["square"] = crossed.name
     if not wants.pawn_stands:
-        return case.says(
-            sentence(
-                "passed_no_pawn",
-                head=head,
-                pawn=pawn,
-                square=crossed.name,
-                pawn_square=wants.pawn.name,
-            ),
-            given.span,
-        )
+        text = sentence("passed_no_pawn", **about, pawn_square=wants.pawn.name)
+        return case.says(text, given.span)
     taken = listed([square.name for square in wants.occupied])
     marks = [span_of(reading.men[square]) for square in wants.occupied]
-    return case.says(
-        sentence(
-            "passed_occupied",
-            head=head,
-            pawn=pawn,
-            home=wants.home.name,
-            square=crossed.name,
-            taken=taken,
-        ),
-        given.span,
-        *marks,
-    )
+    text = sentence("passed_occupied", **about, home=wants.home.name, taken=taken)
+    return case.says(text, given.span, *marks)
+
+
+def _with_rank(text: str, wants: EnPassantWants, starter: Colour, crossed: Square) -> str:
+    """Adds to a text which square is meant, or on which rank the named one is."""
+    pawn_rank = 5 if starter is Colour.WHITE else 4
+    if crossed.rank == pawn_rank:
+        name = f"{crossed.name[0]}{wants.rank}"
+        return sentence("passed_where", text=text, square=crossed.name, name=name)
+    return sentence("passed_other", text=text, square=crossed.name, there=crossed.rank)
 
 
 def no_castling_square(case: Case) -> Explanation:
