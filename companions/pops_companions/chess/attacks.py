@@ -21,7 +21,7 @@ _LEAPERS = {Kind.KING: _LINES + _DIAGONALS, Kind.KNIGHT: _LEAPS}
 
 
 def attackers(men: Men, target: Square, colour: Colour, madrasi: bool) -> list[Square]:
-    """Where the men of a colour stand that attack a square, those paralysed under Madrasi not."""
+    """Returns where the men of a colour attack a square from; men that Madrasi paralyses don't."""
     return [
         square
         for square, man in men.items()
@@ -44,7 +44,7 @@ def _reaches(men: Men, origin: Square, target: Square) -> bool:
 
 
 def _reached(men: Men, origin: Square) -> Iterator[Square]:
-    """The squares on which a man could capture, whether it may or not."""
+    """Yields the squares on which a man could capture, whether it may or not."""
     man = men[origin]
     if man.kind is Kind.PAWN:
         rank = 1 if man.colour is Colour.WHITE else -1
@@ -62,7 +62,7 @@ def _reached(men: Men, origin: Square) -> Iterator[Square]:
 
 
 def _ride(men: Men, origin: Square, step: Step) -> Iterator[Square]:
-    """The squares of a line up to the first man, or to the edge."""
+    """Yields the squares of a line up to the first man, or to the edge."""
     square = _at(origin, step)
     while square is not None:
         yield square

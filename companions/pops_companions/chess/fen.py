@@ -53,7 +53,8 @@ class Position:
 
 
 def read_position(text: str) -> Position:
-    """The position of a FEN (six fields, the last ones may lack) or of an EPD with operations.
+    """Returns the position of a FEN (six fields, the last ones may lack) or of an EPD with
+    operations.
 
     FenError where a field isn't of its form. Whether the position can be played is left to pops.
     """
@@ -113,7 +114,7 @@ def _crossed(text: str) -> Optional[Square]:
 
 
 def _operations(text: str) -> dict[str, str]:
-    """The operations of an EPD by their names. The two numbers that end a FEN are none."""
+    """Returns the operations of an EPD by their names. The two numbers that end a FEN are none."""
     if re.fullmatch(r"\d+(\s+\d+)?\s*", text):
         return {}
     operations = {}

@@ -48,7 +48,7 @@ class Man:
 
     @staticmethod
     def of_letter(letter: str) -> "Man":
-        """The man that a letter of a printed board stands for. ValueError for any other letter."""
+        """Returns the man of a printed board's letter. ValueError for any other letter."""
         colour = Colour.WHITE if letter.isupper() else Colour.BLACK
         return Man(colour, Kind(letter.upper()))
 
@@ -72,14 +72,14 @@ class Square:
 
     @staticmethod
     def of_name(name: str) -> "Square":
-        """The square of a name. ValueError where it isn't a letter a to h and a digit 1 to 8."""
+        """Returns the square of a name from a1 to h8. ValueError for any other text."""
         if len(name) != 2 or name[0] not in "abcdefgh" or name[1] not in "12345678":
             raise ValueError(f"not a square: {name!r}")
         return Square("abcdefgh".index(name[0]) + 1, int(name[1]))
 
     @staticmethod
     def of_diagram() -> "Iterator[Square]":
-        """All squares as a diagram shows them: rank 8 first, each rank from a to h."""
+        """Yields all squares as a diagram shows them: rank 8 first, each rank from a to h."""
         for rank in range(8, 0, -1):
             for file in range(1, 9):
                 yield Square(file, rank)

@@ -48,7 +48,7 @@ class Stipulation:
 
     @staticmethod
     def of_text(text: str) -> "Stipulation":
-        """The stipulation of a word in small letters. ValueError for any other word.
+        """Returns the stipulation of a word in small letters. ValueError for any other word.
 
         How large the number may be is left to pops.
         """
@@ -79,7 +79,7 @@ class Stipulation:
         return 2 if self.half_more else 1
 
     def side(self, half: int) -> Colour:
-        """Who makes a half-move: in help play Black makes the odd ones, in battle play White."""
+        """Returns who makes a half-move: Black the odd ones of help play, White of battle play."""
         odd = Colour.BLACK if self.play is Play.HELP else Colour.WHITE
         return odd if half % 2 == 1 else odd.opponent
 

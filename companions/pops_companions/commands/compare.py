@@ -47,7 +47,7 @@ def arguments(words: list[str]) -> Settings:
 
 
 def report_of(file: str, encoding: str) -> list[Item]:
-    """All items of a report."""
+    """Returns all items of a report."""
     with reviewed_report(NAME, None if file == "-" else file, encoding) as items:
         return list(items)
 
@@ -62,7 +62,7 @@ class Comparison:
         self.differing = 0
 
     def texts(self, pairs: list[Pair]) -> Iterator[str]:
-        """The differences of each pair that has any, then what they come to."""
+        """Yields the differences of each pair that has any, then what they come to."""
         for pair in pairs:
             self._pairs += 1
             found = differences_of(pair, self._encoding)

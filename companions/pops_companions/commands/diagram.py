@@ -41,7 +41,7 @@ class Settings(argparse.Namespace):
 
 
 def svg(group: Group, board: Board, encoding: str) -> bytes:
-    """The diagram as SVG; title, author and stipulation are the title of the drawing."""
+    """Returns the diagram as SVG; title, author and stipulation are the title of the drawing."""
     item = group.first
     assert isinstance(item, SoundItem)
     texts = [shown(text, encoding) for text in (item.title, item.author) if text is not None]
@@ -49,7 +49,7 @@ def svg(group: Group, board: Board, encoding: str) -> bytes:
 
 
 def png_of(converter: str, width: int, drawing: bytes) -> bytes:
-    """The SVG drawing as PNG."""
+    """Returns the SVG drawing as PNG."""
     words = [converter, "--format", "png", "--background-color", "white"]
     try:
         done = subprocess.run(
@@ -66,7 +66,7 @@ def png_of(converter: str, width: int, drawing: bytes) -> bytes:
 
 
 def drawing_of(settings: Settings) -> Drawing:
-    """What makes the contents of a file."""
+    """Returns what makes the contents of a file."""
     encoding = settings.encoding
     if settings.kind == "svg":
         return lambda group, board: svg(group, board, encoding)
@@ -84,7 +84,7 @@ def drawing_of(settings: Settings) -> Drawing:
 
 
 def beginning_of_names(place: Optional[str], report: Optional[str]) -> str:
-    """What the names of the files begin with, their folder with it."""
+    """Returns what the names of the files begin with, their folder with it."""
     name = f"{Path(report).stem if report else 'problem'}-"
     if place is None:
         return name

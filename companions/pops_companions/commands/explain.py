@@ -69,18 +69,18 @@ def arguments(words: list[str]) -> Settings:
 
 
 def name_of(file: str) -> str:
-    """A file as messages name it."""
+    """Returns a file as messages name it."""
     return "standard input" if file == STANDARD_INPUT else file
 
 
 def read(file: str) -> bytes:
-    """All bytes of a file, or of standard input."""
+    """Returns all bytes of a file, or of standard input."""
     with command.opened(None if file == STANDARD_INPUT else file) as source:
         return source.read()
 
 
 def checked(text: bytes, named: Optional[str]) -> bytes:
-    """What pops says of a text without solving it."""
+    """Returns what pops says of a text without solving it."""
     try:
         program = find(named)
     except MissingError as error:

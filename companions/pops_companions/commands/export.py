@@ -54,7 +54,7 @@ def arguments(words: list[str]) -> Settings:
 
 
 def read(file: Optional[str], encoding: str) -> str:
-    """A text; lines that aren't in the encoding are read as Latin-1."""
+    """Returns a text; lines that aren't in the encoding are read as Latin-1."""
     with command.opened(file) as source:
         data = source.read()
     if is_text(data, encoding):
@@ -63,7 +63,7 @@ def read(file: Optional[str], encoding: str) -> str:
 
 
 def items_of(settings: Settings) -> dict[int, SoundItem]:
-    """The solved problems of the report by their numbers."""
+    """Returns the solved problems of the report by their numbers."""
     if settings.report is None:
         return {}
     with opened_report(NAME, settings.report, settings.encoding) as items:
@@ -73,7 +73,7 @@ def items_of(settings: Settings) -> dict[int, SoundItem]:
 def refuse_other_report(
     problems: list[Exported], items: dict[int, SoundItem], settings: Settings
 ) -> None:
-    """CommandError where the report isn't of the problems."""
+    """Raises CommandError where the report isn't of the problems."""
     for one in problems:
         for problem in [one.problem, *(twin.problem for twin in one.twins)]:
             item = items.get(problem.number)

@@ -41,7 +41,7 @@ class Given(NamedTuple):
 
 
 def of_words(words: list[str]) -> Iterator[Given]:
-    """The positions of the command line, quoted or not: a word with a slash begins one."""
+    """Yields the positions of the command line, quoted or not: a word with a slash begins one."""
     positions: list[list[str]] = []
     for word in words:
         if "/" in word or not positions:
@@ -52,7 +52,7 @@ def of_words(words: list[str]) -> Iterator[Given]:
 
 
 def of_file(file: Optional[str]) -> Iterator[Given]:
-    """The positions of a file, one a line; empty lines and those with # in front are left out."""
+    """Yields the positions of a file, one a line, without empty lines and lines that begin with #."""
     name = file or "standard input"
     with command.opened(file) as source:
         for number, line in enumerate(source, start=1):
@@ -62,7 +62,7 @@ def of_file(file: Optional[str]) -> Iterator[Given]:
 
 
 def stipulation(text: str) -> Stipulation:
-    """A stipulation of the command line; capital letters are as good as small ones."""
+    """Returns a stipulation of the command line; capital letters are as good as small ones."""
     return Stipulation.of_text(text.lower())
 
 
@@ -74,7 +74,7 @@ class Problem(NamedTuple):
 
 
 def problem_of(given: Given, wishes: Wishes, named: Optional[Stipulation]) -> Problem:
-    """A position's problem; an EPD may have its title and its mate in itself."""
+    """Returns a position's problem; an EPD may have its title and its mate in itself."""
     position = read_position(given.text)
     asked = named or mate_of(position)
     if asked is None:

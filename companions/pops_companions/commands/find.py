@@ -95,7 +95,7 @@ def arguments(words: list[str]) -> Settings:
 
 
 def wanted_of(parser: argparse.ArgumentParser, settings: Settings) -> Wanted:
-    """What found problems have to have."""
+    """Returns what found problems have to have."""
     try:
         men = dict(men_in(settings.men or ""))
     except ValueError:
@@ -122,7 +122,7 @@ def read(file: str) -> bytes:
 
 
 def entries_in(file: str, encoding: str) -> tuple[list[Entry], bool]:
-    """The problems of a file, and whether all of them could be taken."""
+    """Returns the problems of a file, and whether all of them could be taken."""
     try:
         entries, left_out = entries_of(file, read(file), encoding)
     except EntriesError as error:
@@ -151,7 +151,7 @@ def add(collection: Collection, files: list[str], settings: Settings) -> Status:
 
 
 def answers(collection: Collection, settings: Settings) -> list[Answer]:
-    """What is found for each question."""
+    """Returns what is found for each question."""
     file = settings.near or settings.play
     if file is None:
         asked = ", ".join(

@@ -74,7 +74,7 @@ class Import:
 
 
 def decoded(name: str, data: bytes, encoding: str) -> str:
-    """A file as text. Lines that aren't in the encoding are read as Latin-1, and reported.
+    """Returns a file as text. Lines that aren't in the encoding are read as Latin-1, and reported.
 
     UnicodeDecodeError for a file with zero bytes, which is in neither of them.
     """

@@ -89,7 +89,7 @@ def arguments(words: list[str]) -> Settings:
 
 
 def runs_of(settings: Settings) -> Runs:
-    """The programs, and how they are run."""
+    """Returns the programs, and how they are run."""
     try:
         pops = find(settings.pops)
     except MissingError as error:
@@ -99,7 +99,7 @@ def runs_of(settings: Settings) -> Runs:
 
 
 def read_collection(name: str) -> bytes:
-    """The text of a collection. CommandError where it doesn't begin as an input of pops."""
+    """Returns the text of a collection. CommandError where it doesn't begin as an input of pops."""
     with command.opened(name) as source:
         text = source.read()
     if not any(map(is_input, text.split(b"\n"))):

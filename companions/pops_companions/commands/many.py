@@ -58,7 +58,7 @@ def read_source(name: Optional[str], progress: Progress) -> Source:
 def reports_of(
     settings: Settings, tasks: Sequence[Task], run: bytes
 ) -> list[Report]:
-    """The reports that are to be written, with their files."""
+    """Returns the reports that are to be written, with their files."""
     limited = settings.seconds is not None or settings.split or settings.resume
 
     def report(tasks: Sequence[Task], path: Optional[str]) -> Report:
@@ -87,7 +87,7 @@ def reports_of(
 
 
 def path_of_journal(settings: Settings) -> Optional[str]:
-    """The journal that is named, else the one beside the report."""
+    """Returns the journal that is named, else the one beside the report."""
     if settings.journal is None and settings.output is not None:
         return settings.output.rstrip("/") + ".journal"
     return settings.journal
@@ -96,7 +96,7 @@ def path_of_journal(settings: Settings) -> Optional[str]:
 def open_journal(
     path: Optional[str], settings: Settings, run: bytes
 ) -> Journal:
-    """The run's journal; that of a run that stopped isn't overwritten."""
+    """Returns the run's journal; that of a run that stopped isn't overwritten."""
     try:
         if path is None:
             handle, path = tempfile.mkstemp(prefix=f"{NAME}-", suffix=".journal")
@@ -148,7 +148,7 @@ def watch_signals() -> None:
 
 
 def programs_of(settings: Settings, options: list[str]) -> Programs:
-    """The programs on this machine."""
+    """Returns the programs on this machine."""
     try:
         pops = find(settings.pops)
         if not settings.split:
@@ -167,7 +167,7 @@ def elsewhere_of(
     programs: Programs,
     progress: Progress,
 ) -> Optional[Elsewhere]:
-    """The programs on other machines, where any are asked for."""
+    """Returns the programs on other machines, where any are asked for."""
     if not settings.sshlogin:
         return None
     say, pops_part = progress.say, settings.remote_pops_part or "pops-part"

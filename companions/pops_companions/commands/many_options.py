@@ -206,14 +206,14 @@ def refuse_split(
 
 
 def moment_of(settings: Settings, problems: int, jobs: int) -> float:
-    """How many seconds a problem has before it is cut into parts."""
+    """Returns how many seconds a problem has before it is cut into parts."""
     if settings.split_after is not None:
         return float(settings.split_after)
     return SPLIT_SOON_AFTER if problems < jobs else SPLIT_AFTER
 
 
 def depth_of(settings: Settings) -> int:
-    """By how many half-moves help play is cut."""
+    """Returns by how many half-moves help play is cut."""
     if settings.split_depth is not None:
         return int(settings.split_depth)
     return DEPTH_THERE if settings.sshlogin else DEPTH_HERE

@@ -28,19 +28,19 @@ class Settings(argparse.Namespace):
 
 
 def object_of(item: Item, given: Sequence[GivenProblem], encoding: str) -> Json:
-    """The object of an item, with what the input says of it."""
+    """Returns the object of an item, with what the input says of it."""
     known = given[item.number - 1] if item.number <= len(given) else None
     return item_object(item, encoding, known)
 
 
 def lines(objects: Iterator[Json]) -> Iterator[str]:
-    """The objects, a line each."""
+    """Yields the objects, a line each."""
     for one in objects:
         yield json.dumps(one, ensure_ascii=False) + "\n"
 
 
 def array(objects: Iterator[Json]) -> Iterator[str]:
-    """One array of the objects, which are written one by one."""
+    """Yields one array of the objects, which are written one by one."""
     before = "[\n "
     for one in objects:
         yield before + json.dumps(one, ensure_ascii=False, indent=1).replace("\n", "\n ")

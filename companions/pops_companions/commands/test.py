@@ -153,7 +153,7 @@ def texts(
     settings: Settings,
     most: Optional[int],
 ) -> Iterator[str]:
-    """What is written, piece by piece: text and CSV problem by problem."""
+    """Yields what is written, piece by piece: text and CSV problem by problem."""
     if settings.page:
         yield page(judged, tally, settings.heading, settings.encoding, most)
     elif settings.csv:

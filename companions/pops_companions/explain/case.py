@@ -67,11 +67,11 @@ class Case:
         return token if isinstance(token, TextLine) else None
 
     def says(self, text: str, *marks: Span) -> Explanation:
-        """An explanation that marks the faulty word, and these places too."""
+        """Returns an explanation that marks the faulty word, and these places too."""
         return at(text, self.word.span, *marks)
 
     def fits(self, text: str) -> bool:
-        """Whether these words could stand in place of the faulty one."""
+        """Returns whether these words could stand in place of the faulty one."""
         reading = self._copied()
         words = text.encode("utf-8").split()
         if not words:
@@ -97,36 +97,36 @@ class Case:
         )
 
     def names_here(self) -> list[str]:
-        """The words of pops that could stand in place of the faulty one."""
+        """Returns the words of pops that could stand in place of the faulty one."""
         return [name for name in NAMES if self.fits(name)]
 
     def openers_of(self, section: Section) -> list[Word]:
-        """The commands that open sections of this kind in the problem."""
+        """Returns the commands that open sections of this kind in the problem."""
         return [it for it in self.reading.openers if named(it.bytes, [section.value])]
 
     def last_colour(self) -> Optional[Word]:
-        """The colour before the faulty word."""
+        """Returns the colour before the faulty word."""
         return self.reading.colours[-1][1] if self.reading.colours else None
 
 
 def at(text: str, *marks: Span) -> Explanation:
-    """An explanation with the places that it speaks of."""
+    """Returns an explanation with the places that it speaks of."""
     return Explanation(text, tuple(sorted(set(marks), key=lambda mark: mark.start)))
 
 
 def quoted(word: Word) -> str:
-    """A word as explanations name it; of a long one the beginning."""
+    """Returns a word as explanations name it; only the beginning of a long word."""
     text = shown(word.bytes)
     return f"`{text if len(text) <= _LONGEST_QUOTED else text[:_LONGEST_QUOTED] + '..'}`"
 
 
 def listed(names: Sequence[str], last: str = "and") -> str:
-    """As `a, b and c`."""
+    """Returns the names as `a, b and c`."""
     if len(names) < 2:
         return "".join(names)
     return f"{', '.join(names[:-1])} {last} {names[-1]}"
 
 
 def first_of(found: Iterable[Optional[Explanation]]) -> Explanation:
-    """The first explanation that there is."""
+    """Returns the first explanation that there is."""
     return next(it for it in found if it is not None)

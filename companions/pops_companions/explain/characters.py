@@ -25,7 +25,7 @@ class Odd(NamedTuple):
 
 
 def decoded(text: bytes) -> str:
-    """The text of some bytes: UTF-8, or what is none as Latin-1."""
+    """Returns the text of some bytes: as UTF-8 if they are, else as Latin-1."""
     try:
         return text.decode("utf-8")
     except UnicodeDecodeError:
@@ -33,7 +33,7 @@ def decoded(text: bytes) -> str:
 
 
 def shown(text: bytes) -> str:
-    """The text of some bytes, with each character that doesn't show as `<U+00A0>`."""
+    """Returns the text of some bytes, with each character that doesn't show as `<U+00A0>`."""
     return "".join(_shown(character) for character in decoded(text))
 
 
@@ -52,7 +52,7 @@ def _is_control(character: str) -> bool:
 
 
 def width(text: str) -> int:
-    """How many columns a text takes on a terminal."""
+    """Returns how many columns a text takes on a terminal."""
     return sum(_width(character) for character in text)
 
 
@@ -63,12 +63,12 @@ def _width(character: str) -> int:
 
 
 def invisible(text: str) -> list[Odd]:
-    """The characters that don't show, or show as a blank and are none."""
+    """Returns the characters that don't show, or show as a blank and are none."""
     return [Odd(place, it) for place, it in enumerate(text) if _is_invisible(it)]
 
 
 def is_wide_blank(character: str) -> bool:
-    """Whether it takes room, as a blank does."""
+    """Returns whether it takes room, as a blank does."""
     return unicodedata.category(character).startswith("Z")
 
 
@@ -82,7 +82,7 @@ def with_blanks(text: str) -> str:
 
 
 def look_alike(text: str) -> Optional[Odd]:
-    """The first letter of another alphabet that looks like one of ours, or a wide one."""
+    """Returns the first letter of another alphabet that looks like one of ours, or a wide one."""
     for place, character in enumerate(text):
         if plain(character) != character:
             return Odd(place, character)
@@ -90,7 +90,7 @@ def look_alike(text: str) -> Optional[Odd]:
 
 
 def plain(text: str) -> str:
-    """The text with plain letters in place of those that look like them."""
+    """Returns the text with plain letters in place of those that look like them."""
     return "".join(_plain(character) for character in text)
 
 
@@ -109,18 +109,18 @@ def _is_wide(character: str) -> bool:
 
 
 def script_of(character: str) -> str:
-    """The script of a letter that looks like one of ours, as `a Greek`."""
+    """Returns the script of a letter that looks like one of ours, as `a Greek`."""
     script = next((name for name, table in _LIKE.items() if character in table), "fullwidth")
     scripts: dict[str, str] = _KNOWN["scripts"]
     return scripts[script]
 
 
 def is_figurine(character: str) -> bool:
-    """Whether it is a chessman of Unicode."""
+    """Returns whether it is a chessman of Unicode."""
     return character in _FIGURINES
 
 
 def without_accents(text: str) -> str:
-    """The text with its letters alone, as `pieces` of `pièces`."""
+    """Returns the text with its letters alone, as `pieces` of `pièces`."""
     parts = unicodedata.normalize("NFKD", text.replace("ß", "ss"))
     return "".join(it for it in parts if not unicodedata.combining(it))

@@ -12,7 +12,7 @@ from pops_companions.input.words import Span, TextLine, Word, named
 
 
 def stipulation_missing(case: Case) -> Explanation:
-    """Fault 10."""
+    """Explains fault 10."""
     return first_of(_causes_of_no_stipulation(case))
 
 
@@ -30,7 +30,7 @@ def _causes_of_no_stipulation(case: Case) -> Iterator[Optional[Explanation]]:
 
 
 def no_men(case: Case) -> Explanation:
-    """Fault 11."""
+    """Explains fault 11."""
     return first_of(_causes_of_no_men(case))
 
 
@@ -78,7 +78,7 @@ def _swallowed(case: Case, name: str) -> Optional[Explanation]:
 
 
 def _line_with(reading: Reading, name: str) -> Optional[TextLine]:
-    """A text line that holds the command with what may follow it."""
+    """Returns a text line that holds the command with what may follow it."""
     for line in reading.text_lines:
         words = line.text.split()
         for word, after in zip(words, [*words[1:], b""]):
@@ -89,7 +89,7 @@ def _line_with(reading: Reading, name: str) -> Optional[TextLine]:
 
 
 def end_missing(text: bytes, reading: Reading) -> Explanation:
-    """Fault 19."""
+    """Explains fault 19."""
     return first_of(_causes_of_no_end(text, reading))
 
 
@@ -145,14 +145,14 @@ def _spans(word: Optional[Word]) -> list[Span]:
 
 
 def input_too_long() -> Explanation:
-    """Fault 20."""
+    """Explains fault 20."""
     return at(
         sentence("input_too_long")
     )
 
 
 def device_failed() -> Explanation:
-    """Fault 21."""
+    """Explains fault 21."""
     return at(
         sentence("device_failed")
     )

@@ -27,7 +27,8 @@ class ExplainedFault:
 
 
 def explain(text: bytes, items: Iterable[Item]) -> Iterator[ExplainedFault]:
-    """The faults of a report, explained one by one. OtherText where it isn't of this text."""
+    """Yields the faults of a report, explained one by one. OtherText where it isn't of this text.
+    """
     pieces = cut(text)
     last = 0
     for item in items:
@@ -52,7 +53,7 @@ def explain(text: bytes, items: Iterable[Item]) -> Iterator[ExplainedFault]:
 
 
 def explanation(text: bytes, reading: Reading) -> Explanation:
-    """What is wrong with a faulty problem, and what to do."""
+    """Returns what is wrong with a faulty problem, and what to do."""
     assert reading.number is not None
     if reading.at is None:
         if reading.number is FaultKind.END_MISSING:

@@ -28,7 +28,7 @@ _DIGITS_FIRST = re.compile(r"([KQRBSPGN])((?:[1-8][a-h])+)", re.IGNORECASE)
 
 
 def colour_missing(case: Case) -> Explanation:
-    """Fault 4."""
+    """Explains fault 4."""
     return first_of(_causes_of_no_colour(case))
 
 
@@ -71,7 +71,7 @@ def _short_command(case: Case) -> Optional[Explanation]:
 
 
 def square_taken(case: Case) -> Explanation:
-    """Fault 5."""
+    """Explains fault 5."""
     square, placed = _square_of(case)
     before = case.reading.men[square]
     first = span_of(before)
@@ -97,7 +97,7 @@ def square_taken(case: Case) -> Explanation:
 
 
 def pawn_outside(case: Case) -> Explanation:
-    """Fault 6."""
+    """Explains fault 6."""
     square, placed = _square_of(case)
     text = sentence("pawn_outside", square=square.name, rank=square.rank)
     if square.rank == (8 if case.reading.colour is Colour.WHITE else 1):
@@ -106,7 +106,7 @@ def pawn_outside(case: Case) -> Explanation:
 
 
 def second_king(case: Case) -> Explanation:
-    """Fault 7."""
+    """Explains fault 7."""
     square, placed = _square_of(case)
     colour = case.reading.colour
     assert colour is not None
@@ -132,19 +132,19 @@ def second_king(case: Case) -> Explanation:
 
 
 def _square_of(case: Case) -> tuple[Square, Span]:
-    """The square of the fault and where in the word it stands."""
+    """Returns the square of the fault and where in the word it stands."""
     square, place = case.reading.square, case.reading.square_place
     assert square is not None
     return square, case.word.part(place, place + 2)
 
 
 def span_of(placed: Placed) -> Span:
-    """Where the square of a man stands."""
+    """Returns where the square of a man stands."""
     return placed.word.part(*placed.square_span)
 
 
 def square_missing(case: Case) -> Explanation:
-    """Fault 14 among men."""
+    """Explains fault 14 among men."""
     return first_of(_causes_of_no_square(case))
 
 
@@ -212,7 +212,7 @@ def _bad_square(case: Case) -> Explanation:
 
 
 def king_missing(case: Case) -> Explanation:
-    """Fault 17."""
+    """Explains fault 17."""
     stipulation, given = case.reading.stipulation, case.reading.stipulation_word
     assert stipulation is not None and given is not None
     side = to_be_mated(stipulation)
@@ -250,7 +250,7 @@ def _square_name(case: Case, placed: Placed) -> str:
 
 
 def in_check(case: Case) -> Explanation:
-    """Fault 18."""
+    """Explains fault 18."""
     reading = case.reading
     assert reading.stipulation is not None and reading.stipulation_word is not None
     starter = reading.stipulation.starter

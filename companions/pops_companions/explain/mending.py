@@ -70,7 +70,7 @@ class FurtherFault:
     explanation: Explanation
 
     def explained(self, title: Optional[bytes]) -> ExplainedFault:
-        """The fault as pops would report it, of a problem with this title."""
+        """Returns the fault as pops would report it, of a problem with this title."""
         fault = Fault(self.line, self.kind.value, FAULT_TEXTS[self.kind])
         return ExplainedFault(self.problem, title, fault, self.explanation)
 
@@ -125,7 +125,7 @@ def read_number(text: bytes, number: int) -> Optional[Reading]:
 
 
 def edit_for(text: bytes, number: int, reading: Reading) -> Optional[Edit]:
-    """The edit that mends the fault of a problem; None where its explanation names none that does."""
+    """Returns the edit that mends a problem's fault; None where the explanation names none."""
     said = explanation(text, reading)
     if _IN_ANOTHER_LANGUAGE.search(said.text):
         return None
@@ -139,12 +139,12 @@ def edit_for(text: bytes, number: int, reading: Reading) -> Optional[Edit]:
 
 
 def _left(text: bytes, reading: Reading) -> int:
-    """How many bytes a text has from the fault of a problem on."""
+    """Returns how many bytes a text has from the fault of a problem on."""
     return 0 if reading.at is None else len(text) - reading.word.start
 
 
 def _proposed(text: bytes, reading: Reading, said: Explanation) -> Iterator[Edit]:
-    """What an explanation says to write, as edits."""
+    """Yields what an explanation says to write, as edits."""
     yield from _of_whole_text(text, said)
     if reading.at is None:
         if reading.number is FaultKind.END_MISSING and "has no `EndProblem`" in said.text:
@@ -183,7 +183,7 @@ def _of_whole_text(text: bytes, said: Explanation) -> Iterator[Edit]:
 
 
 def _taken_out(text: bytes, reading: Reading, said: str) -> Iterator[Edit]:
-    """A word, a square of it or a mark in it that is left out."""
+    """Yields a word, a square of it or a mark in it that is left out."""
     word = reading.word
     if said.startswith("There is a byte order mark"):
         yield Edit(word.span, word.bytes.replace(_BYTE_ORDER_MARK, b""))
@@ -200,7 +200,7 @@ def _taken_out(text: bytes, reading: Reading, said: str) -> Iterator[Edit]:
 
 
 def _in_place(text: bytes, marks: tuple[Span, ...], said: str) -> Iterator[Edit]:
-    """What is written in place of the marked words, which stand next to one another, or of one."""
+    """Yields what replaces the marked words, which are neighbours, or one of them."""
     longer = _LONGER.search(said)
     found = [_IN_PLACE.search(said), _JOINED.search(said), _PAWN.search(said)]
     texts = ([longer[2]] if longer else []) + [it[1] for it in found if it is not None]
@@ -214,13 +214,14 @@ def _in_place(text: bytes, marks: tuple[Span, ...], said: str) -> Iterator[Edit]
 
 
 def _has_number_of(wanted: str, text: bytes, marks: tuple[Span, ...]) -> bool:
-    """Whether a stipulation's number is in the marked words, and no example."""
+    """Returns whether a stipulation's number is in the marked words, and no example."""
     number = re.sub("[^0-9]", "", wanted).encode("ascii")
     return any(number in text[mark.start : mark.stop] for mark in marks)
 
 
 def further_faults(text: bytes, number: int) -> Iterator[FurtherFault]:
-    """The faults of a problem after its first one, each with the others mended or passed over.
+    """Yields the faults of a problem after its first one, each with the others mended or passed
+    over.
 
     A word that can't be mended is passed over; what is missing at the end of the problem may be
     missing for that alone, and isn't reported then.

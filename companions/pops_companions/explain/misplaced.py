@@ -29,12 +29,12 @@ _FILES = tuple((head.encode("latin-1"), what) for head, what in DATA["files"])
 
 
 def begin_missing(case: Case) -> Explanation:
-    """Fault 1, with a word."""
+    """Explains fault 1, with a word."""
     return first_of(_causes_at_the_beginning(case))
 
 
 def no_problem(text: bytes, has_text_lines: bool) -> Explanation:
-    """Fault 1 at the end of a text."""
+    """Explains fault 1 at the end of a text."""
     if has_text_lines:
         if wordings.old_mac(text):
             return at(
@@ -88,7 +88,7 @@ def _belongs_inside(case: Case) -> bool:
 
 
 def word_misplaced(case: Case) -> Explanation:
-    """Fault 2."""
+    """Explains fault 2."""
     return first_of(_causes_of_a_word(case))
 
 
@@ -121,7 +121,7 @@ def _second_begin(case: Case) -> Optional[Explanation]:
 
 
 def _wrong_section(case: Case) -> Optional[Explanation]:
-    """A word of pops that belongs to another section than the one at hand."""
+    """Explains a word of pops that belongs to another section than the one at hand."""
     section, word = case.reading.section, case.word.bytes
     if section is not Section.OPTION and named(word, OPTIONS):
         return _belongs(case, sentence("an_option"), Section.OPTION)
@@ -216,7 +216,7 @@ def _unknown(case: Case) -> Explanation:
 
 
 def too_long(case: Case) -> Explanation:
-    """Fault 3."""
+    """Explains fault 3."""
     return first_of(_causes_of_length(case))
 
 

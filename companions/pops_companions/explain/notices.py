@@ -21,13 +21,13 @@ class Notice(NamedTuple):
     text: str
 
     def shown(self, name: str) -> str:
-        """The notice as a line of text, for a text of this name."""
+        """Returns the notice as a line of text, for a text of this name."""
         problem = "" if self.problem is None else f"problem {self.problem}: "
         return f"{name}:{self.line}: {problem}{self.text}\n"
 
 
 def notices(text: bytes) -> Iterator[Notice]:
-    """The notices of a text, problem by problem."""
+    """Yields the notices of a text, problem by problem."""
     for piece in cut(text):
         yield from _of_problem(text, piece)
     rest = rest_of(text)
@@ -47,7 +47,7 @@ def _of_problem(text: bytes, piece: Piece) -> Iterator[Notice]:
 
 
 def _line_of_nightrider(reading: Reading) -> Optional[int]:
-    """The line of the first nightrider of a problem without knights."""
+    """Returns the line of the first nightrider of a problem without knights."""
     placed = list(reading.men.values())
     if any(it.man.kind is Kind.KNIGHT for it in placed):
         return None

@@ -28,7 +28,7 @@ _SIDES = re.compile(r"white|black|w|b|[kq]{1,4}|0-0(-0)?|o-o(-o)?|-|both|yes|no"
 
 
 def second_condition(case: Case) -> Explanation:
-    """Fault 12."""
+    """Explains fault 12."""
     given = case.reading.condition_word
     assert given is not None and case.reading.condition is not None
     if named(case.word.bytes, [case.reading.condition.value]):
@@ -40,7 +40,7 @@ def second_condition(case: Case) -> Explanation:
 
 
 def bad_number(case: Case) -> Explanation:
-    """Fault 13."""
+    """Explains fault 13."""
     return first_of(_causes_of_no_number(case))
 
 
@@ -63,7 +63,7 @@ def _causes_of_no_number(case: Case) -> Iterator[Optional[Explanation]]:
 
 
 def _missing(case: Case, option: Word, what: str, example: str) -> Optional[Explanation]:
-    """No value at all: the next word is another command or option."""
+    """Explains a missing value: the next word is another command or option."""
     there = unread(case.plain)
     if there is None and not named(case.word.bytes, (*COMMANDS, *OPTIONS)):
         return None
@@ -76,7 +76,7 @@ def _missing(case: Case, option: Word, what: str, example: str) -> Optional[Expl
 
 
 def square_missing(case: Case) -> Explanation:
-    """Fault 14 after EnPassant and NoCastling."""
+    """Explains fault 14 after EnPassant and NoCastling."""
     return first_of(_causes_of_no_square(case))
 
 
@@ -107,7 +107,7 @@ def _causes_of_no_square(case: Case) -> Iterator[Optional[Explanation]]:
 
 
 def en_passant_impossible(case: Case) -> Explanation:
-    """Fault 15."""
+    """Explains fault 15."""
     reading = case.reading
     stipulation, given, crossed = reading.stipulation, reading.crossed_word, reading.crossed
     assert stipulation is not None and given is not None and crossed is not None
@@ -141,7 +141,7 @@ def _with_rank(text: str, wants: EnPassantWants, starter: Colour, crossed: Squar
 
 
 def no_castling_square(case: Case) -> Explanation:
-    """Fault 16."""
+    """Explains fault 16."""
     square, place = case.reading.square, case.reading.square_place
     assert square is not None
     text = sentence("no_castling_square", squares=listed(CASTLING_SQUARES), square=square.name)

@@ -16,7 +16,7 @@ _CYRILLIC_MEN: str = DATA["characters"]["cyrillicMen"]
 
 
 def foreign_letter(case: Case) -> Optional[Explanation]:
-    """A letter that isn't English, with squares."""
+    """Explains a letter that isn't English, with squares."""
     found = re.fullmatch(r"([^\W\d_]{1,2})((?:[a-h][1-8])+)", case.plain, re.IGNORECASE)
     if found is None:
         return None
@@ -55,7 +55,7 @@ def foreign_letter(case: Case) -> Optional[Explanation]:
 
 
 def man_by_name(case: Case) -> Optional[Explanation]:
-    """A man by its English name."""
+    """Explains a man by its English name."""
     word = case.plain.lower()
     for name in sorted(_NAMES, key=len, reverse=True):
         letter, rest = _NAMES[name].value, word[len(name) :]
@@ -65,7 +65,7 @@ def man_by_name(case: Case) -> Optional[Explanation]:
 
 
 def two_letters(case: Case) -> Optional[Explanation]:
-    """A man of two letters, as Popeye has them."""
+    """Explains a man of two letters, as Popeye has them."""
     word = case.plain
     if not re.fullmatch(r"[a-z]{2}(?:[a-h][1-8])+", word, re.IGNORECASE):
         return None
@@ -81,8 +81,9 @@ def _kind(alphabet: Alphabet, letter: str) -> Kind:
 
 
 def men_words(case: Case) -> list[Word]:
-    """The words of the problem's Pieces sections that have the form of a man, before and after
-    the fault."""
+    """Returns the words of the problem's Pieces sections that have the form of a man, before and
+    after the fault.
+    """
     words = []
     inside = False
     for word in case.reading.words:
@@ -95,12 +96,12 @@ def men_words(case: Case) -> list[Word]:
 
 
 def letters_of(men: list[Word]) -> list[str]:
-    """The letters of men, each once."""
+    """Returns the letters of men, each once."""
     return list(dict.fromkeys(decoded(man.bytes)[0].upper() for man in men))
 
 
 def _others(men: list[Word], faulty: Word, alphabet: Alphabet) -> list[str]:
-    """What the letters of the other men mean where they mean something else in English."""
+    """Returns what the letters of the other men mean where they mean something else in English."""
     others = []
     for letter in letters_of(men):
         kind = alphabet.kind(letter)

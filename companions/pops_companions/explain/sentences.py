@@ -14,5 +14,5 @@ _SENTENCES: dict[str, str] = DATA["sentences"]
 
 
 def sentence(which: str, /, **values: object) -> str:
-    """A sentence, with these values in its places."""
+    """Returns a sentence, with these values in its places."""
     return _SENTENCES[which].format(**values)

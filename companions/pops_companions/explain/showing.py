@@ -24,7 +24,7 @@ class Shower:
         self._ends = list(accumulate(lengths))
 
     def text_of(self, explained: ExplainedFault) -> str:
-        """An explained fault as some lines of text."""
+        """Returns an explained fault as some lines of text."""
         fault = explained.fault
         head = f"{self._name}:{fault.line}: problem {explained.problem}"
         if explained.title is not None:
@@ -45,7 +45,8 @@ class Shower:
         return "\n".join(lines) + "\n"
 
     def _marked_lines(self, marks: tuple[Span, ...]) -> list[str]:
-        """The lines that hold the marks, each with its number and a line of signs below it."""
+        """Returns the lines that hold the marks, each with its number and a line of signs below it.
+        """
         by_line: dict[int, list[Span]] = {}
         for mark in marks:
             by_line.setdefault(bisect_right(self._ends, mark.start), []).append(mark)
@@ -63,7 +64,7 @@ class Shower:
 
 
 def marked(line: bytes, marks: list[tuple[int, int]]) -> tuple[str, str]:
-    """A line as it is shown, and the line of signs below its marked bytes.
+    """Returns a line as it is shown, and the line of signs below its marked bytes.
 
     A long line is shown as far as its marks reach.
     """
@@ -81,7 +82,7 @@ def marked(line: bytes, marks: list[tuple[int, int]]) -> tuple[str, str]:
 
 
 def _part(line: bytes, marks: list[tuple[int, int]]) -> tuple[int, int]:
-    """The bytes to show of a line: all of it, or some around the marks."""
+    """Returns the bytes to show of a line: all of it, or some around the marks."""
     if len(line) <= _WIDEST:
         return 0, len(line)
     first, last = marks[0][0], marks[-1][1]

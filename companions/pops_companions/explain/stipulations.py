@@ -31,19 +31,19 @@ _WORDS: dict[str, str] = _KNOWN["words"]
 
 
 def looks_like_stipulation(word: str) -> bool:
-    """Whether a word would be a stipulation in Popeye, or nearly so."""
+    """Returns whether a word would be a stipulation in Popeye, or nearly so."""
     return _STIPULATION.fullmatch(word) is not None
 
 
 def solution_numbers(case: Case) -> Optional[Explanation]:
-    """A wanted number of solutions after a stipulation, as `2.1.1.1`."""
+    """Explains a number of solutions after a stipulation, as `2.1.1.1`."""
     if case.reading.section is not Section.STIPULATION or not _COUNTS.fullmatch(case.plain):
         return None
     return case.says(sentence("count_of_solutions", word=case.quoted))
 
 
 def bad(case: Case) -> Explanation:
-    """Fault 8."""
+    """Explains fault 8."""
     return first_of(_causes(case))
 
 
@@ -218,7 +218,7 @@ def _in_words(case: Case) -> Optional[Explanation]:
 
 
 def second(case: Case) -> Explanation:
-    """Fault 9."""
+    """Explains fault 9."""
     given = case.reading.stipulation_word
     assert given is not None
     return first_of(_causes_of_a_second(case, given))

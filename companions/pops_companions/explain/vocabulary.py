@@ -37,12 +37,12 @@ _FOREIGN: dict[str, ForeignWord] = {
 
 
 def unread(word: str) -> Optional[Unread]:
-    """The word of Popeye of which this is a short form, of three letters or more."""
+    """Returns the word of Popeye of which this is a short form, of three letters or more."""
     return _found(word, _UNREAD)
 
 
 def foreign(word: str) -> Optional[ForeignWord]:
-    """The German or French word that this is, in full; accents may stand or lack."""
+    """Returns the German or French word that this is, in full; accents may stand or lack."""
     return _FOREIGN.get(folded(word))
 
 
@@ -71,10 +71,10 @@ _ALPHABETS = tuple(Alphabet(tuple(it["languages"]), it["letters"]) for it in DAT
 
 
 def alphabets_of(letters: str) -> list[Alphabet]:
-    """The languages in whose letters these men may be written, the likeliest first."""
+    """Returns the languages in whose letters these men may be written, the likeliest first."""
     return [it for it in _ALPHABETS if set(letters.upper()) <= set(it.letters)]
 
 
 def alphabets_with(letter: str) -> list[Alphabet]:
-    """The languages that have this letter."""
+    """Returns the languages that have this letter."""
     return [it for it in _ALPHABETS if letter.upper() in it.letters]

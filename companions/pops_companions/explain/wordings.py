@@ -18,7 +18,7 @@ _HALVES = re.compile(rb"^(?:\xff\xfe|\xfe\xff)|^[ -~]\x00|^\x00[ -~]")
 
 
 def utf_16(case: Case) -> Optional[Explanation]:
-    """A text in UTF-16, two bytes a letter."""
+    """Explains a text in UTF-16, two bytes a letter."""
     if not _HALVES.match(case.text):
         return None
     return case.says(sentence("utf_16"))
@@ -43,7 +43,7 @@ def invisible(case: Case) -> Optional[Explanation]:
 
 
 def look_alike(case: Case) -> Optional[Explanation]:
-    """A letter of another alphabet, or a figurine, in place of one of ours."""
+    """Explains a letter of another alphabet, or a figurine, in place of one of ours."""
     odd = characters.look_alike(case.plain)
     if odd is None:
         return None
@@ -66,7 +66,7 @@ def look_alike(case: Case) -> Optional[Explanation]:
 
 
 def comment(case: Case) -> Optional[Explanation]:
-    """A sign that begins a comment elsewhere."""
+    """Explains a sign that begins a comment elsewhere."""
     found = _COMMENT.match(case.plain)
     if found is None or case.fits(case.plain.strip("".join(_SIGNS))):
         return None
@@ -74,7 +74,7 @@ def comment(case: Case) -> Optional[Explanation]:
 
 
 def position(case: Case) -> Optional[Explanation]:
-    """A position in FEN."""
+    """Explains a position in FEN."""
     if not _FEN.fullmatch(case.plain):
         return None
     return case.says(sentence("position", word=case.quoted, plain=case.plain))
@@ -103,7 +103,7 @@ def signs(case: Case) -> Optional[Explanation]:
 
 
 def parted(case: Case) -> Optional[Explanation]:
-    """A word that a blank parts in two."""
+    """Explains a word that a blank parts in two."""
     word = case.plain
     if case.after is not None:
         whole = word + characters.decoded(case.after.bytes)
@@ -122,7 +122,7 @@ def _is_name(word: str) -> bool:
 
 
 def joined(case: Case) -> Optional[Explanation]:
-    """Two words without a blank between them."""
+    """Explains two words without a blank between them."""
     word = case.plain
     if re.fullmatch("endproblembeg[a-z]*", word, re.IGNORECASE):
         return case.says(sentence("texts_joined", word=case.quoted))
@@ -136,7 +136,7 @@ def joined(case: Case) -> Optional[Explanation]:
 
 
 def of_popeye(case: Case) -> Optional[Explanation]:
-    """A word of Popeye that pops doesn't read."""
+    """Explains a word of Popeye that pops doesn't read."""
     found = unread(case.plain.rstrip(":,;."))
     if found is None:
         return None
@@ -153,7 +153,7 @@ def of_popeye(case: Case) -> Optional[Explanation]:
 
 
 def in_another_language(case: Case) -> Optional[Explanation]:
-    """A German or French word."""
+    """Explains a German or French word."""
     found = foreign(case.plain.rstrip(":,;."))
     if found is None:
         return None
@@ -167,7 +167,7 @@ def in_another_language(case: Case) -> Optional[Explanation]:
 
 
 def accented(case: Case) -> Optional[Explanation]:
-    """An accent on a letter of a word of pops."""
+    """Explains an accent on a letter of a word of pops."""
     plain = characters.without_accents(case.plain)
     if plain == case.plain or not case.fits(plain):
         return None
@@ -175,7 +175,7 @@ def accented(case: Case) -> Optional[Explanation]:
 
 
 def lengthened(case: Case) -> Optional[Explanation]:
-    """A word of pops with letters after it."""
+    """Explains a word of pops with letters after it."""
     word = case.plain.lower()
     for name in NAMES:
         if word.startswith(name.lower()) and word[len(name) :].isalpha():
@@ -185,7 +185,7 @@ def lengthened(case: Case) -> Optional[Explanation]:
 
 
 def too_short(case: Case) -> Optional[Explanation]:
-    """Two letters of a word of pops."""
+    """Explains two letters of a word of pops."""
     word = case.plain
     if len(word) != 2 or not word.isalpha():
         return None
@@ -196,7 +196,7 @@ def too_short(case: Case) -> Optional[Explanation]:
 
 
 def misspelt(case: Case) -> Optional[Explanation]:
-    """A word that is nearly one of pops."""
+    """Explains a word that is nearly one of pops."""
     word = case.plain.lower()
     if len(word) < 3:
         return None
@@ -207,7 +207,8 @@ def misspelt(case: Case) -> Optional[Explanation]:
 
 
 def _nearness(word: str, name: str) -> float:
-    """How many letters of the word have to be changed to make it a short form of the name."""
+    """Returns how many letters of the word have to be changed to make it a short form of the name.
+    """
     small = name.lower()
     if sorted(word) == sorted(small):
         return 1
@@ -232,7 +233,7 @@ def _distance(one: str, other: str) -> int:
 
 
 def rest_of_a_text(case: Case) -> Optional[Explanation]:
-    """A line that seems to go on with the text line above it."""
+    """Explains a line that seems to go on with the text line above it."""
     above = case.line_above
     if above is None or above.word.line != case.word.line - 1:
         return None
@@ -243,14 +244,14 @@ def rest_of_a_text(case: Case) -> Optional[Explanation]:
 
 
 def characters_in(case: Case) -> Iterator[Optional[Explanation]]:
-    """The causes that lie in single characters."""
+    """Yields the causes that lie in single characters."""
     yield utf_16(case)
     yield invisible(case)
     yield look_alike(case)
 
 
 def spelling(case: Case) -> Iterator[Optional[Explanation]]:
-    """The causes that lie in how a word of pops is written."""
+    """Yields the causes that lie in how a word of pops is written."""
     yield accented(case)
     yield joined(case)
     yield lengthened(case)
@@ -259,5 +260,5 @@ def spelling(case: Case) -> Iterator[Optional[Explanation]]:
 
 
 def old_mac(text: bytes) -> bool:
-    """Whether carriage returns alone stand in a text, in place of line ends."""
+    """Returns whether carriage returns alone stand in a text, in place of line ends."""
     return b"\r" in text and b"\n" not in text

@@ -29,7 +29,7 @@ class Problem:
 
     @staticmethod
     def of_lines(number: int, lines: Iterable[str]) -> "Problem":
-        """The problem of the lines that pops-import writes."""
+        """Returns the problem of the lines that pops-import writes."""
         made = Problem(number)
         for line in lines:
             word, _, text = line.partition(" ")
@@ -62,7 +62,7 @@ def _changed(made: Problem, word: str, text: str) -> "dict[str, object]":
 
 
 def options_of(text: str) -> Iterator[str]:
-    """The options of a line, each with its number or squares."""
+    """Yields the options of a line, each with its number or squares."""
     option = ""
     for word in text.split():
         if option and re.match("[0-9]|[a-h][1-8]", word):
@@ -95,7 +95,7 @@ class Exported:
         return [self.problem.number, *(twin.problem.number for twin in self.twins)]
 
     def lines(self) -> list[str]:
-        """Its lines in an input of Popeye."""
+        """Returns its lines in an input of Popeye."""
         return [*self.problem.lines(), *(f"Twin {twin.changes}" for twin in self.twins)]
 
 
@@ -108,7 +108,8 @@ class Reading:
 
 
 def read_problems(text: str) -> Reading:
-    """The problems that pops can read. `Unreadable` of pops_import where the text has none."""
+    """Returns the problems that pops can read. `Unreadable` of pops_import where the text has none.
+    """
     reading = Reading()
     for draft in read_drafts(text):
         for one in posed(draft):
@@ -123,7 +124,7 @@ def read_problems(text: str) -> Reading:
 
 
 def joined(problems: Iterable[Problem]) -> Iterator[Exported]:
-    """The problems with the twins that pops-import made of one, as one again.
+    """Yields the problems with the twins that pops-import made of one, as one again.
 
     They stay apart where an import of the joined problem wouldn't give them back.
     """
@@ -174,6 +175,6 @@ def _whole(run: list[Problem]) -> Optional[Exported]:
 
 
 def _gives_back(whole: Exported, run: list[Problem]) -> bool:
-    """Whether an import of the whole makes the same problems."""
+    """Returns whether an import of the whole makes the same problems."""
     reading = read_problems(text_of_problems([whole.lines()]))
     return [it.posed for it in reading.problems] == [it.posed for it in run]

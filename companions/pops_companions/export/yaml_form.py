@@ -16,7 +16,7 @@ _MAN = re.compile("([KQRBSPGN])((?:[a-h][1-8])+)")
 
 
 def yaml_of(problems: Iterable[Exported], items: Mapping[int, SoundItem]) -> Iterator[str]:
-    """A document for each problem, with the solutions of the items by their numbers."""
+    """Yields a document for each problem, with the solutions of the items by their numbers."""
     for one in problems:
         yield "---\n" + "".join(f"{line}\n" for line in _document(one, items))
 
@@ -56,7 +56,7 @@ def _list(key: str, texts: Iterable[str]) -> Iterator[str]:
 
 
 def _men(pieces: str) -> "dict[str, list[str]]":
-    """The men of each colour, each with one square."""
+    """Returns the men of each colour, each with one square."""
     men: "dict[str, list[str]]" = {}
     colour = ""
     for word in pieces.split():
@@ -94,7 +94,8 @@ def _solution(one: Exported, items: Mapping[int, SoundItem]) -> Iterator[str]:
 
 
 def solution_lines(item: Optional[SoundItem]) -> list[str]:
-    """The solutions of an item as Popeye prints moves: keys with `!`, signs after a blank."""
+    """Returns the solutions of an item as Popeye prints moves: keys with `!`, signs after a blank.
+    """
     lines: list[str] = []
     for phase in () if item is None else item.phases or ():
         lines += [""] if lines and phase.lines else []

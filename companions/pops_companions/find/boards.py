@@ -45,13 +45,13 @@ class Variant(NamedTuple):
 
 
 def board_of(men: dict[Square, Man]) -> str:
-    """The position of these men."""
+    """Returns the position of these men."""
     letters = (men[square].letter if square in men else EMPTY for square in Square.of_diagram())
     return "".join(letters)
 
 
 def men_of(board: str) -> dict[Square, Man]:
-    """The men of a position."""
+    """Returns the men of a position."""
     return {
         square: Man.of_letter(letter)
         for square, letter in zip(Square.of_diagram(), board)
@@ -68,7 +68,7 @@ def _keys() -> dict[tuple[int, str], int]:
 
 
 def hashes(board: str) -> list[int]:
-    """The hash of a position, then one hash for each man: of the position without it."""
+    """Returns the hash of a position, then one hash for each man: of the position without it."""
     keys = _keys()
     own = [keys[place, letter] for place, letter in enumerate(board) if letter != EMPTY]
     whole = 0
@@ -78,7 +78,8 @@ def hashes(board: str) -> list[int]:
 
 
 def variants(board: str) -> Iterator[Variant]:
-    """The position itself, mirrored, turned, shifted, with colours reversed, and all of these.
+    """Returns the position itself, mirrored, turned, shifted, with colours reversed, and all of
+    these.
 
     Where two ways lead to one position, the simpler one comes.
     """
@@ -98,7 +99,7 @@ def variants(board: str) -> Iterator[Variant]:
 
 
 def _moved(board: str, move: Move) -> list[tuple[int, int, str]]:
-    """The men of a board by file and rank, 0 to 7, after a turn or a reflection."""
+    """Returns the men of a board by file and rank, 0 to 7, after a turn or a reflection."""
     return [
         (*move.place(place % 8, 7 - place // 8), letter)
         for place, letter in enumerate(board)
@@ -107,7 +108,7 @@ def _moved(board: str, move: Move) -> list[tuple[int, int, str]]:
 
 
 def _shifts(men: list[tuple[int, int, str]]) -> Iterator[tuple[int, int]]:
-    """All shifts by files and ranks that keep the men on the board."""
+    """Returns all shifts by files and ranks that keep the men on the board."""
     if not men:
         return iter(())
     files, ranks = [man[0] for man in men], [man[1] for man in men]
@@ -134,7 +135,9 @@ def _shift_in_words(files: int, ranks: int) -> str:
 
 
 def differences(board: str, other: str) -> list[str]:
-    """What makes another position of a board, in words; the men that go and come are paired."""
+    """Returns what makes another position of a board, in words; the men that go and come are
+    paired.
+    """
     before, after = men_of(board), men_of(other)
     gone = {square: man for square, man in before.items() if after.get(square) != man}
     new = {square: man for square, man in after.items() if before.get(square) != man}
@@ -153,6 +156,6 @@ def differences(board: str, other: str) -> list[str]:
 
 
 def named(man: Man, square: Square) -> str:
-    """As `white Ra1`."""
+    """Returns a man with its square, as `white Ra1`."""
     colour = "white" if man.colour is Colour.WHITE else "black"
     return f"{colour} {man.kind.value}{square.name}"

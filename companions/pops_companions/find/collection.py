@@ -115,7 +115,8 @@ class Collection:
         self._data.execute("DELETE FROM problems WHERE source = ?", (source,))
 
     def matching(self, wanted: Wanted) -> Iterator[Entry]:
-        """The problems that have all that is wanted, in the order in which they were added."""
+        """Yields the problems that have all that is wanted, in the order in which they were added.
+        """
         conditions, values = _conditions(wanted)
         where = f" WHERE {' AND '.join(conditions)}" if conditions else ""
         question = f"SELECT {_COLUMNS} FROM problems{where} ORDER BY id"
@@ -125,7 +126,7 @@ class Collection:
                 yield entry
 
     def near(self, board: str) -> list[Found]:
-        """The problems of which at most one man differs, moved over the board or not."""
+        """Returns the problems of which at most one man differs, moved over the board or not."""
         by_hash: dict[int, list[Variant]] = {}
         for variant in variants(board):
             for one in hashes(variant.board):
@@ -153,7 +154,7 @@ class Collection:
         return Entry(*self._data.execute(question, (number,)).fetchone())
 
     def same_play(self, play: str) -> list[Found]:
-        """The problems with the same keys and mates, or help lines, mirrored or not."""
+        """Returns the problems with the same keys and mates, or help lines, mirrored or not."""
         found: list[Found] = []
         for one, how in ((play, ()), (mirrored_play(play), ("mirrored left to right",))):
             question = f"SELECT {_COLUMNS} FROM problems WHERE play = ? ORDER BY id"

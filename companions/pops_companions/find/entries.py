@@ -56,7 +56,9 @@ class Entry:
 
 
 def entries_of(source: str, data: bytes, encoding: str) -> tuple[list[Entry], list[str]]:
-    """The problems of a file, and what was left out, in words. EntriesError for other texts."""
+    """Returns the problems of a file, and what was left out, in words. EntriesError for other
+    texts.
+    """
     if _REPORT.match(data):
         return _of_report(source, data, encoding)
     text = data.decode(encoding) if is_text(data, encoding) else shown(data, encoding)
@@ -82,7 +84,7 @@ def _of_problem(source: str, problem: Problem) -> Entry:
 
 
 def men_in(pieces: str) -> Iterator[tuple[Square, Man]]:
-    """The men of a text such as `White Kg6 Ra1b1 Black Kg8`. ValueError for other words."""
+    """Yields the men of a text such as `White Kg6 Ra1b1 Black Kg8`. ValueError for other words."""
     colour: Optional[Colour] = None
     for word in pieces.split():
         found = _MAN.fullmatch(word)
@@ -123,7 +125,8 @@ def _of_item(source: str, item: SoundItem, encoding: str) -> Entry:
 
 
 def plays_of(data: bytes) -> "dict[int, str]":
-    """The play of each problem of a report, by its number. EntriesError for another text."""
+    """Returns the play of each problem of a report, by its number. EntriesError for another text.
+    """
     try:
         items = [item for item in read_report(io.BytesIO(data)) if isinstance(item, SoundItem)]
     except ReportError as error:
@@ -133,7 +136,8 @@ def plays_of(data: bytes) -> "dict[int, str]":
 
 
 def play_of(item: SoundItem) -> Optional[str]:
-    """The keys of a problem and the moves that mate below them, or its help lines, in order.
+    """Returns the keys of a problem and the moves that mate below them, or its help lines, in
+    order.
 
     None where the report doesn't show them.
     """
@@ -157,7 +161,7 @@ def _mates(nodes: Iterable[Node]) -> Iterator[str]:
 
 
 def mirrored_play(play: str) -> str:
-    """A play with all squares mirrored left to right, its moves in order again."""
+    """Returns a play with all squares mirrored left to right, its moves in order again."""
     text = _SQUARE.sub(lambda found: found[0].translate(_FILES), play)
     if " | " in text or ": " not in text:
         return " | ".join(sorted(text.split(" | ")))

@@ -37,7 +37,7 @@ class Answer(NamedTuple):
 
 
 def as_text(answer: Answer) -> str:
-    """A block of lines: what was asked for, below it each problem found."""
+    """Returns a block of lines: what was asked for, below it each problem found."""
     lines = [f"{answer.heading}: {_counted(len(answer.found))}"]
     for found in answer.found:
         entry = found.entry
@@ -53,7 +53,7 @@ def _counted(number: int) -> str:
 
 
 def as_page(answers: Iterable[Answer], heading: str) -> str:
-    """A page with the diagrams of all that was found."""
+    """Returns a page with the diagrams of all that was found."""
     title = _safe(heading)
     parts = [
         '<!DOCTYPE html>\n<html lang="en">\n<head>\n<meta charset="utf-8"/>\n',

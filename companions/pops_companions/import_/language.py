@@ -214,7 +214,9 @@ _ATTRIBUTES = (
 
 
 def folded(word: str) -> str:
-    """A word as it is looked up: in small letters, and without the accents that Popeye lacks."""
+    """Returns a word as it is looked up: in small letters, and without the accents that Popeye
+    lacks.
+    """
     word = word.lower()
     if word.isascii():
         return word
@@ -242,7 +244,8 @@ class Language:
 def meaning(
     word: str, table: Table[Meaning], preferred: Optional[AbstractSet[Meaning]] = None
 ) -> Optional[Meaning]:
-    """What a word of a table, or one that is short for it, means. None where that isn't certain.
+    """Returns what a word of a table, or one that is short for it, means. None where that isn't
+    certain.
 
     Where it is short for several, it means the preferred one.
     """
@@ -253,12 +256,12 @@ def meaning(
 
 
 def is_attribute(word: str) -> bool:
-    """Whether a word before men gives them other powers."""
+    """Returns whether a word before men gives them other powers."""
     return word in _ATTRIBUTE_FORMS
 
 
 def table_of(words: Iterable[tuple[str, Meaning]]) -> Table[Meaning]:
-    """The table of words with their meanings. A whole word means nothing else."""
+    """Returns the table of words with their meanings. A whole word means nothing else."""
     forms: dict[str, frozenset[Meaning]] = {}
     whole: dict[str, frozenset[Meaning]] = {}
     for word, what in words:
@@ -304,7 +307,7 @@ class ForeignWord(NamedTuple):
 
 
 def foreign_words() -> Iterator[ForeignWord]:
-    """The words that are German or French and not English too, the German ones first."""
+    """Yields the words that are German or French and not English too, the German ones first."""
     for place in (1, 2):
         for rows in (_COMMANDS, _OPTIONS, _COLOURS):
             yield from _foreign_words(rows, place)

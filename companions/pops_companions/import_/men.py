@@ -22,7 +22,7 @@ class PlacedMan(NamedTuple):
 
 
 def squares_of(text: str) -> list[Square]:
-    """The squares of a word that holds nothing else."""
+    """Returns the squares of a word that holds nothing else."""
     return [Square.of_name(text[place : place + 2]) for place in range(0, len(text), 2)]
 
 
@@ -31,7 +31,7 @@ def is_of_squares(word: Word) -> bool:
 
 
 def take_squares(words: Words, what: str) -> list[Square]:
-    """The squares of the next word, which belong to `what`."""
+    """Returns the squares of the next word, which belong to `what`."""
     word = words.peek()
     if word is None or not is_of_squares(word):
         found = "the end" if word is None else word.text
@@ -40,7 +40,7 @@ def take_squares(words: Words, what: str) -> list[Square]:
 
 
 def take_pair(words: Words, what: str) -> tuple[Square, Square]:
-    """Two squares, in a word or in two."""
+    """Returns two squares, in a word or in two."""
     squares = take_squares(words, what)
     if len(squares) == 1:
         squares += take_squares(words, what)
@@ -95,7 +95,8 @@ def _man(colour: str, attributes: str, letters: str, kinds: Mapping[str, Kind]) 
 
 
 def read_forsyth(text: str, kinds: Mapping[str, Kind]) -> dict[Square, Placed]:
-    """The men of a position in Popeye's form of Forsyth. ValueError, with why, for another text.
+    """Returns the men of a position in Popeye's form of Forsyth. ValueError, with why, for another
+    text.
 
     The letters are the language's own, small for Black. `=` stands before a neutral man, a point
     before a man of two letters. Where no strokes part the ranks, a number above 9 is one number.

@@ -29,7 +29,8 @@ class Origin(NamedTuple):
 
 
 def origin_of(parts: Sequence[tuple[str, str]]) -> Origin:
-    """The origin of named parts, such as `name`, `date`, `volume`; unknown ones are the rest.
+    """Returns the origin of named parts, such as `name`, `date`, `volume`; unknown ones are the
+    rest.
 
     `year`, `month` and `day` may stand in place of `date`.
     """
@@ -46,7 +47,7 @@ def origin_of(parts: Sequence[tuple[str, str]]) -> Origin:
 
 
 def _joined(names: list[str], numbers: list[str], dates: list[str]) -> str:
-    """A year alone follows the name without a comma, as in `Die Schwalbe 1977`."""
+    """Joins name and date; a year alone follows without a comma, as in `Die Schwalbe 1977`."""
     line = ", ".join(names + numbers)
     for date in dates:
         between = " " if re.fullmatch("[0-9]{4}", date) and names and not numbers else ", "
@@ -55,7 +56,9 @@ def _joined(names: list[str], numbers: list[str], dates: list[str]) -> str:
 
 
 def date_text(text: str) -> str:
-    """A date of a collection, as `1977-08`, in words: `August 1977`; other texts as they are."""
+    """Returns a date of a collection, as `1977-08`, in words: `August 1977`; other texts as they
+    are.
+    """
     parts = _DATE.fullmatch(text.strip())
     if parts is None or parts[2] is None:
         return text.strip() if parts is None else parts[1]

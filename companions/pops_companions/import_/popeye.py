@@ -39,7 +39,7 @@ _UNREADABLE = {
 
 
 def read_popeye(text: str) -> list[Draft]:
-    """The problems of an input of Popeye. Unreadable where no problem begins."""
+    """Returns the problems of an input of Popeye. Unreadable where no problem begins."""
     beginning = _beginning(text)
     if beginning is None:
         raise Unreadable(1, "there is no BeginProblem, AnfangProblem or DebutProbleme")
@@ -55,12 +55,12 @@ def read_popeye(text: str) -> list[Draft]:
 
 
 def begins(text: str) -> bool:
-    """Whether a problem of Popeye begins somewhere in a text."""
+    """Returns whether a problem of Popeye begins somewhere in a text."""
     return _beginning(text) is not None
 
 
 def _beginning(text: str) -> Optional[tuple[Language, int]]:
-    """The language of the word that begins the first problem, and where that word ends.
+    """Returns the language of the word that begins the first problem, and where that word ends.
 
     It is the first one of its line.
     """

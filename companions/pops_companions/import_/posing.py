@@ -41,7 +41,7 @@ class _Version:
 
 
 def posed(draft: Draft) -> list[Posed]:
-    """All problems that a draft holds, as far as pops can read them."""
+    """Returns all problems that a draft holds, as far as pops can read them."""
     faults = list(draft.faults)
     if not draft.first and not draft.twins and not faults:
         faults.append(Told(draft.line, "ZeroPosition without a twin"))
@@ -55,7 +55,7 @@ def posed(draft: Draft) -> list[Posed]:
 
 
 def _versions(draft: Draft) -> Iterator[_Version]:
-    """The problem and its twins."""
+    """Yields the problem and its twins."""
     if draft.first:
         label = "a)" if draft.twins else ""
         yield _Version(label, draft.line, draft.setting, draft.options)
@@ -89,7 +89,7 @@ def _versions(draft: Draft) -> Iterator[_Version]:
 
 
 def _parts(version: _Version) -> Iterator[_Version]:
-    """The version as the options ask for it: as it is, with colours turned, or both."""
+    """Yields the version as the options ask for it: as it is, with colours turned, or both."""
     if version.options.plain or version.faults:
         yield version
     if version.options.turned and not version.faults:
@@ -97,7 +97,7 @@ def _parts(version: _Version) -> Iterator[_Version]:
 
 
 def _turned(version: _Version) -> _Version:
-    """The version with the colours turned round, rank 1 becoming rank 8."""
+    """Returns the version with the colours turned round, rank 1 becoming rank 8."""
     options = version.options
     men = {square.mirrored: with_other_colour(man) for square, man in version.setting.men.items()}
     may_not_castle = [square.mirrored for square in options.may_not_castle]
@@ -231,7 +231,7 @@ class _Checked:
         )
 
     def lines(self) -> list[str]:
-        """Men, stipulation, condition and options."""
+        """Returns men, stipulation, condition and options."""
         assert self._stipulation is not None
         lines = [pieces_line(self._men), f"Stipulation {self._stipulation.text}"]
         if self._condition is not None:
@@ -250,7 +250,7 @@ class _Checked:
 
 
 def _texts(draft: Draft, version: _Version, notes: list[Told], is_first: bool) -> list[str]:
-    """The lines of text: what pops prints, and Remarks for all else.
+    """Returns the lines of text: what pops prints, and Remarks for all else.
 
     The draft's own Remarks stand with the first of its problems alone.
     """

@@ -17,7 +17,8 @@ _WANTED = re.compile(r"[1-9][0-9]{0,8}(\.[1-9][0-9]{0,8})*\.*")
 
 
 def wanted_of(text: str) -> Optional[int]:
-    """The number of solutions that 2.1.1.1 stands for, the product; None for another text."""
+    """Returns the number of solutions that 2.1.1.1 stands for, the product; None for another text.
+    """
     if not _WANTED.fullmatch(text):
         return None
     return math.prod(int(number) for number in text.split(".") if number)
@@ -35,7 +36,7 @@ def take_wanted(words: Words) -> tuple[Optional[int], str]:
 
 
 def take_stipulation(words: Words) -> str:
-    """The word of a stipulation; its number may stand by itself."""
+    """Returns the word of a stipulation; its number may stand by itself."""
     word = words.peek()
     if word is None or _is_command(word, words):
         raise Unreadable(words.line, "the stipulation is missing")
@@ -47,14 +48,15 @@ def take_stipulation(words: Words) -> str:
 
 
 def _is_command(word: Word, words: Words) -> bool:
-    """Whether a word is a command or short for one."""
+    """Returns whether a word is a command or short for one."""
     if len(word.key) < _LEAST_LETTERS:
         return False
     return meaning(word.key, words.language.commands) is not None
 
 
 def take_conditions(words: Words, before: tuple[str, ...] = ()) -> tuple[str, ...]:
-    """The words up to the first command, or to the next change of a twin, added to those before.
+    """Returns the words up to the first command, or to the next change of a twin, added to those
+    before.
 
     A condition that stands twice is one.
     """

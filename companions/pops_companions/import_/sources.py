@@ -12,7 +12,7 @@ _YAML = re.compile(r"(?:\s*#.*\n|\s*\n)*(?:---(?:\s|$)|%YAML|(?:- )?[A-Za-z-]+:(
 
 
 def read_drafts(text: str) -> list[Draft]:
-    """The problems of a text in one of the forms. Unreadable where it holds none."""
+    """Returns the problems of a text in one of the forms. Unreadable where it holds none."""
     text = text.replace("\r\n", "\n").lstrip("\ufeff")
     if "\n" not in text:
         text = text.replace("\r", "\n")

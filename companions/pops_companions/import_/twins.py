@@ -183,7 +183,7 @@ def _polish(setting: Setting, _: list[str]) -> Setting:
 
 
 def with_other_colour(man: Placed) -> Placed:
-    """A man with its colour turned round; neutral men stay."""
+    """Returns a man with its colour turned round; neutral men stay."""
     if isinstance(man, Man):
         return Man(man.colour.opponent, man.kind)
     for colour in Colour:

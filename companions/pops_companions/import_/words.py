@@ -67,7 +67,7 @@ class Words:
         return self._line
 
     def peek(self) -> Optional[Word]:
-        """The next word, None at the end."""
+        """Returns the next word, None at the end."""
         if self._next is None:
             self._next = self._found()
         return self._next

@@ -19,7 +19,8 @@ _FIRST_TWIN = "a"
 
 
 def read_yaml(text: str) -> list[Draft]:
-    """The problems of a stream of documents, each of them a problem or a list of problems."""
+    """Returns the problems of a stream of documents, each of them a problem or a list of problems.
+    """
     drafts: list[Draft] = []
     for document in documents(text):
         try:
@@ -111,7 +112,7 @@ def _read_origin(keys: dict[str, Node], draft: Draft) -> None:
 
 
 def _parts_of_origin(name: str, node: Node) -> Iterator[tuple[str, str]]:
-    """The named texts of a source or a date; a text without a key has this name."""
+    """Yields the named texts of a source or a date; a text without a key has this name."""
     if isinstance(node, dict):
         for key, value in node.items():
             yield from _parts_of_origin(key.lower(), value)

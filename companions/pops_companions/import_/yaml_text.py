@@ -73,7 +73,7 @@ class Document:
 
 
 def documents(text: str) -> Iterator[Document]:
-    """The documents of a stream without the empty ones."""
+    """Yields the documents of a stream without the empty ones."""
     document = Document(1)
     for number, line in enumerate(text.split("\n"), start=1):
         if _MARK.match(line) or _END.match(line):
@@ -89,7 +89,7 @@ def documents(text: str) -> Iterator[Document]:
 
 
 def _pyyaml() -> Any:
-    """The module of PyYAML. CommandError where it isn't installed."""
+    """Returns the module of PyYAML. CommandError where it isn't installed."""
     try:
         return importlib.import_module("yaml")
     except ImportError:
@@ -100,7 +100,7 @@ def _pyyaml() -> Any:
 
 
 def _events(text: str, first: int) -> list[Any]:
-    """The events of a document whose first line has this number."""
+    """Returns the events of a document whose first line has this number."""
     yaml = _pyyaml()
     if yaml.__with_libyaml__:
         try:
@@ -161,7 +161,7 @@ class _Reader:
         return self._text(event)
 
     def _inside(self) -> Iterator[Any]:
-        """The first events of the nodes up to the end of a sequence or a mapping."""
+        """Yields the first events of the nodes up to the end of a sequence or a mapping."""
         for event in self._events:
             if isinstance(event, self._ends):
                 return
@@ -179,7 +179,7 @@ class _Reader:
         return mapping
 
     def _text(self, event: Any) -> Node:
-        """The text of a scalar; nothing for one without quotes that stands for nothing."""
+        """Returns the text of a scalar; nothing for one without quotes that stands for nothing."""
         text: str = event.value
         if not event.style and text in _NOTHING:
             return None

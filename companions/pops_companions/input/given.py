@@ -29,7 +29,8 @@ class GivenProblem:
     texts: tuple[TextLine, ...]
 
     def lines_of(self, word: TextWord) -> list[bytes]:
-        """The text lines of a word, without the blanks at both ends, empty ones left out."""
+        """Returns the text lines of a word, without the blanks at both ends, empty ones left out.
+        """
         texts = (line.text.strip(_BLANKS) for line in self.texts if line.kind is word)
         return [text for text in texts if text]
 
@@ -79,7 +80,7 @@ def _last(texts: list[bytes]) -> Optional[bytes]:
 
 
 def given_problems(text: bytes) -> list[GivenProblem]:
-    """The problems of an input, numbered as pops numbers them."""
+    """Returns the problems of an input, numbered as pops numbers them."""
     return [_given(text, piece) for piece in cut(text)]
 
 

@@ -9,7 +9,8 @@ from pops_companions.input.pieces import rest_of
 
 
 def read_given(companion: str, file: Optional[str]) -> list[GivenProblem]:
-    """The problems of an input; what follows its EndProblem is reported on standard error."""
+    """Returns the problems of an input; what follows its EndProblem is reported on standard error.
+    """
     with command.opened(file) as source:
         text = source.read()
     rest = rest_of(text)

@@ -79,7 +79,7 @@ class FaultKind(IntEnum):
 
 
 def squares_of(word: bytes) -> list[Square]:
-    """The squares of a word that is nothing but squares, else none."""
+    """Returns the squares of a word that is nothing but squares, else none."""
     if not _SQUARES.fullmatch(word):
         return []
     small = word.decode("ascii").lower()
@@ -87,7 +87,7 @@ def squares_of(word: bytes) -> list[Square]:
 
 
 def kind_of(word: bytes) -> Optional[Kind]:
-    """The kind of man whose letter begins a word."""
+    """Returns the kind of man whose letter begins a word."""
     try:
         return Kind(word[:1].decode("ascii").upper())
     except ValueError:
@@ -95,17 +95,17 @@ def kind_of(word: bytes) -> Optional[Kind]:
 
 
 def is_number(word: bytes) -> bool:
-    """Whether the word is nothing but digits."""
+    """Returns whether the word is nothing but digits."""
     return re.fullmatch(rb"[0-9]+", word) is not None
 
 
 def is_man(word: bytes) -> bool:
-    """Whether the word is a man's letter with squares."""
+    """Returns whether the word is a man's letter with squares."""
     return kind_of(word) is not None and bool(squares_of(word[1:]))
 
 
 def stipulation_of(word: bytes) -> Optional[Stipulation]:
-    """The stipulation of a word, where its number is one that pops takes."""
+    """Returns the stipulation of a word, where its number is one that pops takes."""
     try:
         stipulation = Stipulation.of_text(word.decode("ascii").lower())
     except ValueError:
@@ -116,7 +116,7 @@ def stipulation_of(word: bytes) -> Optional[Stipulation]:
 
 
 def to_be_mated(stipulation: Stipulation) -> Colour:
-    """The side that is to be mated or stalemated."""
+    """Returns the side that is to be mated or stalemated."""
     return Colour.WHITE if stipulation.play is Play.SELF else Colour.BLACK
 
 
@@ -179,7 +179,7 @@ class Reading:
         return [token for token in self.tokens if isinstance(token, TextLine)]
 
     def neighbour(self, step: int) -> Optional[Word]:
-        """The word next to the faulty one, on either side, over text lines."""
+        """Returns the word next to the faulty one, on either side, over text lines."""
         words = self.words
         place = words.index(self.word) + step
         return words[place] if 0 <= place < len(words) else None
@@ -296,7 +296,7 @@ def _man_fault(reading: Reading, man: Man, square: Square) -> Optional[FaultKind
 
 
 def king_of(reading: Reading, colour: Colour) -> Optional[Square]:
-    """Where a side's king stands."""
+    """Returns the square of a side's king."""
     king = Man(colour, Kind.KING)
     return next((it for it, placed in reading.men.items() if placed.man == king), None)
 
@@ -368,7 +368,7 @@ class EnPassantWants:
 
 
 def en_passant_wants(reading: Reading) -> EnPassantWants:
-    """The test of the square of EnPassant."""
+    """Returns what the square of EnPassant needs, and whether it has it."""
     assert reading.stipulation is not None and reading.crossed is not None
     starter, crossed = reading.stipulation.starter, reading.crossed
     rank, pawn_rank, home_rank = (6, 5, 7) if starter is Colour.WHITE else (3, 4, 2)
@@ -385,7 +385,7 @@ def en_passant_wants(reading: Reading) -> EnPassantWants:
 
 
 def checkers(reading: Reading) -> list[Square]:
-    """The men that give check to the side that doesn't start."""
+    """Returns the men that give check to the side that doesn't start."""
     assert reading.stipulation is not None
     waiting = reading.stipulation.starter.opponent
     king = king_of(reading, waiting)

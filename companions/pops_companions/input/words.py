@@ -81,7 +81,7 @@ def named(word: bytes, names: Sequence[str], least: int = _LEAST_LETTERS) -> Opt
 
 
 def is_short_for(word: bytes, name: str) -> bool:
-    """Whether a word is this name or a short form of it."""
+    """Returns whether a word is this name or a short form of it."""
     return named(word, (name,)) is not None
 
 
@@ -92,7 +92,7 @@ def short_forms(name: str) -> bytes:
 
 
 def tokens_in(text: bytes, start: int, stop: int, line: int) -> Iterator[Token]:
-    """The words and text lines between two places; the first place is on the line given."""
+    """Yields the words and text lines between two places; the first place is on the line given."""
     place = start
     while True:
         found = _WORD.search(text, place, stop)

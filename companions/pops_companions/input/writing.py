@@ -21,7 +21,7 @@ class Wishes:
 
 
 def text_of_problems(problems: Iterable[list[str]]) -> str:
-    """The input of pops made of problems, each given by its lines."""
+    """Returns the input of pops made of problems, each given by its lines."""
     parts = []
     for number, lines in enumerate(problems):
         parts.append("BeginProblem" if number == 0 else "NextProblem")
@@ -31,7 +31,7 @@ def text_of_problems(problems: Iterable[list[str]]) -> str:
 
 
 def pieces_line(men: dict[Square, Man]) -> str:
-    """The line of the men: each colour's kinds in their order, squares from a1 on."""
+    """Returns the line of the men: each colour's kinds in their order, squares from a1 on."""
     squares: dict[Man, list[Square]] = {}
     for square in sorted(men, key=lambda square: (square.rank, square.file)):
         squares.setdefault(men[square], []).append(square)
@@ -46,14 +46,14 @@ def pieces_line(men: dict[Square, Man]) -> str:
 
 
 def is_turned(position: Position, stipulation: Stipulation, wishes: Wishes) -> bool:
-    """Whether the colours are turned round: the side to move isn't the one that starts."""
+    """Returns whether the colours are turned round: the side to move isn't the one that starts."""
     return position.turn not in (None, stipulation.starter) and not wishes.keep_colours
 
 
 def problem_lines(
     position: Position, source: str, stipulation: Stipulation, wishes: Wishes
 ) -> list[str]:
-    """The lines of a problem made of a position; the source stands in a Remark.
+    """Returns the lines of a problem made of a position; the source stands in a Remark.
 
     Where the side to move isn't the one that starts, the colours are turned round, which another
     Remark says; or, where the wishes keep the colours, what belongs to that move is left out.
@@ -108,7 +108,8 @@ _HOMES = {
 
 
 def _moved(position: Position, rooks_are_reborn: bool) -> list[Square]:
-    """The castling squares whose men may not castle, though pops would take them as unmoved.
+    """Returns the castling squares whose men may not castle, though pops would take them as
+    unmoved.
 
     Without any right of a side its king is named, where it could castle with a rook of the diagram
     or with one put back under Circe. With one right alone the other rook is named.

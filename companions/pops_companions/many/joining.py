@@ -104,7 +104,7 @@ class Joined:
         return written
 
     def has_unfinished(self, place: int) -> bool:
-        """Whether something is known of a problem that isn't done."""
+        """Returns whether something is known of a problem that isn't done."""
         if self._journal.is_finished(place):
             return False
         return self._journal.has_unfinished(place) or self.in_parts(place) is not None
@@ -136,5 +136,5 @@ def write_index(target: Target, tasks: Sequence[Task], journal: Journal) -> None
 
 
 def _escaped(name: str) -> str:
-    """A file's name without tabs and line ends."""
+    """Returns a file's name without tabs and line ends."""
     return name.replace("\\", "\\\\").replace("\t", "\\t").replace("\n", "\\n")

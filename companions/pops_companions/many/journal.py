@@ -160,11 +160,11 @@ class Journal:
         return end - len(report)
 
     def report(self, place: int) -> bytes:
-        """The kept report of a task."""
+        """Returns the kept report of a task."""
         return self._read(self.kept[place])
 
     def part(self, part: Part) -> bytes:
-        """The kept report of a part."""
+        """Returns the kept report of a part."""
         return self._read(self.parts[part.key])
 
     def _read(self, kept: Kept) -> bytes:
@@ -175,18 +175,20 @@ class Journal:
         return b"".join(pieces)
 
     def is_finished(self, place: int) -> bool:
-        """Whether the whole report of a task is kept."""
+        """Returns whether the whole report of a task is kept."""
         return place in self.kept and self.kept[place].seconds is None
 
     def is_settled(self, place: int) -> bool:
-        """Whether a task needs no run: it is finished, or had as much time as runs have now."""
+        """Returns whether a task needs no run: it is finished, or had as much time as runs have
+        now.
+        """
         if place not in self.kept:
             return False
         had = self.kept[place].seconds
         return had is None or (self._seconds is not None and self._seconds <= had)
 
     def has_unfinished(self, place: int) -> bool:
-        """Whether an unfinished report of a task is kept."""
+        """Returns whether an unfinished report of a task is kept."""
         return place in self.kept and not self.is_finished(place)
 
     def statuses(self) -> list[int]:

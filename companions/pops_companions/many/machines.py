@@ -63,7 +63,7 @@ def logins_of(words: Sequence[str], places: int) -> list[list[str]]:
 
 
 def _decoded(line: bytes) -> Optional[tuple[int, int, bytes]]:
-    """Number, status and report of a line that came back; None where it was cut."""
+    """Returns number, status and report of a line that came back; None where it was cut."""
     number, _, text = line.rstrip(b"\n").partition(b" ")
     try:
         report, _, ended = base64.b64decode(text, validate=True).rpartition(b"\n")
@@ -118,13 +118,13 @@ class Machines:
         return False
 
     def expect_some(self) -> None:
-        """MachinesError where no machine is left."""
+        """Raises MachinesError where no machine is left."""
         if not self.alive:
             raise MachinesError("no machine is left")
 
     @staticmethod
     def takes(task: Task) -> bool:
-        """Whether a task can go to another machine."""
+        """Returns whether a task can go to another machine."""
         return task.piece is not None and len(task.text) * 4 // 3 + 4 <= _LONGEST_WORD
 
     def run(self, tasks: Sequence[Task], keep: Callable[[Result], None]) -> list[tuple[Task, str]]:

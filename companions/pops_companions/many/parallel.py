@@ -39,7 +39,7 @@ class Ended(NamedTuple):
 
 
 def machine_of(login: str) -> str:
-    """A machine as GNU parallel names it: without how many jobs at a time it takes."""
+    """Returns a machine as GNU parallel names it: without how many jobs at a time it takes."""
     number, slash, rest = login.partition("/")
     return rest if slash and number.isdigit() else login
 
@@ -52,7 +52,7 @@ class _Log:
         self._read = 0
 
     def news(self) -> list[Ended]:
-        """The jobs that ended since the last look."""
+        """Returns the jobs that ended since the last look."""
         try:
             with open(self._path, "rb") as log:
                 log.seek(self._read)
@@ -73,7 +73,7 @@ class Parallel:
     """GNU parallel, with `jobs` jobs at a time on each machine."""
 
     def __init__(self, jobs: Optional[int], ssh: Optional[str]):
-        """ParallelError where it isn't here: another program of this name is about."""
+        """Finds GNU parallel. ParallelError where it isn't installed: another program has its name."""
         parallel = shutil.which("parallel")
         if parallel is None or not _is_gnu(parallel):
             raise ParallelError("--sshlogin needs GNU parallel: install Debian's package parallel")

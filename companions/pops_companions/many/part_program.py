@@ -25,7 +25,8 @@ _SHORT_PAUSE = 2
 
 
 def _whole(texts: Sequence[bytes]) -> bytes:
-    """The report of a part. RunError where its number of solutions lacks or is another one."""
+    """Returns the report of a part. RunError where its number of solutions lacks or is another one.
+    """
     report = b"".join(texts)
     if count_in(report) is None:
         raise RunError("the lines of a part don't end with their number")
@@ -33,7 +34,8 @@ def _whole(texts: Sequence[bytes]) -> bytes:
 
 
 def _pauses(batch: Batch, asked: Sequence[Part]) -> Callable[[], int]:
-    """How long a run on a batch may go on unread, in milliseconds, before each piece that it writes.
+    """Returns how long a run on a batch may go on unread, in milliseconds, before each piece that
+    it writes.
 
     Where another run took over its last parts, it is read soon after the parts that are left.
     """
@@ -60,7 +62,9 @@ class PartProgram(Runs):
         self._dropped: set[Key] = set()
 
     def phases(self, text: bytes) -> list[Phase]:
-        """The phases of the one problem of an input. PartsError where pops-part doesn't list them."""
+        """Returns the phases of the one problem of an input. PartsError where pops-part doesn't
+        list them.
+        """
         status, listed, error = self._answer(["--list", "--depth", str(self.depth)], text)
         if status != SOUND:
             raise PartsError(self._reason(status, error))
@@ -73,11 +77,12 @@ class PartProgram(Runs):
         return child.run.returncode, output, error
 
     def report(self, part: Part) -> bytes:
-        """The report of a part. RunError where it didn't come to its end."""
+        """Returns the report of a part. RunError where the run failed."""
         return next(self.reports(Batch([part])))[1]
 
     def reports(self, batch: Batch) -> Iterator[tuple[Part, bytes]]:
-        """The parts that are left of a batch, each with its report as it comes, all from one run.
+        """Yields the parts that are left of a batch, each with its report as it comes, all from one
+        run.
 
         RunError at the first part that didn't come to its end.
         """
@@ -107,7 +112,8 @@ class PartProgram(Runs):
     def _pieces(
         self, words: Sequence[str], first: Part, pause: Callable[[], int]
     ) -> Generator[bytes, None, None]:
-        """What a run on a batch writes, piece by piece after pauses; it may be dropped meanwhile.
+        """Yields what a run on a batch writes, piece by piece after pauses; it may be dropped
+        meanwhile.
 
         RunError where it doesn't end well.
         """
@@ -135,5 +141,5 @@ class PartProgram(Runs):
                 self._at_work[part.key].send(signal.SIGKILL)
 
     def is_over(self, part: Part) -> bool:
-        """Whether a part that came to no end was meant to."""
+        """Returns whether a failed part was stopped on purpose."""
         return self._stopped or part.key in self._dropped

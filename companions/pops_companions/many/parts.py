@@ -63,7 +63,7 @@ class Part(NamedTuple):
 
 
 def phases_listed(listed: bytes) -> list[Phase]:
-    """The phases that pops-part lists of one problem."""
+    """Returns the phases that pops-part lists of one problem."""
     found = _LIST.fullmatch(listed)
     if found is None:
         raise PartsError(f"pops-part lists no parts but {listed[:80]!r}")
@@ -78,7 +78,7 @@ def phases_listed(listed: bytes) -> list[Phase]:
 
 
 def limit_of(text: bytes) -> Optional[int]:
-    """The limit of the last MaxSolutions of a sound problem, where it has one.
+    """Returns the limit of the last MaxSolutions of a sound problem, where it has one.
 
     Its number is the next word; text lines may stand before it.
     """
@@ -93,14 +93,14 @@ def limit_of(text: bytes) -> Optional[int]:
 
 
 def head_of(checked: bytes) -> bytes:
-    """The head of a sound problem's report, from that of `pops --check`."""
+    """Returns the head of a sound problem's report, from that of `pops --check`."""
     if not checked.endswith(b"\n" + _SOUND):
         raise PartsError("pops --check doesn't call it sound")
     return checked[: -len(_SOUND)]
 
 
 def solutions_in(text: bytes) -> list[bytes]:
-    """The solutions: each a line, with the lines below it that stand further in."""
+    """Returns the solutions: each a line, with the lines below it that stand further in."""
     solutions: list[list[bytes]] = []
     for line in text.splitlines(keepends=True):
         if line.startswith(b" ") and solutions:
@@ -131,7 +131,7 @@ def up_to_totals(pieces: Iterable[bytes]) -> Iterator[tuple[bytes, bool]]:
 
 
 def _ends_of_totals(whole: bytes) -> Iterator[int]:
-    """Where the totals among whole lines end; other lines aren't looked at one by one."""
+    """Yields where the totals among whole lines end; other lines aren't looked at one by one."""
     begin = 0
     while True:
         if not whole.startswith(lines.SOLUTIONS, begin):
@@ -146,12 +146,12 @@ def _ends_of_totals(whole: bytes) -> Iterator[int]:
 
 
 def lines_without_total(report: bytes) -> bytes:
-    """The lines of a whole part's report but the last, which is its total."""
+    """Returns the lines of a whole part's report but the last, which is its total."""
     return report[: report.rfind(b"\n", 0, -1) + 1]
 
 
 def solutions_of(report: bytes) -> list[bytes]:
-    """The solutions of a part's report."""
+    """Returns the solutions of a part's report."""
     return solutions_in(b"".join(without_totals(report)))
 
 

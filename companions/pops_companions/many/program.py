@@ -38,7 +38,7 @@ class RunError(Exception):
 
 
 def find(named: Optional[str]) -> str:
-    """The program, sought as LOOKED_FOR says. MissingError where it is nowhere; none is built."""
+    """Finds the program as LOOKED_FOR says; builds none. MissingError where it is nowhere."""
     named = named or os.environ.get("POPS")
     if named:
         found = shutil.which(named)
@@ -58,8 +58,9 @@ def find(named: Optional[str]) -> str:
 
 
 def find_part_program(named: Optional[str], pops: str) -> str:
-    """The program of parts: as named, $POPS_PART, from the repository of pops or beside it, from
-    this repository, or on the PATH."""
+    """Returns the program of parts: as named, $POPS_PART, from the repository of pops or beside it,
+    from this repository, or on the PATH.
+    """
     named = named or os.environ.get("POPS_PART")
     if named:
         found = shutil.which(named)
@@ -86,7 +87,7 @@ def _is_repository(folder: Path) -> bool:
 
 
 def _of_sources(repository: Path, name: str) -> Optional[str]:
-    """The program of a repository's sources, built or released, if there is one."""
+    """Returns the program of a repository's sources, built or released, if there is one."""
     script = repository / "find-program"
     if not _is_repository(repository) or not script.is_file():
         return None
@@ -95,7 +96,9 @@ def _of_sources(repository: Path, name: str) -> Optional[str]:
 
 
 def _without_script(found: str, name: str = "pops") -> str:
-    """What was found; for a repository's script, which may build, the program of its sources."""
+    """Returns what was found; for a repository's script, which may build, the program of its
+    sources.
+    """
     folder = Path(found).resolve().parent
     if not _is_repository(folder):
         return found
@@ -140,7 +143,7 @@ class Runs:
     def _ended(
         self, child: ChildProcess, text: Optional[bytes], seconds: Optional[float]
     ) -> tuple[bool, bytes, bytes]:
-        """Whether a run ended in its time, what it wrote and what it said."""
+        """Returns whether a run ended in its time, what it wrote and what it said."""
         try:
             in_time = True
             try:
@@ -190,7 +193,7 @@ class Runs:
             child.release()
 
     def _reason(self, status: int, error: bytes) -> str:
-        """Why a run came to no end."""
+        """Returns why a run failed."""
         if status < 0:
             return f"{self._name} was ended by signal {-status}"
         said = error.decode("utf-8", "replace").strip()
@@ -221,7 +224,8 @@ class Program(Runs):
         return self.told_anew(task, *self._one(task.text))
 
     def told_anew(self, task: Task, status: int, report: bytes) -> Result:
-        """The result of a first run; the line of a fault is asked for by another one, here."""
+        """Returns the result of a first run; for the line of a fault it runs the problem again, here.
+        """
         if task.wants_line_ends(report):
             status, report = self._one(task.text_with_line_ends)
         if status == UNFINISHED:
@@ -229,7 +233,7 @@ class Program(Runs):
         return Result(task, status, task.numbered(report))
 
     def report(self, text: bytes) -> bytes:
-        """The report of one problem."""
+        """Returns the report of one problem."""
         return self._one(text)[1]
 
     def _one(self, text: bytes) -> tuple[int, bytes]:
@@ -244,7 +248,7 @@ class Program(Runs):
         raise RunError(self._reason(status, error))
 
     def _whole(self, task: Task) -> Result:
-        """A source that is left to pops: it reads it by itself.
+        """Returns a source that is left to pops: it reads it by itself.
 
         What it says goes to standard error, unless the file was reported already.
         """

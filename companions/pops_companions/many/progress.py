@@ -9,7 +9,7 @@ _SECONDS_BETWEEN = 0.5
 
 
 def duration(seconds: float) -> str:
-    """As `0:05`, `1:02:03`, `2 days 3:04:05`."""
+    """Returns a time as `0:05`, `1:02:03` or `2 days 3:04:05`."""
     whole = int(seconds + 0.5)
     days, rest = divmod(whole, 86400)
     hours, rest = divmod(rest, 3600)
@@ -115,7 +115,7 @@ class Progress:
 
 
 def _columns() -> int:
-    """How wide the terminal is; 0 where nobody knows."""
+    """Returns how wide the terminal is; 0 where nobody knows."""
     try:
         return os.get_terminal_size(sys.stderr.fileno()).columns
     except OSError:

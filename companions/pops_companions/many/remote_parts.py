@@ -42,12 +42,12 @@ _PLACES_OF_A_MACHINE = 64
 
 
 def _word(number: int, part: Part) -> str:
-    """A part as the script takes it."""
+    """Returns a part as the script takes it."""
     return f"{number} {part.phase} {part.number} {coded(part.text)}"
 
 
 def _decoded(line: bytes) -> Optional[tuple[int, bytes]]:
-    """The number of a part, and what it wrote; None where the line was cut."""
+    """Returns the number of a part, and what it wrote; None where the line was cut."""
     number, _, text = line.partition(b" ")
     try:
         return int(number), base64.b64decode(text.rstrip(b"\n"), validate=True)
@@ -257,7 +257,7 @@ class RemoteParts:
     def _next(
         self, left: Sequence[Part], failed_on: dict[Key, set[str]]
     ) -> tuple[list[str], list[Part]]:
-        """The machines of the next round, and parts that failed on none of them.
+        """Returns the machines of the next round, and parts that failed on none of them.
 
         Parts that failed nowhere come first.
         """

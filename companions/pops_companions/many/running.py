@@ -68,7 +68,7 @@ class Run:
         self._left = [task for task in left if not self._is_long(task)]
 
     def _is_long(self, task: Task) -> bool:
-        """Whether an earlier run found that a problem takes longer than a moment."""
+        """Returns whether an earlier run found that a problem takes longer than a moment."""
         if self._splitting is None or not self._journal.has_unfinished(task.place):
             return False
         had, moment = self._journal.kept[task.place].seconds, self._program.seconds

@@ -108,7 +108,7 @@ class SplitProblem:
         return Part(self.task, phase.name, number, self._depth)
 
     def parts(self) -> Iterator[Part]:
-        """All parts, in their order."""
+        """Yields all parts, in their order."""
         for phase in self._phases:
             for number in range(1, (phase.parts or 0) + 1):
                 yield self._part(phase, number)
@@ -118,7 +118,7 @@ class SplitProblem:
         return self._of[part.phase].keep(part.number, count_in(report) or 0)
 
     def is_needless(self, part: Part) -> bool:
-        """Whether a part is done or can't matter any more."""
+        """Returns whether a part is done or can't matter any more."""
         return self._of[part.phase].is_needless(part.number)
 
     @property
@@ -163,7 +163,7 @@ class SplitProblem:
                 yield from self._known(phase, read, begun, seen.get(phase.name, b""))
 
     def _solutions(self, phase: Phase, read: Reader) -> Iterator[bytes]:
-        """The solutions of a phase that is done, and their number."""
+        """Yields the solutions of a phase that is done, and their number."""
         of_phase = self._of[phase.name]
         reports = (read(self._part(phase, number)) for number in of_phase.with_solutions)
         if of_phase.found < self._limit:
@@ -177,7 +177,7 @@ class SplitProblem:
     def _known(
         self, phase: Phase, read: Reader, begun: dict[Key, bytes], first: bytes
     ) -> list[bytes]:
-        """The solutions that are known of a phase that isn't done."""
+        """Returns the solutions that are known of a phase that isn't done."""
         # By their first lines: of a tree that is known twice, the longer text is the whole one.
         known: dict[bytes, bytes] = {}
 
@@ -201,7 +201,7 @@ class SplitProblem:
 
 
 def _lines_by_phase(lines: bytes) -> dict[str, bytes]:
-    """The solutions of each phase that a report has below its head."""
+    """Returns the solutions of each phase that a report has below its head."""
     found: dict[str, bytes] = {}
     name = ""
     for line in without_totals(lines):

@@ -225,7 +225,7 @@ class Splitting:
                     return
 
     def lines_found(self, place: int) -> Optional[tuple[bytes, str]]:
-        """What is known of a problem that isn't done, and how far it is; None of another one."""
+        """Returns what is known of an unfinished problem in parts, and how far it is, or None."""
         problem = self._problems.get(place)
         if problem is None:
             return None

@@ -67,14 +67,14 @@ class Task(NamedTuple):
         return self.piece.alone(self.source.text, False)
 
     def wants_line_ends(self, report: bytes) -> bool:
-        """Whether the report of the first run is a fault with a wrong line."""
+        """Returns whether the report of the first run is a fault with a wrong line."""
         assert self.piece is not None
         lacking = self.piece.number > 1 and self.piece.line_ends > LINE_ENDS_AT_ONCE
         line = report[len(_HEAD) :].partition(b"\n")[0]
         return lacking and lines.FAULT.fullmatch(line) is not None
 
     def numbered(self, report: bytes) -> bytes:
-        """The report with the problem's number in its input."""
+        """Returns the report with the problem's number in its input."""
         if self.piece is None:
             return report
         return lines.problem_line(self.piece.number) + report[len(_HEAD) :]
@@ -93,17 +93,17 @@ class Result(NamedTuple):
 
 
 def is_whole(report: bytes) -> bool:
-    """Whether a run on one problem came to its end: its report is one item."""
+    """Returns whether a run on one problem came to its end: its report is one item."""
     return report.startswith(_HEAD) and report.endswith(b"\n\n")
 
 
 def whole_lines(report: bytes) -> bytes:
-    """What a run that was stopped had written, without a last line that was cut."""
+    """Returns what a run that was stopped had written, without a last line that was cut."""
     return report[: report.rfind(b"\n") + 1]
 
 
 def tasks_of(sources: Sequence[Source]) -> list[Task]:
-    """All tasks of the inputs, in their order."""
+    """Returns all tasks of the inputs, in their order."""
     tasks: list[Task] = []
     for source in sources:
         if source.text is None or len(source.text) > LONGEST_INPUT:

@@ -28,5 +28,5 @@ def total_line(count: int, stopped: bool) -> bytes:
 
 
 def is_total(line: bytes) -> bool:
-    """Whether a line with its line end says how many solutions a phase has."""
+    """Returns whether a line with its line end says how many solutions a phase has."""
     return line.endswith(b"\n") and TOTAL.fullmatch(line, 0, len(line) - 1) is not None

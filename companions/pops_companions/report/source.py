@@ -56,7 +56,7 @@ def opened_unfinished_report(
 def _merged(
     items: list[AnyItem], more: list[AnyItem], name: str, must_fit: bool
 ) -> Iterable[AnyItem]:
-    """The items of one report and its unfinished ones in the order of their numbers.
+    """Returns the items of one report and its unfinished ones in the order of their numbers.
 
     Several joined reports have no order of numbers: they stay as they are, or are refused.
     """
@@ -74,7 +74,7 @@ def _merged(
 
 
 def is_input(line: bytes) -> bool:
-    """Whether a text's first line shows that it is an input of pops."""
+    """Returns whether a text's first line shows that it is an input of pops."""
     words = line.split(None, 1)
     return bool(words) and is_short_for(words[0], "BeginProblem")
 

@@ -77,7 +77,7 @@ class Differences:
 
 
 def heading(pair: Pair, encoding: str) -> str:
-    """The line above a problem's differences."""
+    """Returns the line above a problem's differences."""
     item = pair.new or pair.old
     assert item is not None
     told = [f"problem {item.number}", described(item, encoding)]
@@ -92,7 +92,8 @@ def heading(pair: Pair, encoding: str) -> str:
 
 
 def differences_of(pair: Pair, encoding: str) -> Differences:
-    """All differences of a pair. One report's problem alone is a difference without lines."""
+    """Returns all differences of a pair. One report's problem alone is a difference without lines.
+    """
     found = Differences()
     old, new = pair.old, pair.new
     if old is None:
@@ -137,7 +138,7 @@ def _compare_problems(found: Differences, old: SoundItem, new: SoundItem, encodi
 
 
 def _men(board: Board, other: Board) -> list[str]:
-    """The men that a board has and the other hasn't, as `White Ra1`."""
+    """Returns the men that a board has and the other hasn't, as `White Ra1`."""
     others = other.men
     return [
         _placed(man, square) for square, man in board.men.items() if others.get(square) != man

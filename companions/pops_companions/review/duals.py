@@ -48,7 +48,7 @@ class Dual:
 
 
 def move_number(half: int) -> int:
-    """The number of the move that a half-move belongs to."""
+    """Returns the number of the move that a half-move belongs to."""
     return (half + 1) // 2
 
 
@@ -61,7 +61,7 @@ def line_text(moves: Sequence[PlayedMove]) -> str:
 
 
 def tree_duals(keys: Iterable[Node]) -> Iterator[Dual]:
-    """The duals of battle play: more than one continuation of White after a move of Black.
+    """Yields the duals of battle play: more than one continuation of White after a move of Black.
 
     White's last move is the one at the end, in a selfmate too, where it forces the goal.
     """
@@ -84,12 +84,12 @@ def _duals_below(node: Node, path: list[PlayedMove]) -> Iterator[Dual]:
 
 
 def last_half(node: Node) -> int:
-    """The half-move of the deepest node of a tree."""
+    """Returns the half-move of the deepest node of a tree."""
     return max(map(last_half, node.below), default=node.move.half)
 
 
 def late_partings(lines: Sequence[HelpLine]) -> Iterator[Dual]:
-    """The choices in help lines that begin alike: all but that of the first half-move."""
+    """Yields the choices in help lines that begin alike: all but that of the first half-move."""
     if lines:
         yield from _partings([line.moves for line in lines], 0)
 

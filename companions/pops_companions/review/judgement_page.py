@@ -37,7 +37,7 @@ pre { font: 9.5pt/1.35 monospace; margin: .1em 0 .5em 1em; white-space: pre-wrap
 def page(
     judged: Iterable[JudgedGroup], tally: Tally, heading: str, encoding: str, most: Optional[int]
 ) -> str:
-    """The page; the tally has counted the judgements once they are all taken."""
+    """Returns the page; the tally has counted the judgements once they are all taken."""
     rows: list[str] = []
     articles: list[str] = []
     for place, one in enumerate(judged, start=1):
@@ -90,7 +90,7 @@ def _article(one: JudgedGroup, place: int, encoding: str, most: Optional[int]) -
 
 
 def _evidence(one: JudgedGroup, most: Optional[int]) -> str:
-    """What was found of a problem, or of each of its twins."""
+    """Returns what was found of a problem, or of each of its twins."""
     parts = []
     for heading, judgement in one.headings:
         if heading:
@@ -102,7 +102,7 @@ def _evidence(one: JudgedGroup, most: Optional[int]) -> str:
 
 
 def finding_text(finding: Finding, most: Optional[int]) -> str:
-    """A finding with the moves that show it."""
+    """Returns a finding with the moves that show it."""
     moves = "\n".join(lines_of(finding, most))
     below = f"<pre>{html.escape(moves)}</pre>\n" if moves else ""
     text = html.escape(finding.text)

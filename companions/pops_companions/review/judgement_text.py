@@ -42,7 +42,9 @@ def lines_of(finding: Finding, most: Optional[int]) -> list[str]:
 
 
 def as_text(judged: JudgedGroup, encoding: str, most: Optional[int]) -> str:
-    """The lines of a problem: its verdict, below it what was found, for each twin by itself."""
+    """Returns the lines of a problem: its verdict, below it what was found, for each twin by
+    itself.
+    """
     told = (judged.group.numbers, judged.verdict.value, name_of(judged, encoding))
     parts = [": ".join(filter(None, told))]
     if judged.group.is_alone:
@@ -80,7 +82,7 @@ def csv_line(values: "tuple[object, ...]") -> str:
 
 
 def as_csv(judgement: Judgement, encoding: str) -> str:
-    """The row of a problem; what the report doesn't show stays empty."""
+    """Returns the row of a problem; what the report doesn't show stays empty."""
     sound = judgement.item if isinstance(judgement.item, SoundItem) else None
     named = sound or judgement.given
     return csv_line(

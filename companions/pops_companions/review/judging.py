@@ -90,7 +90,7 @@ class Judgement:
 
 
 def judged(item: AnyItem, wanted: int, short: Optional[tuple[str, ...]]) -> Judgement:
-    """The judgement of an item, by the number of solutions that it should have.
+    """Returns the judgement of an item, by the number of solutions that it should have.
 
     `short` are the short solutions that were found elsewhere, None where none were looked for.
     """
@@ -155,7 +155,7 @@ def _judge_unfinished(
 
 
 def missing(number: int) -> Judgement:
-    """The judgement of a problem that isn't in the report."""
+    """Returns the judgement of a problem that isn't in the report."""
     judgement = Judgement(number, None)
     judgement.find(Weight.OPEN, "not in the report")
     return judgement

@@ -42,7 +42,7 @@ class Runs:
 
 
 def find_tries(named: Optional[str], pops: str) -> Optional[str]:
-    """The program that shows tries and threats; None where there is none."""
+    """Returns the program that shows tries and threats; None where there is none."""
     named = named or os.environ.get("POPS_TRIES")
     if named:
         found = shutil.which(named)
@@ -130,7 +130,7 @@ class Work:
         return file if os.path.isfile(file) else None
 
     def tries(self, text: bytes, given: Sequence[GivenProblem]) -> dict[int, list[str]]:
-        """The lines of tries and threats of each problem of battle play, by its number."""
+        """Returns the lines of tries and threats of each problem of battle play, by its number."""
         program = self._runs.tries
         if program is None:
             return {}
@@ -145,7 +145,7 @@ class Work:
             return {number: lines for (number, _), lines in zip(wanted, texts) if lines}
 
     def _tries_of(self, program: str, wanted: tuple[int, bytes]) -> list[str]:
-        """The lines of one problem below its head; they are kept for a run that goes on.
+        """Returns the lines of one problem below its head; they are kept for a run that goes on.
 
         `wanted` is its number and its text.
         """
@@ -174,7 +174,7 @@ class Work:
 
 
 def lines_below_head(text: str) -> list[str]:
-    """The lines of an item below its stipulation."""
+    """Returns the lines of an item below its stipulation."""
     lines = text.rstrip("\n").split("\n")
     for place, line in enumerate(lines):
         if line.lstrip("sh")[:1] in ("#", "=") and not line.startswith(" "):

@@ -59,7 +59,7 @@ def _position(item: Item) -> Optional[Hashable]:
 
 
 def _may_be_one(one: Item, other: Item) -> bool:
-    """Whether not both title and board say that they are two problems."""
+    """Returns whether title and board don't both differ."""
     if isinstance(one, FaultyItem) or isinstance(other, FaultyItem):
         return True
     titles_differ = None not in (one.title, other.title) and one.title != other.title
@@ -88,7 +88,7 @@ class _Matching:
 
     @staticmethod
     def _left(items: Sequence[Item], taken: dict[int, int], key: Key) -> Places:
-        """The places of the items that are left over, by their keys."""
+        """Returns the places of the items that are left over, by their keys."""
         places: Places = {}
         for place, item in enumerate(items):
             if place not in taken and key(item) is not None:

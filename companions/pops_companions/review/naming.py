@@ -9,12 +9,13 @@ from pops_companions.show.titles import printable
 
 
 def shown(text: Optional[bytes], encoding: str) -> str:
-    """A title or an author, where there is one, without what no text may hold."""
+    """Returns a title or an author, where there is one, without what no text may hold."""
     return printable(titles.shown(text or b"", encoding))
 
 
 def described(item: Optional[AnyItem], encoding: str, given: Optional[GivenProblem] = None) -> str:
-    """Stipulation, title and author: `#5, Excelsior (Sam Loyd)`; empty where none are known.
+    """Returns stipulation, title and author: `#5, Excelsior (Sam Loyd)`; empty where none are
+    known.
 
     `given` has them for a problem whose report lacks them.
     """
@@ -32,5 +33,5 @@ def _name(title: Optional[bytes], author: Optional[bytes], encoding: str) -> str
 
 
 def counted(number: int, word: str) -> str:
-    """A number with its word: `1 key`, `2 keys`."""
+    """Returns a number with its word: `1 key`, `2 keys`."""
     return f"{number} {word}" if number == 1 else f"{number} {word}s"

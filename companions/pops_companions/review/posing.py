@@ -20,7 +20,7 @@ class AnswersError(ValueError):
 
 
 def shorter(stipulation: Stipulation) -> list[Stipulation]:
-    """The stipulations that must have no solution where this one is to have no short one.
+    """Returns the stipulations that must have no solution where this one is to have no short one.
 
     In battle play the next shorter one holds all shorter ones. Help play shows lines of one length
     alone, so each is asked for.
@@ -33,7 +33,7 @@ def shorter(stipulation: Stipulation) -> list[Stipulation]:
 
 
 def posed_problems(problems: Iterable[GivenProblem]) -> Iterator[list[str]]:
-    """The lines of each problem with a shorter stipulation; its title names the problem.
+    """Yields the lines of each problem with a shorter stipulation; its title names the problem.
 
     Options stay, but for SetPlay and Variation: only the solutions are asked for.
     """
@@ -93,7 +93,7 @@ class ShortAnswers:
                 self._answers[key] = _Answer(item.board, item.condition, lines, complete)
 
     def of(self, item: SoundItem) -> Optional[tuple[str, ...]]:
-        """The short solutions of a problem, as far as they are known.
+        """Returns the short solutions of a problem, as far as they are known.
 
         None where none is known and a report of them is missing. AnswersError where the reports are
         of another problem.
@@ -116,7 +116,7 @@ class ShortAnswers:
 
 
 def _first_lines(item: SoundItem) -> Optional[tuple[str, ...]]:
-    """The lines or keys of the play; None where it wasn't solved."""
+    """Returns the lines or keys of the play; None where it wasn't solved."""
     for phase in item.phases or ():
         if phase.kind is PhaseKind.PLAY:
             return tuple(

@@ -39,7 +39,7 @@ class Evidence(NamedTuple):
 
 
 def sheet(judged: Iterable[JudgedGroup], tally: Tally, heading: str, evidence: Evidence) -> str:
-    """The page; the tally has counted the judgements once they are all taken."""
+    """Returns the page; the tally has counted the judgements once they are all taken."""
     rows: list[str] = []
     articles: list[str] = []
     for one in judged:
@@ -111,7 +111,7 @@ def _of_twins(one: JudgedGroup, evidence: Evidence) -> Iterable[str]:
 
 
 def solutions_of(judgement: Judgement) -> list[str]:
-    """The lines that the report shows of a problem."""
+    """Returns the lines that the report shows of a problem."""
     item = judgement.item
     if not isinstance(item, SoundItem):
         return []

@@ -13,12 +13,13 @@ Json = dict[str, Any]
 
 
 def schema() -> str:
-    """The schema of an item's object, as JSON Schema."""
+    """Returns the schema of an item's object, as JSON Schema."""
     return Path(__file__).with_name("item.schema.json").read_text("utf-8")
 
 
 def item_object(item: Item, encoding: str, given: Optional[GivenProblem] = None) -> Json:
-    """The object of an item; title, author and origin that aren't in the encoding are Latin-1.
+    """Returns the object of an item; title, author and origin that aren't in the encoding are
+    Latin-1.
 
     With the problem of the input it also has its origin, and if it is faulty title and author.
     """

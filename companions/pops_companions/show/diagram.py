@@ -33,7 +33,7 @@ _FILLS = {
 
 @lru_cache(maxsize=None)
 def _men() -> dict[str, str]:
-    """The shapes of the men by the names of their kinds."""
+    """Returns the shapes of the men by the names of their kinds."""
     text = Path(__file__).with_name("men.svg").read_text("utf-8")
     return {shape[1]: shape[0] for shape in re.finditer(r'<g id="(\w+)">.*?</g>\n', text, re.S)}
 
@@ -47,7 +47,8 @@ def _top(square: Square) -> int:
 
 
 def _dark_squares() -> str:
-    """The path of all dark squares; a square is dark where file plus rank is even, as a1."""
+    """Returns the path of all dark squares; a square is dark where file plus rank is even, as a1.
+    """
     corners = (
         f"M{_left(square)} {_top(square)}h{SIDE}v{SIDE}h-{SIDE}z"
         for square in Square.of_diagram()
@@ -57,7 +58,7 @@ def _dark_squares() -> str:
 
 
 def _definitions(kinds: Iterable[Kind]) -> str:
-    """What diagrams refer to: the empty board and the shapes of these kinds."""
+    """Returns what diagrams refer to: the empty board and the shapes of these kinds."""
     half = SIDE / 2
     files = "".join(
         f'<text x="{MARGIN + SIDE * file - half:g}" y="{8 * SIDE + MARGIN - 6}">{name}</text>'
@@ -82,7 +83,9 @@ def _definitions(kinds: Iterable[Kind]) -> str:
 
 
 def shapes() -> str:
-    """The shapes that the diagrams of a page refer to: each kind of man, and the empty board."""
+    """Returns the shapes that the diagrams of a page refer to: each kind of man, and the empty
+    board.
+    """
     return (
         '<svg width="0" height="0" style="position:absolute" aria-hidden="true">'
         f"{_definitions(Kind)}</svg>\n"
@@ -90,12 +93,12 @@ def shapes() -> str:
 
 
 def diagram(board: Board) -> str:
-    """The diagram of a board; it refers to the shapes of its page."""
+    """Returns the diagram of a board; it refers to the shapes of its page."""
     return f'<svg class="diagram" {_frame(board)}>{_drawing(board)}</svg>'
 
 
 def diagram_file(board: Board, title: str) -> str:
-    """The diagram of a board as a file of its own."""
+    """Returns the diagram of a board as a file of its own."""
     kinds = {man.kind for man in board.men.values()}
     kinds.update([UPSIDE_DOWN[kind] for kind in kinds if kind in UPSIDE_DOWN])
     return (
@@ -112,7 +115,7 @@ def _frame(board: Board) -> str:
 
 
 def _drawing(board: Board) -> str:
-    """The board with its men, white ones first."""
+    """Returns the board with its men, white ones first."""
     parts = [
         '<use xlink:href="#board"/>'
         '<g stroke="#000" stroke-width="1.5" stroke-linejoin="round" stroke-linecap="round">'
@@ -130,7 +133,7 @@ def _drawing(board: Board) -> str:
 
 
 def position_in_words(board: Board) -> str:
-    """The men by colour, kind and square: `White Kg6 Ra1, Black Kg8`."""
+    """Returns the men by colour, kind and square: `White Kg6 Ra1, Black Kg8`."""
     sides = []
     for colour in Colour:
         men = _men_of(board, colour)
@@ -148,20 +151,21 @@ def _men_of(board: Board, colour: Colour) -> list[str]:
 
 
 def numbers_of_men(board: Board) -> tuple[int, int]:
-    """How many white and how many black men there are."""
+    """Returns how many white and how many black men there are."""
     men = list(board.men.values())
     white = sum(1 for man in men if man.colour is Colour.WHITE)
     return white, len(men) - white
 
 
 def count(board: Board) -> str:
-    """The numbers of white and black men, as magazines print them below a diagram: `(2+1)`."""
+    """Returns the numbers of white and black men, as magazines print them below a diagram: `(2+1)`.
+    """
     white, black = numbers_of_men(board)
     return f"({white}+{black})"
 
 
 def fairy_men(board: Board) -> list[str]:
-    """The fairy men of a board by name with their squares, as `Grasshopper e3`."""
+    """Returns the fairy men of a board by name with their squares, as `Grasshopper e3`."""
     said = []
     for kind in UPSIDE_DOWN:
         squares = [square.name for square, man in board.men.items() if man.kind is kind]

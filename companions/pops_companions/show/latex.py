@@ -34,7 +34,8 @@ _SURNAME_FIRST = re.compile(r"([^\W\d_][^,\d]*), *([^\W\d_][^,\d]*)")
 
 
 def latex(group: Group, board: Board, encoding: str) -> str:
-    """A problem with its twins as an environment `diagram`; its title stands for a dedication.
+    """Returns a problem with its twins as an environment `diagram`; its title stands for a
+    dedication.
 
     `board` is the first one's, whose item isn't faulty.
     """
@@ -67,7 +68,7 @@ def latex(group: Group, board: Board, encoding: str) -> str:
 
 
 def authors(text: str) -> str:
-    """The authors of a problem as the package wants them, parted by semicolons.
+    """Returns the authors of a problem as the package wants them, parted by semicolons.
 
     `Loyd, Samuel` is one author, surname first, and an entry of an index; a name in another form
     stays as it is. Several are parted by `;`, `&` or `and`.
@@ -84,7 +85,7 @@ def _author(name: str) -> str:
 
 
 def _solution(twin: Twin, is_alone: bool) -> list[str]:
-    """The lines of a twin's solutions as the report has them, below its label."""
+    """Returns the lines of a twin's solutions as the report has them, below its label."""
     item = twin.item
     lines = [] if is_alone else [_escaped(twin.label.text)]
     if isinstance(item, FaultyItem):
@@ -99,7 +100,7 @@ def _escaped(text: str) -> str:
 
 
 def _pieces(board: Board) -> list[str]:
-    """Each kind of man of each colour with its squares, as `wTa1h1`."""
+    """Returns each kind of man of each colour with its squares, as `wTa1h1`."""
     pieces = []
     for colour, letter in _COLOURS.items():
         for kind, letters in _KINDS.items():
@@ -114,7 +115,7 @@ def _pieces(board: Board) -> list[str]:
 
 
 def _fairy_men(board: Board) -> list[str]:
-    """What the fairy men are called, as `{ws}{DU}{Grasshopper}`."""
+    """Returns what the fairy men are called, as `{ws}{DU}{Grasshopper}`."""
     named = []
     for kind in UPSIDE_DOWN:
         colours = {man.colour for man in board.men.values() if man.kind is kind}
@@ -125,7 +126,7 @@ def _fairy_men(board: Board) -> list[str]:
 
 
 def _phase(phase: Phase) -> list[str]:
-    """The lines of a phase as the report has them."""
+    """Returns the lines of a phase as the report has them."""
     lines = [phase.kind.value]
     for line in phase.lines:
         depth = (len(line) - len(line.lstrip(" "))) // 2

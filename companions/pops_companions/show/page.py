@@ -79,7 +79,7 @@ class Page:
     apart: bool = False
 
     def of(self, items: Iterable[AnyItem]) -> str:
-        """The page of a report's items."""
+        """Returns the page of a report's items."""
         heading = _safe(self.heading)
         parts = [
             '<!DOCTYPE html>\n<html lang="en">\n<head>\n<meta charset="utf-8">\n',
@@ -107,7 +107,7 @@ class Page:
             place += len(group.twins)
 
     def _article(self, name: str, group: Group) -> str:
-        """A problem with its twins: diagram and names, next to them the solutions."""
+        """Returns a problem with its twins: diagram and names, next to them the solutions."""
         is_faulty = isinstance(group.first, FaultyItem) and group.is_alone
         kind = "faulty" if is_faulty else "sound"
         heading = f'<h2><a href="#problem-{name}">{group.numbers}</a></h2>\n'
@@ -155,7 +155,7 @@ def _twin(group: Group, twin: Twin) -> str:
 
 
 def _in_words(phase: Phase) -> str:
-    """What the total of the play means to a composer: no solution, or several keys."""
+    """Returns what the total of the play means to a composer: no solution, or several keys."""
     if phase.kind is not PhaseKind.PLAY or phase.total is None or phase.total.stopped:
         return ""
     if phase.total.count == 0:

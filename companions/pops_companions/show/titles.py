@@ -7,12 +7,12 @@ _NO_CHARACTER = re.compile("[\x00-\x08\x0b-\x1f\x7f-\x9f\ud800-\udfff\ufdd0-\ufd
 
 
 def shown(text: bytes, encoding: str) -> str:
-    """A title or an author as text; one that isn't in the encoding is read as Latin-1."""
+    """Returns a title or an author as text; one that isn't in the encoding is read as Latin-1."""
     return text.decode(encoding if is_text(text, encoding) else "latin-1")
 
 
 def is_text(text: bytes, encoding: str) -> bool:
-    """Whether all bytes of a title or an author are text in the encoding."""
+    """Returns whether all bytes of a title or an author are text in the encoding."""
     try:
         text.decode(encoding)
     except UnicodeError:
@@ -21,5 +21,5 @@ def is_text(text: bytes, encoding: str) -> bool:
 
 
 def printable(text: str) -> str:
-    """A text without what no page and no drawing may hold: U+FFFD stands there instead."""
+    """Returns a text with U+FFFD for each character that pages and drawings may not hold."""
     return _NO_CHARACTER.sub("\ufffd", text)

@@ -90,7 +90,7 @@ class _Named:
     label: Label
 
     def continues(self, other: "_Named") -> bool:
-        """Whether it is the next twin of another problem."""
+        """Returns whether it is the next twin of another problem."""
         if self.item.number != other.item.number + 1 or self.label.place <= other.label.place:
             return False
         if not other.label.text and not (self.label.is_duplex and self.label.number == 0):
@@ -100,7 +100,7 @@ class _Named:
 
 
 def label_and_title(title: Optional[str]) -> tuple[Optional[str], Label]:
-    """A title without its label, and the label; that is empty where there is none."""
+    """Returns a title without its label, and the label; that is empty where there is none."""
     parts = _LABEL.fullmatch(title or "")
     if parts is None:
         return title, _NONE
@@ -114,7 +114,7 @@ def label_and_title(title: Optional[str]) -> tuple[Optional[str], Label]:
 def groups(
     items: Iterable[AnyItem], given: Sequence[GivenProblem], encoding: str, apart: bool
 ) -> Iterator[Group]:
-    """The problems of a report with their twins; `apart` leaves each one alone.
+    """Yields the problems of a report with their twins; `apart` leaves each one alone.
 
     `given` are the problems of the input by their numbers; there may be none.
     """
@@ -151,7 +151,7 @@ def _group(run: list[_Named]) -> Group:
 
 
 def _said(one: _Named) -> str:
-    """What the input's Remark says of a twin, as `Move a1 b2`."""
+    """Returns what the input's Remark says of a twin, as `Move a1 b2`."""
     label = one.label.text.partition(" ")[0]
     for remark in one.given.remarks if one.given is not None else ():
         text = remark.decode("utf-8", "replace")
@@ -171,7 +171,7 @@ def _twin(one: _Named, first: AnyItem) -> Twin:
 
 
 def _changes(item: AnyItem, first: AnyItem) -> tuple[str, bool]:
-    """What a twin changes, in words, and whether it changes many men."""
+    """Returns what a twin changes, in words, and whether it changes many men."""
     if not isinstance(item, SoundItem) or not isinstance(first, SoundItem):
         return "", False
     texts: list[str] = []
