@@ -16,6 +16,8 @@ from typing import Any, NamedTuple, TypeVar
 COMPANIONS = Path(__file__).resolve().parent.parent
 REPOSITORY = COMPANIONS.parent
 PACKAGE = COMPANIONS / "pops_companions"
+# Commands whose module has another name.
+_OTHER_NAMES = {"pops-import": "import_", "pops-test": "soundness"}
 Test = TypeVar("Test", bound=Callable[..., Any])
 
 # The rows as files: NAME.in, NAME.out and NAME.options.
@@ -68,8 +70,8 @@ def companion(name: str, *words: str, text: bytes = b"") -> Outcome:
 
 def loaded(name: str) -> ModuleType:
     """A companion as a module, so that many runs of it take little time."""
-    stem = "import_" if name == "pops-import" else name.removeprefix("pops-")
-    return importlib.import_module(f"pops_companions.commands.{stem}")
+    module = _OTHER_NAMES.get(name, name.removeprefix("pops-"))
+    return importlib.import_module(f"pops_companions.commands.{module}")
 
 
 def stored_inputs() -> list[Path]:
