@@ -155,7 +155,7 @@ def command_line() -> argparse.ArgumentParser:
     parser = command.parser(
         NAME,
         "Solves the problems of each FILE, or of standard input, on all processors.\n"
-        "The output and the exit status are those of pops on each FILE in turn.",
+        "It writes what pops writes for each FILE in turn, and ends with the same status.",
         epilog="example: pops-many collection.pop -o collection.report\n"
         "exit status: that of pops; 6 if the run was stopped, or some problems took longer than\n"
         "--seconds or couldn't be run. A journal then keeps the finished ones, and --resume goes\n"

@@ -89,7 +89,7 @@ def command_line() -> argparse.ArgumentParser:
         type=command.number_from_one,
         default=1,
         metavar="N",
-        help="the wanted number for help problems without such a Remark (1)",
+        help="the wanted number for help problems without this Remark (1)",
     )
     add(
         "--pose",
