@@ -55,9 +55,9 @@ function diagramFile(men, title, shapes) {
     const shape = new RegExp(`<g id="${MAN_NAMES[kind]}">[^]*?</g>\n`);
     if (!kinds.has(kind)) definitions = definitions.replace(shape, '');
   }
-  const told = printable(title).replace(/[&<>]/g, sign => ENTITIES[sign]);
+  const escaped = printable(title).replace(/[&<>]/g, sign => ENTITIES[sign]);
   return '<svg xmlns="http://www.w3.org/2000/svg" xmlns:xlink="http://www.w3.org/1999/xlink"'
-    + ` width="${2 * WIDTH}" height="${2 * WIDTH}" ${frameOf(men)}>\n<title>${told}</title>\n`
+    + ` width="${2 * WIDTH}" height="${2 * WIDTH}" ${frameOf(men)}>\n<title>${escaped}</title>\n`
     + `${definitions}${drawingOf(men)}\n</svg>\n`;
 }
 

@@ -37,7 +37,7 @@ function headsOf(report) {
 }
 
 // Returns the lines after the line that numbers an item.
-const behindNumber = text => text.slice(text.indexOf('\n') + 1);
+const afterNumber = text => text.slice(text.indexOf('\n') + 1);
 
 // Reads from the list of one sound problem the number of parts of each phase, in order; null if the phase isn't possible.
 function listOf(list) {

@@ -140,7 +140,7 @@ class Solving {
   // for all workers; null if there is nothing to divide.
   async planned(item, text) {
     const alone = await this.ask({ call: 'report', check: true, noBoard: this.noBoard }, text);
-    if (alone.text !== `problem 1\n${behindNumber(item.text)}${SOUND_LINE}`) throw new CutWrong();
+    if (alone.text !== `problem 1\n${afterNumber(item.text)}${SOUND_LINE}`) throw new CutWrong();
     let found = null;
     for (let depth = 1; depth <= MOST_DEPTH; depth++) {
       const { text: list } = await this.ask({ call: 'list', depth }, text);
@@ -157,7 +157,7 @@ class Solving {
     const rest = new Piece();
     this.report.plan(index, [rest]);
     this.hand({ call: 'report', check: false, noBoard: this.noBoard }, text, ({ status, text: said }) => {
-      const head = `problem 1\n${behindNumber(item.text)}`;
+      const head = `problem 1\n${afterNumber(item.text)}`;
       if (!said.startsWith(head)) throw new CutWrong();
       rest.text = said.slice(head.length);
       rest.isCut = status === CUT_STATUS;

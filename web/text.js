@@ -48,7 +48,7 @@ const blocksOf = remembered(text => {
     if (open && closes) open.end = word.from;
     const opens = open ? word.command === 'nextproblem' : word.command === 'beginproblem' && !blocks.length;
     if (opens) {
-      open = { words: [], from: word.from, behind: word.to, end: text.length, number: blocks.length + 1 };
+      open = { words: [], from: word.from, start: word.to, end: text.length, number: blocks.length + 1 };
       blocks.push(open);
     } else if (closes) open = null;
     else if (open) open.words.push(word);
@@ -157,7 +157,7 @@ function withMen(text, place, men) {
   const sides = sidesOf(men);
   const said = `Pieces${sides}`;
   if (!sides) return without(text, parts);
-  if (!parts.length) return `${text.slice(0, block.behind)}\n${said}${text.slice(block.behind)}`;
+  if (!parts.length) return `${text.slice(0, block.start)}\n${said}${text.slice(block.start)}`;
   const others = without(text, parts.slice(1));
   return replaced(others, [{ ...parts[0], said }]);
 }
@@ -209,7 +209,7 @@ function valueOf(fields, name) {
 }
 
 const oneLine = value => value.replace(/[\r\n]+/g, ' ').trim();
-const behindOpening = (text, block, line) => `${text.slice(0, block.behind)}\n${line}${text.slice(block.behind)}`;
+const afterOpening = (text, block, line) => `${text.slice(0, block.start)}\n${line}${text.slice(block.start)}`;
 
 // Sets a title or an author; the last one counts.
 function withTextLine(text, block, name, value) {
@@ -217,7 +217,7 @@ function withTextLine(text, block, name, value) {
   const said = oneLine(value);
   if (field && said) return replaced(text, [{ ...field.parts[0], said: `${name} ${said}` }]);
   if (field) return without(text, field.parts);
-  return said ? behindOpening(text, block, `${name} ${said}`) : text;
+  return said ? afterOpening(text, block, `${name} ${said}`) : text;
 }
 
 // Sets another word after a command: the stipulation or the condition.
@@ -233,9 +233,9 @@ function withWord(text, block, name, value) {
 
 // Returns whether a field's command has no other words.
 function isAlone(block, { section, parts }) {
-  const behind = block.words.slice(block.words.indexOf(section) + 1);
-  const next = behind.findIndex(word => word.command && !TEXT_LINES.includes(word.command));
-  const own = next < 0 ? behind : behind.slice(0, next);
+  const following = block.words.slice(block.words.indexOf(section) + 1);
+  const next = following.findIndex(word => word.command && !TEXT_LINES.includes(word.command));
+  const own = next < 0 ? following : following.slice(0, next);
   return own.every(word => word.command || parts.some(part => part.from === word.from));
 }
 
@@ -250,17 +250,17 @@ function withOption(text, block, name, value) {
   if (value === null) return without(text, gone);
   const [own, first, ...more] = found.parts;
   const said = oneLine(value);
-  const told = first ? { ...first, said } : { from: own.to, to: own.to, said: said && ` ${said}` };
+  const option = first ? { ...first, said } : { from: own.to, to: own.to, said: said && ` ${said}` };
   const rest = without(text, [...gone.filter(part => part.from > own.to), ...more]);
-  return without(replaced(rest, [told]), gone.filter(part => part.from < own.from));
+  return without(replaced(rest, [option]), gone.filter(part => part.from < own.from));
 }
 
 // Adds an option, after the problem's other options unless their line ends in a value.
 function withNewOption(text, block, said) {
   const section = block.words.findLast(word => word.command === 'option');
-  const behind = section ? block.words.slice(block.words.indexOf(section) + 1) : [];
-  const isFull = !behind.length || behind.some(word => word.command) || text.slice(section.to, behind.at(-1).to).includes('\n');
-  const at = isFull ? 0 : behind.at(-1).to;
+  const following = section ? block.words.slice(block.words.indexOf(section) + 1) : [];
+  const isFull = !following.length || following.some(word => word.command) || text.slice(section.to, following.at(-1).to).includes('\n');
+  const at = isFull ? 0 : following.at(-1).to;
   return isFull ? withLine(text, block, `Option ${said}`) : replaced(text, [{ from: at, to: at, said: ` ${said}` }]);
 }
 

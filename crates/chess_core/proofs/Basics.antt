@@ -24,6 +24,6 @@ pub use Rattle.chess_core.specs.declared.man.Kind.TheVariants.{Bishop, Grasshopp
 pub use Rattle.chess_core.specs.declared.man.Man.{Man}
 pub use Rattle.chess_core.specs.declared.man.Unmoved.{Unmoved}
 pub use Rattle.chess_core.specs.ties.Kept.{IsInStep, colour_number, colours}
-unfoldable pub use Rattle.chess_core.specs.ties.Kept.{kind_words, side_words}
+unfoldable pub use Rattle.chess_core.specs.ties.Kept.{kind_words, king_squares, side_words}
 pub use Rattle.chess_core.specs.ties.Words.{bit_of, unmoved_in}
 unfoldable pub use Rattle.chess_core.specs.ties.Words.{side_of, squares_of, word, word_of}

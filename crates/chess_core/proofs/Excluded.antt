@@ -54,15 +54,15 @@ pub king_at_home : (is_home (Some white_king) e1 ≡ true) × (is_home (Some whi
 unfolding is_home
 king_at_home = (refl, refl)
 
--- a man who is put on a square stands there, with his colour and kind
+-- a man that is put on a square is there, with its colour and kind
 pub man_stands : man_on (with_man empty a1 white_king) a1 ≡ Some white_king
 man_stands = refl
 
--- lifted, he stands there no more
+-- a man that is taken off is there no more
 pub man_is_gone : man_on (without_man (with_man empty a1 white_king) a1) a1 ≡ None
 man_is_gone = refl
 
--- his square is in the word of his colour, at its own bit
+-- a man's square is in the word of its colour, at its own bit
 pub colour_has_square : side_of (with_man empty a1 white_king) White ≡ 1
 unfolding side_of word word_of squares
 colour_has_square = refl
@@ -88,7 +88,7 @@ pub first_king_is_found : king_square two_kings White ≡ Some a1
 unfolding king_square squares
 first_king_is_found = refl
 
--- the second of two kings is seen; one king alone has none beside him
+-- the second of two kings is seen; a lone king has none beside it
 pub second_king_is_seen : (some_square (is_second_king two_kings White) ≡ true)
     × (some_square (is_second_king (with_man empty a1 white_king) White) ≡ false)
 unfolding is_second_king is_other_king some_square squares

@@ -14,7 +14,7 @@ same_colour-refl a = search rules
 
 -- ---- a man is put on an empty square
 
--- a man put on an empty square adds the square's bit to the words of his kind and colour
+-- a man put on an empty square adds the square's bit to the words of its kind and colour
 pub placed : (men : List (Option Man)) (ks ss : List ℕ) (s : ℕ) (x : Man) → IsInStep men ks ss → length men ≡ 64 → s < 64 → man_on men s ≡ None
     → IsInStep (set men s (Some x)) (set ks (kind_number x.kind) (bit_or (get_or ks (kind_number x.kind) 0) (1 * 2 ^ s % 2 ^ 64)))
     (set ss (colour_number x.colour) (bit_or (get_or ss (colour_number x.colour) 0) (1 * 2 ^ s % 2 ^ 64)))
@@ -23,7 +23,7 @@ placed men ks ss s x is l p empty = grind (arith, word_with, word_same, same_col
 
 -- ---- a man is taken off
 
--- a man taken off takes his square's bit out of both words
+-- a man taken off removes its square's bit from both words
 pub lifted : (men : List (Option Man)) (ks ss : List ℕ) (s : ℕ) (x : Man) → IsInStep men ks ss → length men ≡ 64 → s < 64 → man_on men s ≡ Some x
     → IsInStep (set men s None) (set ks (kind_number x.kind) (bit_and (get_or ks (kind_number x.kind) 0) (bit_not w64 (1 * 2 ^ s % 2 ^ 64))))
     (set ss (colour_number x.colour) (bit_and (get_or ss (colour_number x.colour) 0) (bit_not w64 (1 * 2 ^ s % 2 ^ 64))))

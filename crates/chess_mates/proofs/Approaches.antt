@@ -54,7 +54,7 @@ no_far_step s t p q far =
     let all = agree_below_at (λ s. list_all (λ d. holds_at (λ t. not (is_far s t)) (along s d 1)) queen_steps) (λ s. true) 64 s refl p in
     false_by _ (λ near. false≢true (sym (not-true _ (leap_holds (λ t. not (is_far s t)) queen_steps s t all near)) ∙ far))
 
--- how a pawn goes: he captures, or steps once, or twice from his second rank
+-- how a pawn goes: it captures, or advances one square, or two from its second rank
 abbrev pawn_steps : Colour → ℕ → ℕ → Bool
 pawn_steps c s t = is_square (along s (forward c) 1) t || (rank_of s == second_rank c && is_square (along s (forward c) 2) t)
 
@@ -79,7 +79,8 @@ pub takes_or_steps : (p : Position) (c : Colour) (s t : ℕ) → may_go p (recor
 unfolding may_go reaches_as
 takes_or_steps p c s t goes = search (rules, and_parts, or_cases, or_left, or_right)
 
--- the square over which he goes twice, and from where one of the other colour steps there
+-- the square that a double step passes, and from which a pawn of the other colour advances to the pawn's
+-- square
 abbrev is_over : Colour → ℕ → ℕ → Bool
 is_over c h t = rank_of h == (if same_colour c White then 3 else 6) && is_after c 8 h t
 
@@ -104,7 +105,7 @@ module _ (p : Position) (c : Colour) (s t : ℕ) (low : s < 64) (high : t < 64) 
       let pawn = pawn_goes p (record { colour = c; kind = Pawn }) (record { from = s; to = t; promo = None }) in
       grind (arith, no_far_step s t low high far, pawn, goes, false≢true)
 
-  -- who steps to the square between stands where the pawn arrives
+  -- a pawn that advances to the square between is where the pawn arrives
   pub steps_from_there : (u : ℕ) → u < 64 → (s + t) / 2 < 64 → pawn_steps (other c) u ((s + t) / 2) ≡ true → u ≡ t
   steps_from_there u inside mid steps =
       grind (arith, over_is c s t low (takes_or_steps p c s t goes) far, steps_ahead (other c) u ((s + t) / 2), and_parts, eqb-true)

@@ -34,7 +34,7 @@ hurdle_is rule p v siege whole fits e low off = same_Bool _ _
     (λ some. whole.hurdles e low (search (rules, some_of (man_on p.men e) p.turn some, word_has, fits.own, fits.enemies)) (λ same. off (sym same)))
     (λ on. search (rules, (siege.hurdles.men e low on).0, some_side, word_has, fits.own, fits.enemies))
 
--- the king, who is x, makes a step
+-- the king x makes a step
 module _ (rule : RuleSet) (p : Position) (m : Move) (x : Man) (v : Siege) (well : IsWellFormed p) (may : is_pseudo_legal rule p m ≡ true)
     (here : man_on p.men m.from ≡ Some x) (small : m.to < 64) (captures : (s : ℕ) → capture_square p x m ≡ Some s → s ≡ m.to) (at_king : v.king ≡ m.from)
     (siege : IsSiege v) (whole : IsWhole v) (fits : IsSiegeOf rule p v) where
@@ -47,7 +47,7 @@ module _ (rule : RuleSet) (p : Position) (m : Move) (x : Man) (v : Siege) (well 
   whole_board : length then ≡ 64
   whole_board = grind (arith, gone_to, length-set, length-without_at, well.size)
 
-  -- who stands elsewhere stays
+  -- a man on another square stays
   kept : (e : ℕ) → e ≢ m.from → e ≢ m.to → man_on then e ≡ man_on p.men e
   kept e = stays_there p x m e captures
 
@@ -76,7 +76,7 @@ module _ (rule : RuleSet) (p : Position) (m : Move) (x : Man) (v : Siege) (well 
     ];
   }
 
-  -- where no attacker reaches his square he isn't attacked
+  -- a king is not attacked, if no attacker reaches its square
   pub safe_there : ((s : ℕ) (z : Man) → IsAttacker v.men z s → reached_over v.hurdles z s m.to ≡ false) → is_attacked rule then m.to (other p.turn) ≡ false
   unfolding reached_over
   safe_there none = nobody_strikes rule then m.to p.turn (λ s z low there enemy.
@@ -86,7 +86,7 @@ module _ (rule : RuleSet) (p : Position) (m : Move) (x : Man) (v : Siege) (well 
             ∙ none s z (fits.men.stand s z low stays.1.1 (enemy ∙ sym fits.colour))
       ])
 
-  -- where one does he is
+  -- a king is attacked, if an attacker reaches its square
   module _ (able : faced_men_stand_still rule ≡ false) (a : IsAttackedOver v.hurdles v.men m.to) where
     stood_a : man_on p.men a.from ≡ Some a.man
     stood_a = fits.men.alone a.from a.man a.stands
@@ -94,7 +94,7 @@ module _ (rule : RuleSet) (p : Position) (m : Move) (x : Man) (v : Siege) (well 
     enemy_a : is_of_colour (Some a.man) (other p.turn) ≡ true
     enemy_a = rw (a.stands.mine, fits.colour) (same_colour-refl (other p.turn))
 
-    -- he doesn't stand where the king does or arrives
+    -- the man isn't on the king's square, nor on its arrival
     not_from : a.from ≢ m.from
     not_from e = false≢true (sym (not_mine_enemy x p.turn is.mine)
         ∙ ap (λ (o : Option Man). is_of_colour o (other p.turn)) (sym here ∙ ap (man_on p.men) (sym e) ∙ stood_a) ∙ enemy_a)

@@ -21,7 +21,7 @@ counted_left w t f z h = record {
   unreached = λ men. false_by _ (λ r. false≢true (sym (h.unreached men) ∙ reaches_counted men z.colour z.kind t f r));
 }
 
--- who isn't promoted stays what he is
+-- a man that isn't promoted keeps its kind
 pub unchanged : (b : Bool) (x z : Man) (t : ℕ) → is_promoting x t ≡ false → MayBecome b x t z → z ≡ x
 unchanged b x z t stays may = man_is x z.colour z.kind (sym may.mine) (sym (may.same stays))
 
@@ -33,7 +33,7 @@ piece_stays b x z t piece may = unchanged b x z t (rw piece refl) may
 pub hopper_is_no_pawn : (k : Kind) → same_kind k Grasshopper ≡ true → same_kind k Pawn ≡ false
 hopper_is_no_pawn k hop = grind arith
 
--- who arrives is what his move names
+-- the man that arrives is the one that its move names
 pub becomes : (b : Bool) (p : Position) (x : Man) (m : Move) (o : Option Kind) → is_promotion_right p x m o ≡ true
     → ((k : Kind) → may_promote p k ≡ true → is_promotion b k ≡ true) → MayBecome b x m.to (arriving_man x o)
 becomes b p x m None right may = record { mine = refl; same = λ stays. refl; promoted = λ goes. absurd (false≢true (sym (not-true _ right) ∙ goes)) }

@@ -15,7 +15,7 @@ record IsLeft (men : List (Option Man)) (a : ℕ) (o : Option ℕ) (b : ℕ) (z 
   pub entered : is_of_colour (man_on men b) c ≡ true → is_square o b ≡ true
 
 module _ (men : List (Option Man)) (a : ℕ) (o : Option ℕ) (b : ℕ) (z : Man) (k : ℕ) (u : Option ℕ) (t : ℕ) (c : Colour) (i : IsLeft men a o b z u t c) where
-  -- a man of the other side stands for him
+  -- a man of the other side takes its place
   stands_left : (j : Kind) (q : ℕ) → (is_man (man_on men q) c j && (((not (is_square o q) && not (a == q)) && not (t == q)) && not (k == q)))
       ≡ is_man (man_on (stepped men a o b z k u t z) q) c j
   stands_left j q = elim (cases_eq q t) [
@@ -47,7 +47,7 @@ module _ (men : List (Option Man)) (a : ℕ) (o : Option ℕ) (b : ℕ) (z : Man
       | inr ne ↦ grind (arith, man_on-with_other, reaches_alike_of now then (man_on then s) s e (search (rules, stands, i.arrival, i.flight, i.taken)))
     ]
 
-    -- whom neither he nor any other man of his side reaches
+    -- a square that neither the man on t nor another of its side reaches isn't reached
     unreached : (e : ℕ) → reaches now t e ≡ false → is_reached then e c ≡ false → is_reached now e c ≡ false
     unfolding is_reached
     unreached e apart none = some_square_same _ _ (λ s lt. strikes e s apart) ∙ none
@@ -78,7 +78,7 @@ module _ (rule : RuleSet) (p : Position) (m : Move) (x : Man) (k : ℕ) (i : IsS
   is_left : IsLeft p.men m.from (capture_square p x m) m.to (arriving_man x m.promo) taken t (other p.turn)
   is_left = search (rules, (is_step rule p m x k i small y t there king).taken, no_own_arrives rule p m x k i, captures_arrival, some_of_colour)
 
-  -- the mover's king stands where he stood
+  -- the mover's king keeps its square
   king_after_step : king_square (position_after rule after (step_to k t)).men p.turn ≡ Some s
   king_after_step =
       let size = (after_well_formed rule p m i.well_formed i.pseudo).size in
@@ -86,7 +86,7 @@ module _ (rule : RuleSet) (p : Position) (m : Move) (x : Man) (k : ℕ) (i : IsS
       rw men_made (king_stands after.men k taken t y p.turn
       (search (rules, size, free, king_is_other y p.turn king.mine, king.here, is_left.taken, and_left)) ∙ own_king)
 
-  -- the king who steps doesn't come next to him
+  -- the king that steps doesn't come next to the mover's king
   pub apart : reaches now_men t s ≡ false
   unfolding may_check_from reaches reaches_as
   apart =
@@ -95,7 +95,7 @@ module _ (rule : RuleSet) (p : Position) (m : Move) (x : Man) (k : ℕ) (i : IsS
       let apart_there : reaches_as after.men y.colour y.kind t s ≡ false = (or_parts _ _ (rw (turned, own_king) at none)).1 in
       rw (on_flight p.men m.from (capture_square p x m) m.to (arriving_man x m.promo) k taken t y t is_left.flight refl, kind) (rw kind at apart_there)
 
-  -- where no man of his side reaches the mover's king, not every reply mates
+  -- where no man of the side to move reaches the mover's king, not every reply mates
   pub calm : is_reached now_men s (other p.turn) ≡ false
       → list_all (is_mating rule (position_after rule p m)) (moves rule (position_after rule p m)) ≡ false
   unfolding in_check position_after

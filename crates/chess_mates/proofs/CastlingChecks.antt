@@ -43,7 +43,7 @@ corner_beside x b s k h inside small = λ n i at low lt le. false_from_ne_true _
     let came : along b (back (step_of x)) i ≡ Some s = square_is _ s (return_square s b (step_of x) i small y) in
     grind (arith, on, came, or_cases, and_parts, bare x b inside, end_none b (step_of x) (n - i) k, end_none b (back (step_of x)) i s))
 
--- who stands halfway is a hurdle before none but the squares beside him
+-- a man halfway is a hurdle only to the squares beside it
 half_no_hurdle : (x : Direction) (h s k : ℕ) → is_half h ≡ true → h < 64 → s < 64 → k ≢ h + 1 → k ≢ h - 1 → IsNoHurdle h s k (step_of x)
 half_no_hurdle x h s k half inside small ne1 ne2 = λ n at low le. false_from_ne_true _ (λ y.
     let here : along s (step_of x) (n - 1) ≡ Some h = square_is _ h y in
@@ -177,7 +177,7 @@ module _ (rule : RuleSet) (p : Position) (x : Man) (m : Move) (well : IsWellForm
       unfolding is_reached
       castled_unreached = grind (arith, some_square_false, false_from_ne_true, and_parts, cases_eq, rook_strikes, man_strikes)
 
-    -- the king of colour c stands where he stood
+    -- the king of colour c keeps its square
     king_stood : (k : ℕ) → is_man (man_on castled k) c King ≡ true → is_man (man_on p.men k) c King ≡ true
     king_stood k h =
         let y = man_there (man_on castled k) c King h in

@@ -53,7 +53,8 @@ module _ (rule : RuleSet) (p : Position) (x : Man) (s : CheckSquares) (f : ℕ) 
           (grind (arith, plain_elsewhere, off, is.here, origin_stays, aside, cases_Bool (are_rebirths_quiet rule p.men p.turn), reborn))
     ]
 
-  -- for a man who may check, uncover a check, castle, capture en passant or be followed by a rebirth: each by its own word
+  -- for a man that may give check, open a line, castle, capture en passant or cause a rebirth: each by its
+  -- own word
   pub check_targets_some : AreCheckTargets rule p f (bit_or (bit_or (bit_or (bit_or a b) c) d) s.fairy_lines)
   check_targets_some = grind (arith, no_check_elsewhere, is_pseudo_legal-from_legal, kings_apart)
 

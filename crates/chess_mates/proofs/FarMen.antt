@@ -17,21 +17,21 @@ pub record AreFar (rule : RuleSet) (p : Position) (w : ℕ) : Type 0 where
 pub off_denied : (a b i : ℕ) → b < 2 ^ 64 → i < 64 → (bit_at (bit_and a (bit_not w64 b)) i == 1) ≡ true → (bit_at b i == 1) ≡ false
 off_denied a b i fits small on = grind (arith, false_by, eqb-true _ _ on, eqb-true, bit_at_not w64 b i fits small, bit_at_and a (bit_not w64 b) i)
 
--- to join words of men who are far
+-- to join words of far men
 pub far_either : (rule : RuleSet) (p : Position) (a b : ℕ) → AreFar rule p a → AreFar rule p b → AreFar rule p (bit_or a b)
 far_either rule p a b x y = grind (arith, cases_Bool, on_either)
 
--- a man who could go to no target on an empty board
+-- a man that could go to no target on an empty board
 pub far_by : (rule : RuleSet) (p : Position) (x : Man) (s o w : ℕ) → man_on p.men s ≡ Some x → AreCheckTargets rule p s w
     → ((q : Position) (t : ℕ) → t < 64 → may_go q x s t ≡ true → (bit_at o t == 1) ≡ true) → (bit_and o w == 0) ≡ true → AreCheckTargets rule p s 0
 far_by rule p x s o w here are goes none = grind (arith, eqb-true, off_second o w, off_zero, targets_lack rule p x s w 0, goes p)
 
--- for one man who is far
+-- for one far man
 pub far_one : (rule : RuleSet) (p : Position) (s o : ℕ) → o ≡ word (λ t. is_square (Some s) t) → AreCheckTargets rule p s 0
     → (t : ℕ) → t < 64 → (bit_at o t == 1) ≡ true → AreCheckTargets rule p t 0
 far_one rule p s o h are t lt on = grind (arith, eqb-true, word_has)
 
--- targets of the men of this kind who are on no square of the word h; of a king on his own square
+-- targets of the men of this kind that are on no square of the word h; for a king, on its own square
 abbrev pub AreTargetsOff : RuleSet → Position → Kind → Option ℕ → ℕ → ℕ → Type 0
 AreTargetsOff rule p j king h w = (s : ℕ) (x : Man) → s < 64 → man_on p.men s ≡ Some x → x.kind ≡ j → (same_kind j King ≡ true → king ≡ Some s)
     → (bit_at h s == 1) ≡ false → AreCheckTargets rule p s w
@@ -46,7 +46,7 @@ module _ (rule : RuleSet) (p : Position) (j : Kind) (m h w : ℕ) (stands : (s :
       let far = targets_lack rule p (own_man p j) s w 0 in
       grind (arith, far, stands s small, off s small, targets s (own_man p j) small, on_first m, off_denied m n s fits small on, come.approach p s, false_by)
 
-  -- one of them, and his targets
+  -- one of these men, and its targets
   pub found : (s : ℕ) (king : Option ℕ) (c : Colour) → c ≡ p.turn → (s < 64) × ((bit_at m s == 1) ≡ true) → (same_kind j King ≡ true → king ≡ Some s)
       → AreTargetsOff rule p j king h w → (man_on p.men s ≡ Some (record { colour = c; kind = j })) × AreCheckTargets rule p s w
   found s king c turn here same targets = grind (arith, stands s, off s, targets s (own_man p j))

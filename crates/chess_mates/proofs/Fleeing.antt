@@ -43,13 +43,13 @@ seen_bit test n w t h small on off = search (rules, bit_at_and, eq-eqb, eqb-true
 pub some_of_colour : (o : Option Man) (c : Colour) → is_of_colour o c ≡ true → is_some o ≡ true
 some_of_colour o c h = grind arith
 
--- a king reaches the squares of his leaps
+-- a king reaches the squares of its leaps
 pub reached_near : (men : List (Option Man)) (c : Colour) (k w t : ℕ) → w ≡ word (λ t. list_any (leaps k t) queen_steps) → t < 64 → (bit_at w t == 1) ≡ true
     → reaches_as men c King k t ≡ true
 unfolding reaches_as
 reached_near men c k w t h small on = search (rules, word_has)
 
--- the king of the side that waits stays where he stood
+-- the king of the side that waits keeps its square
 pub king_waits : (rule : RuleSet) (p : Position) (x : Man) (m : Move) (c : Colour) → IsWellFormed p → IsMade rule p x m → m.to < 64 → c ≡ other p.turn
     → king_square (arrived p x m) c ≡ king_square p.men c
 king_waits rule p x m c well is small e = king_stands p.men m.from (capture_square p x m) m.to (arriving_man x m.promo) c (record {
@@ -123,7 +123,7 @@ module _ (rule : RuleSet) (p : Position) (m : Move) (x : Man) (k : ℕ) (i : IsS
           outside = λ mortal _ t lt off. grind (arith, told t lt, free_there mortal t, after_seen);
         }
 
-    -- in Circe, where he mayn't capture
+    -- in Circe, where the king may not capture
     pub open_squares_in_circe : (w l : ℕ) → captures_do_more rule ≡ true → w ≡ word (λ t. list_any (leaps k t) queen_steps)
         → l ≡ (sight_lifted p.men m.from (capture_square p x m) m.to k).occupied
         → AreSteps rule (position_after rule p m).men x (other p.turn) k (bit_and w (bit_not w64 l))
@@ -159,13 +159,13 @@ module _ (men : List (Option Man)) (a : ℕ) (o : Option ℕ) (b : ℕ) (z : Man
   arrival_seen : reaches_as now z.colour z.kind b t ≡ (bit_at r t == 1)
   arrival_seen = search (rules, reaches_alike now (without_man (gone_to men a o b z) k), lifted_alike, word_has, occupied_lifted, i)
 
-  -- whom the man that has arrived doesn't reach is reached by the others alone
+  -- what the man that has arrived doesn't reach, only the others reach
   pub reached_alike : (bit_at r t == 1) ≡ false → is_reached now t c ≡ is_reached then t c
   unfolding is_reached reaches
   reached_alike unseen = some_square_same _ _ (λ s lt.
       grind (arith, cases_eq s b, cases_eq s t, same_elsewhere, reaches_alike_of, arrival_alike, stands_arrived, arrival_seen))
 
-  -- whom the man that has arrived reaches
+  -- what the man that has arrived reaches
   pub arrived_strikes : same_colour z.colour c ≡ true → (bit_at r t == 1) ≡ true → is_reached now t c ≡ true
   unfolding is_reached reaches
   arrived_strikes mine on =
@@ -176,7 +176,7 @@ module _ (men : List (Option Man)) (a : ℕ) (o : Option ℕ) (b : ℕ) (z : Man
 other_side : (o : Option Man) (c : Colour) → is_man o (other c) King ≡ true → is_of_colour o c ≡ false
 other_side o c h = grind (arith, same_colour-true, first_of_and)
 
--- once the king has stepped, he stands there
+-- once the king has stepped, it is there
 pub steps_there : (men : List (Option Man)) (x : Man) (c : Colour) (k t : ℕ) → man_on men k ≡ Some x → same_colour x.colour c ≡ true
     → same_kind x.kind King ≡ true → reaches_as men c King k t ≡ true → reaches men k t ≡ true
 unfolding reaches
@@ -261,11 +261,11 @@ module _ (rule : RuleSet) (p : Position) (m : Move) (x : Man) (k : ℕ) (i : IsS
       let free = (is_made rule p m x k i).arrival in
       grind (arith, taken, capture_of_piece, king_is_no_pawn, square_is, king_is_other, other_side, king_there, and_parts, not-true, no_king_square)
 
-  -- the square on which his step captures
+  -- the square on which the king's step captures
   abbrev pub step_taken : Man → ℕ → Option ℕ
   step_taken y t = capture_square (position_after rule p m) y (step_to k t)
 
-  -- the men after the move and his step
+  -- the men after the move and the king's step
   abbrev pub men_stepped : Man → ℕ → List (Option Man)
   men_stepped y t = stepped p.men m.from (capture_square p x m) m.to (arriving_man x m.promo) k (step_taken y t) t y
 
@@ -273,12 +273,12 @@ module _ (rule : RuleSet) (p : Position) (m : Move) (x : Man) (k : ℕ) (i : IsS
   pub turn_is : (position_after rule p m).turn ≡ other p.turn
   turn_is = turn_after rule p m i.pseudo
 
-  -- to an open square he has a step
+  -- the king has a step to an open square
   pub king_step : (y : Man) (t : ℕ) → t < 64 → IsKingOn (position_after rule p m).men (other p.turn) k y
       → is_open rule (position_after rule p m).men (other p.turn) k t ≡ true → IsKingStep rule (position_after rule p m) y k t
   king_step y t there king way = search (rules, after_well_formed, turn_is, i.pseudo)
 
-  -- the king's step is legal where nobody attacks him then
+  -- the king's step is legal if no enemy attacks its arrival then
   pub step_legal_is : (y : Man) (t : ℕ) → t < 64 → IsKingOn (position_after rule p m).men (other p.turn) k y
       → is_open rule (position_after rule p m).men (other p.turn) k t ≡ true
       → is_legal rule (position_after rule p m) (step_to k t) ≡ not (is_attacked rule (men_stepped y t) t p.turn)
@@ -288,7 +288,7 @@ module _ (rule : RuleSet) (p : Position) (m : Move) (x : Man) (k : ℕ) (i : IsS
   module _ (n r : ℕ)
       (arrives : (l : List (Option Man)) → (sight_lifted p.men m.from (capture_square p x m) m.to k).occupied ≡ occupied_squares l
       → r ≡ word (reaches_as l (arriving_man x m.promo).colour (arriving_man x m.promo).kind m.to)) where
-    -- what is seen of an attack on him holds once he has stepped there
+    -- what is seen of an attack on the arrival holds once the king has stepped there
     pub step_seen : (y : Man) (t : ℕ) → t < 64 → IsKingOn (position_after rule p m).men (other p.turn) k y
         → IsStepSeen p.men m.from (capture_square p x m) m.to (arriving_man x m.promo) k (step_taken y t) t y p.turn r
     step_seen y t there king = search (rules, is_step y t there king)

@@ -17,7 +17,7 @@ homes Black Knight = 4755801206503243776
 homes White _ = 18374686479671623680
 homes Black _ = 255
 
--- a man who is no pawn is reborn on a square of his word
+-- a man that is no pawn is reborn on a square of its word
 pub home_on : (c : Colour) (k : Kind) (w : ℕ) → w ≡ homes c k → same_kind k Pawn ≡ false → (t r : ℕ) → rebirth c k t ≡ Some r → (bit_at w r == 1) ≡ true
 unfolding rebirth
 home_on c k w e piece t r h =
@@ -25,7 +25,7 @@ home_on c k w e piece t r h =
     let first = agree_below_at (λ n. not (rank_of n == 1) || bit_at 255 n == 1) (λ _. true) 64 r refl in
     grind (arith, square_at-is, eq-eqb, last, first, false≢true)
 
--- a pawn on that of his file
+-- a pawn is reborn on a square of its file
 pub pawn_home_on : (c : Colour) (s k w : ℕ) → ((t : ℕ) → rebirth c Pawn t ≡ square_at (file_of t) k)
     → w ≡ word (λ q. is_square (square_at (file_of s) k) q) → (t r : ℕ) → file_of t ≡ file_of s → rebirth c Pawn t ≡ Some r → (bit_at w r == 1) ≡ true
 pawn_home_on c s k w home only t r file h = search (rules, word_has, rebirth_small, eq-eqb)

@@ -87,11 +87,11 @@ module _ (d : ℕ) (a : Attackers) (region : ℕ) where
   all_reach r l rides leaps = search (rules, of_either)
 
 module _ (d : ℕ) (a : Attackers) where
-  -- the converse: who is reached is attacked
+  -- the converse: a man that is reached is attacked
   pub attacked_by : (k : Kind) (t : ℕ) → IsReachedFrom d (record { colour = a.colour; kind = k }) (squares_for a k) t → IsAttackedOver d a t
   attacked_by k t r = search rules
 
--- on a board where each hurdle that a man reaches over the hurdles still stands, he reaches no more than over them
+-- where all hurdles that a man reaches over the hurdles still stand, it reaches no more than over them
 module _ (d : ℕ) (men : List (Option Man)) where
   -- the hurdles that a step from s leads to still stand
   abbrev Stand : ℕ → Step → Type 0
@@ -122,7 +122,7 @@ module _ (d : ℕ) (men : List (Option Man)) where
   some_over s t [] stand h = h
   some_over s t (st ∷ ds) stand h = search (rules, or_cases, or_left, or_right, rides_over, some_over s t ds)
 
-  -- a man who is no hopper
+  -- a man that is no hopper
   pub later : (c : Colour) (k : Kind) (s t : ℕ) → is_hopper (gait_of k) ≡ false
       → (is_rider k ≡ true → (b : ℕ) → b < 64 → (bit_at d b == 1) ≡ true → reaches_as (men_on d) c k s b ≡ true → is_some (man_on men b) ≡ true)
       → reaches_as men c k s t ≡ true → reaches_as (men_on d) c k s t ≡ true

@@ -9,7 +9,7 @@ use Rattle.chess_mates.proofs.Standing.{reach_none}
 use Rattle.chess_mates.specs.ties.QuietSteps.{GoesSimply}
 use Rattle.chess_mates.specs.ties.StandingFlights.{AreStandingFlights, IsFlightBut, NoneHops}
 
--- who is left reaches no more than over the hurdles, if no rider reaches the one who goes
+-- if no rider reaches the man that goes, the others reach no more than over the hurdles
 module _ (p : Position) (k n d r l o : ℕ) (v : Attackers) (none : NoneHops p.men) (hurdles : d ≡ bit_and (occupied_squares p.men) (bit_not w64 o))
     (only : o ≡ word (is_square (Some k))) (fits : o < 2 ^ 64) (colour : v.colour ≡ p.turn) (men : AreAttackers p.men v)
     (rides : AreReached d v n is_rider r) (leaps : AreReached d v n is_leaper l) (a f : ℕ) (origin : a < 64) (flight : f < 64)
@@ -17,7 +17,7 @@ module _ (p : Position) (k n d r l o : ℕ) (v : Attackers) (none : NoneHops p.m
   abbrev few : List (Option Man)
   few = lifted p.men a k
 
-  -- each hurdle but him still stands
+  -- each hurdle but the man that goes still stands
   still : (e : ℕ) → e < 64 → (bit_at d e == 1) ≡ true → e ≢ a → is_some (man_on few e) ≡ true
   still e small on ne =
       let both = rw hurdles at on in

@@ -1,7 +1,7 @@
 -- A property of attackers of each kind is one of all attackers.
 use Rattle.chess_mates.proofs.Chess.{Attackers, Bishop, Colour, Grasshopper, IsAttacker, Kind, King, Knight, Man, Nightrider, Pawn, Queen, Rook, ap, bit_at, refl, squares_for, subst, sym, true, ℕ, ◌<◌, ◌==◌, ◌∙◌, ◌≡◌}
 
--- a man by his colour and his kind
+-- a man by its colour and its kind
 pub man_is : (x : Man) (c : Colour) (k : Kind) → x.colour ≡ c → x.kind ≡ k → record { colour = c; kind = k } ≡ x
 man_is x c k colour kind = rw (← colour, ← kind) refl
 

@@ -11,7 +11,7 @@ module _ (rule : RuleSet) (p : Position) (x : Man) (m : Move) (well : IsWellForm
       let cases = stood_reborn (moved_men p x m) (reborn_square rule p x m) (man_on_at p.men (capture_square p x m)) s in
       rw (after_is rule p x m is.here) (grind (arith, cases, reborn_is rule p x m s))
 
-  -- the enemy's king stands where he stood
+  -- the enemy's king keeps its square
   module _ (k : ℕ) (at : king_square p.men (other p.turn) ≡ Some k) (y : Man) (stood : IsKingOn p.men (other p.turn) k y) where
     arrived_there : man_on (arrived p x m) k ≡ Some y
     arrived_there =
@@ -41,7 +41,7 @@ module _ (rule : RuleSet) (p : Position) (x : Man) (m : Move) (well : IsWellForm
           let struck = some_square_true (is_attacker rule (position_after rule p m).men m.to (other p.turn)) k stood.small strikes_him in
           grind (arith, square, stays_after m.to x, moved_arrival, king_stays_king, is.mine, same_colour-refl p.turn, king, struck)
 
--- a king gives no check himself by a legal move
+-- a king itself gives no check by a legal move
 pub kings_apart : (rule : RuleSet) (p : Position) (x : Man) (m : Move) → IsWellFormed p → man_on p.men m.from ≡ Some x → m.to < 64 → is_legal rule p m ≡ true
     → same_kind x.kind King ≡ true → may_check_from p.men (other p.turn) x m.to ≡ false
 unfolding may_check_from is_legal

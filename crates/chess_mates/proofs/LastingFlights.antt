@@ -150,7 +150,7 @@ pub left_first : (squares r o t : ℕ) (x : Man) → AreReached x t r → r < 2 
 left_first squares r o t x are rfits ofits only found e =
     grind (arith, left_on, find_first (λ s. bit_at (bit_and squares (bit_not w64 (bit_or r o))) s == 1) 0 64)
 
--- who reaches a square is reached from there by one of the other colour
+-- a man that reaches a square is reached from there by a man of the other colour
 pub come_back : (x : Man) (t w : ℕ) → t < 64 → same_kind x.kind Grasshopper ≡ false → AreReached (record { colour = other x.colour; kind = x.kind }) t w
     → AreApproached x t w
 come_back x t w small other are = search (rules, reaches_back, no_hopper)
@@ -167,7 +167,7 @@ untaken_left w a o f t x are only fits on small off =
     let apart : f ≢ t = λ e. grind (arith, off_right a o t off, word_has _ o t only small, eq-eqb) in
     search (rules, apart, are.inside, off_left a o t off, false_from_ne_true, false≢true)
 
--- for `leave_one`: of men who don't castle and leave one wherever a kind's targets are
+-- for `leave_one`: men that don't castle and leave one square wherever a kind's targets are
 module _ (a : Attackers) (o : OpenTargets) (w : ℕ) (are : AreOpenTargets a o) where
   abbrev LeavesOneOf : Kind → Type 0
   LeavesOneOf k = (t : ℕ) → t < 64 → (bit_at (targets_for o k) t == 1) ≡ true → (f : ℕ) × IsLeft w (record { colour = a.colour; kind = k }) t f
@@ -254,7 +254,7 @@ module _ (rule : RuleSet) (p : Position) (m : Move) (x : Man) (k w : ℕ) (well 
     free =
         grind (arith, stood q y n left.0, stood p x m left.0, men_q, men_r, left.1, near, keeps.within left.0, small, to, well.size, well_q.size)
 
-    -- nobody attacks the king who has gone there
+    -- no enemy attacks the king that has gone there
     unreached : (z : Man) → IsKingOn r.men p.turn k z → (s : ℕ) (v : Man) → s < 64 → man_on (arrived r z (step_to k left.0)) s ≡ Some v
         → v.colour ≡ other p.turn → reaches_as (arrived r z (step_to k left.0)) v.colour v.kind s left.0 ≡ false
     unreached z stands s v inside there enemy =

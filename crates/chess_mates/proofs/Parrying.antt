@@ -78,7 +78,8 @@ module _ (men after : List (Option Man)) (a b s t k : ℕ) (z : Man) (c : Colour
     unlined = unlined_before men mid (other c) k s fairy_stood second.unlined;
   }
 
-  -- nobody reaches the king, once one man has gone from a to b and another from s, which is off his lines, to t
+  -- no man reaches the king, once one man has gone from a to b and another to t from s, which is off the
+  -- king's lines
   unreached_after : is_reached after k (other c) ≡ false
   unreached_after = unreached mid after s t z shift_second c k covered small (unlined_before men mid (other c) k t fairy_stood too) (quiet mid s t)
 
@@ -102,7 +103,7 @@ occupied_between men a o b z none size =
     ≡ word (λ i. (is_some (man_on men i) && not (is_square (Some a) i)) || is_square (Some b) i) = search (rules, squares_both, squares_either, squares_not) in
     words ∙ squares_same _ _ (λ i lt. grind (arith, occupied_now men a o b z i size, none))
 
--- who stands where once one has come
+-- the men once one has come
 ruleset put = (man_on-with_other, man_on-with_same, there_now)
 
 -- a pawn that arrives on the last rank is made a queen
@@ -145,7 +146,7 @@ pub no_mate_with_parry : (rule : RuleSet) (p : Position) (m : Move) → is_mate 
 unfolding mates
 no_mate_with_parry rule p m parried = sym (and_right _ _ parried)
 
--- after a move whose parries are computed
+-- after a move with computed parries
 module _ (rule : RuleSet) (p : Position) (m : Move) (x : Man) (k : ℕ) (well : IsWellFormed p) (may : is_pseudo_legal rule p m ≡ true)
     (here : man_on p.men m.from ≡ Some x) (told : AreParriesTold rule p x m) (small : m.to < 64) (king : king_square p.men (other p.turn) ≡ Some k) where
   abbrev q : Position
@@ -182,7 +183,8 @@ module _ (rule : RuleSet) (p : Position) (m : Move) (x : Man) (k : ℕ) (well : 
     mortal : same_kind y.kind King ≡ false
     mortal = false_from_ne_true _ (λ h. grind (arith, king_is p.men (other p.turn) s well.kings inside, stood_y, and_from, enemy, h, king, covered_y.apart, eq-eqb))
 
-    -- he goes to a square where nobody is captured elsewhere, and the man that has come is taken or doesn't reach the king
+    -- a reply goes to a square where nothing is captured elsewhere, and the checking man is taken or
+    -- doesn't reach the king
     module _ (t : ℕ) (lt : t < 64) (takes_there : (j : ℕ) → capture_square q y (reply y s t) ≡ Some j → j ≡ t)
         (goes : can_go rule q y (reply y s t) ≡ true) (free : is_arrival_free q.turn (man_on q.men t) ≡ true)
         (off : is_on_fairy_line p.men (other (other p.turn)) k t ≡ false)
@@ -193,7 +195,7 @@ module _ (rule : RuleSet) (p : Position) (m : Move) (x : Man) (k : ℕ) (well : 
       abbrev z : Man
       z = arriving_man y n.promo
 
-      -- the men then, one of his side in place of the one that has come
+      -- the men after the reply, one of its side in place of the checking man
       abbrev replaced : List (Option Man)
       replaced = with_man (arrived q y n) m.to z
 
@@ -248,7 +250,7 @@ module _ (rule : RuleSet) (p : Position) (m : Move) (x : Man) (k : ℕ) (well : 
   arrives : man_on q.men m.to ≡ Some (arriving_man x m.promo)
   arrives = grind (arith, men_q, there_now, small, well.size)
 
-  -- he takes the man that has come
+  -- the reply takes the checking man
   taken_from : (s : ℕ) (o : Option Man) → man_on q.men s ≡ o → s < 64 → is_of_colour o (other p.turn) ≡ true → reaches q.men s m.to ≡ true
       → is_unpinned p m k s ≡ true → is_mate rule q ≡ false
   unfolding capture_square
@@ -262,7 +264,7 @@ module _ (rule : RuleSet) (p : Position) (m : Move) (x : Man) (k : ℕ) (well : 
       no_mate_where_parried s y inside at side unpinned m.to small (λ j h. grind (arith, arrives, cond-true, h)) goes free aside
       (grind (arith, there_now q.men s (capture_square q y (reply y s m.to)) m.to (arriving_man y (named y m.to)) size, arriving_colour, side, other_twice, and_left))
 
-  -- he comes between, and the man that has come doesn't reach the king any more
+  -- the reply interposes, and the checking man doesn't reach the king any more
   module _ (i : IsInterposed q.men p x m k) (y : Man) (at : man_on q.men i.from ≡ Some y) (side : same_colour y.colour (other p.turn) ≡ true)
       (nobody : capture_square q y (reply y i.from i.square) ≡ None) (goes : can_go rule q y (reply y i.from i.square) ≡ true) where
     comes_between : is_mate rule q ≡ false
@@ -328,7 +330,7 @@ module _ (rule : RuleSet) (p : Position) (m : Move) (x : Man) (k : ℕ) (well : 
         | inr none ↦ absurd (false≢true (sym (any_range_false takes 0 64 none) ∙ (sym (some_square_told takes (bit_and t w) are) ∙ some)))
       ]
 
-  -- nobody parries the check of a man who isn't taken, if nobody comes between
+  -- if the checking man isn't taken and no man interposes, the check stays
   module _ (o w : ℕ) (i : IsUntaken o w x m.to k) (occupied : o ≡ occupied_squares q.men)
       (takers : w ≡ word (λ s. is_of_colour (man_on q.men s) (other p.turn) && reaches q.men s m.to)) (u : NobodyComes q.men (other p.turn) m.to k) where
     -- nobody is captured en passant
@@ -341,7 +343,7 @@ module _ (rule : RuleSet) (p : Position) (m : Move) (x : Man) (k : ℕ) (well : 
       enemy : same_colour y.colour (other p.turn) ≡ true
       enemy = grind (arith, is.mine, turn_after rule p m may, same_colour-refl)
 
-      -- he isn't the man that has come
+      -- the man that replies isn't the checking man
       no_enemy : Some y ≡ Some (arriving_man x m.promo) → ⊥
       no_enemy e =
           let side = ap (λ (c : Colour). same_colour c (other p.turn)) (arriving_colour x m.promo ∙ is_m.mine) ∙ other_differs p.turn in
@@ -353,7 +355,7 @@ module _ (rule : RuleSet) (p : Position) (m : Move) (x : Man) (k : ℕ) (well : 
           let there = king_there q.men q.turn k king_q in
           false_from_ne_true _ (λ h. grind (arith, there.1, is.here, eqb-true k n.from h, mortal, and_parts, false≢true))
 
-      -- he doesn't take the man that has come
+      -- the reply doesn't take the checking man
       untaken : n.to ≢ m.to
       unfolding can_castle may_castle
       untaken e =
@@ -438,7 +440,7 @@ module _ (rule : RuleSet) (p : Position) (m : Move) (x : Man) (k : ℕ) (well : 
       let seen = seen_q v sees in
       is_parriless v.occupied t i seen.occupied (takers q.men seen) (subst (IsToldBetween q.men p x m k) is (told q.men seen))
 
--- the words of the squares of men who aren't pinned
+-- the words of the squares of men that aren't pinned
 module _ (p : Position) (m : Move) (k w l d : ℕ) (shields : w ≡ word (may_expose p.men (other p.turn))) (straight : l ≡ word (is_on_some straight_steps k))
     (diagonal : d ≡ word (is_on_some diagonal_steps k)) (small : m.from < 64) where
   on_line_is : (bit_at (bit_or l d) m.from == 1) ≡ is_on_line k m.from

@@ -10,7 +10,7 @@ use Rattle.chess_mates.proofs.Risks.{none_at}
 use Rattle.chess_mates.proofs.Standing.{captured_there}
 
 module _ (p : Position) (x : Man) (m : Move) (from : m.from < 64) (to : m.to < 64) where
-  -- a pawn, by the words of the squares ahead of him and of those a step away
+  -- a pawn, by the words of the squares ahead of it and of those a step away
   module _ (a n : ℕ) (ahead : a ≡ word (is_advance x.colour m.from)) (near : n ≡ word (λ t. list_any (leaps m.from t) queen_steps)) where
     -- for a pawn that goes a step
     pub steps_freely : n < 2 ^ 64 → (bit_at (bit_not w64 n) m.to == 1) ≡ false → IsPassing p x m
@@ -18,7 +18,7 @@ module _ (p : Position) (x : Man) (m : Move) (from : m.from < 64) (to : m.to < 6
         let step = word_has (λ t. list_any (leaps m.from t) queen_steps) n m.to near to in
         record { freely = λ double. grind (arith, no_far_step m.from m.to from to, step, on_denied n m.to fits to off) }
 
-    -- for a pawn beside whom none will stand
+    -- for a pawn that will have no pawn beside it
     pub passes_freely : (w l : ℕ) → may_go p x m.from m.to ≡ true → AreCapturers (other x.colour) (bit_and a n) w
         → l ≡ squares_of p.men (other x.colour) Pawn → bit_and w l ≡ 0 → IsPassing p x m
     unfolding squares_of
@@ -67,11 +67,11 @@ module _ (p : Position) (x : Man) (m : Move) (from : m.from < 64) (to : m.to < 6
   pub pawn_plain : (o : ℕ) → o ≡ word (is_square p.crossed) → same_kind x.kind Pawn ≡ true → (bit_at o m.to == 1) ≡ false → IsPassing p x m → IsPlainMove p x m
   pawn_plain o crossed pawn off passing = search (rules, and_left, pawn_is_no_king, captured_there, word_has)
 
-  -- for a man who is neither pawn nor king
+  -- for a man that is neither pawn nor king
   pub man_plain : same_kind x.kind Pawn ≡ false → same_kind x.kind King ≡ false → IsPlainMove p x m
   man_plain piece mortal = search (rules, capture_of_piece, and_parts, and_left, false≢true)
 
-  -- for a king who goes a step
+  -- for a king that goes a step
   pub king_plain : (n : ℕ) → n ≡ word (λ t. list_any (leaps m.from t) queen_steps) → n < 2 ^ 64 → same_kind x.kind King ≡ true
       → (bit_at (bit_not w64 n) m.to == 1) ≡ false → IsPlainMove p x m
   king_plain n near fits king off =

@@ -6,7 +6,7 @@ use Rattle.chess_mates.proofs.Parrying.{unreached_in_place}
 use Rattle.chess_mates.proofs.Standing.{captured_there}
 use Rattle.chess_rules.proofs.making_moves.Plays.{length-without_at}
 
--- the squares that are occupied once a man has gone to where he captures, if he does
+-- the squares that are occupied once a man has gone to where it captures, if it captures
 occupied_there : (men : List (Option Man)) (a : ℕ) (o : Option ℕ) (b : ℕ) (z : Man) → ((s : ℕ) → is_square o s ≡ true → s ≡ b) → b < length men
     → (sight_after men a None b).occupied ≡ occupied_squares (gone_to men a o b z)
 occupied_there men a o b z taken size = occupied_words men a None b
@@ -35,7 +35,7 @@ module _ (rule : RuleSet) (p : Position) (x : Man) (m : Move) (well : IsWellForm
   there : man_on then m.to ≡ Some (arriving_man x m.promo)
   there = there_now p.men m.from (capture_square p x m) m.to (arriving_man x m.promo) size
 
-  -- a man of the other side in his place
+  -- a man of the other side in its place
   abbrev instead : Man
   instead = record x { colour = c }
 
@@ -48,7 +48,7 @@ module _ (rule : RuleSet) (p : Position) (x : Man) (m : Move) (well : IsWellForm
         arrived = λ y at. grind (arith, man_on-with_same, size_then);
       }
 
-  -- if he doesn't reach the king, nobody does
+  -- if the man that arrives doesn't reach the king, no man of its side does
   unreached_then : (k : ℕ) → king_square p.men c ≡ Some k → reaches_as then (arriving_man x m.promo).colour (arriving_man x m.promo).kind m.to k ≡ false
       → is_reached then k (other c) ≡ false
   unfolding reaches may_expose may_stand_between

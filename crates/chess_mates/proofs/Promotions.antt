@@ -82,6 +82,6 @@ leaves_untaken d k w e c x t h = record {
       (f.0, search (rules, f.1, f.1.unreached, f.2));
 }
 
--- for `may_become_fairy`: who isn't promoted becomes stays fairy man
+-- for `may_become_fairy`: a man that isn't promoted stays a fairy man
 pub no_fairy : (b : Bool) (x z : Man) (t : ℕ) → is_promoting x t ≡ false → MayBecome b x t z → MayBecome false x t z
 no_fairy b x z t stays may = record { mine = may.mine; same = may.same; promoted = λ goes. absurd (false≢true (sym stays ∙ goes)) }

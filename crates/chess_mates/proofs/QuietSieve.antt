@@ -52,7 +52,7 @@ module _ (men : List (Option Man)) (a k : ℕ) where
   pub lifted_there : (q : ℕ) → (a == q || k == q) ≡ false → man_on (lifted men a k) q ≡ man_on men q
   lifted_there q h = grind (arith, or_parts, eq-eqb, false≢true, man_on-without_other)
 
-  -- who stands then stood before
+  -- a man that is there afterwards was there before
   pub lifted_stood : (q : ℕ) (z : Man) → man_on (lifted men a k) q ≡ Some z → man_on men q ≡ Some z
   lifted_stood q z h = grind (arith, lifted_here q, lifted_there q, cases_Bool (a == q || k == q))
 
@@ -78,7 +78,8 @@ alike_on men t size =
       ];
     }
 
--- where men have gone but from one square, who doesn't hop and doesn't reach that reaches no more
+-- a man that doesn't hop still reaches a square once other men have gone, if a man new on a is out of its
+-- reach
 fewer_but : (few men : List (Option Man)) (c : Colour) (k : Kind) (s t a : ℕ) → length few ≡ 64 → a < 64 → is_hopper (gait_of k) ≡ false
     → ((q : ℕ) → q ≢ a → is_some (man_on few q) ≡ true → is_some (man_on men q) ≡ true)
     → (is_some (man_on few a) ≡ true → reaches_as few c k s a ≡ true → ⊥) → reaches_as men c k s t ≡ true → reaches_as few c k s t ≡ true
@@ -142,7 +143,7 @@ module _ (rule : RuleSet) (p : Position) (m : Move) (x : Man) (k : ℕ) (i : IsS
   stays : (q : ℕ) → is_some (man_on few q) ≡ true → is_some (man_on now q) ≡ true
   stays q h = stays_stepped q (λ e. nobody_left (rw e at h)) (stays_after q h)
 
-  -- who stands somewhere has come there or stood there
+  -- a man on a square has come there or was there
   stood_then : (q : ℕ) (z : Man) → man_on now q ≡ Some z
       → ((q ≡ f) × (z ≡ y)) ⊎ (((q ≡ m.to) × (z ≡ x)) ⊎ (man_on few q ≡ Some z))
   stood_then q z h = elim (cases_eq q f) [
@@ -160,7 +161,7 @@ module _ (rule : RuleSet) (p : Position) (m : Move) (x : Man) (k : ℕ) (i : IsS
   size_few : length few ≡ 64
   size_few = search (rules, i.well_formed.size)
 
-  -- who stood before reaches no more
+  -- a man that was there before reaches no more
   no_more : (c : Colour) (e s : ℕ) (z : Man) → is_reached few e c ≡ false → s < 64 → man_on few s ≡ Some z → same_colour z.colour c ≡ true
       → reaches_as now z.colour z.kind s e ≡ false
   unfolding is_reached reaches
@@ -169,11 +170,12 @@ module _ (rule : RuleSet) (p : Position) (m : Move) (x : Man) (k : ℕ) (i : IsS
       let once = fewer_but few now z.colour z.kind s e k size_few king.small plain (λ q _. stays q) (λ some _. nobody_left some) strikes in
       false≢true (sym before ∙ some_square_true (λ q. is_of_colour (man_on few q) c && reaches few q e) s lt (rw at (and_from _ _ mine once))))
 
-  -- nobody who stood before reaches the square
+  -- no man that was there before reaches the square
   abbrev NoneReaches : Colour → ℕ → Type 0
   NoneReaches c e = (s : ℕ) (z : Man) → s < 64 → man_on few s ≡ Some z → same_colour z.colour c ≡ true → reaches_as now z.colour z.kind s e ≡ false
 
-  -- whom neither he nor the king reaches now, nor who stood before, nobody reaches
+  -- a square is reached by no man, if neither the man that came, nor the king, nor a man that was there
+  -- before reaches it
   reached : (c : Colour) (e : ℕ) → NoneReaches c e → (same_colour y.colour c ≡ true → reaches now f e ≡ false)
       → (same_colour x.colour c ≡ true → reaches_as now x.colour x.kind m.to e ≡ false) → is_reached now e c ≡ false
   unfolding is_reached reaches
@@ -183,7 +185,8 @@ module _ (rule : RuleSet) (p : Position) (m : Move) (x : Man) (k : ℕ) (i : IsS
   stands_after q z h off =
       stays_there p x m q simply.captures (λ e. grind (arith, lifted_here p.men m.from k q, eq-eqb)) off ∙ lifted_stood p.men m.from k q z h
 
-  -- where men don't stand still no check is uncovered by who doesn't reach the square that the king leaves
+  -- elsewhere than in Madrasi no check is uncovered by a man that doesn't reach the square that the king
+  -- leaves
   none_uncovers : faced_men_stand_still rule ≡ false → is_legal rule p m ≡ true → king_after p x m ≡ Some m.to
       → is_reached few k (other p.turn) ≡ false → NoneReaches (other p.turn) m.to
   unfolding is_reached reaches is_legal in_check
@@ -213,7 +216,7 @@ module _ (rule : RuleSet) (p : Position) (m : Move) (x : Man) (k : ℕ) (i : IsS
       let safe_now = reached p.turn f (λ q z. no_more p.turn f q z safe) (λ own. absurd (false≢true (sym step.king ∙ own))) (λ own. apart_x) in
       step_legal_is rule p m x k i small y f there king (open_then before) ∙ ap not (not_attacked rule now p.turn f safe_now)
 
-  -- not each reply mates then where nobody of his side reaches the mover's king
+  -- not every reply mates where no man of its side reaches the mover's king
   stepped_quietly : (s : ℕ) → king_after p x m ≡ Some s → is_open rule p.men (other p.turn) k f ≡ true → is_reached few f p.turn ≡ false
       → reaches_as now x.colour x.kind m.to f ≡ false → NoneReaches (other p.turn) s → must_reply_with_mate rule p m ≡ false
   stepped_quietly s at before safe apart_x quiet =
@@ -240,7 +243,7 @@ module _ (rule : RuleSet) (p : Position) (m : Move) (x : Man) (k : ℕ) (i : IsS
             stepped_quietly told.0 at before safe apart_x (λ q z. no_more (other p.turn) told.0 q z (told.2 few seen))
       ]
 
--- who goes simply makes a simple move
+-- a man that goes simply makes a simple move
 simple_then : (rule : RuleSet) (p : Position) (x : Man) (m : Move) → GoesSimply rule p x m → is_simple rule x m (is_some (capture_square p x m)) ≡ true
 simple_then rule p x m simply = grind (arith, simply.castling, simply.mere, cases_Bool (captures_do_more rule))
 

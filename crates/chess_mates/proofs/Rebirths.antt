@@ -64,7 +64,7 @@ absent_lacks : (men : _) (e : Colour) → length men ≡ 64 → is_absent men (r
 absent_lacks men e size absent = λ s. false_from_ne_true _ (λ h.
     search (rules, man_there (man_on men s) e Grasshopper h, false≢true, not-true _ absent, some_square_true, on_board))
 
--- the position after a move, by the man who makes it
+-- the position after a move, by the man that makes it
 pub after_is : (rule : RuleSet) (p : Position) (x : Man) (m : Move) → man_on p.men m.from ≡ Some x
     → (position_after rule p m).men ≡ put_at (moved_men p x m) (reborn_square rule p x m) (man_on_at p.men (capture_square p x m))
 unfolding position_after position_after_by

@@ -27,11 +27,11 @@ denied_on a b i fits small on off = on_both a (bit_not w64 b) i on (bit_denied b
 pub open_arrivals : (d : ℕ) (x : Man) (s w : ℕ) → ((p : Position) (t : ℕ) → t < 64 → may_go p x s t ≡ true → (bit_at w t == 1) ≡ true) → AreArrivals d x s w
 open_arrivals d x s w ways = record { inside = λ t i. ways i.position t i.small i.goes }
 
--- where he doesn't check
+-- a king gives no check off the springboards
 pub king_targets : (x : Man) (g : Field) (checks t : ℕ) → same_kind x.kind King ≡ true → (bit_at g.springboards t == 1) ≡ false → IsNoCheck g checks x t
 king_targets x g checks t king unsprung = search (rules, king_is_no_pawn, no_pawn_arrives)
 
--- a pawn checks as what he is, or as what he becomes
+-- a pawn gives check as a pawn, or as the man to which it promotes
 pub pawn_targets : (x : Man) (g : Field) (checks t : ℕ) → (bit_at (bit_or (bit_or checks g.promotions) g.springboards) t == 1) ≡ false → IsNoCheck g checks x t
 pawn_targets x g checks t off = search (rules, off_left, off_right)
 
@@ -40,26 +40,27 @@ pub piece_targets : (x : Man) (g : Field) (checks t : ℕ) → same_kind x.kind 
     → IsNoCheck g checks x t
 piece_targets x g checks t piece off = search (rules, no_pawn_arrives, off_left, off_right)
 
--- for `risk_of_going`: one attacker goes, and a square next to the king or his own isn't guarded
+-- for `risk_of_going`: one attacker goes, and a square next to the king or the king's own isn't guarded
 pub unguarded_at : (v : Siege) (g : Field) (s o : ℕ) (gs : Guards) (a : ℕ) → AreGuardsWithout v s (bit_or (bit_or g.near g.captures) o) gs
     → ((bit_at v.hurdles a == 1) ≡ true → (bit_at gs.ridden a == 1) ≡ false) → (f : ℕ)
     → (bit_at (bit_or (bit_or g.near g.captures) o) f == 1) ≡ true → (bit_at gs.guarded f == 1) ≡ false → IsUnguarded v s a f
 unguarded_at v g s o gs a are shut f near unseen = record { region = _; near = near; guards = gs; are = are; shut = shut; off = unseen }
 
--- who never checks and uncovers nothing
+-- a man that never gives check and opens nothing
 idly : (v : Siege) (g : Field) (checks : ℕ) (r : Risk) (x : Man) (s : ℕ) → ((t : ℕ) → IsArrival v.hurdles x s t → IsNoCheck g checks x t)
     → (bit_at g.lines s == 1) ≡ false → IsHarmless v g checks r x s
 idly v g checks r x s calm hidden =
     record { mild = λ a b low inside off. record { each = λ t i there. inl (record { check = calm t i; covered = inl hidden }) } }
 
--- for `risk_from`: for a man who goes to no target and uncovers nothing
+-- for `risk_from`: a man that goes to no target and opens nothing
 pub harmless_quietly : (v : Siege) (g : Field) (checks : ℕ) (x : Man) (s reached targets : ℕ) → AreArrivals v.hurdles x s reached
     → ((t : ℕ) → t < 64 → (bit_at reached t == 1) ≡ true → (bit_at targets t == 1) ≡ false → IsNoCheck g checks x t)
     → targets ≡ 0 → (bit_at g.lines s == 1) ≡ false → IsHarmless v g checks (record { critical = 0; lines = 0 }) x s
 harmless_quietly v g checks x s reached targets are quiet none =
     idly v g checks _ x s (λ t i. quiet t i.small (are.inside t i) (false_by _ (none_at targets t none)))
 
--- for `suspect_squares`: who uncovers nothing, and a pawn who comes to no target, by the squares from which he might
+-- for `suspect_squares`: a man that opens nothing, and a pawn that comes to no target, by the squares from
+-- which it might
 pub pawn_idly : (v : Siege) (g : Field) (checks : ℕ) (x : Man) (s w : ℕ) → same_kind x.kind Pawn ≡ true
     → AreApproaches (record { colour = x.colour; kind = Pawn }) (bit_or checks g.promotions) w → s < 64 → (bit_at (bit_or g.lines w) s == 1) ≡ false
     → g.springboards ≡ 0 → IsHarmless v g checks (record { critical = 0; lines = 0 }) x s
@@ -74,12 +75,12 @@ pawn_idly v g checks x s w pawn before small off none =
 abbrev Both : Risk → Risk → Risk
 Both q r = record { critical = bit_or q.critical r.critical; lines = bit_or q.lines r.lines }
 
--- a man who doesn't reach the region on the empty board
+-- a man that doesn't reach the region on the empty board
 pub not_near : (x : Man) (s o region : ℕ) → AreReached x s o → bit_and o region ≡ 0 → IsNear x s region → ⊥
 not_near x s o region reached none near =
     none_at (bit_and o region) near.square none (on_both o region near.square (reached.inside near.men near.square near.small near.reaches) near.on)
 
--- for men who are harmless and don't check now
+-- for men that are harmless and give no check now
 pub weak_is : (v : Siege) (g : Field) (r : Risk) (x : Man) (checks s : ℕ) → IsCheckWord v.hurdles g.king x checks
     → (is_hopper (gait_of x.kind) ≡ false → (bit_at checks s == 1) ≡ false) → IsHarmless v g checks r x s → IsWeak v g r x s
 weak_is v g r x checks s word off harmless = grind (arith, word, off, harmless)

@@ -152,13 +152,13 @@ pub hurdles_are : (own enemies k o w : ℕ) → o ≡ word (λ t. is_square (Som
     → AreHurdles own enemies k (bit_and (bit_and (bit_or own enemies) (bit_not w64 o)) (bit_not w64 w))
 hurdles_are own enemies k o w only fits = search (rules, off_denied, on_first, on_one, word_has)
 
--- all of them but who is lifted
+-- all men around the king but a lifted one
 pub hurdles_whole : (own enemies k o w : ℕ) (lifted : Option ℕ) → o ≡ word (λ t. is_square (Some k) t) → o < 2 ^ 64 → w ≡ word (λ t. is_square lifted t)
     → w < 2 ^ 64 → (e : ℕ) → e < 64 → lifted ≢ Some e → IsHurdle own enemies k (bit_and (bit_and (bit_or own enemies) (bit_not w64 o)) (bit_not w64 w)) e
 hurdles_whole own enemies k o w lifted only fits at low e small off there ne =
     grind (arith, denied_on, false_by, ne_eqb, on_left, on_right, square_is, word_has)
 
--- for a man who is lifted: his square isn't a hurdle
+-- for a man that is lifted: its square isn't a hurdle
 pub lifted_off : (a w s : ℕ) (o : Option ℕ) → w ≡ word (λ t. is_square o t) → w < 2 ^ 64 → s < 64 → o ≡ Some s
     → (bit_at (bit_and a (bit_not w64 w)) s == 1) ≡ false
 lifted_off a w s o only fits small e = search (rules, false_by, off_denied, word_has)
@@ -193,12 +193,12 @@ king_castles : (p : Position) (c : Colour) (w k : ℕ) → IsWellFormed p → ki
     → (has_unmoved p.unmoved k ≡ false) ⊎ (IsShut p c w (k + 3) (k + 1) × IsShut p c w (k - 4) (k - 1)) → AreCastlingSquares p c w
 king_castles p c w k well king sides = record { sides = λ s small is. rw (well.kings.same c s k is (king_there p.men c k king).1) sides }
 
--- with one who has moved
+-- any word has the castling squares of a king that has moved
 pub moved_king_castles : (p : Position) (c : Colour) (w k : ℕ) → king_square p.men c ≡ Some k → has_unmoved p.unmoved k ≡ false → IsWellFormed p
     → AreCastlingSquares p c w
 moved_king_castles p c w k king moved well = king_castles p c w k well king (inl moved)
 
--- with one whose squares aside aren't on the board
+-- the word of all squares has the castling squares of any king
 pub king_castles_anywhere : (p : Position) (c : Colour) (k : ℕ) → king_square p.men c ≡ Some k → IsWellFormed p → AreCastlingSquares p c (bit_not w64 0)
 king_castles_anywhere p c k king well =
     king_castles p c (bit_not w64 0) k well king (inr (inr (inr (λ low. every_square_on (k + 1) low)), inr (inr (λ low. every_square_on (k - 1) low))))

@@ -30,7 +30,7 @@ pub record IsSpared (rule : RuleSet) (p : Position) (m : Move) (x : Man) (v : Si
   pub off_king : (e : ℕ) → e < 64 → (bit_at v.hurdles e == 1) ≡ true → e ≢ k
   pub whole : (e : ℕ) → e < 64 → e ≢ m.from → IsHurdle v.own v.enemies k v.hurdles e
 
--- where at most who stood there stands
+-- an arrival stays free where no man comes
 free_kept : (c : Colour) (o u : Option Man) → ((z : Man) → o ≡ Some z → u ≡ Some z) → is_of_colour u c ≡ false → is_man u (other c) King ≡ false
     → is_arrival_free c o ≡ true
 free_kept c o u kept side king = grind (arith, free_man c u side king)
@@ -42,7 +42,7 @@ vacant_kept o u kept none = grind arith
 one_side : (z : Man) (c : Colour) → z.colour ≡ other c → z.colour ≡ c → ⊥
 one_side z c enemy mine = false≢true (sym (not_mine z c enemy) ∙ rw mine (same_colour-refl c))
 
--- who stands somewhere is of one of them
+-- a man on a square is one of the two sides'
 of_either : (o : Option Man) (c : Colour) → is_some o ≡ (is_of_colour o c || is_of_colour o (other c))
 of_either o c = grind arith
 
@@ -110,7 +110,7 @@ module _ (rule : RuleSet) (p : Position) (m : Move) (x : Man) (v : Siege) (k : �
   weak_at : (s : ℕ) (z : Man) → IsAttacker v.men z s → IsWeakAt v g z s m.from m.to
   weak_at s z a = (i.at.weak s z a).weak m.from m.to from small i.off
 
-  -- who reaches the square that the defender leaves, along a line from the king
+  -- a man that reaches the square that the defender leaves, along a line from the king
   lined : (c : Colour) (j : Kind) (t : ℕ) → t < 64 → MayRide v j → reaches_as (men_on v.hurdles) c j k t ≡ true → (bit_at g.lines t == 1) ≡ true
   unfolding reached_over
   lined c j t inside may h = (rw i.at.king at (i.at.is.lines c j may)).inside t inside h
@@ -122,7 +122,8 @@ module _ (rule : RuleSet) (p : Position) (m : Move) (x : Man) (v : Siege) (k : �
   shut_off : (c : Colour) (j : Kind) → MayRide v j → (bit_at v.hurdles m.from == 1) ≡ true → reaches_as (men_on v.hurdles) c j k m.from ≡ true → ⊥
   shut_off c j may on reach = false≢true (sym (i.at.lines m.from m.to small i.off.critical (i.off.lines on)) ∙ lined c j m.from from may reach)
 
-  -- from off his check squares no attacker but a hopper reaches the king, where all hurdles stand but m.from and o, on none of his lines
+  -- from off its check squares no attacker but a hopper reaches the king, where all hurdles stand but
+  -- m.from and o, on none of its lines
   off_word : (men : List (Option Man)) (o s t : ℕ) (z : Man) (a : IsAttacker v.men z s) → t < 64 → is_hopper (gait_of z.kind) ≡ false
       → (bit_at (weak_at s z a).checks t == 1) ≡ false
       → ((e : ℕ) → e < 64 → (bit_at v.hurdles e == 1) ≡ true → e ≢ m.from → e ≢ o → is_some (man_on men e) ≡ true)
@@ -230,7 +231,7 @@ module _ (rule : RuleSet) (p : Position) (m : Move) (x : Man) (v : Siege) (k : �
     goes_y : may_go q y n.from n.to ≡ true
     goes_y = may_go_aimed rule q y n here_y (arrival_needed rule q n to can)
 
-    -- what he becomes
+    -- the man that it becomes
     becomes_y : MayBecome v.men.fairy_promotions y n.to (arriving_man y n.promo)
     becomes_y = becomes v.men.fairy_promotions q y n n.promo is_n.promotion (λ j h. i.fits.promotions j (promotes_still rule p m x here j h))
 
@@ -253,7 +254,7 @@ module _ (rule : RuleSet) (p : Position) (m : Move) (x : Man) (v : Siege) (k : �
       abbrev landed : List (Option Man)
       landed = arrived q y n
 
-      -- who is reborn: one of the defender's men, on a closed square where nobody stood
+      -- the man that is reborn: one of the defender's, on a closed square that was empty
       module _ (s : ℕ) (at : reborn_square rule q y n ≡ Some s) where
         b : IsReborn (captures_are_reborn rule) (moved_men q y n) (captured_man q y n) (capture_square q y n) s
         b = reborn_is rule q y n s at
@@ -294,7 +295,7 @@ module _ (rule : RuleSet) (p : Position) (m : Move) (x : Man) (v : Siege) (k : �
       abbrev IsNew : ℕ → Type 0
       IsNew s = ((bit_at v.closed s == 1) ≡ true) × (captures_do_more rule ≡ true)
 
-      -- on a square stands who stood there, or who is reborn there
+      -- a man on a square was there before, or is reborn there
       same_or_new : (s : ℕ) → (man_on r.men s ≡ man_on landed s)
           ⊎ ((man_on landed s ≡ None) × ((z : Man) × ((man_on r.men s ≡ Some z) × ((z.colour ≡ p.turn) × IsNew s))))
       same_or_new s =
@@ -318,7 +319,7 @@ module _ (rule : RuleSet) (p : Position) (m : Move) (x : Man) (v : Siege) (k : �
       enemy_r : (s : ℕ) (z : Man) → man_on r.men s ≡ Some z → z.colour ≡ other p.turn → Stood s z
       enemy_r s z there enemy = search (rules, stood_r s z there, one_side z p.turn enemy)
 
-      -- he comes over the hurdles, to another attacker's square only if that one has been captured
+      -- the man comes over the hurdles, and to another attacker's square only if that one has been captured
       arrival : IsArrival v.hurdles y n.from n.to
       unfolding reached_over
       arrival = record {
@@ -341,7 +342,7 @@ module _ (rule : RuleSet) (p : Position) (m : Move) (x : Man) (v : Siege) (k : �
             absurd (unfree (other p.turn) (man_on q.men n.to) (rw turn_q at is_n.arrival) (rw (← kept, ← men_q) at enemy))
       ]
 
-      -- hurdles stay, or the man who captures stands there
+      -- hurdles stay, or the man that captures one takes its place
       stays_r : (e : ℕ) → e < 64 → (bit_at v.hurdles e == 1) ≡ true → e ≢ m.from → e ≢ n.from → is_some (man_on r.men e) ≡ true
       stays_r e inside on left off =
           search (rules, same_or_new e, some_stays q y n e captures_q (omega (arith, to, well_q.size)) off (stays_q e inside on left))
@@ -372,7 +373,8 @@ module _ (rule : RuleSet) (p : Position) (m : Move) (x : Man) (v : Siege) (k : �
                     (λ rider on reach. false≢true (sym (w.off plain) ∙ word.inside plain n.from from_small reach))
               ]
 
-      -- on a free square of springboards nobody stands but the man who came last or the one before, and the king on his own
+      -- a free springboard has no man but the one that came last, the one before, or the king on its own
+      -- square
       stands_r : (boards h : ℕ) (z : Man) → AreFree v k boards → (bit_at boards h == 1) ≡ true → h < 64 → h ≢ k → h ≢ m.to → h ≢ n.to
           → man_on r.men h ≡ Some z → ⊥
       stands_r boards h z free on low apart before last there = elim (stood_r h z there) [
@@ -389,7 +391,8 @@ module _ (rule : RuleSet) (p : Position) (m : Move) (x : Man) (v : Siege) (k : �
         | inl old ↦ search (rules, or_cases, old, off, stood_q h z, somebody h low, i.whole h low, are.hurdles h low)
       ]
 
-      -- no hopper reaches t, over whose springboards the attacker hasn't come, on a board whose men but the one on t stand in r
+      -- no hopper reaches t over springboards to which no attacker has come, on a board with no men but
+      -- the men of r and the one on t
       unhopped : (t w : ℕ) → IsUnsprung v k t w → ((h : ℕ) → (bit_at w h == 1) ≡ true → (bit_at g.hops h == 1) ≡ true)
           → (bit_at w n.to == 1) ≡ false → (men : List (Option Man))
           → ((h : ℕ) (y : Man) → h ≢ t → man_on men h ≡ Some y → (h ≢ k) × (man_on r.men h ≡ Some y))
@@ -411,7 +414,7 @@ module _ (rule : RuleSet) (p : Position) (m : Move) (x : Man) (v : Siege) (k : �
           let apart = rw (turn_q, other_twice p.turn, king_q) at (kings_apart rule q y n well_q here_y to lawful king) in
           king_reaches r.men q.men y.colour y.kind n.to k (same_kind-true y.kind King king) ∙ (or_parts (is_absent q.men y) _ apart).1
 
-      -- where he gives no check
+      -- where the man gives no check
       module _ (quiet : IsQuiet v g w.checks y n.from m.from n.to) (lawful : is_legal rule q n ≡ true) where
         unseen : (s : ℕ) (z : Man) → s < 64 → man_on r.men s ≡ Some z → z.colour ≡ other p.turn → reaches_as r.men z.colour z.kind s k ≡ false
         unseen s z inside there enemy = elim (enemy_r s z there enemy) [
@@ -450,7 +453,7 @@ module _ (rule : RuleSet) (p : Position) (m : Move) (x : Man) (v : Siege) (k : �
           → (s : ℕ) (z : Man) → IsAttacker v.men z s → n.from ≢ s → is_hopper (gait_of z.kind) ≡ true → reaches_as men z.colour z.kind s f ≡ false)
           (comes_off : f ≢ n.to → (men : List (Option Man)) → ((h : ℕ) (y : Man) → h ≢ f → man_on men h ≡ Some y → (h ≢ k) × (man_on r.men h ≡ Some y))
           → reaches_as men (arriving_man y n.promo).colour (arriving_man y n.promo).kind n.to f ≡ false) where
-        -- nobody attacks the king who has gone there
+        -- no enemy attacks the king that has gone there
         module _ (z : Man) (stands : IsKingOn r.men p.turn k z) where
           abbrev fled : List (Option Man)
           fled = arrived r z (step_to k f)
@@ -490,7 +493,7 @@ module _ (rule : RuleSet) (p : Position) (m : Move) (x : Man) (v : Siege) (k : �
         open_f : (bit_at v.closed f == 1) ≡ false
         open_f = i.at.is.springs.near.free f flight.left.small flight.left.on
 
-        -- who stands there stood there before
+        -- a man there was there before
         stood_f : (z : Man) → man_on r.men f ≡ Some z → man_on p.men f ≡ Some z
         stood_f z e = search (rules, stood_r f z e, stood_q f z, open_f, flight.left.off, flight.left.elsewhere, false≢true)
 
@@ -512,7 +515,7 @@ module _ (rule : RuleSet) (p : Position) (m : Move) (x : Man) (v : Siege) (k : �
                   (λ e. at.0 (e ∙ i.at.king), standing flight.hurdles h y.0 are low at.0 off at.1);
             }))
 
-      -- he captures who has come
+      -- the man captures the one that has come
       module _ (captured : IsCaptured v g n.from m.from n.to) where
         near : list_any (leaps k n.to) queen_steps ≡ true
         near = rw i.at.king at (i.at.is.captures.next n.to to captured.on)

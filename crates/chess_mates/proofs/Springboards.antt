@@ -26,7 +26,8 @@ some_direction p (x ∷ xs) h = elim (or_cases (p (step_of x)) _ h) [
   | inr r ↦ let w = some_direction p xs r in (w.0, (w.1.0, λ f e. or_right _ _ (w.1.1 f e)))
 ]
 
--- where a hop from q to t along one of these steps has its man: a rider reaches him from q, t empty or not, and t from him
+-- where a hop from q to t along one of these steps has its hurdle: a rider reaches it from q, t empty or
+-- not, and t from it
 record IsBoard (men : List (Option Man)) (q t o : ℕ) (ds : List Step) : Type 0 where
   square : ℕ
   small : square < 64
@@ -136,7 +137,7 @@ unsprung_left v k t a b h = record { springboards = h.springboards; are = h.are;
 pub unsprung_right : (v : Siege) (k t a b : ℕ) → IsUnsprung v k t b → IsUnsprung v k t (bit_or a b)
 unsprung_right v k t a b h = record { springboards = h.springboards; are = h.are; free = h.free; within = λ s on. on_right a b s (h.within s on) }
 
--- for a square whose springboards are free
+-- for a square that has free springboards
 pub landing_is : (v : Siege) (k t w o f : ℕ) → o ≡ word (λ s. is_square (Some t) s) → AreSpringboards v.men t w → AreFree v k w → f < 64
     → (bit_at o f == 1) ≡ true → IsUnsprung v k f w
 landing_is v k t w o f only are free small on = search (rules, eqb-true, word_has)

@@ -17,7 +17,7 @@ stood p x m t z size there = elim (cases_eq t m.to) [
 pub not_mine : (x : Man) (c : Colour) → x.colour ≡ other c → same_colour x.colour c ≡ false
 not_mine x c e = grind arith
 
--- a man may arrive where neither his side nor a king stands
+-- a man may arrive on a square without a man of its side and without a king
 pub free_man : (c : Colour) (o : Option Man) → is_of_colour o c ≡ false → is_man o (other c) King ≡ false → is_arrival_free c o ≡ true
 free_man c o side king = grind (arith, false≢true)
 
@@ -39,12 +39,12 @@ pub captured_there : (p : Position) (x : Man) (m : Move) (s : ℕ) → is_square
 unfolding capture_square
 captured_there p x m s off h = grind (arith, and_right, cond-false, cond-true)
 
--- who stands elsewhere than where the man leaves and arrives stays
+-- a man on another square than origin and arrival stays
 pub stays_there : (p : Position) (x : Man) (m : Move) (b : ℕ) → ((s : ℕ) → capture_square p x m ≡ Some s → s ≡ m.to) → b ≢ m.from → b ≢ m.to
     → man_on (arrived p x m) b ≡ man_on p.men b
 stays_there p x m b here from to = arrived_other p x m b from (λ s cap e. to (e ∙ here s cap)) to
 
--- who stands elsewhere than where the man leaves stays or is captured by him
+-- a man on another square than the origin stays or is captured
 pub some_stays : (p : Position) (x : Man) (m : Move) (b : ℕ) → ((s : ℕ) → capture_square p x m ≡ Some s → s ≡ m.to) → m.to < length p.men → b ≢ m.from
     → is_some (man_on p.men b) ≡ true → is_some (man_on (arrived p x m) b) ≡ true
 some_stays p x m b here size from some = search (rules, cases_eq, there_now, stays_there)
@@ -55,7 +55,7 @@ pub no_rebirth : (rule : RuleSet) (p : Position) (x : Man) (m : Move) → (captu
 unfolding reborn_square
 no_rebirth rule p x m nobody = grind (arith, cases_Bool (captures_do_more rule))
 
--- who has moved stays so
+-- a man that has moved stays moved
 pub moved_stays : (rule : RuleSet) (p : Position) (x : Man) (m : Move) (s : ℕ) → (captures_do_more rule ≡ true → capture_square p x m ≡ None)
     → is_castling x m ≡ false → man_on p.men m.from ≡ Some x → has_unmoved p.unmoved s ≡ false → has_unmoved (position_after rule p m).unmoved s ≡ false
 unfolding position_after position_after_by unmoved_after
@@ -70,11 +70,11 @@ stood_reborn men o w s = grind (arith, man_on-with_cases)
 pub same_man : (a b : Man) → Some a ≡ Some b → a ≡ b
 same_man a b h = cc
 
--- who is no man of one side is one of the other's
+-- a man that isn't one side's is the other's
 pub mine_again : (a c : Colour) → same_colour a (other c) ≡ false → a ≡ c
 mine_again a c h = grind arith
 
--- who is no grasshopper is no hopper
+-- a man that is no grasshopper is no hopper
 pub no_hopper : (k : Kind) → same_kind k Grasshopper ≡ false → is_hopper (gait_of k) ≡ false
 no_hopper k other = grind (arith, false≢true)
 
@@ -86,7 +86,7 @@ not_mine_enemy x c e = grind (arith, other_differs)
 pub and_left_king : (z : Man) → same_kind z.kind King ≡ true → same_kind z.kind Pawn ≡ false
 and_left_king z king = king_is_no_pawn z.kind king
 
--- a king castles from a square where he is unmoved, and the rook too
+-- a king castles only if king and rook are unmoved
 pub castle_unmoved : (rule : RuleSet) (p : Position) (x : Man) (m : Move) → IsWellFormed p → IsMade rule p x m → is_castling x m ≡ true
     → (has_unmoved p.unmoved m.from ≡ true) × (has_unmoved p.unmoved (corner m) ≡ true)
 unfolding can_castle may_castle
@@ -117,7 +117,7 @@ pub nobody_strikes : (rule : RuleSet) (men : List (Option Man)) (t : ℕ) (c : C
 unfolding is_attacked is_attacker
 nobody_strikes rule men t c none = grind (arith, reach_none men t c none, some_square_false)
 
--- the king flees to a free square next to him that no enemy reaches once he stands there
+-- the king flees to a free square next to it that no enemy reaches once it is there
 module _ (rule : RuleSet) (p : Position) (c : Colour) (k f : ℕ) (well : IsWellFormed p) (turn : p.turn ≡ c)
     (king : king_square p.men c ≡ Some k) (small : f < 64) (near : list_any (leaps k f) queen_steps ≡ true)
     (free : is_arrival_free c (man_on p.men f) ≡ true) (vacant : captures_do_more rule ≡ true → man_on p.men f ≡ None)

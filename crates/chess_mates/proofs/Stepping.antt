@@ -20,7 +20,7 @@ taken_nowhere : (u : Option ℕ) (t q : ℕ) → ((s : ℕ) → is_square u s �
 taken_nowhere u t q h ne = false_from_ne_true _ (λ y. ne (h q y))
 
 module _ (men : List (Option Man)) (a : ℕ) (o : Option ℕ) (b : ℕ) (z : Man) (k : ℕ) where
-  -- the king lifted, nobody on the flight yet but who stood there
+  -- with the king lifted, no other man is on the flight than before
   lifted_one : (q : ℕ) → b < length men
       → (is_occupied_after men a o b q && not (k == q)) ≡ is_some (man_on (without_man (gone_to men a o b z) k) q)
   lifted_one q arrival = grind (arith, and_right, cases_eq, differs, eq-eqb, man_on-without_other, man_on-without_same, occupied_now)
@@ -38,7 +38,7 @@ module _ (men : List (Option Man)) (a : ℕ) (o : Option ℕ) (b : ℕ) (z : Man
     pub on_left : (q : ℕ) → q ≢ t → (k == q) ≡ true → man_on (stepped men a o b z k u t x) q ≡ None
     on_left q ne y = search (rules, left_now, or_left)
 
-    -- elsewhere who stood there before the king stepped
+    -- elsewhere the men are those from before the king's step
     pub on_others : (q : ℕ) → ((s : ℕ) → is_square u s ≡ true → s ≡ t) → q ≢ t → (k == q) ≡ false
         → man_on (stepped men a o b z k u t x) q ≡ man_on (gone_to men a o b z) q
     on_others q h ne off = search (rules, kept_now, or_from, taken_nowhere)

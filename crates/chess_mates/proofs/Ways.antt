@@ -32,7 +32,7 @@ module _ (rule : RuleSet) (p : Position) (x : Man) (v : ToldThreats) (well : IsW
           king = λ f low on. search (rules, false_by, next.kings f low on, fits.kings f low);
         }) v.siege.men fits.men fits.colour fits.promotions kept
 
-    -- beside him, whoever comes elsewhere
+    -- beside the king, wherever the man comes
     man_keeps : same_kind x.kind King ≡ false → captures_do_more rule ≡ false → KeepsFlightBeside v.siege m.to
         → mates_behind rule (position_after rule p m) 0 ≡ []
     man_keeps mortal captures kept =
@@ -41,7 +41,7 @@ module _ (rule : RuleSet) (p : Position) (x : Man) (v : ToldThreats) (well : IsW
         (cond-false (same_kind x.kind King) _ _ mortal ∙ sym threats.fits.king) kept.adjacent
         (λ f low on same. false≢true (sym kept.off ∙ (rw same at on))) kept.keeps
 
-    -- the king's own step begins on his square
+    -- the king's own step begins on its square
     at_king : m.from < 64 → same_kind x.kind King ≡ true → v.siege.king ≡ m.from
     at_king from king =
         let is : is_man (man_on p.men m.from) p.turn King ≡ true = rw (here, (made rule p m x may here).mine) (and_from _ _ (same_colour-refl p.turn) king) in
@@ -65,7 +65,7 @@ module _ (rule : RuleSet) (p : Position) (x : Man) (v : ToldThreats) (well : IsW
           whole = λ e inside left there apart. threats.whole.hurdles e inside there (λ at. left (sym at ∙ same));
         })
 
-    -- after his step
+    -- after the king's step
     king_keeps : same_kind x.kind King ≡ true → KeepsFlight rule v.siege m.to → mates_behind rule (position_after rule p m) 0 ≡ []
     king_keeps king kept =
         keeps m may here small m.to kept.near kept.captures plain.castling (cond-true (same_kind x.kind King) _ _ king) kept.adjacent
@@ -159,13 +159,13 @@ needed_are_risky rule v s w n low fits circe needed apart p well threats = recor
       (needed.keeps m.to small (off_second w n m.to off on));
 }
 
--- for `keep_flights`: he comes to none of them
+-- for `keep_flights`: no square to which the man comes is needed
 pub kept_are_risky : (rule : RuleSet) (v : ToldThreats) (s w n : ℕ) → s < 64 → w < 2 ^ 64 → captures_do_more rule ≡ false → AreNeeded v.siege n
     → (bit_and w n == 0) ≡ true → s ≢ v.siege.king → (p : Position) → IsWellFormed p → AreThreatsOf rule p v → AreRisky rule p s w 0
 kept_are_risky rule v s w n low fits circe needed none apart p well threats =
     rw (eqb-true (bit_and w n) 0 none) at (needed_are_risky rule v s w n low fits circe needed apart p well threats)
 
--- for the king's steps, where captures do no more: off the risky ones he keeps a flight, and castling is one of these
+-- for the king's steps, where captures do no more: off the risky squares a flight stays, castlings included
 pub flightless_are_risky : (rule : RuleSet) (p : Position) (v : ToldThreats) (s w n u r : ℕ) → IsWellFormed p → AreThreatsOf rule p v → s ≡ v.siege.king
     → s < 64 → w < 2 ^ 64 → n < 2 ^ 64 → captures_do_more rule ≡ false → n ≡ word (λ t. list_any (leaps s t) queen_steps) → u ≡ bit_not w64 n
     → ((t : ℕ) → t < 64 → (bit_at (bit_and w (bit_not w64 u)) t == 1) ≡ true → (bit_at r t == 1) ≡ false → KeepsFlight rule v.siege t)

@@ -75,12 +75,12 @@ pub no_other_man_meets_it_there : is_evasion rook_check.men White a1 a8 b1 ≡ f
 unfolding reaches_as rides is_clear along
 no_other_man_meets_it_there = refl
 
--- a man who arrives on a4 shuts the file: a rook on a8 reached a1 before
+-- a man that arrives on a4 blocks the file: before, a rook on a8 reached a1
 pub arriving_man_shuts : (reaches (set_up (on Black Rook a8 ∷ [])) a8 a1 ≡ true) × (reaches (set_up (on Black Rook a8 ∷ on White Pawn a4 ∷ [])) a8 a1 ≡ false)
 unfolding reaches reaches_as rides is_clear along
 arriving_man_shuts = (refl, refl)
 
--- no pawn becomes a grasshopper where the diagram has none, though he may become a queen
+-- no pawn promotes to a grasshopper where the diagram has none, though it may promote to a queen
 pub promotion_needs_its_man : (may_promote (position [] White) Grasshopper ≡ false) × (may_promote (position [] White) Queen ≡ true)
 promotion_needs_its_man = (refl, refl)
 
@@ -121,7 +121,7 @@ crossing_a_line =
           (with_unmoved none_unmoved e1) h1;
     }
 
--- he doesn't castle, and would without that rook
+-- the king may not castle, and might without that rook
 pub no_castling_through_an_attack : (may_go crossing_a_line (man White King) e1 g1 ≡ true)
     × (can_castle orthodox crossing_a_line (man White King) (go e1 g1) ≡ false) × (can_go orthodox crossing_a_line (man White King) (go e1 g1) ≡ false)
     × (can_castle orthodox (record crossing_a_line { men = without_man crossing_a_line.men f8 }) (man White King) (go e1 g1) ≡ true)
@@ -151,7 +151,7 @@ pub grasshopper_stands_behind_its_hurdle : (hopped_from (set_up (on Black Pawn a
 unfolding hopped_from rides_on along
 grasshopper_stands_behind_its_hurdle = (refl, refl)
 
--- Black's grasshopper is a fairy man of his, of White's none; a rook is none
+-- Black's grasshopper is a fairy man of Black's, not of White's; a rook isn't one
 pub grasshopper_is_seen : (has_fairy (set_up (on Black Grasshopper a1 ∷ [])) Black ≡ true)
     × (has_fairy (set_up (on Black Grasshopper a1 ∷ [])) White ≡ false) × (has_fairy (set_up (on Black Rook a1 ∷ [])) Black ≡ false)
 unfolding has_fairy squares some_square
@@ -214,14 +214,16 @@ attacked_square_is_no_flight = (refl, refl)
 abbrev king_and : Colour → Kind → ℕ → List (Option Man)
 king_and c k s = set_up (on White King a1 ∷ on c k s ∷ [])
 
--- a knight on b3 checks him, and so does a nightrider there; on b2 a bishop does, and a rook doesn't; on a8 an enemy rook does, and his own doesn't
+-- the king on a1 is in check by a knight or nightrider on b3, by a bishop on b2 but no rook there, by an
+-- enemy rook on a8 but not by its own
 pub men_check_along_their_lines : (is_checker (king_and Black Knight b3) White b3 ≡ true) × (is_checker (king_and Black Nightrider b3) White b3 ≡ true)
     × (is_checker (king_and Black Bishop b2) White b2 ≡ true) × (is_checker (king_and Black Rook b2) White b2 ≡ false)
     × (is_checker (king_and Black Rook a8) White a8 ≡ true) × (is_checker (king_and White Rook a8) White a8 ≡ false)
 unfolding is_checker check_after_a_move
 men_check_along_their_lines = (refl, refl, refl, refl, refl, refl)
 
--- while the rook gives check, a move may expose him even from h2, on none of his lines; a bishop on a8 gives none
+-- while the rook gives check, a move may leave the king exposed even from h2, which is on none of its
+-- lines; a bishop on a8 gives no check
 pub any_move_may_leave_a_check : (may_expose (king_and Black Rook a8) White h2 ≡ true) × (may_expose (king_and Black Bishop a8) White h2 ≡ false)
 unfolding may_expose is_reached is_on_fairy_line is_ahead is_on_some is_shut is_behind check_after_a_move
 any_move_may_leave_a_check = (refl, refl)
@@ -251,7 +253,7 @@ pub arriving_man_paralyses : (in_check madrasi rook_faces_rook.men White ≡ tru
 unfolding check_after_a_move
 arriving_man_paralyses = (refl, refl, refl, refl)
 
--- a Black man who gives check, and of whose kind White has none: there is none
+-- a Black man that gives check, of a kind of which White has none: no square has one
 abbrev moving_checker : ℕ → Bool
 moving_checker s = (is_of_colour (man_on rook_faces_rook.men s) Black && reaches rook_faces_rook.men s h1)
     && not (may_be_paralysed madrasi rook_faces_rook.men White (man_on rook_faces_rook.men s))

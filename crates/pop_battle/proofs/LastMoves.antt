@@ -6,7 +6,7 @@ use Rattle.pop_battle.proofs.Tests.{any-start, fewest-start, first, rest-start, 
 use Rattle.pop_battle.proofs.Values.{value-forced, value-open, value-stuck}
 use Rattle.pop_battle.specs.ties.Calls.{Finds}
 
--- Black needn't mate where some move of his doesn't
+-- Black needn't mate where some move doesn't mate
 pub one_quiet : (rule : RuleSet) (q : Position) → list_all (is_mating rule q) (moves rule q) ≡ false → value Selfmate (chess Mate rule) 1 q ≡ false
 one_quiet rule q quiet = grind (arith, value-forced)
 

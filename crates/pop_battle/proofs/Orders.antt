@@ -10,7 +10,7 @@ module _ {M : Type 0} (a b c : M → Bool) where
   parted ms = filter a ms ++ (filter (λ m. not (a m) && b m) ms ++ (filter (λ m. not (a m) && (not (b m) && c m)) ms
       ++ filter (λ m. not (a m) && (not (b m) && not (c m))) ms))
 
--- a fold whose steps may change places says the same of a list and of its parts
+-- a fold with steps that may change places is equal over a list and over its parts
 module _ {M C : Type 0} (step : M → C → C) (g : List M → C) (cons : (x : M) (xs : List M) → g (x ∷ xs) ≡ step x (g xs))
     (swap : (x y : M) (c : C) → step x (step y c) ≡ step y (step x c)) where
   -- an element may come first

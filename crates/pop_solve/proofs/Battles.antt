@@ -28,7 +28,7 @@ module _ {P M : Type 0} (game : Game P M) where
       let two : 2 * suc k ≡ suc (suc (2 * k)) = omega arith in
       rw two (search (rules, black))
 
-  -- with an odd number: after a move of White to this position he still wins
+  -- with an odd number: White, having moved to this position, still wins
   pub value-is_self_lost : (k : ℕ) (q : P) → value Selfmate game (suc (2 * k)) q ≡ is_self_lost game (suc k) q
   unfolding is_self_lost value
   value-is_self_lost k q = search (rules, value-self_wins)

@@ -12,13 +12,13 @@ module _ {X : Type 0} (f g : X → Bool) (weaker : (x : X) → f x ≡ true → 
   all_weaker (x ∷ xs) h = search (rules, all_weaker xs, weaker)
 
 module _ {P M : Type 0} (game : Game P M) where
-  -- who is lost within some moves is lost within more
+  -- a side that loses within some moves loses within more
   pub is_lost-more : (j : ℕ) (q : P) → is_lost game j q ≡ true → is_lost game (suc j) q ≡ true
   unfolding is_lost
   is_lost-more zero q h = search rules
   is_lost-more (suc j) q h = search (rules, all_weaker, any_weaker, is_lost-more j)
 
-  -- who wins within some moves wins within more
+  -- a side that wins within some moves wins within more
   pub wins-more : (k : ℕ) (p : P) → wins game k p ≡ true → wins game (suc k) p ≡ true
   unfolding wins
   wins-more k p h = search (rules, any_weaker, is_lost-more)

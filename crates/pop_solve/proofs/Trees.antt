@@ -71,7 +71,7 @@ module _ {P M : Type 0} (game : Game P M) where
   least_moves-halves battle n t q s some most open_yet v =
       grind (arith, seeks-halves battle t s some, length-more, least_moves-selfmate game q open_yet (n - 1), least_moves-direct game q (n - 1))
 
-  -- the value of Black's position holds after each of his moves
+  -- the value of Black's position holds after each Black move
   value-black : (battle : Battle) (t : ℕ) (q : P) → game.goal q ≡ false → seeks battle (suc t) ≡ false → value battle game (suc t) q ≡ true
       → every_move game (value battle game t) q ≡ true
   unfolding value
@@ -103,7 +103,7 @@ module _ {P M : Type 0} (game : Game P M) where
     unfolding shown_paths
     as_nodes root k t p ms = search (rules, flat-same, given-battle)
 
-    -- the moves of White in his least length, over anything
+    -- the moves of White in its least length, over anything
     white : (n k t : ℕ) (q : P) (G : M → List (List M)) → seeks battle t ≡ true → 0 < t → t ≤ 2 * n → t ≤ suc k → game.goal q ≡ false
         → value battle game t q ≡ true → ((l : ℕ) (m : M) → seeks battle (l + 1) ≡ true → l + 1 ≤ t
         → value battle game l (game.after q m) ≡ true → node m (beneath k l (game.after q m)) ≡ G m)

@@ -1,7 +1,7 @@
 -- What is kept beside the men on the squares, so that they needn't be looked for (own).
 use Rattle.std.specs.Prelude.{◌≡◌, ℕ, List, [], ◌∷◌, Option, map}
 use Rattle.chess_core.specs.Diagrams.{is_kind}
-use Rattle.chess_core.specs.Position.{is_of_colour, kinds}
+use Rattle.chess_core.specs.Position.{is_of_colour, king_square, kinds}
 use Rattle.chess_core.specs.ties.Words.{word_of}
 use Rattle.chess_core.specs.declared.man.Man.{Man}
 use Rattle.chess_core.specs.declared.man.Colour.{Colour}
@@ -23,6 +23,10 @@ kind_words men = map (λ k. word_of (λ x. is_kind x k) men) kinds
 -- for each colour the squares of its men
 unfoldable pub side_words : List (Option Man) → List ℕ
 side_words men = map (λ c. word_of (λ x. is_of_colour x c) men) colours
+
+-- for each colour the square of its king, if it has one
+unfoldable pub king_squares : List (Option Man) → List (Option ℕ)
+king_squares men = map (king_square men) colours
 
 -- the words say what the men on the squares say
 pub record IsInStep (men : List (Option Man)) (by_kind by_side : List ℕ) : Type 0 where

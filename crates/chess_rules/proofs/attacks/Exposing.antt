@@ -54,7 +54,7 @@ pub none_paralysed : (rule : RuleSet) (men : List (Option Man)) (s : ℕ) → fa
 unfolding is_paralysed
 none_paralysed rule men s off = sym (and_left (faced_men_stand_still rule) _ off)
 
--- who goes and who is captured
+-- the man that goes and the man that is captured
 pub captures_arrival : (p : Position) (x : Man) (m : Move) → is_some (man_on p.men m.to) ≡ true → is_square (capture_square p x m) m.to ≡ true
 unfolding capture_square
 captures_arrival p x m h = search (rules, cond-true, eq-eqb)

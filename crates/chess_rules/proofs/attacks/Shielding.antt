@@ -51,7 +51,7 @@ pub record IsCovered (men : List (Option Man)) (c : Colour) (a k : ℕ) : Type 0
   pub diagonal : is_shut men (other c) Bishop diagonal_steps k a ≡ false
   pub unlined : is_on_fairy_line men (other c) k a ≡ false
 
--- a king is covered so, if a move from a can't expose him
+-- no move from a can expose the king
 pub covered_parts : (men : List (Option Man)) (c : Colour) (a k : ℕ) → may_expose_at men (Some k) c a ≡ false → IsCovered men c a k
 covered_parts men c a k h = search (rules, or_parts)
 
@@ -257,7 +257,7 @@ king_came : (p : Position) (x : Man) (m : Move) (c : Colour) → IsWellFormed p 
     → is_man (Some (arriving_man x m.promo)) c King ≡ true → king_square p.men c ≡ Some m.from
 king_came p x m c well here right h = grind (arith, and_parts, arriving_king, king_is p.men c m.from, on_board p.men m.from x well.size here)
 
--- a plain move that uncovers no king, and whose man doesn't reach him, gives no check
+-- a plain move that exposes no king gives no check, if its man doesn't reach the king
 pub plain_safe : (rule : RuleSet) (p : Position) (x : Man) (m : Move) (c : Colour) → IsWellFormed p → IsMade rule p x m → m.to < 64 → IsPlain rule p x m
     → may_expose p.men c m.from ≡ false → may_stand_between p.men c m.to ≡ false
     → ((k : ℕ) → king_square p.men c ≡ Some k → IsQuiet p.men c m.from m.to k (arriving_man x m.promo)) → in_check rule (position_after rule p m).men c ≡ false
@@ -325,7 +325,7 @@ checkers_none men c h = word_empty (is_checker men c) (λ s b. ap (λ (o : Optio
 abbrev reaching : List (Option Man) → Colour → ℕ → ℕ → Bool
 reaching men e k s = is_of_colour (man_on men s) e && reaches men s k
 
--- if they are enemies, they are those that reach him
+-- if they are enemies, they are those that reach the king
 pub checkers_are : (men : List (Option Man)) (c e : Colour) (k w : ℕ) → e ≡ other c → king_square men c ≡ Some k → w ≡ word (reaching men e k)
     → w ≡ word (is_checker men c)
 unfolding is_checker

@@ -37,7 +37,7 @@ module _ (men after : List (Option Man)) (a b : ℕ) (z : Man) (c : Colour) (k s
 pub side_there : (o : Option Man) (c : Colour) → is_of_colour o c ≡ true → (y : Man) × ((o ≡ Some y) × (same_colour y.colour c ≡ true))
 side_there o c h = grind arith
 
--- on the square of a king, which is on the board, he stands
+-- the king's square is on the board and has the king
 pub king_there : (men : List (Option Man)) (c : Colour) (k : ℕ) → king_square men c ≡ Some k → (k < 64) × (is_man (man_on men k) c King ≡ true)
 unfolding king_square squares
 king_there men c k h = let f = find_first (λ s. is_man (man_on men s) c King) 0 64 k h in (omega (arith, f.high), f.here)

@@ -4,7 +4,7 @@ use Rattle.chess_rules.proofs.attacks.Attacking.{goes_on}
 use Rattle.chess_rules.proofs.listing_moves.Arrivals.{no_steps}
 use Rattle.chess_rules.proofs.rays.OnSquares.{hops_openly, occupied_on, rides_openly}
 
--- who rides to a square is on a line with it
+-- a square to which a man rides is on a line with the man's
 pub rides_on : (men : List (Option Man)) (s t : ℕ) (ds : List _) → list_any (rides men s t) ds ≡ true → is_on_some ds s t ≡ true
 unfolding is_on_some
 rides_on men s t ds h = goes_on men s t ds h
@@ -13,7 +13,7 @@ rides_on men s t ds h = goes_on men s t ds h
 pub advances : (v one two rank free : Bool) → (v && (one || (rank && two && free))) ≡ true → (one || two) ≡ true
 advances v one two rank free h = grind (arith, and_parts, false≢true)
 
--- what a man reaches, he would reach on an empty board: for `open_reach`, kind by kind
+-- what a man reaches, it would reach on an empty board: for `open_reach`, kind by kind
 module _ (x : Man) (s : ℕ) where
   -- a rook's lines and a bishop's
   pub ride_reach : (k : Kind) (l : ℕ) → x.kind ≡ k → gait_of k ≡ Rider → l ≡ word (is_on_some (kind_steps x.colour k) s) → AreReached x s l
@@ -47,19 +47,19 @@ pub grasshopper_reach : (x : Man) (s l d : ℕ) → x.kind ≡ Grasshopper → l
 grasshopper_reach x s l d kind lines slants =
     search (rules, (queen_reach (record { colour = x.colour; kind = Queen }) s l d refl lines slants).inside (men_on 0), hops_openly)
 
--- for `open_targets`: where a man might go whom the word shows what he reaches
+-- for `open_targets`: where a man might go, if the word shows what it reaches
 module _ (p : Position) (x : Man) (s t w : ℕ) (small : t < 64) (h : may_go p x s t ≡ true) (are : AreReached x s w) where
   -- a piece
   pub piece_targets : same_kind x.kind Pawn ≡ false → same_kind x.kind King ≡ false → (bit_at w t == 1) ≡ true
   unfolding may_go
   piece_targets none piece = search (rules, cond-false, no_steps, are.inside p.men t small)
 
-  -- a pawn, who steps too
+  -- a pawn, which also advances
   pub pawn_targets : (a : ℕ) → x.kind ≡ Pawn → a ≡ word (is_advance x.colour s) → (bit_at (bit_or w a) t == 1) ≡ true
   unfolding may_go reaches_as
   pawn_targets a kind steps = search (rules, advances, and_parts, cond-true, on_left, on_right, or_cases, word_has, are.inside p.men t small)
 
-  -- a king, who castles too
+  -- a king, which also castles
   pub king_targets : (a : ℕ) → x.kind ≡ King → a ≡ word (steps_to x s) → (bit_at (bit_or w a) t == 1) ≡ true
   unfolding may_go reaches_as
   king_targets a kind steps = search (rules, and_parts, cond-false, on_left, on_right, or_cases, word_has, are.inside p.men t small)

@@ -6,7 +6,7 @@ use Rattle.chess_rules.proofs.listing_moves.Places.{moves_behind-end, moves_behi
 use Rattle.chess_rules.proofs.listing_moves.Targeting.{false_by}
 use Rattle.chess_rules.proofs.listing_moves.Walks.{off_second, on_first}
 
--- for callers whose cursor has moved on, or is at the end
+-- for callers with a cursor that has moved on, or is at the end
 pub moved_on : (rule : RuleSet) (p : Position) (a b : ℕ) → (b < all_triples → a ≤ b) → moves_behind rule p a ≡ moves_between rule p a b ++ moves_behind rule p b
 moved_on rule p a b on = grind (arith, cases_lt, behind_cut, between-past, moves_behind-end)
 
@@ -16,7 +16,7 @@ module _ (rule : RuleSet) (p : Position) (test : Move → Bool) where
       → AreCandidates rule p (is_wanted rule p test) s (bit_and w v)
   wanted_candidates s w v are sifted = search (rules, and_left, cases_Bool, off_second, on_first, second_fails)
 
-  -- who has no legal move has none that is wanted
+  -- a side without legal moves has none that passes the filter
   pub wanted_origins : (o : ℕ) → AreOrigins (is_legal rule p) o → AreOrigins (is_wanted rule p test) o
   wanted_origins o own = record { elsewhere = λ m from to off. and_left _ (test m) (own.elsewhere m from to off) }
 

@@ -35,7 +35,8 @@ surely_legal rule p x s w v u well here small are piece shields unshielding unsu
 reborn_word : (b : Bool) (test : ℕ → Bool) → (if b then word test else 0) ≡ word (λ t. b && test t)
 reborn_word b test = search (rules, word_empty)
 
--- the word of the squares that aren't sure: those on the lines of fairy men, the crossed one, those with men who may be reborn, and of a pawn's last rank
+-- the word of the squares that aren't sure: those on the lines of fairy men, the en passant square, those
+-- with men that may be reborn, and a pawn's last rank
 pub unsure_word : (rule : RuleSet) (p : Position) (x : Man) (f c r l : ℕ) → f ≡ word (may_stand_between p.men p.turn) → c ≡ word (λ t. is_square p.crossed t)
     → r ≡ (if captures_do_more rule then word (λ t. is_some (man_on p.men t)) else 0) → l ≡ word (is_promoting x)
     → bit_or (bit_or (bit_or f c) r) l ≡ word (is_unsure rule p x)

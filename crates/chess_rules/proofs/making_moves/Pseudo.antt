@@ -84,7 +84,7 @@ pub record IsCastle (p : Position) (m : Move) : Type 0 where
   pub rook : (z : Man) → man_on p.men (corner m) ≡ Some z → same_kind z.kind Rook ≡ true
   pub stands : man_on p.men (corner m) ≡ None → ⊥
 
--- where a king castles, he and the rook stand and go so
+-- where a king castles, king and rook are on their squares and go to theirs
 pub king_castles : (rule : RuleSet) (p : Position) (x : Man) (m : Move) → IsWellFormed p → man_on p.men m.from ≡ Some x → can_castle rule p x m ≡ true
     → IsCastle p m
 unfolding can_castle may_castle

@@ -30,7 +30,7 @@ IsSound-with men s y sound inside king = search (rules, man_on-with_cases)
 other_inside : (y : Man) (s : ℕ) → same_kind y.kind Pawn ≡ false → is_pawn_inside (Some y) s ≡ true
 other_inside y s h = cond-false (same_kind y.kind Pawn) _ _ h
 
--- the man that arrives stands where he may
+-- the man that arrives is on a square where it may be
 arriving_inside : (rule : RuleSet) (p : Position) (x : Man) (m : Move) (r : Option Kind) → IsWellFormed p → IsMade rule p x m
     → is_promotion_right p x m r ≡ true → is_pawn_inside (Some (arriving_man x r)) m.to ≡ true
 arriving_inside rule p x m r well made right =
@@ -58,7 +58,7 @@ moved_sound rule p x m well made = elim (cases_Bool (is_castling x m)) [
   | inr e ↦ rw e (arrived_sound rule p x m well made)
 ]
 
--- where and who is reborn
+-- the man that is reborn, and where
 pub record IsReborn (circe : Bool) (men : List (Option Man)) (o : Option Man) (c : Option ℕ) (r : ℕ) : Type 0 where
   pub man : Man
   pub square : ℕ

@@ -36,12 +36,12 @@ module _ (men : List (Option Man)) where
   ride_openly : (s t : ℕ) (st : Step) → rides men s t st ≡ true → rides (men_on 0) s t st ≡ true
   ride_openly s t st h = search (rules, ride-found, on_line, or_left, ride-made)
 
-  -- a nightrider reaches there what he does on some board
+  -- a nightrider reaches on the empty board what it reaches on some board
   pub rides_openly : (c : Colour) (s t : ℕ) → reaches_as men c Nightrider s t ≡ true → reaches_as (men_on 0) c Nightrider s t ≡ true
   unfolding reaches_as
   rides_openly c s t h = any_kept (rides men s t) (rides (men_on 0) s t) knight_steps (ride_openly s t) h
 
-  -- where one hops on some board, he could ride
+  -- where a hop is possible on some board, a ride is possible on the empty one
   pub hop_openly : (s t : ℕ) (st : Step) → hops men s t st ≡ true → rides (men_on 0) s t st ≡ true
   hop_openly s t st h = search (rules, cases_lt, hop-found, on_line, or_left, or_right, ride-made)
 

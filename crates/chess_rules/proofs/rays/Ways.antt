@@ -13,7 +13,7 @@ pub record Ride (f : ℕ) (men : List (Option Man)) (s t : ℕ) (d : Step) (k : 
   pub at : along s d k ≡ Some t
   pub free : (j : ℕ) → f ≤ j → j < k → is_vacant_at men (along s d j) ≡ true
 
--- who rides takes some number of steps
+-- a ride takes some number of steps
 pub ride_on-found : (f : ℕ) (men : List (Option Man)) (s t : ℕ) (d : Step) → rides_on f men s t d ≡ true → (k : ℕ) × Ride f men s t d k
 unfolding rides_on
 ride_on-found f men s t d h =
@@ -45,7 +45,7 @@ pub record Hop (men : List (Option Man)) (s t : ℕ) (d : Step) (k : ℕ) : Type
   pub hurdle : is_occupied men (along s d (k - 1)) ≡ true
   pub free : (j : ℕ) → 1 ≤ j → j < k - 1 → is_vacant_at men (along s d j) ≡ true
 
--- who hops takes some number of steps
+-- a hop takes some number of steps
 pub hop-found : (men : List (Option Man)) (s t : ℕ) (d : Step) → hops men s t d ≡ true → (k : ℕ) × Hop men s t d k
 unfolding hops is_clear
 hop-found men s t d h =

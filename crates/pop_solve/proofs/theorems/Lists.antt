@@ -30,7 +30,7 @@ module _ {M : Type 0} (before : M → M → Type 0) where
   beginning_first [] y ys = tt
   beginning_first (x ∷ xs) y ys = inr (refl, beginning_first xs y ys)
 
--- The first of two different lists is the one whose move at the first difference comes first.
+-- The first of two different lists has the earlier move where they first differ.
   pub difference_decides : (front : List M) (m n : M) (xs ys : List M) → before m n → StandsBefore (front ++ m ∷ xs) (front ++ n ∷ ys)
   difference_decides [] m n xs ys less = inl less
   difference_decides (x ∷ front) m n xs ys less = inr (refl, difference_decides front m n xs ys less)
