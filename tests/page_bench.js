@@ -103,7 +103,7 @@ globalThis.report = text => {
 
 for (const [name, text] of Object.entries(given.parts)) made(name).own = text;
 made('tail').append(new Thing('span'));
-require('vm').runInThisContext(`const EXPLANATIONS = ${readFileSync('companions/pops_explain/explanations.json', 'utf8')};`);
+require('vm').runInThisContext(`const EXPLANATIONS = ${readFileSync('companions/pops_companions/explain/explanations.json', 'utf8')};`);
 require('vm').runInThisContext(given.modules.map(name => readFileSync(`web/${name}.js`, 'utf8')).join('\n'));
 require('vm').runInThisContext('begin()');
 

@@ -1,5 +1,5 @@
 // @ts-check
-// The sentences of explanations: companions/pops_explain/explanations.json, which pops-explain reads too.
+// The sentences of explanations: companions/pops_companions/explain/explanations.json, which pops-explain reads too.
 'use strict';
 /** @typedef {{ from: number, to: number }} Span */
 /** @typedef {{ text: string, marks: Span[] }} Explanation what is wrong and what to do, with the places to look at */
