@@ -62,7 +62,7 @@ fn defences(rt: HostRuntime) {
         );
         assert!(rt;
             reported >= *least,
-            "{name}: threats rule out a mate after {told} moves"
+            "{name}: threats rule out a mate after {reported} moves"
         );
     }
 }
