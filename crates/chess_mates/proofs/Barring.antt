@@ -122,10 +122,10 @@ pub barred_is_illegal : (rule : RuleSet) (p : Position) (m : Move) (x : Man) (v 
     → man_on p.men m.from ≡ Some x → m.to < 64 → IsPlainMove p x m → (captures_do_more rule ≡ true → IsMereMove p x m) → same_kind x.kind King ≡ true
     → v.king ≡ m.from → IsKingAttack v → IsWhole v → IsKingAttackOf rule p v → IsBarred rule v m.to → is_legal rule p m ≡ true → ⊥
 unfolding is_legal in_check
-barred_is_illegal rule p m x v well may here small plain mere king at_king king_attack whole fits castling_forbidden legal =
+barred_is_illegal rule p m x v well may here small plain mere king at_king king_attack whole fits barred legal =
     let is = made rule p m x may here in
     let men : (position_after rule p m).men ≡ arrived p x m = simple_after rule p x m here plain.castling (λ c. (mere c).captures) in
     let to : king_square (arrived p x m) p.turn ≡ Some m.to =
     king_is_after rule p x m well is small plain.castling ∙ cond-true (same_kind x.kind King) _ _ king in
-    let attacked = attacked_there rule p m x v well may here small plain.captures at_king king_attack whole fits castling_forbidden.able castling_forbidden.attacked in
+    let attacked = attacked_there rule p m x v well may here small plain.captures at_king king_attack whole fits barred.able barred.attacked in
     grind (arith, men, to, attacked, legal)

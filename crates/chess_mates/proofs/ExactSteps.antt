@@ -36,7 +36,7 @@ unreached_are rule v squares n r able unhopping fits_n fits_r plain none all alo
   safe = λ t small on s x a. false_by _ (λ h.
       let near : IsNear x s squares = record { square = t; small = small; on = on_first squares _ t on; men = men_on v.hurdles; reaches = h } in
       false≢true (sym (off_denied squares r t fits_r small on) ∙ (all.reach s x a (ap not (unhopping.plain s x a)) near).inside t small h));
-  castling_forbidden = λ t small on off. alone t small (true_from_ne_false _ (λ away. false≢true (sym off ∙ denied_on squares r t fits_r small on away)));
+  barred = λ t small on off. alone t small (true_from_ne_false _ (λ away. false≢true (sym off ∙ denied_on squares r t fits_r small on away)));
 }
 
 module _ (rule : RuleSet) (p : Position) (v : KingAttack) (squares w : ℕ) (well : IsWellFormed p) (king_attack : IsKingAttack v) (whole : IsWhole v) (fits : IsKingAttackOf rule p v)
@@ -93,7 +93,7 @@ module _ (rule : RuleSet) (p : Position) (v : KingAttack) (squares w : ℕ) (wel
             let promo : n.promo ≡ None = unnamed p x n n.promo (no_pawn_arrives x n.to (and_left_king x king.king)) is.promotion in
             let same : step_to v.king n.to ≡ n = rw (from, promo) refl in
             let attacked = attacked_there rule p (step_to v.king n.to) x v well (may_step rule p x v.king n.to (step n.to small on)) king.here small
-            (captures n.to small on) refl king_attack whole fits i.able (i.castling_forbidden n.to small on off) in
+            (captures n.to small on) refl king_attack whole fits i.able (i.barred n.to small on off) in
             false≢true (sym (ap not attacked) ∙ sym (legal_is n.to small on) ∙ ap (is_legal rule p) same ∙ legal))
       ];
     };
@@ -108,7 +108,8 @@ module _ (rule : RuleSet) (p : Position) (v : KingAttack) (squares w : ℕ) (wel
   }
 
 -- for `legal_squares` of filters
-pub known_exactly : (rule : RuleSet) (p : Position) (v : KingAttack) (s squares : ℕ) (o : Option ℕ) → IsWellFormed p → IsKingAttackOf rule p v → IsKingAttack v → IsWhole v
+pub known_exactly : (rule : RuleSet) (p : Position) (v : KingAttack) (s squares : ℕ) (o : Option ℕ) → IsWellFormed p → IsKingAttackOf rule p v → IsKingAttack v
+    → IsWhole v
     → v.king ≡ s → AreCandidates rule p (is_legal rule p) s squares → IfSome o (λ w. AreExactSteps rule v squares w) → IfSome o (λ w. AreExact rule p s w)
 known_exactly rule p v s squares None well of king_attack whole at are steps = steps
 known_exactly rule p v s squares (Some w) well of king_attack whole at are steps = rw (← at) (are_exact rule p v squares w well king_attack whole of (rw at are) steps)

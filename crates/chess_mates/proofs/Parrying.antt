@@ -435,7 +435,8 @@ module _ (rule : RuleSet) (p : Position) (m : Move) (x : Man) (k : ℕ) (well : 
   -- for `parries_after`: nobody can
   pub parriless : (v : Occupancy) → v ≡ sight_after p.men m.from (capture_square p x m) m.to → (t : ℕ) → IsUntaken v.occupied t x m.to k
       → ((men : List (Option Man)) → DescribesMen p.men men (other p.turn) v → t ≡ word (λ s. is_of_colour (man_on men s) (other p.turn) && reaches men s m.to))
-      → (r : Parries) → r ≡ Impossible → ((men : List (Option Man)) → DescribesMen p.men men (other p.turn) v → IsKnownBetween men p x m k r) → IsParriless rule q
+      → (r : Parries) → r ≡ Impossible → ((men : List (Option Man)) → DescribesMen p.men men (other p.turn) v → IsKnownBetween men p x m k r)
+      → IsParriless rule q
   parriless v sees t i takers r is reported =
       let seen = seen_q v sees in
       is_parriless v.occupied t i seen.occupied (takers q.men seen) (subst (IsKnownBetween q.men p x m k) is (reported q.men seen))

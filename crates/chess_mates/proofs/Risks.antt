@@ -32,7 +32,8 @@ pub king_targets : (x : Man) (g : KingZone) (checks t : ℕ) → same_kind x.kin
 king_targets x g checks t king unsprung = search (rules, king_is_no_pawn, no_pawn_arrives)
 
 -- a pawn gives check as a pawn, or as the man to which it promotes
-pub pawn_targets : (x : Man) (g : KingZone) (checks t : ℕ) → (bit_at (bit_or (bit_or checks g.promotions) g.springboards) t == 1) ≡ false → IsNoCheck g checks x t
+pub pawn_targets : (x : Man) (g : KingZone) (checks t : ℕ) → (bit_at (bit_or (bit_or checks g.promotions) g.springboards) t == 1) ≡ false
+    → IsNoCheck g checks x t
 pawn_targets x g checks t off = search (rules, off_left, off_right)
 
 -- a piece checks from the check squares

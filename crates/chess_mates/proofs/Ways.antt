@@ -134,8 +134,8 @@ module _ (rule : RuleSet) (p : Position) (x : Man) (v : ThreatsSeen) (well : IsW
           let there = ap (man_on p.men) origin ∙ here in
           elim (safe m.to small (denied_on w u m.to fits_u small on off) none) [
             | inl calm ↦ king_spared m may there small (rw origin from) plain mere king calm
-            | inr castling_forbidden ↦ absurd (barred_is_illegal rule p m x v.king_attack well may there small plain mere king
-                (at_king m may there small (rw origin from) king) threats.king_attack threats.whole threats.fits castling_forbidden legal)
+            | inr barred ↦ absurd (barred_is_illegal rule p m x v.king_attack well may there small plain mere king
+                (at_king m may there small (rw origin from) king) threats.king_attack threats.whole threats.fits barred legal)
           ])
 
       -- for another man's moves

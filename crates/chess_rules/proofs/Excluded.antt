@@ -89,7 +89,8 @@ no_castling_through_an_attack = (refl, refl, refl, refl)
 
 -- a pawn goes two squares from its second rank alone, and to no square that is taken, nor over one
 pub pawn_steps_over_empty_squares : (pawn_steps_to (position [] White) (man White Pawn) a2 a4 ≡ true)
-    × (pawn_steps_to (position [] White) (man White Pawn) a3 a5 ≡ false) × (pawn_steps_to (position (on Black Rook a3 ∷ []) White) (man White Pawn) a2 a3 ≡ false)
+    × (pawn_steps_to (position [] White) (man White Pawn) a3 a5 ≡ false)
+    × (pawn_steps_to (position (on Black Rook a3 ∷ []) White) (man White Pawn) a2 a3 ≡ false)
     × (pawn_steps_to (position (on Black Rook a3 ∷ []) White) (man White Pawn) a2 a4 ≡ false)
 unfolding along
 pawn_steps_over_empty_squares = (refl, refl, refl, refl)

@@ -16,7 +16,8 @@ module _ (rule : RuleSet) (p : Position) where
   after_back m sound lawful = search (rules, numbered, place_of_triple, moves_after-here)
 
   -- a filter takes what it passes over
-  pub filtered : (test : Move → Bool) (place next n before after : ℕ) (o : Option Move) → IsWellFormed p → next ≡ place_of o → IfSome o (λ m. is_legal rule p m ≡ true)
+  pub filtered : (test : Move → Bool) (place next n before after : ℕ) (o : Option Move) → IsWellFormed p → next ≡ place_of o
+      → IfSome o (λ m. is_legal rule p m ≡ true)
       → MatchOption o ((filter test (moves_after rule p place) ≡ []) × (n ≡ length (moves_after rule p place)))
       (λ m. IsFiltered rule p test place next n m)
       → IfSome o (λ m. place < next) → after ≡ min (before + n) (2 ^ 64 - 1) → IsNextLeft rule p test place next before after o

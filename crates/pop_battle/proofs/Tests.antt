@@ -59,7 +59,8 @@ module _ (rule : RuleSet) (aim : Aim) where
   unfolding smallest_below
   fewest-start t q o = search (rules, trees-start, sum-start, least-start)
 
-  try-undecided : (p : Position) (f : Frame) (below : List Frame) (answer : Option Bool) → (answer ≡ None) ⊎ (answer ≡ Some (not (attacker_to_move aim.battle f.left)))
+  try-undecided : (p : Position) (f : Frame) (below : List Frame) (answer : Option Bool)
+      → (answer ≡ None) ⊎ (answer ≡ Some (not (attacker_to_move aim.battle f.left)))
       → to_try rule aim p (f ∷ below) answer ≡ fewest f.left (position rule p (f ∷ below)) (untried_moves rule (position rule p (f ∷ below)) f)
       + to_try_with rule aim p below (rest f.left (position rule p (f ∷ below)) (untried_moves rule (position rule p (f ∷ below)) f))
   unfolding to_try to_try_with
@@ -246,7 +247,8 @@ module _ (rule : RuleSet) (aim : Aim) (floor : ℕ) (top : Frame) (old new : Lis
 
   -- where no move is left untried and none decided, all moves did together
   pub exhausted : (p board : Position) (was : Option Bool) → IsTesting rule p (tests floor old) board
-      → (was ≡ None) ⊎ (was ≡ Some (not (attacker_to_move aim.battle top.left))) → untried_moves rule board top ≡ [] → HandsDown p was (not (attacker_to_move aim.battle top.left))
+      → (was ≡ None) ⊎ (was ≡ Some (not (attacker_to_move aim.battle top.left))) → untried_moves rule board top ≡ []
+      → HandsDown p was (not (attacker_to_move aim.battle top.left))
   unfolding joined_value
   exhausted p board was r u e = search (rules, testing_top p board r, top_some p board r, pending_value-undecided, try-undecided, trees-end)
 

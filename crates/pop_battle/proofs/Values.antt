@@ -16,7 +16,8 @@ module _ {P M : Type 0} (battle : Battle) (game : Game P M) where
   value-forced p is = rw is refl
 
   -- White with a half-move that nothing ends before
-  pub free_moves : (t : ℕ) (p : P) → 0 < t → (t % 2 == 1 && attacker_to_move battle t) ≡ true → value battle game t p ≡ joined_value battle game t p (game.moves p)
+  pub free_moves : (t : ℕ) (p : P) → 0 < t → (t % 2 == 1 && attacker_to_move battle t) ≡ true
+      → value battle game t p ≡ joined_value battle game t p (game.moves p)
   unfolding value joined_value
   free_moves t p some e = grind (arith, and_parts)
 

@@ -78,7 +78,8 @@ module _ (first : Bool) (old new : ReaderState) (had left : Option (List ℕ)) (
 
     -- the input is cut off in a block with a fault
     fault_then_cut : (fault : Fault) (tail : Tail) → block.fault ≡ Some fault → Takes (among mid) (among new.at) met left [] → IsOver new.at tail
-        → entries_after_fault tail new.at.line ≡ entries_of false (no_words tail new.at.line) → new.next ≡ Later → NextItem old new had left (FaultyItem fault No)
+        → entries_after_fault tail new.at.line ≡ entries_of false (no_words tail new.at.line) → new.next ≡ Later
+        → NextItem old new had left (FaultyItem fault No)
     fault_then_cut fault tail is t over more later = grind (arith, reads_by, all_taken, ended_entries)
 
     cut_with_fault : (fault : Fault) (cut : ReadFault) → block.fault ≡ Some fault → CutsOff mid new.at met left cut → new.next ≡ Later

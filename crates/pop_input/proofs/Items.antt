@@ -23,7 +23,8 @@ pub record BlockSoFar (first : Bool) (old new : Reading) (had left : Option (Lis
   pub further : block.fault ≡ None ⊎ (old.used < new.used)
 
 -- when a block begins, no token of it is read
-pub block_starts : (first : Bool) (context : Reading) (had : Option (List ℕ)) (block : Block) → IsNew first block → BlockSoFar first context context had had block
+pub block_starts : (first : Bool) (context : Reading) (had : Option (List ℕ)) (block : Block) → IsNew first block
+    → BlockSoFar first context context had had block
 block_starts first context had block n = grind (arith, takes_none)
 
 -- if neither of two values is there, the first isn't

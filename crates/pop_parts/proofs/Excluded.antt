@@ -17,7 +17,8 @@ text_refused request failed (Some (Faulty fault)) refused = refl
 text_refused request failed (Some (Sound posed)) refused = grind (arith, refused)
 
 -- where the parts asked for are refused nothing is written
-pub refused_writes_nothing : (request : PartRequest) (input : Input) (before now : Option (List ℕ)) (answer : Outcome) → Shows request input before now false answer
+pub refused_writes_nothing : (request : PartRequest) (input : Input) (before now : Option (List ℕ)) (answer : Outcome)
+    → Shows request input before now false answer
     → answer ≢ Shown → Appends before now []
 refused_writes_nothing request input before now answer (written, reported) refused =
     let items = entries_in input in
@@ -27,7 +28,8 @@ not_cut : (request : PartRequest) (failed : Bool) (entry : Option Entry) → Out
 not_cut request failed entry reported = grind (arith, reported)
 
 -- where the sink failed the answer says so, and only there
-pub failed_sink_is_reported : (request : PartRequest) (input : Input) (before now : Option (List ℕ)) (answer : Outcome) → Shows request input before now true answer
+pub failed_sink_is_reported : (request : PartRequest) (input : Input) (before now : Option (List ℕ)) (answer : Outcome)
+    → Shows request input before now true answer
     → answer ≡ OutputFailed
 failed_sink_is_reported request input before now answer (begun, reported) = reported
 

@@ -12,8 +12,8 @@ pub half-moves-most : (problem : Posed) (phase : Phase) → phase_half_moves pro
 half-moves-most problem phase = grind arith
 
 -- a phase that has parts has half-moves
-pub some-half-moves : (castling_forbidden : Bool) (h : ℕ) → (castling_forbidden || eqb h 0) ≡ false → 1 ≤ h
-some-half-moves castling_forbidden h e = grind arith
+pub some-half-moves : (barred : Bool) (h : ℕ) → (barred || eqb h 0) ≡ false → 1 ≤ h
+some-half-moves barred h e = grind arith
 
 module _ (rule : RuleSet) (problem : Posed) (phase : Phase) (depth : ℕ) where
   abbrev d : ℕ

@@ -120,7 +120,8 @@ module _ (rule : RuleSet) (h d : ℕ) (p : Position) (top : Frame) (old new : Li
         rw (at_top, at_mid, e) (search (rules, walking, idle_top, deep, s.room, found, at, falls, following))
 
     -- the next move leads on to a deeper frame
-    pub attacker_to_move-deeper : (undo : Undo) (after : Position) (last : List Frame) → length mid ≢ d → undo ≡ undo_of rule now m → after ≡ position_after rule now m
+    pub attacker_to_move-deeper : (undo : Undo) (after : Position) (last : List Frame) → length mid ≢ d → undo ≡ undo_of rule now m
+        → after ≡ position_after rule now m
         → last ≡ mid ++ opened_frame m undo 0 ∷ [] → Seeks rule h d p (reverse old) (reverse last) after None
     unfolding are_idle walk_work position beginnings_to_come path
     attacker_to_move-deeper undo after last other u a pushed =

@@ -3,7 +3,7 @@ ghost use Rattle.std.specs.Prelude.{◌≡◌, ◌<◌, ◌≤◌, ◌+◌, ◌+
 ghost use Rattle.pop_text.specs.Bytes.{Writes, count_after, greatest_count};
 ghost use Rattle.pop_input.specs.Blocks.{Sound as SoundEntry};
 ghost use Rattle.pop_input.specs.Posed.{rule_of};
-ghost use Rattle.pop_solve.specs.Events.{is_impossible_phase as castling_forbidden};
+ghost use Rattle.pop_solve.specs.Events.{is_impossible_phase as barred};
 ghost use Rattle.pop_run.specs.Run.{FailsOnce, ReadsUpTo, has_grown, input_met, taken_of};
 ghost use Rattle.pop_parts.specs.Parts.{count_of, count_text, parts_line, set_text, reported_count};
 ghost use Rattle.pop_parts.specs.Runs.{Lists};
@@ -167,7 +167,7 @@ fn count_under<R: Rules>(problem: &Problem, phase: Phase, depth: usize) -> Optio
 // check.
 #[tactic(auto, unfolding(pop_battle::specs::Chess::is_impossible, chess_core::specs::Diagrams::position_of))]
 fn is_impossible_phase<R: Rules>(problem: &Problem, phase: Phase) -> bool
-    ensures { result ≡ castling_forbidden R.rule problem.now phase }
+    ensures { result ≡ barred R.rule problem.now phase }
 {
     match phase {
         Phase::Play => false,

@@ -43,7 +43,8 @@ pub window_ends_no_word : (new : Reading) → new.window ≡ [] → new.end ≡ 
 window_ends_no_word new none unknown over = grind arith
 
 -- two lines before one line end are equal, and nothing follows
-same_line : (line other following : List ℕ) → list_all is_in_line line ≡ true → list_all is_in_line other ≡ true → other ++ 10 ∷ [] ≡ (line ++ 10 ∷ []) ++ following
+same_line : (line other following : List ℕ) → list_all is_in_line line ≡ true → list_all is_in_line other ≡ true
+    → other ++ 10 ∷ [] ≡ (line ++ 10 ∷ []) ++ following
     → following ≡ []
 same_line [] [] following p q e = no_more (10 ∷ []) following e
 same_line [] (b ∷ other) following p q e = grind (arith, all_parts)
@@ -80,6 +81,7 @@ pub end_is_no_failure : {D E : Type 0} (answer : Result ℕ E) (reported : Resul
 end_is_no_failure answer reported end reports failed = grind arith
 
 -- a text that the writer took is taken, however long it is
-pub taken_text_is_reported : {D E : Type 0} (size n : ℕ) (answer : Result ℕ E) (reported : Result ℕ D) → answer ≡ Ok n → 0 < n → PassesOnWrite size answer reported
+pub taken_text_is_reported : {D E : Type 0} (size n : ℕ) (answer : Result ℕ E) (reported : Result ℕ D) → answer ≡ Ok n → 0 < n
+    → PassesOnWrite size answer reported
     → IsErr reported → ⊥
 taken_text_is_reported size n answer reported took some reports failed = grind arith

@@ -128,7 +128,8 @@ module _ {old new : Reading} {had left : Option (List ℕ)} {number : ℕ} (run 
   word_takes false is some over = rw number_is (takes p.uses (grind arith) None None (Word new.line run ∷ []) (over_said false is some over))
 
 -- which word is taken, by the bytes used and the state after them
-pub next_of : (old new : Reading) (had left : Option (List ℕ)) (result : Result (Option Read) ReadFault) → UsesWord old new had left result → HoldsAfterWord new result
+pub next_of : (old new : Reading) (had left : Option (List ℕ)) (result : Result (Option Read) ReadFault) → UsesWord old new had left result
+    → HoldsAfterWord new result
     → NextWord old new had left result
 next_of old new had left (Ok None) p at = (gap_takes p.0 at.2, over new AtEnd (stops_at_end new at), (omega (arith, p.0.uses.used), at.2))
 next_of old new had left (Ok (Some word)) p some = grind (arith, word_takes, length-append)

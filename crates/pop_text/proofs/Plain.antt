@@ -47,7 +47,8 @@ module _ (bytes gap word : List ℕ) (some : 0 < length word) (blank : list_all 
   abbrev piece : List ℕ
   piece = gap ++ word
 
-  ends_by : (cut : Bool) (following : List ℕ) → (bytes ++ piece ≡ []) ⊎ ((c : ℕ) × (more : List ℕ) × (following ≡ c ∷ more) × (is_gap c ≡ true)) → RunEnds cut following
+  ends_by : (cut : Bool) (following : List ℕ) → (bytes ++ piece ≡ []) ⊎ ((c : ℕ) × (more : List ℕ) × (following ≡ c ∷ more) × (is_gap c ≡ true))
+      → RunEnds cut following
   ends_by cut following h = grind (arith, length-append bytes piece, length-append gap word, with_gap)
 
   lines_are : (line : ℕ) → (line + count_by is_line_end bytes) + count_by is_line_end gap ≡ line + count_by is_line_end (bytes ++ piece)
@@ -94,7 +95,8 @@ module _ (view left following : List ℕ) (k g r lines more : ℕ) (at_left : le
   less = omega (arith, short, fits)
 
   -- after plain words, a gap and one more plain word
-  pub step_more : list_all is_gap (take g left) ≡ true → list_all is_in_word (take r following) ≡ true → (r < length following → is_gap (get_or following r 0) ≡ true)
+  pub step_more : list_all is_gap (take g left) ≡ true → list_all is_in_word (take r following) ≡ true → (r < length following
+      → is_gap (get_or following r 0) ≡ true)
       → is_named (take r following) ≡ false → more ≡ count_by is_line_end (take g left) → ArePlain view k lines → ArePlain view (k + (g + r)) (lines + more)
   step_more blank solid over plain are s =
       let size : length (take r following) ≡ r = omega (arith, length-take r following, fits) in record {

@@ -76,7 +76,8 @@ pub calls_none : (end : End) (had : Option (List ℕ)) (n : ℕ) → CallsSource
 calls_none end had n = grind arith
 
 -- the calls of a source in two steps
-pub calls_then : {a b c : End} {had mid left : Option (List ℕ)} {n m k : ℕ} → CallsSource a b had mid n m → CallsSource b c mid left m k → CallsSource a c had left n k
+pub calls_then : {a b c : End} {had mid left : Option (List ℕ)} {n m k : ℕ} → CallsSource a b had mid n m → CallsSource b c mid left m k
+    → CallsSource a c had left n k
 calls_then p q = grind arith
 
 -- Runs.

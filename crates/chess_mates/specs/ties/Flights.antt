@@ -96,7 +96,8 @@ sight_stepped v k t = record {
 -- after the step from k to t no man of the stepping side but the king reaches s, where the mover, of colour
 -- c, has its king
 pub record IsQuietTo (before : List (Option Man)) (c : Colour) (v : Occupancy) (k t s : ℕ) : Type 0 where
-  pub unreached : (men : List (Option Man)) → DescribesMen before men (other c) (sight_stepped v k t)
+  pub unreached : (men : List (Option Man))
+      → DescribesMen before men (other c) (sight_stepped v k t)
       → is_reached men s (other c) ≡ false
 
 -- on each square of w a man of colour c other than the moved one reaches the king there

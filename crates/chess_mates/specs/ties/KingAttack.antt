@@ -395,7 +395,8 @@ pub record IsRiskAt (v : KingAttack) (k : ℕ) (r : Risk) : Type 0 where
   pub king_zone : KingZone
   pub king : king_zone.king ≡ k
   pub is : IsField v king_zone
-  pub castling : (b : ℕ) → b < 64 → (bit_at r.critical b == 1) ≡ false → IsCastlingHarmless v king_zone
+  pub castling : (b : ℕ) → b < 64 → (bit_at r.critical b == 1) ≡ false
+      → IsCastlingHarmless v king_zone
   pub lines : (a b : ℕ) → b < 64 → (bit_at r.critical b == 1) ≡ false
       → (bit_at r.lines a == 1) ≡ false → (bit_at king_zone.lines a == 1) ≡ false
   pub unsprung : (b : ℕ) → b < 64 → (bit_at r.critical b == 1) ≡ false
@@ -513,5 +514,6 @@ pub record AreExactSteps (rule : RuleSet) (v : KingAttack) (squares w : ℕ) : T
   pub inside : (t : ℕ) → t < 64 → (bit_at w t == 1) ≡ true → (bit_at squares t == 1) ≡ true
   pub safe : (t : ℕ) → t < 64 → (bit_at w t == 1) ≡ true → (s : ℕ) (x : Man)
       → IsAttacker v.men x s → reached_over v.hurdles x s t ≡ false
-  pub castling_forbidden : (t : ℕ) → t < 64 → (bit_at squares t == 1) ≡ true → (bit_at w t == 1) ≡ false
+  pub barred : (t : ℕ) → t < 64 → (bit_at squares t == 1) ≡ true
+      → (bit_at w t == 1) ≡ false
       → IsAttackedOver v.hurdles v.men t

@@ -79,7 +79,8 @@ pub record IsLeft (w : ℕ) (x : Man) (t f : ℕ) : Type 0 where
 
 -- wherever x goes from s, and whatever it becomes there, a square of w remains; and x can't castle
 pub record LeavesOne (b : Bool) (w : ℕ) (x : Man) (s : ℕ) : Type 0 where
-  pub left : (p : Position) (z : Man) (t : ℕ) → t < 64 → may_arrive p x s t ≡ true → MayBecome b x t z
+  pub left : (p : Position) (z : Man) (t : ℕ) → t < 64 → may_arrive p x s t ≡ true
+      → MayBecome b x t z
       → (f : ℕ) × IsLeft w z t f
   pub away : same_kind x.kind King ≡ true → (s ≢ e1) × (s ≢ e8)
 

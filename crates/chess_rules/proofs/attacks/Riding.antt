@@ -48,7 +48,8 @@ ridden_from men e j ds k w n h some i = grind arith
 
 -- a square blocks a line to the king exactly if both the king's square and a rider see it
 pub shut_are : (men : List (Option Man)) (e : Colour) (j : Kind) (ds : List Step) (k w n r : ℕ) → w ≡ word (is_line_rider men e j ds k) → (w ≡ 0 → ⊥)
-    → AreRides men e j ds k n → r ≡ word (λ s. some_square (λ q. bit_at w q == 1 && list_any (rides men q s) ds)) → bit_and n r ≡ word (is_blocking men e j ds k)
+    → AreRides men e j ds k n → r ≡ word (λ s. some_square (λ q. bit_at w q == 1 && list_any (rides men q s) ds))
+    → bit_and n r ≡ word (is_blocking men e j ds k)
 unfolding is_blocking is_rider_beyond
 shut_are men e j ds k w n r h some i g =
     (λ y. bit_and (ridden_from men e j ds k w n h some i y) (g y)) ∙ squares_both _ _

@@ -24,14 +24,16 @@ module _ (rule : RuleSet) (p : Position) (test : Move → Bool) where
   taken_off : (w v t : ℕ) → v < 2 ^ 64 → t < 64 → (bit_at (bit_and w (bit_not w64 v)) t == 1) ≡ true → (bit_at v t == 1) ≡ false
   taken_off w v t fits small on = grind (arith, false_by, eqb-true _ _ on, eqb-true, bit_at_not w64 v t fits small, bit_at_and w (bit_not w64 v) t)
 
-  pub taken_candidates : (s w v : ℕ) → AreCandidates rule p (is_legal rule p) s w → AreCandidates rule p (passes_to (bit_and w v) (is_legal rule p)) s (bit_and w v)
+  pub taken_candidates : (s w v : ℕ) → AreCandidates rule p (is_legal rule p) s w
+      → AreCandidates rule p (passes_to (bit_and w v) (is_legal rule p)) s (bit_and w v)
   taken_candidates s w v are = record {
     inside = λ t small on. are.inside t small (on_first w v t on);
     outside = λ m from small off. and_left _ (is_legal rule p m) off;
   }
 
   -- a legal move to one of them fails the test
-  pub taken_fails : (s w v : ℕ) → v < 2 ^ 64 → AreCandidates rule p (is_unfiltered rule p test) s v → (m : Move) → is_legal rule p m ≡ true → m.from ≡ s → m.to < 64
+  pub taken_fails : (s w v : ℕ) → v < 2 ^ 64 → AreCandidates rule p (is_unfiltered rule p test) s v → (m : Move) → is_legal rule p m ≡ true → m.from ≡ s
+      → m.to < 64
       → (bit_at (bit_and w (bit_not w64 v)) m.to == 1) ≡ true → SomeFails rule p test
   taken_fails s w v fits wanted m legal from small on = record {
     move = m;

@@ -70,7 +70,8 @@ abbrev pub passes_to : ℕ → (Move → Bool) → Move → Bool
 passes_to w test m = bit_at w m.to == 1 && test m
 
 -- the kept squares are candidates of the kept origin
-pub record IsTargetCacheOf (rule : RuleSet) (p : Position) (test : Move → Bool) (k : TargetCache) : Type 0 where
+pub record IsTargetCacheOf (rule : RuleSet) (p : Position) (test : Move
+    → Bool) (k : TargetCache) : Type 0 where
   pub are : (s : ℕ) → k.origin ≡ Some s → AreCandidates rule p test s k.squares
 
 -- no move from a square outside w passes the test

@@ -36,7 +36,8 @@ pub record IsClosed (old new : ReaderState) (had left : Option (List ℕ)) : Typ
 
 -- the input ends here, or is cut here
 abbrev pub IsInputOver : Reading → Type 0
-IsInputOver context = ComesNext context (Ok None) ⊎ ((fault : ReadFault) × ComesNext context (Err fault))
+IsInputOver context = ComesNext context (Ok None) ⊎ ((fault : ReadFault)
+    × ComesNext context (Err fault))
 
 -- No word closes the item: all bytes up to the end of the input are used, or up to where it is cut.
 pub record IsUnclosed (old new : ReaderState) (had left : Option (List ℕ)) : Type 0 where

@@ -24,13 +24,13 @@ command = with_rule (with_rule (with_rule (with_rule (with_rule (with_rule
     (new_rule (codes "file"))
 
 -- whether an option is there
-abbrev pub is_emitted : Text → List Row → Bool
-is_emitted name rows = is_some (first_of name rows)
+abbrev pub is_present : Text → List Row → Bool
+is_present name rows = is_some (first_of name rows)
 
 -- whether an option that names parts is there
 abbrev pub has_others : List Row → Bool
-has_others rows = is_emitted (codes "item") rows
-    || (is_emitted (codes "phase") rows || is_emitted (codes "part") rows)
+has_others rows = is_present (codes "item") rows
+    || (is_present (codes "phase") rows || is_present (codes "part") rows)
 
 -- how many first moves a part of help play fixes: 1 without the option
 abbrev pub depth_said : Option Text → Option ℕ
