@@ -46,10 +46,14 @@ class Outcome(NamedTuple):
     error: str
 
 
-def needs(name: str) -> Callable[[Test], Test]:
-    """Leaves a test out, with a line that says so, where this module or program isn't installed."""
-    is_there = shutil.which(name) is not None or importlib.util.find_spec(name) is not None
-    return unittest.skipUnless(is_there, f"{name} isn't installed")
+def needs_module(name: str) -> Callable[[Test], Test]:
+    """Leaves a test out, with a line that says so, where this module isn't installed."""
+    return unittest.skipUnless(importlib.util.find_spec(name), f"{name} isn't installed")
+
+
+def needs_program(name: str) -> Callable[[Test], Test]:
+    """Leaves a test out, with a line that says so, where this program isn't installed."""
+    return unittest.skipUnless(shutil.which(name), f"{name} isn't installed")
 
 
 def pops() -> str:

@@ -58,6 +58,7 @@ def exported(form: str, *words: str, text: bytes = b"") -> str:
     return outcome.output.decode("utf-8")
 
 
+@support.needs_module("yaml")
 class RoundTrips(unittest.TestCase):
     def test_imported_files_rows_and_examples(self) -> None:
         tried = 0
@@ -122,6 +123,7 @@ class Twins(unittest.TestCase):
         self.assertEqual([len(one.twins) for one in joined(problems[:1] + problems[2:])], [0] * 3)
 
 
+@support.needs_module("yaml")
 class Yaml(unittest.TestCase):
     def test_the_keys(self) -> None:
         text = run_here.companion("pops-import", text=TWINS).output

@@ -266,6 +266,7 @@ class Command(unittest.TestCase):
             with self.subTest(words):
                 self.assertEqual(self.numbers(*words), number)
 
+    @support.needs_module("yaml")
     def test_reports_and_yaml(self) -> None:
         yaml = Path(__file__).resolve().parent / "data" / "import" / "yacpdb.yaml"
         outcome = self.run_on("--add", str(self.examples / "morphy_1856.report"), str(yaml))

@@ -180,6 +180,7 @@ class WantedNumbers(unittest.TestCase):
             with self.subTest(text):
                 self.assertEqual(wanted_of(text), wanted)
 
+    @support.needs_module("yaml")
     def test_an_input_of_popeye(self) -> None:
         pieces = "Pieces White Kg6 Ra1 Black Kh8"
         given = f"BeginProblem\nStipulation h#2 2.1..\n{pieces}\nEndProblem\n"
@@ -367,6 +368,7 @@ class Texts(unittest.TestCase):
             ],
         )
 
+    @support.needs_module("yaml")
     def test_a_text_line_stays_one_line(self) -> None:
         made = imported_text(
             b'title: "two\\nlines\\tand\\fmore"\nstipulation: h#1\n'
@@ -402,7 +404,7 @@ class Texts(unittest.TestCase):
         self.assertIn(b"Title b)\nRemark both\n", made.output)
 
 
-@support.needs("yaml")
+@support.needs_module("yaml")
 class Yaml(unittest.TestCase):
     """The part of YAML that is read, by the definitions of YAML 1.2."""
 
@@ -561,6 +563,7 @@ class NewUser(unittest.TestCase):
         named = support.companion("pops-import", str(path))
         self.assertEqual((named.status, named.output), (0, wanted))
 
+    @support.needs_module("yaml")
     def test_several_files_become_one_text(self) -> None:
         paths = [DATA / "white_to_play.inp", DATA / "olive.yaml"]
         made = imported(*map(str, paths))

@@ -160,7 +160,7 @@ def stored_schema() -> dict[str, Any]:
 
 
 class Schema(unittest.TestCase):
-    @support.needs("jsonschema")
+    @support.needs_module("jsonschema")
     def test_every_stored_report_has_the_stored_schema(self) -> None:
         report = b"".join(path.read_bytes() for path in support.stored_reports())
         found = objects(report)
@@ -175,7 +175,7 @@ class Schema(unittest.TestCase):
         test: Test = importlib.import_module("jsonschema").Draft202012Validator(schema).is_valid
         return test
 
-    @support.needs("jsonschema")
+    @support.needs_module("jsonschema")
     def test_other_objects_have_not(self) -> None:
         is_valid = self.validity(stored_schema())
         report = (support.REPOSITORY / "examples/mate_in_one.report").read_bytes()

@@ -291,7 +291,9 @@ class Command(unittest.TestCase):
         )
 
     def test_an_empty_input_and_a_pipe(self) -> None:
-        words = ["--pops", support.pops(), "--split", "--pops-part", "/bin/true"]
+        # (also on a busy machine no problem takes so long that it is cut)
+        words = ["--pops", support.pops(), "--split", "--split-after", "60"]
+        words += ["--pops-part", "/bin/true"]
         for text in (b"", b"BeginProblem Pieces White Kg6 Ra1 Black Kg8 Stipulation #1 EndProblem"):
             wanted = support.run([support.pops()], text)
             with self.subTest(text):

@@ -18,16 +18,16 @@ class Style(unittest.TestCase):
         done = subprocess.run(words, cwd=support.REPOSITORY, capture_output=True, text=True)
         self.assertEqual(done.returncode, 0, f"{' '.join(words)}:\n{done.stdout}{done.stderr}")
 
-    @support.needs("mypy")
+    @support.needs_program("mypy")
     def test_types_of_the_package_and_the_tests(self) -> None:
         self.is_fine("mypy", "--cache-dir=/dev/null")
 
-    @support.needs("mypy")
+    @support.needs_program("mypy")
     def test_types_of_the_scripts(self) -> None:
         self.assertGreater(len(SCRIPTS), 12)
         self.is_fine("mypy", "--cache-dir=/dev/null", "--scripts-are-modules", *SCRIPTS)
 
-    @support.needs("ruff")
+    @support.needs_program("ruff")
     def test_style(self) -> None:
         self.is_fine("ruff", "check", "--no-cache")
 

@@ -43,6 +43,22 @@ class Settings(argparse.Namespace):
     encoding: str
 
 
+def _add_evidence(parser: argparse.ArgumentParser) -> None:
+    """Adds the options for what the report alone doesn't show."""
+    add = parser.add_argument
+    add(
+        "--pose",
+        action="store_true",
+        help="write the input that asks for short solutions of an input, and nothing else",
+    )
+    add("--short", metavar="REPORT", help="the report of what --pose wrote")
+    add(
+        "--unfinished",
+        metavar="FILE",
+        help="what pops-many kept of problems that it stopped (REPORT.unfinished, if it is there)",
+    )
+
+
 def _add_forms(parser: argparse.ArgumentParser) -> None:
     """Adds the options for what is written."""
     add = parser.add_argument
@@ -91,17 +107,7 @@ def command_line() -> argparse.ArgumentParser:
         metavar="N",
         help="the wanted number for help problems without this Remark (1)",
     )
-    add(
-        "--pose",
-        action="store_true",
-        help="write the input that asks for short solutions of an input, and nothing else",
-    )
-    add("--short", metavar="REPORT", help="the report of what --pose wrote")
-    add(
-        "--unfinished",
-        metavar="FILE",
-        help="what pops-many kept of problems that it stopped (REPORT.unfinished, if it is there)",
-    )
+    _add_evidence(parser)
     _add_forms(parser)
     command.add_encoding(parser)
     return parser
