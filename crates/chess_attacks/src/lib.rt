@@ -16,7 +16,7 @@
 //! if diagram.is_well_formed() {
 //!     let board = Board::of(&diagram);
 //!     assert!(rt; in_check::<Orthodox>(&board, Colour::Black));
-//!     assert!(rt; Orthodox::attacked(&board, Square::numbered(63), Colour::White));
+//!     assert!(rt; Orthodox::attacked(&board, Square::numbered(61), Colour::White));
 //! }
 //! ```
 //!
