@@ -1,34 +1,14 @@
+// @ts-check
 // The board on the page, used by mouse, touch and keys. It passes each change to the page as new men.
-'use strict';
+import { drawn, element, makeButton } from './elements.js';
+import { FILES, placeOf, squareOf } from './position.js';
+import { KINDS } from './text.js';
+import { say, sayMan } from './words.js';
+
 const HAND = 'hand';
 const DRAG_PIXELS = 6;
-const SHAPE = 'http://www.w3.org/2000/svg';
 
-function element(id) {
-  return document.getElementById(id);
-}
-
-function drawn(man) {
-  const drawing = document.createElementNS(SHAPE, 'svg');
-  const use = document.createElementNS(SHAPE, 'use');
-  drawing.setAttribute('viewBox', '0 0 45 45');
-  drawing.setAttribute('class', `man ${man[0]}`);
-  drawing.setAttribute('aria-hidden', 'true');
-  use.setAttribute('href', `#${MAN_NAMES[man[1]]}`);
-  drawing.append(use);
-  return drawing;
-}
-
-function makeButton(label, act) {
-  const made = document.createElement('button');
-  made.type = 'button';
-  made.setAttribute('aria-label', label);
-  made.title = label;
-  made.onclick = act;
-  return made;
-}
-
-class Board {
+export class Board {
   // PAGE has change(changer), which takes a function from the men to other men; move(from, to); note(text, holds), which
   // shows a note while its cause holds; and check(), which removes the note once the cause is gone.
   constructor(page) {

@@ -1,7 +1,7 @@
+// @ts-check
 // Parallel workers. Each does one call of the engine at a time; a call waits until a worker is free.
-'use strict';
 
-class Crew {
+export class Crew {
   // Up to SIZE workers, each made by MAKE when it is first needed. CODEC turns texts into bytes and back.
   constructor(size, make, codec) {
     Object.assign(this, { size, make, codec, idle: [], busy: new Set(), waiting: [], isStopped: false });

@@ -1,5 +1,10 @@
+// @ts-check
 // Diagrams in SVG and pages of them, as the companions pops-diagram and pops-page write them, with the same shapes.
-'use strict';
+import { countOf, menOfRanks, placeOf } from './position.js';
+import { COLOUR_NAMES, MAN_NAMES } from './report.js';
+import { byRank, KINDS } from './text.js';
+import { saidOfTwin, twinChange, twinGroups } from './twins.js';
+
 const SIDE = 45;
 const MARGIN = 22;
 const WIDTH = MARGIN + 8 * SIDE + 1;
@@ -44,10 +49,10 @@ function drawingOf(men) {
     + `${side('w')}${side('b')}</g>`;
 }
 
-const diagramOf = men => `<svg class="diagram" ${frameOf(men)}>${drawingOf(men)}</svg>`;
+export const diagramOf = men => `<svg class="diagram" ${frameOf(men)}>${drawingOf(men)}</svg>`;
 
 // Makes a file with the diagram and the shapes that it needs.
-function diagramFile(men, title, shapes) {
+export function diagramFile(men, title, shapes) {
   const kinds = new Set([...men.values()].map(man => man[1]));
   for (const kind of [...kinds]) if (kind in UPSIDE_DOWN) kinds.add(UPSIDE_DOWN[kind]);
   let definitions = shapes.slice(shapes.indexOf('<defs>'), shapes.lastIndexOf('</svg>'));
@@ -61,10 +66,10 @@ function diagramFile(men, title, shapes) {
     + `${definitions}${drawingOf(men)}\n</svg>\n`;
 }
 
-const titleOf = item => [item.title, item.author, item.asked.line].filter(text => text !== null).join(', ');
+export const titleOf = item => [item.title, item.author, item.asked.line].filter(text => text !== null).join(', ');
 
 // Makes the page of a report's items, twins as one problem; `given` is what the text says about each problem.
-function sheetOf(items, heading, shapes, style, given = []) {
+export function sheetOf(items, heading, shapes, style, given = []) {
   const named = items.map(item => ({ item, number: item.number, ...namesOf(item, given[item.number - 1]) }));
   const articles = twinGroups(named).map(group => articleOf(group));
   return '<!DOCTYPE html>\n<html lang="en">\n<head>\n<meta charset="utf-8">\n'

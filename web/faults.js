@@ -1,13 +1,12 @@
 // @ts-check
 // A fault as the page shows it: the lines at fault, with their words marked, and the explanation.
-'use strict';
-const LONGEST_QUOTED_LINE = 300;
+import { madeWith, makeButton } from './elements.js';
+import { characters } from './explain/characters.js';
+import { explaining } from './explain/explaining.js';
+import { lineAt } from './text.js';
+import { say } from './words.js';
 
-function madeWith(tag, text) {
-  const made = document.createElement(tag);
-  made.textContent = text;
-  return made;
-}
+const LONGEST_QUOTED_LINE = 300;
 
 /** Draws a line of the text with its number, in pieces, some of them marked. */
 function drawnLine({ line, pieces }) {
@@ -30,7 +29,7 @@ function bareLine(text, line) {
  * @param {string} general what the manual says
  * @param {(line: number) => void} goToLine
  */
-function faultBox(text, item, general, goToLine) {
+export function faultBox(text, item, general, goToLine) {
   const { fault } = item;
   const explanation = explaining.explain(text, item);
   const marked = explanation?.marks.length ? explaining.markedLines(text, explanation.marks) : [bareLine(text, fault.line)];

@@ -1,37 +1,23 @@
 // @ts-check
-// The line of moves after which the board is shown: chosen in the solutions, or played on the board.
-'use strict';
+// Moves on the board: played, or made in the diagram; and problems that continue from the position shown.
+import { drawn, element, makeButton } from './elements.js';
+import { change, setText } from './page/editing.js';
+import { solve } from './page/solving.js';
+import { blockNow, state, textNow } from './page/state.js';
+import { board, note, tree } from './page/views.js';
+import { showPlace } from './page/walk.js';
+import { halfAfter, moveBetween, promotes, withProblemAfter, withReached } from './play.js';
+import { fieldsOf, isShort, menOf, valueOf } from './text.js';
+import { say, sayMan } from './words.js';
 
-/**
- * Shows the position after some moves; or, for null, the diagram again.
- * @param {{ start: Men, moves: Move[], item: { number: number } | null } | null} place the moves from a position, and the item of
- *   the report that is walked through
- */
-function showPlace(place) {
-  const { start, moves = [], item = null } = place ?? {};
-  const men = place && moves.reduce(after, start);
-  const last = moves.at(-1);
-  Object.assign(state, { walked: men, place });
-  element('squares').classList.toggle('walking', Boolean(men));
-  element('line').hidden = !men;
-  element('promotion').hidden = true;
-  element('reached').textContent = last ? labelOf(last) : '';
-  if (men) board.show(men, [last.from, last.to]);
-  // (the report of another text doesn't belong to these problems)
-  const isOther = item && textNow() === state.solved && state.number !== item.number;
-  if (isOther) state.number = item.number;
-  if (isOther || !men) follow();
-  if (men) note(say('shown', { move: labelOf(last) }));
-}
-
-/** Shows the diagram again. */
-function leave() {
-  if (tree.current) tree.leave();
-  else if (state.place) showPlace(null);
+/** Switches between moves that are played and men that are moved in the diagram. */
+export function togglePlaying() {
+  state.play(element('playing').getAttribute('aria-pressed') === 'false');
+  element('playing').setAttribute('aria-pressed', String(state.isPlaying));
 }
 
 /** Moves a man: plays the move if a position after moves is shown, or moves are to be played; else changes the diagram. */
-function move(from, to) {
+export function move(from, to) {
   if (!state.place && !state.isPlaying) moveInDiagram(from, to);
   else if (promotes(board.men, from, to)) choosePromotion(from, to);
   else playMove(from, to, null);
@@ -73,29 +59,22 @@ function choosePromotion(from, to) {
   element('promotion').firstElementChild.focus();
 }
 
-/** Goes one move back: in the solutions, or before the last played move. */
-function goBack() {
-  if (tree.current || !state.place) tree.backward();
-  else if (state.place.moves.length > 1) showPlace({ ...state.place, moves: state.place.moves.slice(0, -1) });
-  else leave();
-}
-
 const reachedNow = () => ({ men: state.walked, moves: state.place.moves });
 
 /** Makes the shown position the problem's diagram. */
-function makeProblem() {
+export function makeProblem() {
   setText(withReached(textNow(), blockNow(), reachedNow()));
 }
 
 /** Adds the shown position as a problem with the moves left to play, and solves it. */
-function solveFromHere() {
+export function solveFromHere() {
   const block = blockNow();
   const text = withProblemAfter(textNow(), block, reachedNow());
   if (!text) {
     note(say('over'));
     return;
   }
-  state.number = block.number + 1;
+  state.choose(block.number + 1);
   setText(text);
   solve();
 }

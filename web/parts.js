@@ -1,11 +1,14 @@
+// @ts-check
 // Puts a report together: heads as the engine prints them for a text that it only tests, solutions part by part, totals as
 // it prints them. At any time the result is a beginning of the report.
-'use strict';
-const SOUND_LINE = 'sound\n\n';
+import { askedOf } from './report.js';
+import { blocksOf, fieldsOf, valueOf, wordsOf } from './text.js';
+
+export const SOUND_LINE = 'sound\n\n';
 
 // Divides a text into its items, each a text of its own: the words between two closing words, with new opening and closing
 // words. The last item stays open if no word closes it.
-function itemTexts(text) {
+export function itemTexts(text) {
   const found = [];
   let opening = '';
   let from = 0;
@@ -20,14 +23,14 @@ function itemTexts(text) {
 }
 
 // Returns the most solutions of a phase of a text's first problem.
-function limitOf(text) {
+export function limitOf(text) {
   const block = blocksOf(text)[0];
   const said = block && valueOf(fieldsOf(text, block), 'MaxSolutions');
   return said ? Number(said) : Infinity;
 }
 
 // Reads the items of a report of --check: the text of a faulty item; head and number of half-moves of a sound one.
-function headsOf(report) {
+export function headsOf(report) {
   return (report.match(/[^]+?\n\n/g) ?? []).map(text => {
     if (!text.endsWith(`\n${SOUND_LINE}`)) return { text, isSound: false, halfMoves: 0 };
     const head = text.slice(0, -SOUND_LINE.length);
@@ -37,10 +40,10 @@ function headsOf(report) {
 }
 
 // Returns the lines after the line that numbers an item.
-const afterNumber = text => text.slice(text.indexOf('\n') + 1);
+export const afterNumber = text => text.slice(text.indexOf('\n') + 1);
 
 // Reads from the list of one sound problem the number of parts of each phase, in order; null if the phase isn't possible.
-function listOf(list) {
+export function listOf(list) {
   const found = /^1: (?:set (not possible|[0-9]+), )?play ([0-9]+)\n$/.exec(list);
   if (!found) throw new Error(`no list of parts: ${list.slice(0, 80)}`);
   const set = found[1] ? [{ kind: 'set', parts: found[1] === 'not possible' ? null : Number(found[1]) }] : [];
@@ -48,10 +51,10 @@ function listOf(list) {
 }
 
 // Returns the solutions in a text, each with all its lines.
-const solutionsIn = text => text.match(/^[^ \n].*\n(?: .*\n)*/gm) ?? [];
+export const solutionsIn = text => text.match(/^[^ \n].*\n(?: .*\n)*/gm) ?? [];
 
 // Returns the solutions of a part. A cut text gives only complete lines; the last of its solutions may be incomplete.
-function solutionsOf(text, isCut) {
+export function solutionsOf(text, isCut) {
   if (isCut) return { all: solutionsIn(text.slice(0, text.lastIndexOf('\n') + 1)), isCut };
   const total = /(?:^|\n)solutions: ([0-9]+)(?:, stopped)?\n$/.exec(text.slice(-60));
   const lines = text.slice(0, text.lastIndexOf('solutions: '));
@@ -61,7 +64,7 @@ function solutionsOf(text, isCut) {
 }
 
 // A piece of a report that is known at once, or once its text is set.
-class Piece {
+export class Piece {
   constructor(text = null) {
     Object.assign(this, { text, isWhole: false, isCut: false });
   }
@@ -75,7 +78,7 @@ class Piece {
 }
 
 // A phase whose parts come in any order; LIMIT is its most solutions.
-class PhasePiece {
+export class PhasePiece {
   constructor({ kind, parts }, limit) {
     Object.assign(this, { kind, limit, parts: parts ?? 0, isWhole: false, isCut: false });
     Object.assign(this, { solutions: new Map(), counts: new Map(), next: 1, found: 0, begun: `${kind}\n` });
@@ -129,7 +132,7 @@ class PhasePiece {
 }
 
 // The report of a text: its items, whose pieces come in any order.
-class ReportText {
+export class ReportText {
   constructor(heads) {
     this.items = heads.map(({ text, isSound }) => ({ pieces: [new Piece(text)], isPlanned: !isSound, at: 0 }));
     Object.assign(this, { at: 0, isCut: false });

@@ -1,6 +1,9 @@
 // @ts-check
 // Moves played on the board, and problems that continue from a position. Nothing here judges a move: the engine does.
-'use strict';
+import { after, other, placeOf } from './position.js';
+import { labelOf } from './report.js';
+import { barredIn, fieldsOf, sidesOf, turnOf, valueOf, withFen } from './text.js';
+
 /** @typedef {{ said: string, label: string, half: number, colour: string, kind: string, from: string, to: string, captures: boolean, enPassant: boolean, castling: string | null, promotion: string | null, rebirth: { square: string, man: string } | null, mark: null }} Move */
 const HOME_SQUARES = ['a1', 'e1', 'h1', 'a8', 'e8', 'h8'];
 // The rebirth squares of Circe, for White and Black: queens; rooks, bishops and knights on light and on dark squares.
@@ -18,7 +21,7 @@ function rebirthSquare([colour, kind], square) {
 }
 
 /** Returns whether a move takes a pawn to its last rank. */
-const promotes = (men, from, to) => men.get(from)?.[1] === 'P' && to[1] === (men.get(from)[0] === 'w' ? '8' : '1');
+export const promotes = (men, from, to) => men.get(from)?.[1] === 'P' && to[1] === (men.get(from)[0] === 'w' ? '8' : '1');
 
 function castlingOf(men, from, to) {
   const [colour, kind] = men.get(from);
@@ -36,7 +39,7 @@ function castlingOf(men, from, to) {
  * @param {{ from: string, to: string, promotion: string | null, half: number, isCirce: boolean }} asked
  * @returns {Move}
  */
-function moveBetween(men, { from, to, promotion, half, isCirce }) {
+export function moveBetween(men, { from, to, promotion, half, isCirce }) {
   const [colour, kind] = men.get(from);
   const castling = castlingOf(men, from, to);
   const enPassant = kind === 'P' && from[0] !== to[0] && !men.has(to) && men.get(to[0] + from[1]) === `${other(colour)}P`;
@@ -60,7 +63,7 @@ function saidMove({ kind, from, to, captures, enPassant, castling, promotion, re
 }
 
 /** Returns the number of a half-move of this colour after some moves: in help play Black makes the odd ones, in battle play White. */
-function halfAfter(moves, colour, { isHelp, isHalf }) {
+export function halfAfter(moves, colour, { isHelp, isHalf }) {
   const last = moves.at(-1)?.half ?? (isHalf ? 1 : 0);
   const isOdd = (colour === 'w') !== isHelp;
   return last + ((last + 1) % 2 === (isOdd ? 1 : 0) ? 1 : 2);
@@ -72,7 +75,7 @@ function halfAfter(moves, colour, { isHelp, isHalf }) {
  * @param {string} stipulation
  * @param {number} half
  */
-function stipulationAfter(stipulation, half) {
+export function stipulationAfter(stipulation, half) {
   const found = /^([sh]?)([#=])([0-9]+)(\.5)?$/i.exec(stipulation);
   if (!found) return null;
   const [, form, goal, number, point] = found;
@@ -91,7 +94,7 @@ function crossedBy({ kind, from, to }) {
 }
 
 /** Returns the squares for NoCastling after some moves: the home squares of men that have moved. A man reborn there may castle. */
-function barredAfter(men, moves, barred) {
+export function barredAfter(men, moves, barred) {
   const touched = new Set(barred);
   for (const { from, to, castling, rebirth } of moves) {
     for (const square of [from, to]) touched.add(square);
@@ -110,7 +113,7 @@ const movesSaid = moves => moves.map(labelOf).join(' ');
  * @param {{ from: number }} block
  * @param {{ men: Men, moves: Move[] }} reached
  */
-function withReached(text, block, { men, moves }) {
+export function withReached(text, block, { men, moves }) {
   const fields = fieldsOf(text, block);
   const [turn, last] = [turnOf(fields), moves.at(-1)];
   const crossed = turn === last.colour ? null : crossedBy(last);
@@ -123,7 +126,7 @@ function withReached(text, block, { men, moves }) {
  * @param {{ end: number }} block
  * @param {{ men: Men, moves: Move[] }} reached
  */
-function withProblemAfter(text, block, { men, moves }) {
+export function withProblemAfter(text, block, { men, moves }) {
   const fields = fieldsOf(text, block);
   const asked = stipulationAfter(valueOf(fields, 'stipulation') ?? '', moves.at(-1).half);
   if (!asked) return null;

@@ -1,17 +1,17 @@
 // @ts-check
 // Positions are maps from squares to men, as 'e4' to 'wK'. Changes of a whole board, FEN, and positions after moves.
-'use strict';
+
 /** @typedef {Map<string, string>} Men */
 /** @typedef {{ men: Men, turn: string, noCastling: string[], crossed: string | null }} Fen */
-const FILES = 'abcdefgh';
+export const FILES = 'abcdefgh';
 // The letters of FEN for our kinds. A letter in brackets is Popeye's; so are all letters if S is the knight.
 const FEN_LETTERS = { K: 'K', Q: 'Q', R: 'R', B: 'B', S: 'N', P: 'P', G: 'G', N: '(N)' };
 const FEN_KINDS = { K: 'K', Q: 'Q', R: 'R', B: 'B', N: 'S', P: 'P', G: 'G' };
 const FEN_SQUARES = /\(([kqrbspgn])\)|[kqrbspgn]|[1-8]/gi;
 const CORNERS = { K: 'h1', Q: 'a1', k: 'h8', q: 'a8' };
-const placeOf = square => [FILES.indexOf(square[0]), Number(square[1]) - 1];
-const squareOf = (file, rank) => FILES[file] + (rank + 1);
-const other = colour => (colour === 'w' ? 'b' : 'w');
+export const placeOf = square => [FILES.indexOf(square[0]), Number(square[1]) - 1];
+export const squareOf = (file, rank) => FILES[file] + (rank + 1);
+export const other = colour => (colour === 'w' ? 'b' : 'w');
 const CHANGES = {
   left: (file, rank) => [file - 1, rank],
   right: (file, rank) => [file + 1, rank],
@@ -22,7 +22,7 @@ const CHANGES = {
 };
 
 // Moves all men by one change, or returns null if a man would leave the board.
-function changed(men, name) {
+export function changed(men, name) {
   const result = new Map();
   for (const [square, man] of men) {
     const [file, rank] = CHANGES[name](...placeOf(square));
@@ -33,21 +33,21 @@ function changed(men, name) {
 }
 
 // Exchanges the colours of all men, and rank 1 with rank 8.
-function exchanged(men) {
+export function exchanged(men) {
   const turned = ([square, man]) => [square[0] + (9 - square[1]), other(man[0]) + man[1]];
   return new Map([...men].map(turned));
 }
 
-const countOf = (men, colour) => [...men.values()].filter(man => man[0] === colour).length;
+export const countOf = (men, colour) => [...men.values()].filter(man => man[0] === colour).length;
 
 // Writes the eight ranks of a board as a report prints them, rank 8 first.
-function ranksOf(men) {
+export function ranksOf(men) {
   const letter = man => (man ? (man[0] === 'w' ? man[1] : man[1].toLowerCase()) : '.');
   const rank = number => [...FILES].map(file => letter(men.get(file + number))).join('');
   return [8, 7, 6, 5, 4, 3, 2, 1].map(rank);
 }
 
-function menOfRanks(ranks) {
+export function menOfRanks(ranks) {
   const men = new Map();
   ranks.forEach((row, index) => [...row].forEach((letter, file) => {
     const colour = letter === letter.toUpperCase() ? 'w' : 'b';
@@ -60,7 +60,7 @@ function menOfRanks(ranks) {
  * Returns a position as FEN: knights are N, grasshoppers G, nightriders (N). `barred` are the squares of NoCastling.
  * @param {{ men: Men, turn: string, barred: string[], crossed: string | null }} position
  */
-function fenOf({ men, turn, barred, crossed }) {
+export function fenOf({ men, turn, barred, crossed }) {
   const passed = /^[a-h][36]$/.test(crossed ?? '') ? crossed : '-';
   return `${placementOf(men)} ${turn} ${rightsOf(men, barred)} ${passed} 0 1`;
 }
@@ -90,7 +90,7 @@ function rightsOf(men, barred) {
  * @param {string} text
  * @returns {Fen | null}
  */
-function readFen(text) {
+export function readFen(text) {
   const [placement, turn = 'w', rights = null, crossed = '-', ...counts] = text.trim().split(/\s+/);
   const men = menOfPlacement(placement);
   if (!men || counts.length > 2 || !counts.every(field => /^\d+$/.test(field))) return null;
@@ -128,7 +128,7 @@ function barredCorners(men, rights) {
 }
 
 // Returns the position after a move of a report: the move's text names every capture, arrival and rebirth.
-function after(men, move) {
+export function after(men, move) {
   const result = new Map(men);
   const man = result.get(move.from) ?? move.colour + move.kind;
   result.delete(move.from);

@@ -1,9 +1,11 @@
+// @ts-check
 // Reads a report or a beginning of one: items, phases, trees of moves; writes items as the companion pops2json does.
-'use strict';
-const MAN_NAMES = {
+import { menOfRanks } from './position.js';
+
+export const MAN_NAMES = {
   K: 'king', Q: 'queen', R: 'rook', B: 'bishop', S: 'knight', P: 'pawn', G: 'grasshopper', N: 'nightrider',
 };
-const COLOUR_NAMES = { w: 'white', b: 'black' };
+export const COLOUR_NAMES = { w: 'white', b: 'black' };
 const MARKS = { '+': 'check', '#': 'mate' };
 const MOVE = new RegExp('^(?:(0-0-0|0-0)|([KQRBSGN])?([a-h][1-8])([-*])([a-h][1-8])( ep\\.)?(?:=([QRBSGN]))?'
   + '(?:\\[\\+([wb])([QRBSPGN])([a-h][1-8])\\])?)([+#=])?$');
@@ -26,7 +28,7 @@ function moveOf(said, half, isHelp) {
 }
 
 // Reads the moves of a line of a report, each with its printed number, if any; returns null for another line.
-function movesOf(line, isHelp) {
+export function movesOf(line, isHelp) {
   const moves = [];
   let half = 0;
   for (const [, number, points, said] of line.trim().matchAll(HALF)) {
@@ -40,7 +42,7 @@ function movesOf(line, isHelp) {
 }
 
 // Reads the stipulation from a report's line.
-function askedOf(line) {
+export function askedOf(line) {
   const found = ASKED.exec(line);
   if (!found) return null;
   const [, form, goal, number, half, condition] = found;
@@ -82,7 +84,7 @@ function readLine(line, item) {
 }
 
 // Reads the items of a report, or of a beginning of one. A line that doesn't belong there ends the reading.
-function itemsOf(report) {
+export function itemsOf(report) {
   const items = [];
   let item = null;
   for (const line of report.split('\n')) {
@@ -101,11 +103,11 @@ function itemsOf(report) {
   return items;
 }
 
-const labelOf = move => move.label.replace(/^([0-9]+\.+)?/, (Math.floor((move.half + 1) / 2)) + (move.half % 2 ? '.' : '...'));
+export const labelOf = move => move.label.replace(/^([0-9]+\.+)?/, (Math.floor((move.half + 1) / 2)) + (move.half % 2 ? '.' : '...'));
 
 // Makes rows of a phase: each row has its moves and the rows below it. Lines of help play with the same beginning share
 // its rows.
-function rowsOf(phase, isHelp) {
+export function rowsOf(phase, isHelp) {
   return isHelp ? sharedRows(phase.solutions.map(it => it.moves), []) : nestedRows(phase.solutions);
 }
 
@@ -149,7 +151,7 @@ function sharedRows(lines, path) {
  * Returns what was found in the play of a problem, as the name and the value of a text of the page: keys, or lines of help play.
  * Null while the play continues, and for a faulty problem.
  */
-function foundIn(item) {
+export function foundIn(item) {
   if (item.isChecked) return { name: 'foundNone', count: 0, isStopped: false };
   const play = item.phases.find(phase => phase.kind === 'play');
   if (!play?.total || play.count === null) return null;
@@ -159,7 +161,7 @@ function foundIn(item) {
 }
 
 // Makes the objects that pops2json writes for a report; the problem's text adds its origin.
-function objectOf(item, given = null) {
+export function objectOf(item, given = null) {
   const names = ({ title, author }) => ({ title, author, ...(given && { origin: given.origin }) });
   if (item.fault) return { number: item.number, sound: false, ...(given && names(given)), fault: item.fault };
   const { asked } = item;

@@ -1,6 +1,11 @@
+// @ts-check
 // Solves a text by several workers: problem by problem, each phase by parts, several parts at a time. A problem with few
 // half-moves is solved whole; so is a text that the page can't divide into its problems.
-'use strict';
+import {
+  afterNumber, headsOf, itemTexts, limitOf, listOf, PhasePiece, Piece, ReportText, solutionsIn, solutionsOf,
+  SOUND_LINE,
+} from './parts.js';
+
 const LEAST_HALF_MOVES = 4;
 const PARTS_A_WORKER = 16;
 const MOST_PARTS = 4096;
@@ -11,7 +16,7 @@ const CUT_STATUS = 3;
 // The error that the text and the engine's report don't agree on the problems.
 class CutWrong extends Error {}
 
-class Solving {
+export class Solving {
   // CHECK and NOBOARD are the settings; a problem with LEAST half-moves or more is solved by parts. SAID receives each new
   // part of the report, and null if the report begins again.
   constructor(text, { check = false, noBoard = false, least = LEAST_HALF_MOVES }, crew, said) {

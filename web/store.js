@@ -1,28 +1,30 @@
+// @ts-check
 // Links that contain a text, stored texts, files as texts, undo and redo.
-'use strict';
-const MOST_KEPT = 20;
+import { blockAt, fieldsOf, menOf, sidesOf, valueOf } from './text.js';
+
+export const MOST_KEPT = 20;
 const MOST_KEPT_LETTERS = 100000;
 const MOST_LINKED_LETTERS = 30000;
 const MOST_STEPS = 200;
-const MOST_FILE_BYTES = 1 << 23;
+export const MOST_FILE_BYTES = 1 << 23;
 
 // Returns the fragment of a link with this text, or null if it would be too long.
-function fragmentOf(text) {
+export function fragmentOf(text) {
   const fragment = `#${new URLSearchParams({ text })}`;
   return fragment.length > MOST_LINKED_LETTERS ? null : fragment;
 }
 
 // Returns the text in a link's fragment, or null.
-const textOfFragment = fragment => new URLSearchParams(fragment.slice(1)).get('text');
+export const textOfFragment = fragment => new URLSearchParams(fragment.slice(1)).get('text');
 
 // Returns the list of stored texts with this one first, and no text twice.
-function withKept(kept, text, time) {
+export function withKept(kept, text, time) {
   if (text.length > MOST_KEPT_LETTERS || !text.trim()) return kept;
   return [{ text, time }, ...kept.filter(it => it.text !== text)].slice(0, MOST_KEPT);
 }
 
 // Reads a stored list; what isn't a list of texts is dropped.
-function keptOf(written) {
+export function keptOf(written) {
   try {
     const list = JSON.parse(written);
     return list.filter(it => typeof it.text === 'string' && Number.isFinite(it.time)).slice(0, MOST_KEPT);
@@ -32,7 +34,7 @@ function keptOf(written) {
 }
 
 // Returns a name of a text for a list: its title, else its stipulation.
-function nameOfText(text) {
+export function nameOfText(text) {
   const block = blockAt(text, 0);
   if (!block) return text.trim().slice(0, 40);
   const fields = fieldsOf(text, block);
@@ -41,7 +43,7 @@ function nameOfText(text) {
 }
 
 // Decodes a file's bytes, and says whether they were UTF-8; others are read as Windows-1252.
-function textOfBytes(bytes) {
+export function textOfBytes(bytes) {
   try {
     return { text: new TextDecoder('utf-8', { fatal: true }).decode(bytes), isUtf8: true };
   } catch {
@@ -50,7 +52,7 @@ function textOfBytes(bytes) {
 }
 
 // Undo and redo of texts.
-class Steps {
+export class Steps {
   constructor(text) {
     this.texts = [text];
     this.place = 0;

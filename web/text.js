@@ -1,17 +1,19 @@
+// @ts-check
 // A text of problems: reads and replaces the men and fields of one problem. The rest of the text stays byte for byte.
 // Nothing here judges a problem: the engine does.
-'use strict';
+import { fenOf } from './position.js';
+
 // Text lines that are fields of the page.
 const TEXT_FIELDS = ['title', 'author', 'origin'];
 const TEXT_LINES = ['title', 'author', 'origin', 'remark'];
 const COMMANDS = ['beginproblem', 'pieces', 'stipulation', 'condition', 'option', 'nextproblem', 'endproblem',
   ...TEXT_LINES];
-const KINDS = 'KQRBSPGN';
-const FLAGS = ['SetPlay', 'Variation', 'NoBoard'];
-const VALUES = ['MaxSolutions', 'EnPassant', 'NoCastling'];
-const CONDITIONS = ['Circe', 'Madrasi'];
-const NEW_PROBLEM = 'BeginProblem\nStipulation #2\nEndProblem\n';
-const isShort = (word, full) => word.length >= 3 && full.toLowerCase().startsWith(word.toLowerCase());
+export const KINDS = 'KQRBSPGN';
+export const FLAGS = ['SetPlay', 'Variation', 'NoBoard'];
+export const VALUES = ['MaxSolutions', 'EnPassant', 'NoCastling'];
+export const CONDITIONS = ['Circe', 'Madrasi'];
+export const NEW_PROBLEM = 'BeginProblem\nStipulation #2\nEndProblem\n';
+export const isShort = (word, full) => word.length >= 3 && full.toLowerCase().startsWith(word.toLowerCase());
 const commandOf = word => COMMANDS.find(command => isShort(word, command));
 
 // Makes a function that keeps its last result: the page reads one text many times.
@@ -24,7 +26,7 @@ function remembered(make) {
 }
 
 // Reads the words of a text with their places; the rest of a text command's line is no word.
-const wordsOf = remembered(text => {
+export const wordsOf = remembered(text => {
   const words = [];
   const pattern = /[^ \t\n\v\f\r]+/g;
   for (let found; (found = pattern.exec(text));) {
@@ -40,7 +42,7 @@ const wordsOf = remembered(text => {
 });
 
 // Returns the problems of a text: the words of each, between its opening and its closing word.
-const blocksOf = remembered(text => {
+export const blocksOf = remembered(text => {
   const blocks = [];
   let open = null;
   for (const word of wordsOf(text)) {
@@ -57,14 +59,14 @@ const blocksOf = remembered(text => {
 });
 
 // Returns the problem at a place of the text, or the last one before it.
-function blockAt(text, place) {
+export function blockAt(text, place) {
   const blocks = blocksOf(text);
   return blocks.findLast(block => block.from <= place) ?? blocks[0] ?? null;
 }
 
 // Reads the men of a problem by square, as 'wK' or 'bS', the parts of the text with men, and the words that a board can't
 // show.
-function menOf(block) {
+export function menOf(block) {
   const found = { men: new Map(), parts: [], unknown: [] };
   let colour = null;
   let isOpen = false;
@@ -97,10 +99,10 @@ function readMen(word, colour, found) {
   return colour;
 }
 
-const byRank = (one, next) => (one[1] + one[0] < next[1] + next[0] ? -1 : 1);
+export const byRank = (one, next) => (one[1] + one[0] < next[1] + next[0] ? -1 : 1);
 
 // Writes the men as after Pieces.
-function sidesOf(men) {
+export function sidesOf(men) {
   const side = (colour, name) => {
     const words = [];
     for (const kind of KINDS) {
@@ -133,7 +135,7 @@ function withBlanks(text, { from, to }) {
 }
 
 // Adds a line at the end of a problem.
-function withLine(text, block, line) {
+export function withLine(text, block, line) {
   const at = block.end;
   const start = at === 0 || text[at - 1] === '\n' ? '' : '\n';
   return text.slice(0, at) + start + line + '\n' + text.slice(at);
@@ -151,7 +153,7 @@ function without(text, parts) {
 }
 
 // Replaces the men of a problem.
-function withMen(text, place, men) {
+export function withMen(text, place, men) {
   const block = blockAt(text, place);
   const { parts } = menOf(block);
   const sides = sidesOf(men);
@@ -163,7 +165,7 @@ function withMen(text, place, men) {
 }
 
 // Reads the fields of a problem, each with its parts of the text, its own name first.
-function fieldsOf(text, block) {
+export function fieldsOf(text, block) {
   const fields = {};
   const state = { section: null, awaited: null, last: null };
   for (const word of block.words) {
@@ -200,7 +202,7 @@ function readField(word, fields, state) {
 }
 
 // Returns the value of a field, or null: the last word counts, and squares of NoCastling add up.
-function valueOf(fields, name) {
+export function valueOf(fields, name) {
   const found = fields[name];
   if (!found) return null;
   const said = [];
@@ -265,7 +267,7 @@ function withNewOption(text, block, said) {
 }
 
 // Sets the value of the field with this name.
-function withField(text, place, name, value) {
+export function withField(text, place, name, value) {
   const block = blockAt(text, place);
   if (TEXT_FIELDS.includes(name.toLowerCase())) return withTextLine(text, block, name, value ?? '');
   if (name === 'Stipulation' || name === 'Condition') return withWord(text, block, name, value ?? '');
@@ -278,18 +280,18 @@ function withField(text, place, name, value) {
  * @param {number} place a place in the problem
  * @param {Fen} fen
  */
-function withFen(text, place, fen) {
+export function withFen(text, place, fen) {
   const placed = withField(withMen(text, place, fen.men), place, 'EnPassant', fen.crossed);
   return withField(placed, place, 'NoCastling', fen.noCastling.join('') || null);
 }
 
 /** Returns the side that moves first in a problem: Black in help play, unless it begins with White's half-move. */
-const turnOf = fields => (/^h[#=]\d+$/i.test(valueOf(fields, 'stipulation') ?? '') ? 'b' : 'w');
+export const turnOf = fields => (/^h[#=]\d+$/i.test(valueOf(fields, 'stipulation') ?? '') ? 'b' : 'w');
 /** Returns the squares that NoCastling names. */
-const barredIn = fields => (valueOf(fields, 'NoCastling') ?? '').toLowerCase().match(/[a-h][1-8]/g) ?? [];
+export const barredIn = fields => (valueOf(fields, 'NoCastling') ?? '').toLowerCase().match(/[a-h][1-8]/g) ?? [];
 
 /** Returns the position of a problem as FEN: its men, the side that moves first, NoCastling, EnPassant. */
-function fenOfBlock(text, block) {
+export function fenOfBlock(text, block) {
   const fields = fieldsOf(text, block);
   return fenOf({ men: menOf(block).men, turn: turnOf(fields), barred: barredIn(fields), crossed: valueOf(fields, 'EnPassant')?.toLowerCase() ?? null });
 }
@@ -299,7 +301,7 @@ function fenOfBlock(text, block) {
  * BeginProblem that may follow; null if nothing follows.
  * @param {string} text
  */
-function tailOf(text) {
+export function tailOf(text) {
   const words = wordsOf(text);
   const at = words.findIndex(word => word.command === 'endproblem');
   if (at < 0 || at === words.length - 1) return null;
@@ -312,16 +314,16 @@ function tailOf(text) {
 }
 
 /** Joins a second text after EndProblem by NextProblem. */
-function withTail(text) {
+export function withTail(text) {
   const { end, opening } = tailOf(text);
   return replaced(text, [{ from: end.from, to: end.to, said: 'NextProblem' }, withBlanks(text, opening)]);
 }
 
 /** Returns the line of a place, counted from 1. */
-const lineOf = (text, place) => text.slice(0, place).split('\n').length;
+export const lineOf = (text, place) => text.slice(0, place).split('\n').length;
 
 // Returns where a line of a text, counted from 1, begins and ends.
-function lineAt(text, line) {
+export function lineAt(text, line) {
   let from = 0;
   for (let number = 1; number < line; number++) {
     const end = text.indexOf('\n', from);

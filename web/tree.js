@@ -1,6 +1,10 @@
+// @ts-check
 // The solutions as rows that fold, and the walk through their moves. Rows are drawn when they are unfolded, a number at
 // a time. While a report grows, only its last rows change.
-'use strict';
+import { element, makeButton } from './elements.js';
+import { foundIn, labelOf, rowsOf } from './report.js';
+import { say } from './words.js';
+
 const ROWS_AT_ONCE = 200;
 const MOST_UNFOLDED = 2000;
 
@@ -29,14 +33,14 @@ function placeIn(row, moves) {
 }
 
 // Says how many keys or lines were found; empty if that isn't known.
-function sayFound(item) {
+export function sayFound(item) {
   const found = foundIn(item);
   if (!found) return '';
   const said = say(found.name, found);
   return found.isStopped ? say('foundLeast', { found: said }) : said;
 }
 
-class Tree {
+export class Tree {
   // SHOW receives the chosen place or null: the men of the diagram, the moves from there, and the item.
   constructor(show) {
     this.showPlace = show;

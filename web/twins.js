@@ -1,7 +1,9 @@
 // @ts-check
 // Twins as one problem, as pops-page shows them: consecutive problems whose titles differ only in their labels.
 // A label is `a)`, `b)` .. or a number, with or without `duplex`, at the end of the title.
-'use strict';
+import { reading } from './explain/reading.js';
+import { COLOUR_NAMES } from './report.js';
+
 /** @typedef {{ title: string | null, author: string | null, origin: string | null, remarks: string[] }} Given */
 /** @typedef {{ text: string, number: number, isDuplex: boolean }} Label */
 const LABEL = /^(?:([^]*) )??(?:([a-z]|[0-9]{2,3})\)( duplex)?|(duplex))$/;
@@ -13,7 +15,7 @@ const MOST_CHANGES = 4;
  * @param {string} text
  * @returns {Given[]}
  */
-function givenOf(text) {
+export function givenOf(text) {
   return reading.problemsOf(text).map(({ tokens, isFirst }) => {
     // Text lines before BeginProblem have no effect.
     const first = isFirst ? tokens.findIndex(token => !reading.isTextLine(token)) : 0;
@@ -53,7 +55,7 @@ function continues(one, before) {
  * @param {T[]} problems each with { number, title, author }
  * @returns {(T & { label: Label })[][]}
  */
-function twinGroups(problems) {
+export function twinGroups(problems) {
   const groups = [];
   for (const problem of problems) {
     const one = { ...problem, ...labelled(problem.title), whole: problem.title };
@@ -65,7 +67,7 @@ function twinGroups(problems) {
 }
 
 /** Returns what a twin's Remark says about it, as `Move a1 b2`; empty without a Remark. */
-function saidOfTwin(label, remarks) {
+export function saidOfTwin(label, remarks) {
   const letter = label.text.split(' ')[0];
   const remark = letter.endsWith(')') ? remarks.find(it => it.startsWith(`${letter} `)) : undefined;
   return remark ? remark.slice(letter.length + 1) : '';
@@ -95,7 +97,7 @@ function changesOfMen(men, first) {
  * @param {{ men: Men | null, asked: string | null, label: Label, remarks: string[] }} twin
  * @param {{ men: Men | null, asked: string | null }} first
  */
-function twinChange(twin, first) {
+export function twinChange(twin, first) {
   const men = twin.men && first.men ? changesOfMen(twin.men, first.men) : [];
   const isLarge = men.length > MOST_CHANGES || twin.label.isDuplex;
   const computed = [...men, ...(twin.asked && first.asked && twin.asked !== first.asked ? [twin.asked] : [])].join(', ');

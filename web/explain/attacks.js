@@ -1,8 +1,8 @@
 // @ts-check
 // The men that attack a square: a king in check is shown with its checkers.
-'use strict';
+import { other, placeOf, squareOf } from '../position.js';
 
-const attacks = (() => {
+export const attacks = (() => {
   const LINES = [[1, 0], [-1, 0], [0, 1], [0, -1]];
   const DIAGONALS = [[1, 1], [1, -1], [-1, 1], [-1, -1]];
   const LEAPS = [[1, 2], [2, 1], [2, -1], [1, -2], [-1, -2], [-2, -1], [-2, 1], [-1, 2]];

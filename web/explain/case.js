@@ -1,6 +1,9 @@
 // @ts-check
 // A fault with what is known about its problem, and the parts of an explanation.
-'use strict';
+import { COLOUR_NAMES } from '../report.js';
+import { CONDITIONS } from '../text.js';
+import { characters } from './characters.js';
+import { reading } from './reading.js';
 
 /**
  * Makes an explanation with its places in the text.
@@ -8,29 +11,29 @@
  * @param {...Span} marks
  * @returns {Explanation}
  */
-function explained(text, ...marks) {
+export function explained(text, ...marks) {
   const places = new Map(marks.map(({ from, to }) => [`${from} ${to}`, { from, to }]));
   return { text, marks: [...places.values()].sort((one, next) => one.from - next.from) };
 }
 
 /** Quotes a word for explanations, a long word by its beginning. */
-function quoted({ word }) {
+export function quoted({ word }) {
   const letters = [...characters.shown(word)];
   return `\`${letters.length > 48 ? `${letters.slice(0, 48).join('')}..` : letters.join('')}\``;
 }
 
 /** Returns the first explanation of some causes. */
-function firstOf(causes) {
+export function firstOf(causes) {
   for (const it of causes) if (it) return it;
   throw new Error('no cause');
 }
 
-const wholeOf = ({ from, to, end }) => ({ from, to: end ?? to });
-const partOf = (word, from, to) => ({ from: word.from + from, to: word.from + to });
-const sideName = colour => (colour === 'w' ? 'White' : 'Black');
-const colourWord = colour => COLOUR_NAMES[colour];
+export const wholeOf = ({ from, to, end }) => ({ from, to: end ?? to });
+export const partOf = (word, from, to) => ({ from: word.from + from, to: word.from + to });
+export const sideName = colour => (colour === 'w' ? 'White' : 'Black');
+export const colourWord = colour => COLOUR_NAMES[colour];
 
-class FaultCase {
+export class FaultCase {
   static NAMES = [...reading.COMMAND_NAMES, ...reading.TEXT_NAMES, ...CONDITIONS, ...reading.OPTIONS, ...reading.COLOURS];
 
   /** The fault of a problem of a text. */
@@ -87,4 +90,4 @@ class FaultCase {
 }
 
 /** Returns the text word of a text line in full. */
-const textNameOf = line => reading.named(line.word, reading.TEXT_NAMES);
+export const textNameOf = line => reading.named(line.word, reading.TEXT_NAMES);

@@ -1,8 +1,8 @@
 // @ts-check
 // Invisible characters, and characters that look like others.
-'use strict';
+import { EXPLANATIONS } from './explanations.js';
 
-const characters = (() => {
+export const characters = (() => {
   const KNOWN = EXPLANATIONS.characters;
   const pairsOf = ([others, ours]) => new Map([...others].map((it, index) => [it, ours[index]]));
   const LIKE = { cyrillic: pairsOf(KNOWN.cyrillic), greek: pairsOf(KNOWN.greek) };

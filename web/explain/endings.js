@@ -1,8 +1,13 @@
 // @ts-check
 // Faults at the end of a problem or of the text: what is missing above.
-'use strict';
+import { lineOf } from '../text.js';
+import { explained, quoted, textNameOf, wholeOf } from './case.js';
+import { characters } from './characters.js';
+import { reading } from './reading.js';
+import { sentence } from './sentences.js';
+import { wordings } from './wordings.js';
 
-const endingCauses = (() => {
+export const endingCauses = (() => {
   const { named } = reading;
   const wordsIn = (text, { to, end }) => text.slice(to, end).split(/\s+/).filter(Boolean);
 

@@ -1,8 +1,16 @@
 // @ts-check
 // Explains the faults of a report by its input, as pops-explain does.
-'use strict';
+import { lineAt, lineOf } from '../text.js';
+import { FaultCase, firstOf } from './case.js';
+import { characters } from './characters.js';
+import { endingCauses } from './endings.js';
+import { menCauses } from './men.js';
+import { misplacedCauses } from './misplaced.js';
+import { optionCauses } from './options.js';
+import { reading } from './reading.js';
+import { stipulationCauses } from './stipulations.js';
 
-const explaining = (() => {
+export const explaining = (() => {
   const { FAULT } = reading;
   const LONGEST_LINE = 160;
   const ROOM_BEFORE = 60;

@@ -1,8 +1,15 @@
 // @ts-check
 // Faults of men, their colours and squares, and of the kings.
-'use strict';
+import { other } from '../position.js';
+import { MAN_NAMES } from '../report.js';
+import { colourWord, explained, partOf, quoted, sideName, textNameOf, wholeOf } from './case.js';
+import { EXPLANATIONS } from './explanations.js';
+import { reading } from './reading.js';
+import { listed, sentence } from './sentences.js';
+import { vocabulary } from './vocabulary.js';
+import { wordings } from './wordings.js';
 
-const menCauses = (() => {
+export const menCauses = (() => {
   const { COLOURS, COMMAND_NAMES, TEXT_NAMES, named, squaresIn, kindOf, isMan } = reading;
   const NAMES = Object.entries(MAN_NAMES).sort(([, one], [, next]) => next.length - one.length);
   const CYRILLIC = EXPLANATIONS.characters.cyrillicMen;

@@ -1,8 +1,16 @@
 // @ts-check
 // Faults of words: the text doesn't begin with BeginProblem, a word is unknown or misplaced, a word is too long.
-'use strict';
+import { CONDITIONS } from '../text.js';
+import { explained, quoted } from './case.js';
+import { EXPLANATIONS } from './explanations.js';
+import { menCauses } from './men.js';
+import { reading } from './reading.js';
+import { listed, sentence } from './sentences.js';
+import { stipulationCauses } from './stipulations.js';
+import { vocabulary } from './vocabulary.js';
+import { wordings } from './wordings.js';
 
-const misplacedCauses = (() => {
+export const misplacedCauses = (() => {
   const { SECTIONS, COMMAND_NAMES, OPTIONS, COLOURS, LONGEST_WORD, named, squaresIn, isMan, isNumber } = reading;
   const { looksLikeStipulation } = stipulationCauses;
 

@@ -1,8 +1,14 @@
 // @ts-check
 // Faults of conditions, and of the numbers and squares of options.
-'use strict';
+import { other } from '../position.js';
+import { colourWord, explained, partOf, quoted, sideName } from './case.js';
+import { menCauses } from './men.js';
+import { reading } from './reading.js';
+import { listed, sentence } from './sentences.js';
+import { vocabulary } from './vocabulary.js';
+import { wordings } from './wordings.js';
 
-const optionCauses = (() => {
+export const optionCauses = (() => {
   const { COMMAND_NAMES, OPTIONS, CASTLING_SQUARES, MOST_SOLUTIONS, named, squaresIn, isMan, isNumber } = reading;
   const SIDES = /^(?:white|black|w|b|[kq]{1,4}|0-0(-0)?|o-o(-o)?|-|both|yes|no)$/i;
 

@@ -1,8 +1,10 @@
 // @ts-check
 // Reads a problem as pops does, up to its fault. The report of pops decides; this reading finds the word at fault.
-'use strict';
+import { other } from '../position.js';
+import { CONDITIONS, FLAGS, KINDS, wordsOf } from '../text.js';
+import { attacks } from './attacks.js';
 
-const reading = (() => {
+export const reading = (() => {
   const SECTIONS = ['Pieces', 'Stipulation', 'Condition', 'Option'];
   const COMMAND_NAMES = ['BeginProblem', ...SECTIONS, 'NextProblem', 'EndProblem'];
   const TEXT_NAMES = ['Title', 'Author', 'Origin', 'Remark'];

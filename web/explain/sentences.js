@@ -1,6 +1,7 @@
 // @ts-check
 // The sentences of explanations: companions/pops_explain/explanations.json, which pops-explain reads too.
-'use strict';
+import { EXPLANATIONS } from './explanations.js';
+
 /** @typedef {{ from: number, to: number }} Span */
 /** @typedef {{ text: string, marks: Span[] }} Explanation what is wrong and what to do, with the places to look at */
 
@@ -9,7 +10,7 @@
  * @param {string} name
  * @param {Record<string, unknown>} [values]
  */
-function sentence(name, values = {}) {
+export function sentence(name, values = {}) {
   return EXPLANATIONS.sentences[name].replace(/\{(\w+)\}/g, (_, key) => String(values[key]));
 }
 
@@ -17,6 +18,6 @@ function sentence(name, values = {}) {
  * Joins names as in `a, b and c`.
  * @param {string[]} names
  */
-function listed(names, last = 'and') {
+export function listed(names, last = 'and') {
   return names.length < 2 ? names.join('') : `${names.slice(0, -1).join(', ')} ${last} ${names.at(-1)}`;
 }

@@ -1,8 +1,13 @@
 // @ts-check
 // Faults of stipulations: a bad one, or a second one.
-'use strict';
+import { CONDITIONS } from '../text.js';
+import { quoted } from './case.js';
+import { EXPLANATIONS } from './explanations.js';
+import { reading } from './reading.js';
+import { sentence } from './sentences.js';
+import { wordings } from './wordings.js';
 
-const stipulationCauses = (() => {
+export const stipulationCauses = (() => {
   const KNOWN = EXPLANATIONS.stipulations;
   const { MOST_MOVES, OPTIONS, COLOURS, named, isMan, isNumber } = reading;
   const LIKE = /^(?:[a-z]{0,5}-)?[a-z]{0,2}(?:#|==?)[0-9]+(?:\.5)?$/i;

@@ -1,8 +1,10 @@
 // @ts-check
 // Words of Popeye that pops doesn't read, German and French words, and the men's letters of other languages.
-'use strict';
+import { KINDS } from '../text.js';
+import { EXPLANATIONS } from './explanations.js';
+import { sentence } from './sentences.js';
 
-const vocabulary = (() => {
+export const vocabulary = (() => {
   const { popeye, foreign: foreignWords, alphabets } = EXPLANATIONS;
   const UMLAUTS = { ä: 'ae', ö: 'oe', ü: 'ue', ß: 'ss' };
   const rowsOf = (kind, instead) => Object.entries(instead).map(([name, text]) => ({ what: sentence(kind), name, instead: text }));

@@ -1,8 +1,14 @@
 // @ts-check
 // Causes that words of every section share: characters, signs, blanks, comments, spelling.
-'use strict';
+import { lineOf } from '../text.js';
+import { FaultCase, textNameOf, wholeOf } from './case.js';
+import { characters } from './characters.js';
+import { EXPLANATIONS } from './explanations.js';
+import { reading } from './reading.js';
+import { sentence } from './sentences.js';
+import { vocabulary } from './vocabulary.js';
 
-const wordings = (() => {
+export const wordings = (() => {
   const SIGNS = EXPLANATIONS.signs;
   const SIGN = `[${Object.keys(SIGNS).join('').replace(/[\]\\^-]/g, '\\$&')}]`;
   const COMMENT = /^(#|%|\/\/|\/\*|\*|;|--|<!--|\{|!|")/;

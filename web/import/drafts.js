@@ -1,16 +1,19 @@
 // @ts-check
 // Problems of other programs, with their twins, and their text for pops. What pops can't read is left out, with the
 // reason.
-'use strict';
+import { explaining } from '../explain/explaining.js';
+import { sidesOf } from '../text.js';
+import { say } from '../words.js';
+
 /** @typedef {{ men: Men, stipulation: string, conditions: string[] }} Setting */
 /** @typedef {{ text: string, make: (setting: Setting) => Setting }} Change */
 /** @typedef {{ label: string, isContinued: boolean, changes: Change[] }} DraftTwin */
 /** @typedef {{ texts: [string, string][], setting: Setting, options: string[], notes: string[], twins: DraftTwin[], isZero: boolean }} Draft */
 
 /** Why a problem can't be read or posed. */
-class Unposed extends Error {}
+export class Unposed extends Error {}
 
-const drafts = (() => {
+export const drafts = (() => {
   const letterOf = index => `${String.fromCharCode(97 + index)})`;
 
   /** @returns {Draft} */

@@ -1,8 +1,15 @@
 // @ts-check
 // Reads inputs of Popeye in English, German or French, by Popeye's manual: the words that problems of pops can use.
-'use strict';
+import { characters } from '../explain/characters.js';
+import { EXPLANATIONS } from '../explain/explanations.js';
+import { reading } from '../explain/reading.js';
+import { vocabulary } from '../explain/vocabulary.js';
+import { other, placeOf, squareOf } from '../position.js';
+import { CONDITIONS, KINDS, sidesOf } from '../text.js';
+import { say } from '../words.js';
+import { drafts, Unposed } from './drafts.js';
 
-const popeye = (() => {
+export const popeye = (() => {
   const TEXTS = ['Title', 'Author', 'Origin', 'Remark', 'Award'];
   const NAMES = [...reading.COMMAND_NAMES, 'Twin', 'ZeroPosition', 'Forsyth', ...TEXTS];
   const CHANGES = ['Move', 'Exchange', 'Remove', 'Add', 'Substitute', 'Stipulation', 'Condition', 'Rotate', 'Mirror', 'Shift', 'PolishType', 'Continued'];

@@ -1,8 +1,10 @@
 // @ts-check
 // Reads collections in YAML in the form of Olive and YACPDB, written from memory: the keys that make a problem.
-'use strict';
+import { say } from '../words.js';
+import { Unposed } from './drafts.js';
+import { popeye } from './popeye.js';
 
-const yaml = (() => {
+export const yaml = (() => {
   const KEY = /^("[^"]*"|'[^']*'|[^\s"'[\]{},:#][^:#]*?)\s*:(?:\s+(.*))?$/;
 
   const withoutComment = line => line.replace(/(^|\s)#(?=[^"']*$).*/, '$1').trimEnd();

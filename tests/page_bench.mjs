@@ -1,8 +1,8 @@
 // Uses the page in Node, with a stand-in for a browser's document: what the page does with gestures,
-// pasted texts and reports. Standard input: the modules, the parts of the template, and cases, each a text, a report of it
+// pasted texts and reports. Standard input: the parts of the template, and cases, each a text, a report of it
 // and steps, which are scripts. Standard output: for each case the values of its steps.
-'use strict';
-const { readFileSync } = require('fs');
+import { readFileSync } from 'node:fs';
+import { evaluated, importAll, modulePaths } from './page_imports.mjs';
 
 // An element: a box of children with text, attributes and listeners.
 class Thing {
@@ -89,37 +89,31 @@ Object.defineProperty(globalThis, 'navigator', { value: { hardwareConcurrency: 1
 
 // The actions of cases: an event of the whole page, a drag from an element to a square, a report that has come.
 const send = (name, event) => (listeners.get(name) ?? []).forEach(act => act({ button: 0, target: new Thing('div'), preventDefault() {}, ...event }));
-globalThis.paste = text => send('paste', { clipboardData: { getData: () => text } });
-globalThis.drag = (thing, square) => {
+const paste = text => send('paste', { clipboardData: { getData: () => text } });
+const drag = (thing, square) => {
   under = square;
   thing.onpointerdown({ button: 0, clientX: 0, clientY: 0, target: thing });
   send('pointermove', { clientX: 100, clientY: 100 });
   send('pointerup', { clientX: 100, clientY: 100 });
 };
-globalThis.report = text => {
-  Object.assign(state, { solved: textNow(), report: text, isBeginning: false });
-  drawReport();
-};
 
 for (const [name, text] of Object.entries(given.parts)) made(name).own = text;
 made('tail').append(new Thing('span'));
-require('vm').runInThisContext(`const EXPLANATIONS = ${readFileSync('companions/pops_explain/explanations.json', 'utf8')};`);
-require('vm').runInThisContext(given.modules.map(name => readFileSync(`web/${name}.js`, 'utf8')).join('\n'));
-require('vm').runInThisContext('begin()');
+const modules = await importAll(modulePaths());
+send('DOMContentLoaded', {});
+const report = text => {
+  modules.beginReport(modules.textNow());
+  modules.state.addReport(text);
+  modules.drawReport();
+};
+// (after the page has begun: some names get their values then)
+const names = { ...modules, ...await importAll(['page/views.js']), report, paste, drag };
 
-function answered(script) {
-  try {
-    return require('vm').runInThisContext(script) ?? null;
-  } catch (fault) {
-    return { thrown: String(fault.stack) };
-  }
-}
-
-console.log(JSON.stringify(given.cases.map(({ text, report, steps }) => {
-  setText(text);
-  state.number = 1;
-  follow();
-  if (report) globalThis.report(report);
-  return steps.map(answered);
+console.log(JSON.stringify(given.cases.map(({ text, report: known, steps }) => {
+  names.setText(text);
+  names.state.choose(1);
+  names.state.follow();
+  if (known) report(known);
+  return steps.map(script => evaluated(script, names));
 })));
 process.exit(0);

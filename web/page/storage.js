@@ -1,0 +1,22 @@
+// @ts-check
+// The browser's own storage, which some browsers refuse.
+
+/** Returns a stored value; null if there is none. */
+export function kept(key) {
+  try {
+    return localStorage.getItem(key);
+  } catch {
+    return null;
+  }
+}
+
+/** Stores a value, or removes it if it is null; returns false if the browser stores nothing. */
+export function keep(key, value) {
+  try {
+    if (value === null) localStorage.removeItem(key);
+    else localStorage.setItem(key, value);
+    return true;
+  } catch {
+    return false;
+  }
+}
