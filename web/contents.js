@@ -23,13 +23,21 @@ export function contentsOf(text) {
   });
 }
 
-/** Names a problem for the list: its number, then title and stipulation, or stipulation and men. */
+/**
+ * Names a problem for the list: its number, then title and stipulation, or stipulation and men.
+ * @param {Content} problem
+ */
 function nameOfProblem({ number, title, asked, men }) {
   const name = [title, asked, title ? '' : sidesOf(men).trim()].filter(Boolean).join(' · ');
   return `${number}. ${name.slice(0, LONGEST_NAME)}`;
 }
 
-/** Returns the group of twins that a problem belongs to, each with what changes in it; empty if it has no twins. */
+/**
+ * Returns the group of twins that a problem belongs to, each with what changes in it; empty if it has no twins.
+ * @param {string} text
+ * @param {Content[]} contents
+ * @param {number | undefined} number
+ */
 export function twinsOf(text, contents, number) {
   const group = twinGroups(contents).find(twins => twins.some(twin => twin.number === number)) ?? [];
   if (group.length < 2) return [];
@@ -55,6 +63,7 @@ export function showContents() {
   showTwins(twinsOf(textNow(), contents, blockNow()?.number));
 }
 
+/** @param {ContentTwin[]} twins */
 function showTwins(twins) {
   const now = blockNow()?.number;
   element('twins').hidden = !twins.length;

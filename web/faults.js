@@ -8,14 +8,21 @@ import { say } from './words.js';
 
 const LONGEST_QUOTED_LINE = 300;
 
-/** Draws a line of the text with its number, in pieces, some of them marked. */
+/**
+ * Draws a line of the text with its number, in pieces, some of them marked.
+ * @param {MarkedLine} marked
+ */
 function drawnLine({ line, pieces }) {
   const drawn = madeWith('code', `${line} | `);
   drawn.append(...pieces.map(({ text, isMarked }) => madeWith(isMarked ? 'mark' : 'span', text)));
   return drawn;
 }
 
-/** Returns the line of a fault without marks, if no word of it is known. */
+/**
+ * Returns the line of a fault without marks, if no word of it is known.
+ * @param {string} text
+ * @param {number} line
+ */
 function bareLine(text, line) {
   const { from, to } = lineAt(text, line);
   const said = characters.shown(text.slice(from, Math.min(to, from + LONGEST_QUOTED_LINE)).replace(/[\t\v\f\r]/g, ' '));

@@ -7,6 +7,7 @@ import { blockNow, state, textNow } from './page/state.js';
 import { board, note, tree } from './page/views.js';
 import { showPlace } from './page/walk.js';
 import { halfAfter, moveBetween, promotes, withProblemAfter, withReached } from './play.js';
+import { manAt } from './position.js';
 import { fieldsOf, isShort, menOf, valueOf } from './text.js';
 import { say, sayMan } from './words.js';
 
@@ -16,13 +17,18 @@ export function togglePlaying() {
   element('playing').setAttribute('aria-pressed', String(state.isPlaying));
 }
 
-/** Moves a man: plays the move if a position after moves is shown, or moves are to be played; else changes the diagram. */
+/**
+ * Moves a man: plays the move if a position after moves is shown, or moves are to be played; else changes the diagram.
+ * @param {Square} from
+ * @param {Square} to
+ */
 export function move(from, to) {
   if (!state.place && !state.isPlaying) moveInDiagram(from, to);
   else if (promotes(board.men, from, to)) choosePromotion(from, to);
   else playMove(from, to, null);
 }
 
+/** @param {Square} from @param {Square} to */
 function moveInDiagram(from, to) {
   change(men => {
     const moved = new Map(men);
@@ -32,6 +38,7 @@ function moveInDiagram(from, to) {
   });
 }
 
+/** @param {Square} from @param {Square} to @param {string | null} promotion */
 function playMove(from, to, promotion) {
   const block = blockNow();
   if (!block || !board.men.has(from)) return;
@@ -39,16 +46,20 @@ function playMove(from, to, promotion) {
   const word = valueOf(fields, 'stipulation') ?? '';
   const play = { isHelp: /^h/i.test(word), isHalf: /^h.*\.5$/i.test(word) };
   const { start, moves } = state.place ?? { start: menOf(block).men, moves: [] };
-  const half = halfAfter(moves, board.men.get(from)[0], play);
+  const half = halfAfter(moves, manAt(board.men, from)[0], play);
   const isCirce = isShort(valueOf(fields, 'condition') ?? '', 'Circe');
   const played = moveBetween(board.men, { from, to, promotion, half, isCirce });
   tree.unmark();
   showPlace({ start, moves: [...moves, played], item: null });
 }
 
-/** Lets the user choose what a pawn becomes. */
+/**
+ * Lets the user choose what a pawn becomes.
+ * @param {Square} from
+ * @param {Square} to
+ */
 function choosePromotion(from, to) {
-  const [colour] = board.men.get(from);
+  const [colour] = manAt(board.men, from);
   const fairy = 'GN'.split('').filter(kind => [...board.men.values()].some(man => man[1] === kind));
   element('promotion').replaceChildren(...['Q', 'R', 'B', 'S', ...fairy].map(kind => {
     const made = makeButton(sayMan(colour + kind), () => playMove(from, to, kind));
@@ -59,7 +70,7 @@ function choosePromotion(from, to) {
   element('promotion').firstElementChild.focus();
 }
 
-const reachedNow = () => ({ men: state.walked, moves: state.place.moves });
+const reachedNow = () => ({ men: state.walked ?? new Map(), moves: state.place?.moves ?? [] });
 
 /** Makes the shown position the problem's diagram. */
 export function makeProblem() {

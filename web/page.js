@@ -1,7 +1,7 @@
 // @ts-check
 // The page: builds its parts, connects buttons, keys and events, and begins with the text of the link, the last visit or an example.
 import { showContents } from './contents.js';
-import { element, makeButton } from './elements.js';
+import { element, makeButton, partText } from './elements.js';
 import { makeProblem, move, solveFromHere, togglePlaying } from './line.js';
 import {
   addProblem, change, changeBoard, fenWritten, goSteps, goToProblem, joinTail, keepText, placed, showProblem,
@@ -23,12 +23,16 @@ import { language, say } from './words.js';
 
 const CHANGE_SIGNS = { left: '←', right: '→', up: '↑', down: '↓', mirror: '⇋', turn: '↻' };
 
+/** @param {string} name @returns {NodeListOf<HTMLElement>} the elements with this attribute */
+const allWith = name => document.querySelectorAll(`[${name}]`);
+
 function fillWords() {
   document.documentElement.lang = language;
-  for (const it of document.querySelectorAll('[data-word]')) it.textContent = say(it.dataset.word);
-  for (const it of document.querySelectorAll('[data-label]')) it.setAttribute('aria-label', say(it.dataset.label));
+  for (const it of allWith('data-word')) it.textContent = say(it.dataset.word ?? '');
+  for (const it of allWith('data-label')) it.setAttribute('aria-label', say(it.dataset.label ?? ''));
 }
 
+/** @param {string} row @param {string} name @param {string | null} sign @param {() => void} act */
 function addButton(row, name, sign, act) {
   const made = makeButton(say(name), act);
   made.id = name;
@@ -56,9 +60,10 @@ function buildButtons() {
   for (const [name, act] of Object.entries(OUTS)) addButton('outs', name, null, act);
 }
 
+/** @param {KeyboardEvent} event */
 function keyPressed(event) {
   const key = event.key.toLowerCase();
-  const isField = event.target.closest?.('input:not([type=checkbox])');
+  const isField = /** @type {Element} */ (event.target).closest?.('input:not([type=checkbox])');
   if (event.key === 'Escape' && state.walked) leave();
   if (!event.ctrlKey && !event.metaKey) return;
   if (key === 'enter') solve();
@@ -96,11 +101,11 @@ function listen() {
 
 function begin() {
   fillWords();
-  element('shapes').innerHTML = element('men-shapes').textContent;
+  element('shapes').innerHTML = partText('men-shapes');
   buildButtons();
   buildFields();
   buildViews({ change, move }, showPlace);
-  element('text').value = textOfFragment(location.hash) ?? kept('pops') ?? element('example').textContent.trimStart();
+  element('text').value = textOfFragment(location.hash) ?? kept('pops') ?? partText('example').trimStart();
   state.beginSteps(textNow());
   state.addFollowers(showProblem, showFields, showContents, showTail, keepText, () => notes.check());
   listen();

@@ -19,12 +19,14 @@ export function fillPrint() {
   element('print').replaceChildren(printedDiagram(shown[0] ?? null), printedLines(shown));
 }
 
+/** @param {string} tag @param {string} name @param {string} text */
 function printedPart(tag, name, text) {
   const made = madeWith(tag, text);
   made.className = name;
   return made;
 }
 
+/** @param {PrintedProblem | null} first */
 function printedDiagram(first) {
   const men = first?.men ?? new Map();
   const block = first && blocksOf(textNow())[first.number - 1];
@@ -41,6 +43,7 @@ function printedDiagram(first) {
   return made;
 }
 
+/** @param {PrintedProblem[]} shown */
 function printedLines(shown) {
   const isSolved = state.isSolved();
   const lines = shown.flatMap(({ number, label, change, asked }, index) => {

@@ -8,24 +8,39 @@ const MOST_LINKED_LETTERS = 30000;
 const MOST_STEPS = 200;
 export const MOST_FILE_BYTES = 1 << 23;
 
-// Returns the fragment of a link with this text, or null if it would be too long.
+/**
+ * Returns the fragment of a link with this text, or null if it would be too long.
+ * @param {string} text
+ */
 export function fragmentOf(text) {
   const fragment = `#${new URLSearchParams({ text })}`;
   return fragment.length > MOST_LINKED_LETTERS ? null : fragment;
 }
 
-// Returns the text in a link's fragment, or null.
+/**
+ * Returns the text in a link's fragment, or null.
+ * @param {string} fragment
+ */
 export const textOfFragment = fragment => new URLSearchParams(fragment.slice(1)).get('text');
 
-// Returns the list of stored texts with this one first, and no text twice.
+/**
+ * Returns the list of stored texts with this one first, and no text twice.
+ * @param {KeptText[]} kept
+ * @param {string} text
+ * @param {number} time
+ */
 export function withKept(kept, text, time) {
   if (text.length > MOST_KEPT_LETTERS || !text.trim()) return kept;
   return [{ text, time }, ...kept.filter(it => it.text !== text)].slice(0, MOST_KEPT);
 }
 
-// Reads a stored list; what isn't a list of texts is dropped.
+/**
+ * Reads a stored list; what isn't a list of texts is dropped.
+ * @param {string} written
+ */
 export function keptOf(written) {
   try {
+    /** @type {KeptText[]} */
     const list = JSON.parse(written);
     return list.filter(it => typeof it.text === 'string' && Number.isFinite(it.time)).slice(0, MOST_KEPT);
   } catch {
@@ -33,7 +48,10 @@ export function keptOf(written) {
   }
 }
 
-// Returns a name of a text for a list: its title, else its stipulation.
+/**
+ * Returns a name of a text for a list: its title, else its stipulation.
+ * @param {string} text
+ */
 export function nameOfText(text) {
   const block = blockAt(text, 0);
   if (!block) return text.trim().slice(0, 40);
@@ -42,7 +60,10 @@ export function nameOfText(text) {
   return said.trim().slice(0, 60);
 }
 
-// Decodes a file's bytes, and says whether they were UTF-8; others are read as Windows-1252.
+/**
+ * Decodes a file's bytes, and says whether they were UTF-8; others are read as Windows-1252.
+ * @param {Uint8Array} bytes
+ */
 export function textOfBytes(bytes) {
   try {
     return { text: new TextDecoder('utf-8', { fatal: true }).decode(bytes), isUtf8: true };
@@ -53,11 +74,13 @@ export function textOfBytes(bytes) {
 
 // Undo and redo of texts.
 export class Steps {
+  /** @param {string} text */
   constructor(text) {
     this.texts = [text];
     this.place = 0;
   }
 
+  /** @param {string} text */
   add(text) {
     if (text === this.texts[this.place]) return;
     this.texts.splice(this.place + 1, this.texts.length, text);
@@ -65,7 +88,10 @@ export class Steps {
     this.place = this.texts.length - 1;
   }
 
-  // Returns the text one step further, or null at the end.
+  /**
+   * Returns the text one step further, or null at the end.
+   * @param {number} step
+   */
   go(step) {
     const text = this.texts[this.place + step];
     if (text === undefined) return null;
@@ -73,6 +99,7 @@ export class Steps {
     return text;
   }
 
+  /** @param {number} step */
   has(step) {
     return this.texts[this.place + step] !== undefined;
   }

@@ -2,8 +2,6 @@
 // The sentences of explanations: companions/pops_explain/explanations.json, which pops-explain reads too.
 import { EXPLANATIONS } from './explanations.js';
 
-/** @typedef {{ from: number, to: number }} Span */
-/** @typedef {{ text: string, marks: Span[] }} Explanation what is wrong and what to do, with the places to look at */
 
 /**
  * Returns a sentence with these values.
@@ -11,7 +9,7 @@ import { EXPLANATIONS } from './explanations.js';
  * @param {Record<string, unknown>} [values]
  */
 export function sentence(name, values = {}) {
-  return EXPLANATIONS.sentences[name].replace(/\{(\w+)\}/g, (_, key) => String(values[key]));
+  return EXPLANATIONS.sentences[name].replace(/\{(\w+)\}/g, (/** @type {string} */ _, /** @type {string} */ key) => String(values[key]));
 }
 
 /**

@@ -7,7 +7,10 @@ import { drafts } from './drafts.js';
 import { popeye } from './popeye.js';
 import { yaml } from './yaml.js';
 
-/** Returns whether a text that begins as ours has words that only Popeye reads, or is in another language. */
+/**
+ * Returns whether a text that begins as ours has words that only Popeye reads, or is in another language.
+ * @param {string} text
+ */
 function isOfPopeye(text) {
   const words = wordsOf(text).filter(token => !reading.isTextLine(token));
   const [first] = words;

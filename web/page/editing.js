@@ -18,7 +18,10 @@ export const LONG_TEXT = 100000;
 /** @type {ReturnType<typeof setTimeout> | undefined} runs out when a pause in typing is long enough for a step of undo */
 let typing;
 
-/** Sets the text and shows everything again. */
+/**
+ * Sets the text and shows everything again.
+ * @param {string} text
+ */
 export function setText(text) {
   leave();
   element('text').value = text;
@@ -52,7 +55,10 @@ export function placed() {
   state.follow();
 }
 
-/** Shows a problem on the board and in the text. */
+/**
+ * Shows a problem on the board and in the text.
+ * @param {number} number
+ */
 export function goToProblem(number) {
   endTyping();
   leave();
@@ -69,7 +75,10 @@ function blockMade() {
   return blockNow();
 }
 
-/** Changes the men of the problem on the board, after leaving a solution that is stepped through. */
+/**
+ * Changes the men of the problem on the board, after leaving a solution that is stepped through.
+ * @param {(men: Men) => Men | null} changer
+ */
 export function change(changer) {
   endTyping();
   leave();
@@ -81,17 +90,23 @@ export function change(changer) {
   else note(say('leaves'));
 }
 
+/** @param {string} word */
 function noteUnknown(word) {
   const isThere = () => Boolean(blockNow()) && menOf(blockNow()).unknown.includes(word);
   note(say('unknownWord', { word: word.slice(0, 40) }), isThere);
 }
 
+/** @param {string} name */
 export function changeBoard(name) {
+  /** @type {Record<string, (men: Men) => Men>} */
   const changers = { clear: () => new Map(), exchange: exchanged };
   change(changers[name] ?? (men => changed(men, name)));
 }
 
-/** Undoes, or redoes, some steps. */
+/**
+ * Undoes, or redoes, some steps.
+ * @param {number} step
+ */
 export function goSteps(step) {
   endTyping();
   const text = state.steps.go(step);
@@ -101,7 +116,10 @@ export function goSteps(step) {
   state.follow();
 }
 
-/** Replaces the position on the board by a position in FEN; returns false if the text isn't FEN. */
+/**
+ * Replaces the position on the board by a position in FEN; returns false if the text isn't FEN.
+ * @param {string} text
+ */
 export function takeFen(text) {
   const fen = readFen(text);
   if (!fen) return false;
@@ -113,7 +131,10 @@ export function takeFen(text) {
   return true;
 }
 
-/** Takes over a whole text, a text of another program, or a position in FEN. */
+/**
+ * Takes over a whole text, a text of another program, or a position in FEN.
+ * @param {string} text
+ */
 export function takeText(text) {
   if (takeFen(text)) return;
   const made = text.length < LONG_TEXT ? imported(text) : null;
@@ -126,7 +147,7 @@ export function takeText(text) {
 export function addProblem() {
   endTyping();
   const blocks = blocksOf(textNow());
-  const text = blocks.length ? withLine(textNow(), blocks.at(-1), 'NextProblem\nStipulation #2') : textNow() + NEW_PROBLEM;
+  const text = blocks.length ? withLine(textNow(), blocks[blocks.length - 1], 'NextProblem\nStipulation #2') : textNow() + NEW_PROBLEM;
   state.choose(blocks.length + 1);
   setText(text);
 }
@@ -140,7 +161,8 @@ export function showProblem() {
   element('count').textContent = block
     ? say('count', { number: block.number, all, white: countOf(men, 'w'), black: countOf(men, 'b') }) : say('none');
   if (document.activeElement !== element('fen')) element('fen').value = block ? fenOfBlock(textNow(), block) : '';
-  for (const [id, step] of [['undo', -1], ['redo', 1]]) element(id).disabled = !state.steps.has(step);
+  element('undo').disabled = !state.steps.has(-1);
+  element('redo').disabled = !state.steps.has(1);
 }
 
 /** Says that the text continues after its EndProblem. */
@@ -148,7 +170,7 @@ export function showTail() {
   const tail = tailOf(textNow());
   element('tail').hidden = !tail;
   if (!tail) return;
-  element('tail').firstElementChild.textContent = say(tail.opening ? 'tail' : 'tailLoose', tail);
+  element('tail').children[0].textContent = say(tail.opening ? 'tail' : 'tailLoose', tail);
   element('join').hidden = !tail.opening;
 }
 

@@ -12,11 +12,14 @@ const FIELDS = [
   ['MaxSolutions', 'maxSolutions'], ['EnPassant', 'enPassant'], ['NoCastling', 'noCastling'],
 ];
 
+/** @param {string} name @returns {HTMLInputElement} the field, which may be a select */
+const inputOf = name => /** @type {any} */ (element(`field-${name}`));
+
 export function showFields() {
   const block = blockNow();
   const fields = block ? fieldsOf(textNow(), block) : {};
   for (const [name] of FIELDS) {
-    const input = element(`field-${name}`);
+    const input = inputOf(name);
     const said = valueOf(fields, name in fields ? name : name.toLowerCase());
     input.disabled = !block;
     if (input.type === 'checkbox') input.checked = said !== null;
@@ -25,10 +28,13 @@ export function showFields() {
   }
 }
 
-/** Writes a field's value into the text. */
+/**
+ * Writes a field's value into the text.
+ * @param {string} name
+ */
 export function fieldChanged(name) {
   endTyping();
-  const input = element(`field-${name}`);
+  const input = inputOf(name);
   const block = blockNow();
   if (!block) return;
   const isFlag = input.type === 'checkbox';
@@ -45,6 +51,7 @@ function fieldRows() {
   }));
 }
 
+/** @param {string} name @param {string} word */
 function builtField(name, word) {
   const isFlag = FLAGS.includes(name);
   const label = document.createElement('label');
@@ -53,7 +60,7 @@ function builtField(name, word) {
   input.id = `field-${name}`;
   said.textContent = say(word);
   if (name === 'Condition') input.append(new Option(say('noCondition'), ''), ...CONDITIONS.map(it => new Option(it, it)));
-  else input.type = isFlag ? 'checkbox' : 'text';
+  else /** @type {HTMLInputElement} */ (input).type = isFlag ? 'checkbox' : 'text';
   input.onchange = () => fieldChanged(name);
   label.append(...(isFlag ? [input, said] : [said, input]));
   if (!isFlag) label.className = 'field';

@@ -9,6 +9,7 @@ import { say } from '../words.js';
 import { LONG_TEXT, takeFen, takeText } from './editing.js';
 import { note } from './views.js';
 
+/** @param {File | undefined} file */
 async function takeFile(file) {
   if (!file) return;
   if (file.size > MOST_FILE_BYTES) {
@@ -22,9 +23,10 @@ async function takeFile(file) {
   note([say(isUtf8 ? 'fileTaken' : 'fileLatin', { name: file.name }), said].filter(Boolean).join('. '));
 }
 
+/** @param {ClipboardEvent} event */
 function pasted(event) {
   const text = event.clipboardData?.getData('text/plain') ?? '';
-  const isField = event.target.closest?.('input, select');
+  const isField = /** @type {Element} */ (event.target).closest?.('input, select');
   const isText = event.target === element('text');
   if (isField || !text) return;
   if (readFen(text)) takeFen(text);
@@ -33,19 +35,22 @@ function pasted(event) {
   event.preventDefault();
 }
 
+/** @param {DragEvent} event */
 function dropped(event) {
   document.body.classList.remove('dropping');
   if (!isDroppable(event)) return;
   event.preventDefault();
-  if (event.dataTransfer.files.length) takeFile(event.dataTransfer.files[0]);
-  else takeText(event.dataTransfer.getData('text/plain'));
+  const { dataTransfer } = event;
+  if (dataTransfer?.files.length) takeFile(dataTransfer.files[0]);
+  else takeText(dataTransfer?.getData('text/plain') ?? '');
 }
 
+/** @param {DragEvent} event */
 const isDroppable = event => [...event.dataTransfer?.types ?? []].some(type => type === 'Files' || type === 'text/plain');
 
 export function listenToFiles() {
   element('open').onclick = () => element('file').click();
-  element('file').onchange = () => takeFile(element('file').files[0]).then(() => { element('file').value = ''; });
+  element('file').onchange = () => takeFile(element('file').files?.[0]).then(() => { element('file').value = ''; });
   addEventListener('dragover', event => {
     if (!isDroppable(event)) return;
     event.preventDefault();
@@ -53,5 +58,5 @@ export function listenToFiles() {
   });
   addEventListener('dragleave', () => document.body.classList.remove('dropping'));
   addEventListener('drop', dropped);
-  addEventListener('paste', pasted);
+  addEventListener('paste', event => pasted(/** @type {ClipboardEvent} */ (event)));
 }

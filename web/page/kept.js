@@ -10,7 +10,10 @@ function keptList() {
   return keptOf(kept('pops.kept') ?? '[]');
 }
 
-/** Adds a text that was solved. */
+/**
+ * Adds a text that was solved.
+ * @param {string} text
+ */
 export function keepProblem(text) {
   keep('pops.kept', JSON.stringify(withKept(keptList(), text, Date.now())));
   showKept();

@@ -13,7 +13,10 @@ const LEAST_PAUSE = 200;
 /** @type {{ timer: ReturnType<typeof setTimeout> | null, pause: number }} the next drawing, and the pause before it */
 const drawing = { timer: null, pause: LEAST_PAUSE };
 
-/** Returns the men of an item's diagram: from the report, or from the text if the report shows no board. */
+/**
+ * Returns the men of an item's diagram: from the report, or from the text if the report shows no board.
+ * @param {Item} item
+ */
 function diagramMen(item) {
   if (item.ranks.length) return menOfRanks(item.ranks);
   const block = blocksOf(state.solved)[item.number - 1];
@@ -35,14 +38,20 @@ function endDrawing() {
   drawing.timer = null;
 }
 
-/** Begins to draw the report of a text. */
+/**
+ * Begins to draw the report of a text.
+ * @param {string} text
+ */
 export function beginReport(text) {
   state.beginReport(text);
   drawing.pause = LEAST_PAUSE;
   drawReport();
 }
 
-/** Receives a new part of the report, or null if the report begins again; draws it after a pause. */
+/**
+ * Receives a new part of the report, or null if the report begins again; draws it after a pause.
+ * @param {string | null} text
+ */
 export function reportGrew(text) {
   state.addReport(text);
   if (text === null) drawReport();
@@ -54,7 +63,7 @@ export function drawGrowth() {
   endDrawing();
   const begun = performance.now();
   state.readReport();
-  const shown = element('report').textContent.length;
+  const shown = (element('report').textContent ?? '').length;
   if (shown < state.report.length) element('report').append(state.report.slice(shown));
   element('beginning').hidden = !state.isBeginning;
   tree.grow(state.items);

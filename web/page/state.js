@@ -6,7 +6,6 @@ import { itemsOf } from '../report.js';
 import { Steps } from '../store.js';
 import { blocksOf } from '../text.js';
 
-/** @typedef {{ start: Men, moves: Move[], item: { number: number } | null }} Place the moves from a position, and the item that is walked through */
 
 class PageState {
   constructor() {
