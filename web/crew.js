@@ -21,7 +21,7 @@ export class Crew {
     this.isStopped = false;
   }
 
-  // Resolves once a worker is free.
+  /** Resolves once a worker is free. */
   async free() {
     while (!this.idle.length && this.busy.size >= this.size) {
       await new Promise(wake => { this.waiting.push(wake); });
@@ -83,7 +83,7 @@ export class Crew {
     for (const wake of this.waiting.splice(0)) wake();
   }
 
-  // Ends all calls and all workers; pending calls never resolve.
+  /** Ends all calls and all workers; pending calls never resolve. */
   stop() {
     this.isStopped = true;
     for (const { worker } of this.busy) worker.terminate();

@@ -74,12 +74,14 @@ const reachedNow = () => ({ men: state.walked ?? new Map(), moves: state.place?.
 
 /** Makes the shown position the problem's diagram. */
 export function makeProblem() {
-  setText(withReached(textNow(), blockNow(), reachedNow()));
+  const block = blockNow();
+  if (block) setText(withReached(textNow(), block, reachedNow()));
 }
 
 /** Adds the shown position as a problem with the moves left to play, and solves it. */
 export function solveFromHere() {
   const block = blockNow();
+  if (!block) return;
   const text = withProblemAfter(textNow(), block, reachedNow());
   if (!text) {
     note(say('over'));

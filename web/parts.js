@@ -85,7 +85,7 @@ export function solutionsOf(text, isCut) {
   return { all, isCut: false };
 }
 
-// A piece of a report that is known at once, or once its text is set.
+/** A piece of a report that is known at once, or once its text is set. */
 export class Piece {
   /** @param {string | null} [text] */
   constructor(text = null) {
@@ -94,7 +94,7 @@ export class Piece {
     this.isCut = false;
   }
 
-  // Returns the text that is new since the last call.
+  /** Returns the text that is new since the last call. */
   more() {
     if (this.text === null || this.isWhole) return '';
     this.isWhole = true;
@@ -102,7 +102,7 @@ export class Piece {
   }
 }
 
-// A phase whose parts come in any order; LIMIT is its most solutions.
+/** A phase whose parts come in any order; LIMIT is its most solutions. */
 export class PhasePiece {
   /** @param {PhaseParts} phase @param {number} limit */
   constructor({ kind, parts }, limit) {
@@ -142,12 +142,12 @@ export class PhasePiece {
     return last;
   }
 
-  // Counts the needed parts that are done.
+  /** Counts the needed parts that are done. */
   countDone() {
     return [...this.counts.keys()].filter(number => number <= this.last).length;
   }
 
-  // Returns the text that is new since the last call: complete solutions of parts in order, and at the end their number.
+  /** Returns the text that is new since the last call: complete solutions of parts in order, and at the end their number. */
   more() {
     let text = this.begun;
     this.begun = '';
@@ -170,7 +170,7 @@ export class PhasePiece {
   }
 }
 
-// The report of a text: its items, whose pieces come in any order.
+/** The report of a text: its items, whose pieces come in any order. */
 export class ReportText {
   /** @param {Head[]} heads */
   constructor(heads) {
@@ -193,7 +193,7 @@ export class ReportText {
     this.items[index].isPlanned = true;
   }
 
-  // Returns the text that is new since the last call.
+  /** Returns the text that is new since the last call. */
   more() {
     let text = '';
     for (; !this.isWhole; this.at++) {

@@ -13,7 +13,7 @@ const MOST_DEPTH = 4;
 const MOST_REPORT = 1 << 24;
 const CUT_STATUS = 3;
 
-// The error that the text and the engine's report don't agree on the problems.
+/** The error that the text and the engine's report don't agree on the problems. */
 class CutWrong extends Error {}
 
 export class Solving {
@@ -51,7 +51,7 @@ export class Solving {
     this.ended = () => {};
   }
 
-  // Resolves to { status }, the program's, to { failed } or, after stop(), to { isStopped }.
+  /** Resolves to { status }, the program's, to { failed } or, after stop(), to { isStopped }. */
   solve() {
     return new Promise(ended => {
       this.ended = ended;
@@ -78,7 +78,7 @@ export class Solving {
     else if (!this.isByOneCall) this.solveWhole().catch(other => this.fault(other));
   }
 
-  // Counts the finished parts and the parts known to be needed; a problem that is solved whole is one part.
+  /** Counts the finished parts and the parts known to be needed; a problem that is solved whole is one part. */
   get progress() {
     const parts = this.phases.map(it => it.last).reduce((sum, last) => sum + last, this.whole);
     const done = this.phases.map(it => it.countDone()).reduce((sum, count) => sum + count, this.wholeDone);
@@ -118,7 +118,7 @@ export class Solving {
     return this.crew.ask({ ...call, text }).answer;
   }
 
-  // Solves the whole text by one call.
+  /** Solves the whole text by one call. */
   async solveWhole() {
     for (const task of this.tasks) this.crew.drop(task);
     this.tasks.clear();
@@ -137,7 +137,7 @@ export class Solving {
     this.said(text);
   }
 
-  // Shows what is new, and resolves once the report is complete.
+  /** Shows what is new, and resolves once the report is complete. */
   show() {
     if (this.isOver || this.isByOneCall) return;
     this.give(this.report.more());

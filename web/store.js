@@ -72,7 +72,7 @@ export function textOfBytes(bytes) {
   }
 }
 
-// Undo and redo of texts.
+/** Undo and redo of texts. */
 export class Steps {
   /** @param {string} text */
   constructor(text) {

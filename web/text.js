@@ -36,7 +36,7 @@ function remembered(make) {
   };
 }
 
-// Reads the words of a text with their places; the rest of a text command's line is no word.
+/** Reads the words of a text with their places; the rest of a text command's line is no word. */
 export const wordsOf = remembered(text => {
   /** @type {Token[]} */
   const words = [];
@@ -55,7 +55,7 @@ export const wordsOf = remembered(text => {
   return words;
 });
 
-// Returns the problems of a text: the words of each, between its opening and its closing word.
+/** Returns the problems of a text: the words of each, between its opening and its closing word. */
 export const blocksOf = remembered(text => {
   /** @type {Block[]} */
   const blocks = [];
@@ -75,13 +75,25 @@ export const blocksOf = remembered(text => {
 });
 
 /**
- * Returns the problem at a place of the text, or the last one before it.
+ * Returns the problem at a place of the text, or the last one before it; null if the text has none.
  * @param {string} text
  * @param {number} place
+ * @returns {Block | null}
  */
 export function blockAt(text, place) {
   const blocks = blocksOf(text);
   return blocks.findLast(block => block.from <= place) ?? blocks[0] ?? null;
+}
+
+/**
+ * Returns the problem at a place of a text that has one.
+ * @param {string} text
+ * @param {number} place
+ */
+function problemAt(text, place) {
+  const block = blockAt(text, place);
+  if (!block) throw new Error('a text without problems');
+  return block;
 }
 
 /**
@@ -213,7 +225,7 @@ function without(text, parts) {
  * @param {Men} men
  */
 export function withMen(text, place, men) {
-  const block = blockAt(text, place);
+  const block = problemAt(text, place);
   const { parts } = menOf(block);
   const sides = sidesOf(men);
   const said = `Pieces${sides}`;
@@ -382,7 +394,7 @@ function withNewOption(text, block, said) {
  * @param {string | null} value
  */
 export function withField(text, place, name, value) {
-  const block = blockAt(text, place);
+  const block = problemAt(text, place);
   if (TEXT_FIELDS.includes(name.toLowerCase())) return withTextLine(text, block, name, value ?? '');
   if (name === 'Stipulation' || name === 'Condition') return withWord(text, block, name, value ?? '');
   return withOption(text, block, name, value);

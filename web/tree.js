@@ -368,7 +368,7 @@ export class Tree {
     this.current = null;
   }
 
-  // Returns to the diagram.
+  /** Returns to the diagram. */
   leave() {
     if (!this.current) return;
     const { row, index } = this.current;

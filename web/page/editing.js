@@ -65,14 +65,18 @@ export function goToProblem(number) {
   state.choose(number);
   state.follow();
   const block = blockNow();
+  if (!block) return;
   element('text').setSelectionRange(block.from, block.from);
   scrollToLine(lineOf(textNow(), block.from), 2);
 }
 
-/** Returns the problem on the board, after a new one was added to a text without problems. */
+/**
+ * Returns the problem on the board, after a new one was added to a text without problems.
+ * @returns {Block}
+ */
 function blockMade() {
   if (!blockNow()) element('text').value += NEW_PROBLEM;
-  return blockNow();
+  return /** @type {Block} */ (blockNow());
 }
 
 /**
@@ -92,7 +96,10 @@ export function change(changer) {
 
 /** @param {string} word */
 function noteUnknown(word) {
-  const isThere = () => Boolean(blockNow()) && menOf(blockNow()).unknown.includes(word);
+  const isThere = () => {
+    const block = blockNow();
+    return block !== null && menOf(block).unknown.includes(word);
+  };
   note(say('unknownWord', { word: word.slice(0, 40) }), isThere);
 }
 

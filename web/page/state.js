@@ -117,7 +117,10 @@ export function textNow() {
   return element('text').value;
 }
 
-/** Returns the problem on the board; null if the text has none. */
+/**
+ * Returns the problem on the board; null if the text has none.
+ * @returns {Block | null}
+ */
 export function blockNow() {
   const blocks = blocksOf(textNow());
   return blocks[Math.min(state.number, blocks.length) - 1] ?? null;
