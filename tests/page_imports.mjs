@@ -2,7 +2,7 @@
 import { readdirSync, readFileSync } from 'node:fs';
 
 const WEB = new URL('../web/', import.meta.url);
-export const EXPLANATIONS = readFileSync(new URL('../companions/pops_explain/explanations.json', import.meta.url), 'utf8');
+export const EXPLANATIONS = readFileSync(new URL('../companions/pops_companions/explain/explanations.json', import.meta.url), 'utf8');
 
 /** Makes a document that has only the sentences of explanations. */
 export function makeDocument() {

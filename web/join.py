@@ -11,7 +11,7 @@ or export in another form than `import { one, two } from './file.js';` and `expo
 import os
 import re
 import sys
-from typing import Dict, List, NamedTuple, Set
+from typing import NamedTuple
 
 HERE = os.path.dirname(os.path.realpath(__file__))
 IMPORT = re.compile(r"^import \{([^}]*)\} from '(\.[^']*)';\n", re.M)
@@ -27,9 +27,9 @@ class JoinError(Exception):
 class Module(NamedTuple):
     """A module: the names that it imports from each file, the names that it exports and declares, and the text that is joined."""
 
-    imports: Dict[str, List[str]]
-    exports: Set[str]
-    names: List[str]
+    imports: dict[str, list[str]]
+    exports: set[str]
+    names: list[str]
     body: str
 
 
@@ -43,7 +43,7 @@ def read_module(path: str, importer: str = "") -> Module:
             text = file.read()
     except FileNotFoundError as fault:
         raise JoinError(f"{importer or 'the page'} imports {path}, which is missing") from fault
-    imports: Dict[str, List[str]] = {}
+    imports: dict[str, list[str]] = {}
     for names, source in IMPORT.findall(text):
         wanted = os.path.normpath(os.path.join(os.path.dirname(path), source))
         imports.setdefault(wanted, []).extend(name.strip() for name in names.split(",") if name.strip())
@@ -55,14 +55,14 @@ def read_module(path: str, importer: str = "") -> Module:
     return Module(imports, {name for mark, name in declared if mark}, [name for _, name in declared], body)
 
 
-def modules_of(path: str) -> Dict[str, Module]:
+def modules_of(path: str) -> dict[str, Module]:
     """Returns a module and all that it imports, by path, each after those that it imports.
 
     Raises JoinError for a fault of `read_module`, a missing export, and modules that import each other.
     """
-    found: Dict[str, Module] = {}
+    found: dict[str, Module] = {}
 
-    def visit(at: str, importers: List[str]) -> None:
+    def visit(at: str, importers: list[str]) -> None:
         if at in importers:
             raise JoinError(f"modules import each other: {' > '.join([*importers[importers.index(at):], at])}")
         if at in found:
@@ -84,7 +84,7 @@ def joined(path: str) -> str:
 
     Raises JoinError for a fault of `modules_of`, and for a name that two modules declare.
     """
-    owners: Dict[str, str] = {}
+    owners: dict[str, str] = {}
     modules = modules_of(path)
     for at, module in modules.items():
         for name in module.names:

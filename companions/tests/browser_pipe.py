@@ -4,11 +4,12 @@ import base64
 import json
 import os
 import select
+import shutil
 import subprocess
 import tempfile
 import time
 from pathlib import Path
-from typing import Any, Dict, List, Optional, Tuple
+from typing import Any, Optional
 
 SECONDS_OF_AN_ANSWER = 60
 _FLAGS = (
@@ -29,7 +30,7 @@ class Browser:
     """A headless Chromium with one page."""
 
     def __init__(self, program: str):
-        self._room = tempfile.TemporaryDirectory(prefix="pops-browser-", ignore_cleanup_errors=True)
+        self._room = tempfile.mkdtemp(prefix="pops-browser-")
         ours_in, theirs_out = os.pipe()
         theirs_in, ours_out = os.pipe()
 
@@ -40,7 +41,7 @@ class Browser:
             os.dup2(write, 4)
 
         self._process = subprocess.Popen(
-            [program, *_FLAGS, f"--user-data-dir={self._room.name}", "about:blank"],
+            [program, *_FLAGS, f"--user-data-dir={self._room}", "about:blank"],
             stdin=subprocess.DEVNULL,
             stdout=subprocess.DEVNULL,
             stderr=subprocess.DEVNULL,
@@ -53,7 +54,7 @@ class Browser:
         self._kept = b""
         self._number = 0
         self._session: Optional[str] = None
-        self.events: List[Dict[str, Any]] = []
+        self.events: list[dict[str, Any]] = []
         target = self.call("Target.createTarget", url="about:blank")["targetId"]
         attached = self.call("Target.attachToTarget", targetId=target, flatten=True)
         self._session = attached["sessionId"]
@@ -65,9 +66,9 @@ class Browser:
         self._process.wait()
         os.close(self._in)
         os.close(self._out)
-        self._room.cleanup()
+        shutil.rmtree(self._room, ignore_errors=True)
 
-    def _message(self, seconds: float) -> Dict[str, Any]:
+    def _message(self, seconds: float) -> dict[str, Any]:
         end = time.monotonic() + seconds
         while b"\0" not in self._kept:
             ready, _, _ = select.select([self._in], [], [], max(0, end - time.monotonic()))
@@ -78,12 +79,13 @@ class Browser:
                 raise BrowserError("the browser has gone")
             self._kept += part
         message, self._kept = self._kept.split(b"\0", 1)
-        return json.loads(message)
+        found: dict[str, Any] = json.loads(message)
+        return found
 
-    def call(self, method: str, **parameters: Any) -> Dict[str, Any]:
-        """Asks the browser for something and answers what it says."""
+    def call(self, method: str, **parameters: Any) -> dict[str, Any]:
+        """Calls a method of the browser; returns its result."""
         self._number += 1
-        asked: Dict[str, Any] = {"id": self._number, "method": method, "params": parameters}
+        asked: dict[str, Any] = {"id": self._number, "method": method, "params": parameters}
         if self._session is not None:
             asked["sessionId"] = self._session
         data = json.dumps(asked).encode() + b"\0"
@@ -94,7 +96,8 @@ class Browser:
             if message.get("id") == self._number:
                 if "error" in message:
                     raise BrowserError(f"{method}: {message['error']}")
-                return message["result"]
+                result: dict[str, Any] = message["result"]
+                return result
             self.events.append(message)
 
     def run(self, script: str) -> Any:
@@ -130,7 +133,7 @@ class Browser:
             mobile=False,
         )
 
-    def middle(self, selector: str) -> Tuple[float, float]:
+    def middle(self, selector: str) -> tuple[float, float]:
         """Where the middle of an element is, after it was scrolled into sight."""
         found = self.run(
             f"(() => {{ const it = document.querySelector({json.dumps(selector)});"
@@ -139,7 +142,7 @@ class Browser:
         )
         return found[0], found[1]
 
-    def mouse(self, kind: str, place: Tuple[float, float], button: str = "left") -> None:
+    def mouse(self, kind: str, place: tuple[float, float], button: str = "left") -> None:
         self.call(
             "Input.dispatchMouseEvent",
             type=kind,

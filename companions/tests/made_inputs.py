@@ -1,7 +1,6 @@
 """Made inputs of pops: problems with all kinds of mistakes, layouts and endings."""
 
 import random
-from typing import List
 
 _SOUND = [
     "Pieces White Kg6 Ra1 Black Kg8 Stipulation #1",
@@ -68,7 +67,7 @@ _BLANKS = [" "] * 6 + ["\n"] * 6 + ["\t", "\r\n", "\x0b", "\x0c", "\r", " \n \n"
 
 def made_input(chance: random.Random) -> bytes:
     """An input of a few problems."""
-    parts: List[str] = []
+    parts: list[str] = []
     if chance.random() < 0.1:
         _add(parts, chance, chance.choice(_MISTAKES).split())
     if chance.random() < 0.95:
@@ -93,7 +92,7 @@ def made_input(chance: random.Random) -> bytes:
     return text.encode("latin-1", "ignore")
 
 
-def _problem(parts: List[str], chance: random.Random) -> None:
+def _problem(parts: list[str], chance: random.Random) -> None:
     words = chance.choice(_SOUND).split()
     if chance.random() < 0.5:
         for _ in range(chance.choice([1, 1, 2])):
@@ -108,7 +107,7 @@ def _problem(parts: List[str], chance: random.Random) -> None:
     _add(parts, chance, words)
 
 
-def _add(parts: List[str], chance: random.Random, words: List[str]) -> None:
+def _add(parts: list[str], chance: random.Random, words: list[str]) -> None:
     for word in words:
         if chance.random() < 0.1:
             parts.append(chance.choice(_TEXTS) + "\n")

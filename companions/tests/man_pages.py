@@ -1,21 +1,22 @@
-#!/usr/bin/env python3
-"""Man pages of the companions, made of their help: `man_pages.py` writes docs/man/*.1 again."""
+"""Man pages of the companions, made of their help.
+
+`python3 -m tests.man_pages`, called in companions/, writes docs/man/*.1 again.
+"""
 
 import argparse
 import re
-import sys
 import textwrap
-from pathlib import Path
-from typing import Iterator, List, NoReturn, Tuple
+from collections.abc import Iterator
+from typing import NoReturn
 from unittest import mock
 
-import support
+from tests import support
 
 FOLDER = support.REPOSITORY / "docs" / "man"
 _WIDTH = 80
 
 
-def companions() -> List[str]:
+def companions() -> list[str]:
     """The names of all companions that are installed."""
     files = (path for path in support.COMPANIONS.iterdir() if path.is_file())
     names = (path.name for path in files if path.stat().st_mode & 0o100)
@@ -70,7 +71,7 @@ def _safe(text: str) -> str:
     return re.sub(r"^(?=[.'])", r"\\&", text, flags=re.M)
 
 
-def _filled(text: str) -> List[str]:
+def _filled(text: str) -> list[str]:
     lines = textwrap.wrap(text, _WIDTH, break_long_words=False, break_on_hyphens=False)
     return [_safe(line) for line in lines]
 
@@ -123,7 +124,7 @@ def _epilog(text: str) -> Iterator[str]:
             yield from _filled(" ".join(lines))
 
 
-def _sections(text: str) -> Iterator[Tuple[str, List[str]]]:
+def _sections(text: str) -> Iterator[tuple[str, list[str]]]:
     heading, lines = "", [""]
     for line in text.split("\n"):
         found = re.match(r"(examples?|exit status): ", line)
@@ -145,5 +146,4 @@ def main() -> None:
 
 
 if __name__ == "__main__":
-    sys.path.insert(0, str(Path(__file__).resolve().parent))
     main()

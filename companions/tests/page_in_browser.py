@@ -2,10 +2,11 @@
 through, stopped, printed; texts pasted and dropped, hostile ones too; nothing asked of any server."""
 
 import json
+from collections.abc import Callable
 from pathlib import Path
-from typing import Callable, List, Optional
+from typing import Optional
 
-from browser_pipe import Browser, BrowserError
+from tests.browser_pipe import Browser, BrowserError
 
 READY = "document.getElementById('solve') && !document.getElementById('solve').disabled"
 IDLE = "document.getElementById('stop').disabled"
@@ -22,17 +23,17 @@ class Page:
         self.browser = browser
         self.address = page.resolve().as_uri()
         self.pictures = pictures
-        self.wrong: List[str] = []
+        self.wrong: list[str] = []
 
     def holds(self, well: bool, what: str) -> None:
         if not well:
             self.wrong.append(what)
 
     def told(self, identity: str) -> str:
-        return self.browser.run(f"document.getElementById('{identity}').textContent")
+        return str(self.browser.run(f"document.getElementById('{identity}').textContent"))
 
     def text(self) -> str:
-        return self.browser.run("document.getElementById('text').value")
+        return str(self.browser.run("document.getElementById('text').value"))
 
     def open(self, text: Optional[str] = None) -> None:
         self.browser.open(self.address, READY)
@@ -284,7 +285,7 @@ def narrow(page: Page) -> None:
     page.holds(0 <= top < bottom < 400, f"the board stays in sight: {top} to {bottom}")
 
 
-LOOKS: List[Callable[[Page], None]] = [
+LOOKS: list[Callable[[Page], None]] = [
     entered,
     printed,
     stopped,
@@ -298,8 +299,8 @@ LOOKS: List[Callable[[Page], None]] = [
 ]
 
 
-def look(program: str, file: Path, pictures: Optional[Path] = None) -> List[str]:
-    """Uses the page in a browser. Answers what is wrong."""
+def look(program: str, file: Path, pictures: Optional[Path] = None) -> list[str]:
+    """Uses the page in a browser. Returns what is wrong."""
     browser = Browser(program)
     page = Page(browser, file, pictures)
     try:

@@ -1,7 +1,7 @@
-"""What pops-part tells of an input of one problem: by itself where it is built, else by a stand-in.
+"""What pops-part writes for an input of one problem; a stand-in writes it where it isn't built.
 
 The stand-in shares out what pops finds. Parts without solutions are made up: one before each part
-whose first moves have an even sum of bytes, and one behind all.
+whose first moves have an even sum of bytes, and one after all.
 """
 
 import functools
@@ -9,9 +9,10 @@ import os
 import re
 import resource
 import subprocess
-from typing import Dict, List, NamedTuple, Optional, Sequence
+from collections.abc import Sequence
+from typing import NamedTuple, Optional
 
-from pops_many.program import MissingError, find_part_program
+from pops_companions.many.program import MissingError, find_part_program
 
 _TOTAL = re.compile(rb"^solutions: (\d+)(, stopped)?\n", re.MULTILINE)
 _MOST = b"\nOption MaxSolutions 4000000000 End"
@@ -32,14 +33,14 @@ class Told(NamedTuple):
 
     status: int
     listed: bytes
-    parts: Dict[str, List[bytes]]
+    parts: dict[str, list[bytes]]
 
 
 @functools.lru_cache(maxsize=64)
 def told(text: bytes, depth: int) -> Told:
-    """What pops-part tells of a problem that is cut by so many moves.
+    """What pops-part writes for a problem that is cut by `depth` half-moves.
 
-    Of a problem that a limit alone brings to an end the stand-in tells it.
+    For a problem that only a limit ends, the stand-in writes it.
     """
     path = program()
     asked = None if path is None else _asked(path, text, depth)
@@ -47,7 +48,7 @@ def told(text: bytes, depth: int) -> Told:
 
 
 def count(text: bytes, depth: int) -> int:
-    """How many parts a problem has; 0 where the program doesn't tell."""
+    """How many parts a problem has; 0 where the program doesn't say."""
     path = program()
     listed = b"" if path is None else _run([path, "--list", "--depth", str(depth)], text).stdout
     return sum(map(int, re.findall(rb" (\d+)", listed)))
@@ -64,7 +65,7 @@ def answer(words: Sequence[str], text: bytes) -> bytes:
 
 
 def _run(words: Sequence[str], text: bytes) -> "subprocess.CompletedProcess[bytes]":
-    """Runs a program, for so many seconds of processor time at the most."""
+    """Runs a program, with a limit of processor seconds."""
 
     def limited() -> None:
         resource.setrlimit(resource.RLIMIT_CPU, (_SECONDS, _SECONDS))
@@ -74,10 +75,10 @@ def _run(words: Sequence[str], text: bytes) -> "subprocess.CompletedProcess[byte
 
 
 def _asked(path: str, text: bytes, depth: int) -> Optional[Told]:
-    """What the program itself tells; all parts of a phase at once."""
+    """What the program itself writes, all parts of a phase at once."""
     how = ["--depth", str(depth)]
     listed = _run([path, "--list", *how], text)
-    parts: Dict[str, List[bytes]] = {}
+    parts: dict[str, list[bytes]] = {}
     for phase, count in re.findall(r"(set|play) (\d+)", listed.stdout.decode("ascii")):
         parts[phase] = []
         if count != "0":
@@ -100,7 +101,7 @@ def _shared(text: bytes, depth: int) -> Told:
     stopped = [int(total[1]) for total in _TOTAL.finditer(_report(text)[len(head) :]) if total[2]]
     limit = min(stopped, default=float("inf"))
     is_help = head.rstrip(b"\n").rsplit(b"\n", 1)[-1].startswith(b"h")
-    parts: Dict[str, List[bytes]] = {}
+    parts: dict[str, list[bytes]] = {}
     counts = []
     for phase, lines in _phases(_unlimited(text)[len(head) :]).items():
         if lines == [b"not possible"]:
@@ -124,9 +125,9 @@ def _unlimited(text: bytes) -> bytes:
     return _report(text) if done.returncode < 0 else done.stdout
 
 
-def _phases(lines: bytes) -> Dict[str, List[bytes]]:
+def _phases(lines: bytes) -> dict[str, list[bytes]]:
     """The lines of each phase, without its total."""
-    phases: Dict[str, List[bytes]] = {}
+    phases: dict[str, list[bytes]] = {}
     name = ""
     for line in _TOTAL.sub(b"", lines).splitlines():
         if line in (b"set", b"play"):
@@ -137,10 +138,10 @@ def _phases(lines: bytes) -> Dict[str, List[bytes]]:
     return phases
 
 
-def _by_first_moves(lines: List[bytes], depth: int) -> List[List[bytes]]:
-    """The lines of a phase, those of each part together."""
-    parts: List[List[bytes]] = []
-    last: Optional[List[bytes]] = None
+def _by_first_moves(lines: list[bytes], depth: int) -> list[list[bytes]]:
+    """The lines of a phase, part by part."""
+    parts: list[list[bytes]] = []
+    last: Optional[list[bytes]] = None
     for line in lines:
         begins = last if line.startswith(b" ") else _moves(line)[:depth]
         if begins != last:
@@ -152,9 +153,9 @@ def _by_first_moves(lines: List[bytes], depth: int) -> List[List[bytes]]:
     return parts + [[]]
 
 
-def _moves(line: bytes) -> List[bytes]:
+def _moves(line: bytes) -> list[bytes]:
     """The half-moves of a line of help play."""
-    moves: List[bytes] = []
+    moves: list[bytes] = []
     for word in line.split(b" "):
         if word.startswith(b"ep."):
             moves[-1] += b" " + word
@@ -163,9 +164,9 @@ def _moves(line: bytes) -> List[bytes]:
     return moves
 
 
-def _limited(lines: List[bytes], limit: float) -> bytes:
-    """The report of a part, with so many solutions at the most."""
-    shown: List[bytes] = []
+def _limited(lines: list[bytes], limit: float) -> bytes:
+    """The report of a part, up to a limit of solutions."""
+    shown: list[bytes] = []
     count = 0
     for line in lines:
         if not line.startswith(b" "):

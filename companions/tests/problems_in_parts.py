@@ -1,7 +1,6 @@
 """Problems of every form for pops-many --split, and faulty ones between them."""
 
 import itertools
-from typing import List
 
 _POSITIONS = [
     "Pieces White Kg6 Ra1 Black Kg8 Stipulation #1",
@@ -40,8 +39,8 @@ _FAULTY = ["Pieces White Kg9", "Option MaxSolutions 0", "Stipulation #1", ""]
 ALL = list(map("\n".join, itertools.product(_POSITIONS, _CONDITIONS, _OPTIONS)))
 
 
-def made_inputs(number: int) -> List[bytes]:
-    """So many inputs of a few problems; together they have all of them."""
+def made_inputs(number: int) -> list[bytes]:
+    """Makes this many inputs of a few problems; together they have all problems."""
     inputs = []
     each = -(-len(ALL) // number)
     for place in range(number):

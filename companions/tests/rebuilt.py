@@ -1,13 +1,13 @@
 """Writes a report out of the JSON of pops2json: what is lost on the way there shows here."""
 
-from typing import Any, Dict, List
+from typing import Any
 
 
-def report(objects: List[Dict[str, Any]]) -> str:
+def report(objects: list[dict[str, Any]]) -> str:
     return "".join(_item(one) for one in objects)
 
 
-def _item(one: Dict[str, Any]) -> str:
+def _item(one: dict[str, Any]) -> str:
     lines = [f"problem {one['number']}"]
     if not one["sound"]:
         fault = one["fault"]
@@ -17,7 +17,7 @@ def _item(one: Dict[str, Any]) -> str:
     return "\n".join(lines) + "\n\n"
 
 
-def _sound(one: Dict[str, Any]) -> List[str]:
+def _sound(one: dict[str, Any]) -> list[str]:
     lines = [f"{name}: {one[name]}" for name in ("title", "author") if one[name] is not None]
     if one["board"] is not None:
         lines.extend(f"{8 - place} {rank}" for place, rank in enumerate(one["board"]["ranks"]))
@@ -37,7 +37,7 @@ def _sound(one: Dict[str, Any]) -> List[str]:
     return lines
 
 
-def _help(line: Dict[str, Any]) -> List[str]:
+def _help(line: dict[str, Any]) -> list[str]:
     words = []
     for place, move in enumerate(line["moves"]):
         number = _number(move["half"]) if place == 0 or move["half"] % 2 == 1 else ""
@@ -45,7 +45,7 @@ def _help(line: Dict[str, Any]) -> List[str]:
     return [" ".join(words)]
 
 
-def _battle(node: Dict[str, Any], depth: int) -> List[str]:
+def _battle(node: dict[str, Any], depth: int) -> list[str]:
     lines = ["  " * depth + _number(node["move"]["half"]) + _move(node["move"])]
     for below in node["below"]:
         lines.extend(_battle(below, depth + 1))
@@ -60,11 +60,11 @@ def _letter(kind: str) -> str:
     return "S" if kind == "knight" else kind[0].upper()
 
 
-def _move(move: Dict[str, Any]) -> str:
+def _move(move: dict[str, Any]) -> str:
     mark = {None: "", "check": "+", "mate": "#", "stalemate": "="}[move["mark"]]
     if move["castling"] is not None:
-        return move["castling"] + mark
-    text = "" if move["man"] == "pawn" else _letter(move["man"])
+        return f"{move['castling']}{mark}"
+    text: str = "" if move["man"] == "pawn" else _letter(move["man"])
     text += move["from"] + ("*" if move["capture"] else "-") + move["to"]
     text += " ep." if move["en_passant"] else ""
     text += "=" + _letter(move["promotion"]) if move["promotion"] else ""

@@ -4,10 +4,9 @@ import functools
 import io
 import sys
 from types import ModuleType
-from typing import List, Optional
 from unittest import mock
 
-import support
+from tests import support
 
 _loaded = functools.lru_cache(maxsize=None)(support.loaded)
 
@@ -16,13 +15,14 @@ def companion(name: str, *words: str, text: bytes = b"") -> support.Outcome:
     """As support.companion: status, output and what was said on standard error."""
     module: ModuleType = _loaded(name)
     source = io.TextIOWrapper(io.BytesIO(text))
-    output, error = io.TextIOWrapper(io.BytesIO(), "utf-8"), io.StringIO()
-    arguments: List[str] = [name, *words]
-    status: Optional[object] = None
+    written, error = io.BytesIO(), io.StringIO()
+    output = io.TextIOWrapper(written, "utf-8")
+    arguments: list[str] = [name, *words]
+    status = 0
     with mock.patch.multiple(sys, argv=arguments, stdin=source, stdout=output, stderr=error):
         try:
             module.command.run(name, module.main)
         except SystemExit as end:
-            status = end.code
+            status = int(end.code or 0)
         output.flush()
-    return support.Outcome(int(status or 0), output.buffer.getvalue(), error.getvalue())
+    return support.Outcome(status, written.getvalue(), error.getvalue())

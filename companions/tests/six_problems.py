@@ -7,12 +7,11 @@ import sys
 import tempfile
 import time
 import unittest
+from collections.abc import Callable
 from pathlib import Path
-from typing import Callable, List
 
-import support
-
-from pops_many import sessions
+from pops_companions.many import sessions
+from tests import support
 
 SIX = (
     b"BeginProblem"
@@ -43,15 +42,15 @@ def wait_for(seen: Callable[[], object]) -> None:
         time.sleep(0.02)
 
 
-def _fields(folder: Path) -> List[bytes]:
-    """What the system tells of a process, from its state on; nothing where it is gone."""
+def _fields(folder: Path) -> list[bytes]:
+    """What the system knows of a process, from its state on; nothing where it is gone."""
     try:
         return (folder / "stat").read_bytes().rpartition(b")")[2].split()
     except OSError:
         return []
 
 
-def children(process: int) -> List[int]:
+def children(process: int) -> list[int]:
     """The processes that a process started."""
     folders = Path("/proc").glob("[0-9]*")
     wanted = str(process).encode()
@@ -89,7 +88,7 @@ class SixProblems(unittest.TestCase):
         path.chmod(0o755)
         return str(path)
 
-    def words(self, pops: str, *more: str) -> List[str]:
+    def words(self, pops: str, *more: str) -> list[str]:
         return ["--pops", pops, "--jobs", "1", "-o", str(self.report), str(self.input), *more]
 
     def many(self, pops: str, *more: str) -> support.Outcome:
@@ -119,8 +118,8 @@ class SixProblems(unittest.TestCase):
             run.kill()
         run.communicate()
 
-    def programs(self, run: "subprocess.Popen[bytes]", number: int) -> List[int]:
-        """The programs that a run of pops-many has at work, once there are so many."""
+    def programs(self, run: "subprocess.Popen[bytes]", number: int) -> list[int]:
+        """The programs that a run of pops-many has at work, once there are as many as wanted."""
         wait_for(lambda: len(children(run.pid)) == number)
         found = children(run.pid)
         for program in found:
@@ -139,7 +138,7 @@ class SixProblems(unittest.TestCase):
         """How many runs the stand-in noted."""
         return (self.room / "runs").read_text().count("run")
 
-    def files(self) -> List[str]:
+    def files(self) -> list[str]:
         """What lies in the room beside the input and the stand-in."""
         own = {"six.pop", "stand_in", "runs"}
         return sorted(path.name for path in self.room.iterdir() if path.name not in own)

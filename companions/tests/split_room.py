@@ -1,13 +1,10 @@
 """A room with a problem in many parts, and programs in the place of pops and pops-part."""
 
 from pathlib import Path
-from typing import List
 
-import parts_told
-import support
-from six_problems import SixProblems
-
-from pops_many.machines import PROBE
+from pops_companions.many.machines import PROBE
+from tests import parts_told, support
+from tests.six_problems import SixProblems
 
 # A helpmate of seven first moves, three of which have most solutions; its set play has nineteen.
 PROBLEM = b"""BeginProblem
@@ -65,7 +62,7 @@ class SplitRoom(SixProblems):
         return str(path)
 
     def tell(self, name: str, text: bytes) -> None:
-        """Writes files of what pops-part tells of a problem."""
+        """Writes files of what pops-part writes for a problem."""
         folder = self.room / "told" / name
         folder.mkdir(parents=True, exist_ok=True)
         for depth in (1, 2):
@@ -81,7 +78,7 @@ class SplitRoom(SixProblems):
             "pops_part", _POPS_PART.format(room=self.room, pattern=pattern, then=then)
         )
 
-    def words_of_split(self, pops_part: str, *more: str) -> List[str]:
+    def words_of_split(self, pops_part: str, *more: str) -> list[str]:
         words = ["--split", "--split-after", "1", "--split-depth", "1"]
         words += ["--pops-part", pops_part]
         words += ["--pops", str(self.room / "stand_in"), "-o", str(self.report), str(self.input)]
@@ -90,16 +87,16 @@ class SplitRoom(SixProblems):
     def split(self, pops_part: str, *more: str) -> support.Outcome:
         return support.companion("pops-many", *self.words_of_split(pops_part, *more))
 
-    def parts(self) -> List[str]:
+    def parts(self) -> list[str]:
         """The parts that were asked for, in that order."""
         path = self.room / "parts"
         return path.read_text().splitlines() if path.exists() else []
 
-    def runs_on_parts(self) -> List[str]:
+    def runs_on_parts(self) -> list[str]:
         """The parts that each run was asked for, as `play-2..4`."""
         return (self.room / "runs_on_parts").read_text().splitlines()
 
-    def lists(self) -> List[str]:
+    def lists(self) -> list[str]:
         """The problems of which a list was asked for."""
         return (self.room / "lists").read_text().splitlines()
 
@@ -110,6 +107,6 @@ class SplitRoom(SixProblems):
             if path.exists():
                 path.unlink()
 
-    def files(self) -> List[str]:
+    def files(self) -> list[str]:
         own = {"parts", "runs_on_parts", "lists", "pops_part", "told", "failed", "ssh"}
         return [name for name in super().files() if name not in own]

@@ -1,33 +1,59 @@
 """What the tests share: where things are, runs of programs, the stored rows and examples."""
 
-import importlib.machinery
+import importlib
 import importlib.util
 import os
+import shutil
 import subprocess
 import sys
 import tempfile
+import unittest
+from collections.abc import Callable, Sequence
 from pathlib import Path
 from types import ModuleType
-from typing import List, NamedTuple, Sequence
+from typing import Any, NamedTuple, TypeVar
 
 COMPANIONS = Path(__file__).resolve().parent.parent
 REPOSITORY = COMPANIONS.parent
-sys.path[:0] = [str(COMPANIONS), str(REPOSITORY / "tests")]
-
-import row_table
+PACKAGE = COMPANIONS / "pops_companions"
+# Commands whose module has another name.
+_OTHER_NAMES = {"pops-import": "import_", "pops-test": "soundness"}
+Test = TypeVar("Test", bound=Callable[..., Any])
 
 # The rows as files: NAME.in, NAME.out and NAME.options.
 _ROOM = tempfile.TemporaryDirectory()
 ROWS = Path(_ROOM.name)
-_ROW_INPUTS = row_table.write_files(ROWS)
+
+
+def _written_rows() -> list[Path]:
+    """Writes the files of all rows; returns their inputs."""
+    place = importlib.util.spec_from_file_location("row_table", REPOSITORY / "tests/row_table.py")
+    assert place is not None and place.loader is not None
+    row_table = importlib.util.module_from_spec(place)
+    place.loader.exec_module(row_table)
+    inputs: list[Path] = row_table.write_files(ROWS)
+    return inputs
+
+
+_ROW_INPUTS = _written_rows()
 
 
 class Outcome(NamedTuple):
-    """What a program left behind."""
+    """What a program left: status, output, message."""
 
     status: int
     output: bytes
     error: str
+
+
+def needs_module(name: str) -> Callable[[Test], Test]:
+    """Leaves a test out, with a line that says so, where this module isn't installed."""
+    return unittest.skipUnless(importlib.util.find_spec(name), f"{name} isn't installed")
+
+
+def needs_program(name: str) -> Callable[[Test], Test]:
+    """Leaves a test out, with a line that says so, where this program isn't installed."""
+    return unittest.skipUnless(shutil.which(name), f"{name} isn't installed")
 
 
 def pops() -> str:
@@ -48,31 +74,25 @@ def companion(name: str, *words: str, text: bytes = b"") -> Outcome:
 
 def loaded(name: str) -> ModuleType:
     """A companion as a module, so that many runs of it take little time."""
-    loader = importlib.machinery.SourceFileLoader(
-        name.replace("-", "_") + "_command", str(COMPANIONS / name)
-    )
-    description = importlib.util.spec_from_loader(loader.name, loader)
-    assert description is not None
-    module = importlib.util.module_from_spec(description)
-    loader.exec_module(module)
-    return module
+    module = _OTHER_NAMES.get(name, name.removeprefix("pops-"))
+    return importlib.import_module(f"pops_companions.commands.{module}")
 
 
-def stored_inputs() -> List[Path]:
+def stored_inputs() -> list[Path]:
     """The inputs of all rows and examples."""
     examples = sorted((REPOSITORY / "examples").glob("*.pop"))
     assert _ROW_INPUTS and examples
     return _ROW_INPUTS + examples
 
 
-def row_options(stored_input: Path) -> List[str]:
+def row_options(stored_input: Path) -> list[str]:
     """The options of `pops` for a row; none for an example."""
     options = stored_input.with_suffix(".options")
     return options.read_text().split() if options.exists() else []
 
 
 def is_for_check(stored_input: Path) -> bool:
-    """Whether a row's report tells `--check` alone: no search of it ends in a lifetime."""
+    """Whether a row's report is that of `--check`: no search of it ends in a lifetime."""
     return "--check" in row_options(stored_input)
 
 
@@ -81,7 +101,7 @@ def stored_report(stored_input: Path) -> Path:
     return stored_input.with_suffix(".out" if stored_input.suffix == ".in" else ".report")
 
 
-def stored_reports() -> List[Path]:
+def stored_reports() -> list[Path]:
     """The reports of all rows and examples."""
     return [stored_report(path) for path in stored_inputs()]
 
@@ -89,10 +109,10 @@ def stored_reports() -> List[Path]:
 class PlainItem(NamedTuple):
     """An item of a report as the tests read it by themselves: its lines, without the empty one."""
 
-    lines: List[str]
+    lines: list[str]
 
     @property
-    def board(self) -> List[str]:
+    def board(self) -> list[str]:
         """The eight ranks of its board, rank 8 first, or nothing."""
         for place, line in enumerate(self.lines):
             if line == "  abcdefgh":
@@ -100,8 +120,8 @@ class PlainItem(NamedTuple):
         return []
 
 
-def plain_items(report: bytes) -> List[PlainItem]:
-    """The items of a report whose titles are ASCII: parted by the empty lines behind them."""
+def plain_items(report: bytes) -> list[PlainItem]:
+    """The items of a report whose titles are ASCII: parted by the empty lines after them."""
     blocks = report.decode("ascii").split("\n\n")
     assert blocks[-1] == ""
     return [PlainItem(block.split("\n")) for block in blocks[:-1]]

@@ -6,9 +6,7 @@ import tempfile
 import unittest
 from pathlib import Path
 
-import support
-import test_fen2pop
-import test_pages
+from tests import support, test_fen2pop, test_pages
 
 
 class Chain(unittest.TestCase):
@@ -23,8 +21,8 @@ class Chain(unittest.TestCase):
             self.assertEqual(support.companion("fen2pop", *words)[:2], (0, b""))
             words = ["--pops", support.pops(), str(problems), "-o", str(report)]
             self.assertEqual(support.companion("pops-many", *words), (1, b"", ""))
-            one = support.run([support.pops(), str(problems)])
-            self.assertEqual((one.status, one.output), (1, report.read_bytes()))
+            alone = support.run([support.pops(), str(problems)])
+            self.assertEqual((alone.status, alone.output), (1, report.read_bytes()))
             words = [str(report), "-o", str(page)]
             self.assertEqual(support.companion("pops-page", *words), (0, b"", ""))
             articles = test_pages.SeenPage(page.read_text("utf-8")).articles
@@ -39,7 +37,7 @@ class Chain(unittest.TestCase):
                 self.assertEqual(len(article.men), men if one["sound"] else 0)
 
     def test_positions_with_published_keys(self) -> None:
-        """The file of data holds mates in two whose keys are those of the literature."""
+        """The file of data holds mates in two whose keys are known from the literature."""
         source = support.COMPANIONS / "data" / "mates_in_two.epd"
         problems = support.companion("fen2pop", "-f", str(source)).output
         report = support.companion("pops-many", "--pops", support.pops(), text=problems).output

@@ -6,7 +6,7 @@ import sys
 import tempfile
 import unittest
 
-import support
+from tests import support
 
 # More than a pipe holds, as a page, as JSON and as problems.
 REPORT = b"problem 1\ntitle: A title\n#1\nplay\n1.Ra1-a8#\nsolutions: 1\n\n" * 2_000
@@ -15,17 +15,18 @@ POSITIONS = b"6k1/8/6K1/8/8/8/8/R7 w - -\n" * 2_000
 
 class Streams(unittest.TestCase):
     def test_a_reader_that_goes_away(self) -> None:
-        for name, words, text in (
+        cases: list[tuple[str, list[str], bytes]] = [
             ("pops-page", [], REPORT),
             ("pops2json", [], REPORT),
             ("pops-test", [], REPORT),
             ("fen2pop", ["-s", "#1"], POSITIONS),
-        ):
+        ]
+        for name, words, text in cases:
             for unbuffered in ("", "1"):
                 with self.subTest(name, unbuffered=unbuffered):
                     self.assertEqual(self.status(name, words, text, unbuffered), (3, b""))
 
-    def status(self, name: str, words: list, text: bytes, unbuffered: str) -> tuple:
+    def status(self, name: str, words: list[str], text: bytes, unbuffered: str) -> tuple[int, bytes]:
         """Status and standard error of a companion whose output is read for ten bytes."""
         with tempfile.TemporaryFile() as source, tempfile.TemporaryFile() as errors:
             source.write(text)

@@ -4,20 +4,18 @@ import io
 import tempfile
 import unittest
 from pathlib import Path
-from typing import List, Optional, Tuple
+from typing import Optional
 
-import run_here
-import support
-import test_soundness
-
-from pops_review.matching import pairs_of
-from pops_texts.report import Item, read_report
+from pops_companions.report.items import Item
+from pops_companions.report.reader import read_report
+from pops_companions.review.matching import pairs_of
+from tests import run_here, support, test_soundness
 
 MATE = "1.Ra1-a8#\n"
 FAULT = "line {line}: fault 14: square expected\n"
 
 
-def board(*men: Tuple[str, str]) -> str:
+def board(*men: tuple[str, str]) -> str:
     """A printed board with these men, each a letter with its square."""
     rows = {rank: ["."] * 8 for rank in range(8, 0, -1)}
     for letter, square in men:
@@ -42,14 +40,14 @@ def report(*problems: str) -> bytes:
     return text.encode()
 
 
-def items(*problems: str) -> List[Item]:
+def items(*problems: str) -> list[Item]:
     return list(read_report(io.BytesIO(report(*problems))))
 
 
-def numbers(old: List[str], new: List[str]) -> List[Tuple[Optional[int], Optional[int]]]:
+def numbers(old: list[str], new: list[str]) -> list[tuple[Optional[int], Optional[int]]]:
     """Which number of one report was matched with which of the other."""
     return [
-        (pair.old and pair.old.number, pair.new and pair.new.number)
+        (pair.old.number if pair.old else None, pair.new.number if pair.new else None)
         for pair in pairs_of(items(*old), items(*new))
     ]
 
@@ -127,7 +125,7 @@ class Differences(unittest.TestCase):
             (Path(room) / "new").write_bytes(new)
             return run_here.companion("pops-compare", f"{room}/old", f"{room}/new")
 
-    def check(self, old: List[str], new: List[str], *lines: str) -> None:
+    def check(self, old: list[str], new: list[str], *lines: str) -> None:
         outcome = self.compared(report(*old), report(*new))
         self.assertEqual(outcome, (1, "".join(line + "\n" for line in lines).encode(), ""))
 
@@ -336,14 +334,15 @@ class Command(unittest.TestCase):
             self.assertEqual(target.read_text(), "1 problem: nothing differs\n")
 
     def test_mistakes_are_no_difference(self) -> None:
-        for words, text, status, said in (
+        cases: list[tuple[list[str], bytes, int, str]] = [
             (["-", self.MATE_IN_TWO], b"", 3, "standard input is empty: no report of pops"),
             (["-", self.MATE_IN_TWO], b"problem 1\n", 3, "is no report of pops: line 2"),
             (["nowhere", self.MATE_IN_TWO], b"", 3, "cannot open nowhere"),
             (["-", "-"], b"", 2, "only one of the reports"),
             ([self.MATE_IN_TWO], b"", 2, "NEW"),
             ([], b"", 2, "OLD"),
-        ):
+        ]
+        for words, text, status, said in cases:
             with self.subTest(words):
                 outcome = run_here.companion("pops-compare", *words, text=text)
                 self.assertEqual((outcome.status, outcome.output), (status, b""))

@@ -10,12 +10,10 @@ import tempfile
 import unittest
 import xml.etree.ElementTree as ElementTree
 from pathlib import Path
-from typing import Dict, List, Tuple
 
-import support
-
-from pops_texts.latex import authors
-from test_pages import NAMES
+from pops_companions.show.latex import authors
+from tests import support
+from tests.test_pages import NAMES
 
 SVG = "{http://www.w3.org/2000/svg}"
 HREF = "{http://www.w3.org/1999/xlink}href"
@@ -38,7 +36,7 @@ FAULTY = "pops-diagram: problem 2 is faulty: no diagram\n"
 NO_BOARD = "pops-diagram: problem 3 has no board in the report: no diagram\n"
 
 
-def drawn(report: bytes, kind: str, *words: str) -> Dict[str, bytes]:
+def drawn(report: bytes, kind: str, *words: str) -> dict[str, bytes]:
     """The files of a report by their names; the report comes on standard input."""
     with tempfile.TemporaryDirectory() as room:
         outcome = support.companion("pops-diagram", kind, "-o", room, *words, text=report)
@@ -48,7 +46,7 @@ def drawn(report: bytes, kind: str, *words: str) -> Dict[str, bytes]:
     return files
 
 
-def named_boards() -> Tuple[bytes, Dict[str, Dict[str, str]]]:
+def named_boards() -> tuple[bytes, dict[str, dict[str, str]]]:
     """All stored reports in one, and the men of each item with a board by the item's name."""
     reports = [path.read_bytes() for path in support.stored_reports()]
     boards = {}
@@ -66,7 +64,7 @@ def named_boards() -> Tuple[bytes, Dict[str, Dict[str, str]]]:
     return b"".join(reports), boards
 
 
-def men_of_svg(drawing: bytes) -> Dict[str, str]:
+def men_of_svg(drawing: bytes) -> dict[str, str]:
     """The men by square: the board begins 22 units from the left, a square has 45 units."""
     root = ElementTree.fromstring(drawing)
     shapes = {group.get("id") for group in root.iter(f"{SVG}g")}
@@ -85,13 +83,15 @@ def men_of_svg(drawing: bytes) -> Dict[str, str]:
     return men
 
 
-def men_of_latex(text: str) -> Dict[str, str]:
+def men_of_latex(text: str) -> dict[str, str]:
     """The men of \\pieces, whose numbers must be those in its brackets."""
     parts = re.search(r"\\pieces\[(\d+)\+(\d+)\]\{(.*)\}", text)
     assert parts is not None, text
     men = {}
     for word in parts[3].split(", "):
-        colour, letters, squares = re.fullmatch(r"([ws])([A-Z]+)((?:[a-h][1-8])+)", word).groups()
+        found = re.fullmatch(r"([ws])([A-Z]+)((?:[a-h][1-8])+)", word)
+        assert found is not None, word
+        colour, letters, squares = found.groups()
         for square in re.findall("..", squares):
             assert square not in men
             men[square] = LETTERS[letters].upper() if colour == "w" else LETTERS[letters]
@@ -218,7 +218,8 @@ class Pictures(unittest.TestCase):
         if shutil.which("rsvg-convert") is None:
             print("test_diagram: no rsvg-convert here: no picture was made")
             return
-        for words, width in (([], 800), (["--width", "250"], 250)):
+        cases: list[tuple[list[str], int]] = [([], 800), (["--width", "250"], 250)]
+        for words, width in cases:
             (picture,) = drawn(REPORT.encode(), "--png", *words).values()
             self.assertEqual(picture[:8], b"\x89PNG\r\n\x1a\n")
             self.assertEqual(struct.unpack(">II", picture[16:24]), (width, width))
@@ -308,7 +309,7 @@ class Command(unittest.TestCase):
         self.assertEqual(empty, (1, b"", told))
         self.assertFalse(Path("nowhere").exists())
         self.assertEqual(support.companion("pops-diagram", "--svg", "nowhere.report").status, 3)
-        mistakes: List[List[str]] = [[], ["--svg", "--png"], ["--gif"], ["--png", "--width", "0"]]
+        mistakes: list[list[str]] = [[], ["--svg", "--png"], ["--gif"], ["--png", "--width", "0"]]
         for words in mistakes:
             with self.subTest(words):
                 self.assertEqual(support.companion("pops-diagram", *words).status, 2)

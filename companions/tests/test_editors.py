@@ -7,9 +7,8 @@ import subprocess
 import tempfile
 import unittest
 from pathlib import Path
-from typing import Dict, List
 
-import support
+from tests import support
 
 EDITORS = support.REPOSITORY / "editors"
 VSCODE = EDITORS / "vscode"
@@ -29,11 +28,11 @@ KINDS = {
 }
 
 
-def forms(word: str, least: int = 3) -> List[str]:
+def forms(word: str, least: int = 3) -> list[str]:
     return [word[:length] for length in range(least, len(word) + 1)]
 
 
-WORDS: Dict[str, List[str]] = {
+WORDS: dict[str, list[str]] = {
     "control": forms("BeginProblem") + forms("nextproblem"),
     "section": forms("Pieces") + forms("Stipulation") + forms("Condition") + forms("OPTION"),
     "colour": forms("White", 1) + forms("black", 1),
@@ -122,7 +121,7 @@ def has_vim() -> bool:
 
 
 class Vim(unittest.TestCase):
-    def said(self, text: str, script: str) -> List[str]:
+    def said(self, text: str, script: str) -> list[str]:
         """What Vim writes when a script has run over a text."""
         with tempfile.TemporaryDirectory() as room:
             source, target = Path(room) / "some.pop", Path(room) / "said"

@@ -6,18 +6,17 @@ import re
 import tempfile
 import unicodedata
 import unittest
+from collections.abc import Iterator
 from pathlib import Path
-from typing import Iterator, List, NamedTuple
+from typing import NamedTuple
 
-import made_inputs
-import support
-
-from pops_explain.explaining import ExplainedFault, explain
-from pops_explain.sentences import DATA
-from pops_explain.showing import marked
-from pops_explain.vocabulary import foreign
-from pops_import.language import LANGUAGES, Twinning, foreign_words, meaning
-from pops_texts.report import read_report
+from pops_companions.explain.explaining import ExplainedFault, explain
+from pops_companions.explain.sentences import DATA
+from pops_companions.explain.showing import marked
+from pops_companions.explain.vocabulary import foreign
+from pops_companions.import_.language import LANGUAGES, Twinning, foreign_words, meaning
+from pops_companions.report.reader import read_report
+from tests import made_inputs, support
 
 BASE = ["BeginProblem", "Pieces White Kg6 Ra1 Black Kg8", "Stipulation #1", "EndProblem"]
 WHOLE = "whole text:"
@@ -30,21 +29,21 @@ CHARACTERS = {
 
 
 class Slip(NamedTuple):
-    """A slip of the list, with what is to be told of it."""
+    """A slip of the list, with its wanted explanation."""
 
     place: int
     text: bytes
     line: int
     fault: int
-    marks: List[bytes]
+    marks: list[bytes]
     explanation: str
 
 
 def slips() -> Iterator[Slip]:
-    """The slips of the list, behind its introduction."""
+    """The slips of the list, after its introduction."""
     lines = (support.COMPANIONS / "data" / "slips.txt").read_text("utf-8").split("\n")
     first = next(place for place, line in enumerate(lines) if line.startswith("== "))
-    block: List[str] = []
+    block: list[str] = []
     for place, line in enumerate(lines[first:] + [""], start=first + 1):
         if line and not line.startswith("== "):
             block.append(line)
@@ -53,7 +52,7 @@ def slips() -> Iterator[Slip]:
             block = []
 
 
-def slip(place: int, block: List[str]) -> Slip:
+def slip(place: int, block: list[str]) -> Slip:
     own = [line for line in block if not line.startswith("    ")]
     told, *said = [line[4:] for line in block if line.startswith("    ")]
     parts = re.fullmatch(r"line (\d+), fault (\d+): ?(.*)", told)
@@ -66,7 +65,7 @@ def slip(place: int, block: List[str]) -> Slip:
     return Slip(place, text, int(parts[1]), int(parts[2]), marks, " ".join(said))
 
 
-def in_base(own: List[str]) -> List[str]:
+def in_base(own: list[str]) -> list[str]:
     """The base text with these lines in place of the line that they name, else of the same command,
     else before EndProblem."""
     named = re.fullmatch(r"in place of line (\d):", own[0])
@@ -96,8 +95,8 @@ def character(name: str) -> bytes:
     return unicodedata.lookup(name.upper()).encode("utf-8")
 
 
-def explained(text: bytes) -> List[ExplainedFault]:
-    """The faults that pops tells of a text, explained."""
+def explained(text: bytes) -> list[ExplainedFault]:
+    """The faults that pops reports of a text, explained."""
     report = support.run([support.pops(), "--check", "--no-board"], text).output
     return list(explain(text, read_report(io.BytesIO(report))))
 

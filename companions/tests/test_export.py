@@ -3,18 +3,18 @@
 import re
 import tempfile
 import unittest
+from collections.abc import Sequence
 from dataclasses import replace
 from pathlib import Path
-from typing import NamedTuple, Sequence, Set
+from typing import NamedTuple
 
-import run_here
-import support
-
-from pops_export.problems import Problem, joined, options_of, read_problems
-from pops_export.yaml_form import solution_lines
-from pops_import.words import Unreadable
-from pops_import.yaml_text import documents
-from pops_texts.report import SoundItem, read_report
+from pops_companions.export.problems import Problem, joined, options_of, read_problems
+from pops_companions.export.yaml_form import solution_lines
+from pops_companions.import_.words import Unreadable
+from pops_companions.import_.yaml_text import documents
+from pops_companions.report.items import SoundItem
+from pops_companions.report.reader import read_report
+from tests import run_here, support
 
 IMPORTED = sorted((Path(__file__).resolve().parent / "data" / "import").glob("*.pop"))
 TWINS = b"""\
@@ -41,7 +41,7 @@ class Same(NamedTuple):
     """
 
     problems: Sequence[Problem]
-    remarks: Set[str]
+    remarks: set[str]
 
 
 def same(text: str) -> Same:
@@ -58,6 +58,7 @@ def exported(form: str, *words: str, text: bytes = b"") -> str:
     return outcome.output.decode("utf-8")
 
 
+@support.needs_module("yaml")
 class RoundTrips(unittest.TestCase):
     def test_imported_files_rows_and_examples(self) -> None:
         tried = 0
@@ -71,7 +72,7 @@ class RoundTrips(unittest.TestCase):
                 continue
             wanted = same(text)
             for form in ("popeye", "yaml"):
-                for words in ([], ["--apart"]):
+                for words in ((), ("--apart",)):
                     with self.subTest(path.name, form=form, words=words):
                         self.assertEqual(same(exported(form, *words, str(path))), wanted)
                         tried += 1
@@ -122,6 +123,7 @@ class Twins(unittest.TestCase):
         self.assertEqual([len(one.twins) for one in joined(problems[:1] + problems[2:])], [0] * 3)
 
 
+@support.needs_module("yaml")
 class Yaml(unittest.TestCase):
     def test_the_keys(self) -> None:
         text = run_here.companion("pops-import", text=TWINS).output
@@ -195,13 +197,14 @@ class Command(unittest.TestCase):
         self.assertEqual(outcome.output.count(b"BeginProblem"), 1)
 
     def test_mistakes(self) -> None:
-        for words, status in (
+        cases: list[tuple[list[str], int]] = [
             ([], 2),
             (["--to", "pgn"], 2),
             (["--to", "popeye", "--report", "x"], 2),
             (["--to", "yaml", "nowhere.pop"], 3),
             (["--to", "yaml"], 1),
-        ):
+        ]
+        for words, status in cases:
             with self.subTest(words):
                 self.assertEqual(run_here.companion("pops-export", *words).status, status)
 

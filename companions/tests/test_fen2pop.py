@@ -4,11 +4,11 @@ import random
 import tempfile
 import unittest
 from pathlib import Path
-from typing import Dict, List, Optional, Tuple
+from typing import Optional
 
-import support
+from tests import support
 
-Place = Tuple[int, int]
+Place = tuple[int, int]
 
 
 TURNED = ": colours turned round, since the other side starts; --keep-colours leaves them"
@@ -23,7 +23,7 @@ def made(*words: str, text: bytes = b"") -> str:
     return problems
 
 
-def report(problems: str, *words: str) -> List[support.PlainItem]:
+def report(problems: str, *words: str) -> list[support.PlainItem]:
     """What pops says of problems."""
     outcome = support.run([support.pops(), *words], problems.encode("utf-8"))
     assert outcome.status in (0, 1), outcome
@@ -209,7 +209,7 @@ class Sources(unittest.TestCase):
 class Answers(unittest.TestCase):
     """What pops makes of the problems."""
 
-    def keys(self, *words: str) -> List[str]:
+    def keys(self, *words: str) -> list[str]:
         (item,) = report(made(*words))
         return item.lines[item.lines.index("play") + 1 : -1]
 
@@ -230,7 +230,7 @@ class Answers(unittest.TestCase):
     def test_six_hundred_made_positions(self) -> None:
         """Each is read as sound, with its men, or with the fault that the test finds in it."""
         chance = random.Random(14)
-        found: Dict[Optional[int], int] = {}
+        found: dict[Optional[int], int] = {}
         for stipulation in ("#1", "s#2", "h#2", "h#1.5"):
             fens = [made_fen(chance) for _ in range(150)]
             problems = made("-s", stipulation, text="\n".join(fens).encode())
@@ -269,8 +269,8 @@ def made_fen(chance: random.Random) -> str:
     turn = chance.choice("wb")
     crossed = "-"
     if chance.random() < 0.3:
-        pawn, row, crossed_rank = ("p", 3, "6") if turn == "w" else ("P", 4, "3")
-        files = [file for file in range(8) if squares[row][file] == pawn] or [chance.randrange(8)]
+        pawn, line, crossed_rank = ("p", 3, "6") if turn == "w" else ("P", 4, "3")
+        files = [file for file in range(8) if squares[line][file] == pawn] or [chance.randrange(8)]
         crossed = "abcdefgh"[files[0]] + crossed_rank
     rights = chance.choice(["-", "KQkq", "Kq", "Q"])
     return f"{'/'.join(ranks)} {turn} {rights} {crossed} 0 1"
@@ -295,7 +295,7 @@ class PlainPosition:
                 self.crossed = crossed[0] + str(9 - int(crossed[1]))
         self.rows = rows
 
-    def board(self) -> List[str]:
+    def board(self) -> list[str]:
         return self.rows
 
     def at(self, place: Place) -> str:
@@ -306,7 +306,7 @@ class PlainPosition:
         """The first fault by the order of the words and of the tests at a problem's end."""
         men = "".join(self.rows)
         last_ranks = self.rows[0] + self.rows[7]
-        for king, pawn in ("KP", "kp"):
+        for king, pawn in (("K", "P"), ("k", "p")):
             if men.count(king) > 1:
                 return 7
             if pawn in last_ranks:

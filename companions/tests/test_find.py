@@ -5,15 +5,13 @@ import tempfile
 import time
 import unittest
 from pathlib import Path
-from typing import Dict, List, Optional
+from typing import Optional
 
-import run_here
-import support
-
-from pops_find.boards import board_of, differences, men_of, variants
-from pops_find.collection import Collection, CollectionError
-from pops_find.entries import Entry, men_in, mirrored_play, plays_of
-from pops_texts.chess import Man, Square
+from pops_companions.chess.men import Man, Square
+from pops_companions.find.boards import board_of, differences, men_of, variants
+from pops_companions.find.collection import Collection, CollectionError
+from pops_companions.find.entries import Entry, men_in, mirrored_play, plays_of
+from tests import run_here, support
 
 MORPHY = "White Kc8 Ra1 Pb6 Black Ka8 Bb8 Pa7b7"
 
@@ -26,7 +24,7 @@ def entry(number: int, pieces: str, play: Optional[str] = None) -> Entry:
     return Entry("some.pop", number, f"T{number}", "A. A.", "", "#2", "", board(pieces), play)
 
 
-def moved(pieces: str, squares: Dict[str, str], colours: bool = False) -> str:
+def moved(pieces: str, squares: dict[str, str], colours: bool = False) -> str:
     """The position with men on other squares, worked out square by square."""
     men = {}
     for square, man in men_in(pieces):
@@ -35,7 +33,7 @@ def moved(pieces: str, squares: Dict[str, str], colours: bool = False) -> str:
     return board_of(men)
 
 
-def image(of: str) -> Dict[str, str]:
+def image(of: str) -> dict[str, str]:
     """Where each square goes; the squares of file a, then of b, and so on are given in words."""
     files, ranks = "abcdefgh", "12345678"
     names = [file + rank for file in files for rank in ranks]
@@ -105,7 +103,7 @@ class Near(unittest.TestCase):
         self.collection = Collection(self.path, new=True)
         self.addCleanup(self.collection.close)
 
-    def found(self, *positions: str, asked: str = MORPHY) -> List[str]:
+    def found(self, *positions: str, asked: str = MORPHY) -> list[str]:
         self.collection.add("some.pop", [entry(n, it) for n, it in enumerate(positions, 1)])
         hits = self.collection.near(board(asked))
         return [f"{hit.entry.number}: {hit.text}" for hit in hits]
@@ -268,6 +266,7 @@ class Command(unittest.TestCase):
             with self.subTest(words):
                 self.assertEqual(self.numbers(*words), number)
 
+    @support.needs_module("yaml")
     def test_reports_and_yaml(self) -> None:
         yaml = Path(__file__).resolve().parent / "data" / "import" / "yacpdb.yaml"
         outcome = self.run_on("--add", str(self.examples / "morphy_1856.report"), str(yaml))
@@ -313,7 +312,7 @@ class Command(unittest.TestCase):
 
     def test_mistakes(self) -> None:
         self.added("morphy_1856.pop")
-        for words, status in (
+        cases: list[tuple[list[str], int]] = [
             ([], 2),
             (["--near", "a", "--author", "b"], 2),
             (["--near", "a", "--play", "b"], 2),
@@ -322,7 +321,8 @@ class Command(unittest.TestCase):
             (["--count", "3"], 2),
             (["--near", "nowhere.pop"], 3),
             (["--play", str(self.examples / "README.md")], 3),
-        ):
+        ]
+        for words, status in cases:
             with self.subTest(words):
                 self.assertEqual(self.run_on(*words).status, status)
 

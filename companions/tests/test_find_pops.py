@@ -8,13 +8,13 @@ import sys
 import tempfile
 import unittest
 from pathlib import Path
-from typing import Dict, Optional
+from typing import Optional
 
-import support
+from tests import support
 
 # Prints the program that is found, or what to do.
 FINDS = """
-from pops_many.program import MissingError, find, find_part_program
+from pops_companions.many.program import MissingError, find, find_part_program
 try:
     print({call})
 except MissingError as error:
@@ -48,12 +48,8 @@ class Room(unittest.TestCase):
         return path
 
     def companions(self, folder: Path) -> Path:
-        for name in ("pops_many", "pops_texts"):
-            shutil.copytree(
-                support.COMPANIONS / name,
-                folder / name,
-                ignore=shutil.ignore_patterns("__pycache__"),
-            )
+        ignore = shutil.ignore_patterns("__pycache__")
+        shutil.copytree(support.PACKAGE, folder / support.PACKAGE.name, ignore=ignore)
         return folder
 
     def repository(self) -> Path:
@@ -90,7 +86,7 @@ class Room(unittest.TestCase):
         self,
         companions: Path,
         named: Optional[str] = None,
-        more: Optional[Dict[str, str]] = None,
+        more: Optional[dict[str, str]] = None,
         path: Optional[Path] = None,
     ) -> str:
         return self.told(companions, f"find({named!r})", more, path)
@@ -99,7 +95,7 @@ class Room(unittest.TestCase):
         self,
         companions: Path,
         call: str,
-        more: Optional[Dict[str, str]] = None,
+        more: Optional[dict[str, str]] = None,
         path: Optional[Path] = None,
     ) -> str:
         path = path or self.elsewhere.parent

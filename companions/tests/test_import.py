@@ -1,10 +1,11 @@
-"""pops-import: other collections become problems of pops, and what is left out is told.
+"""pops-import: other collections become problems of pops, and what is left out is reported.
 
 The made files of data/import have the wanted output (.pop) and the wanted lines on standard error
-(.told) beside them, both written by hand.
+(`.told`) next to them, both written by hand.
 """
 
 import contextlib
+import importlib.util
 import io
 import random
 import re
@@ -13,26 +14,27 @@ import subprocess
 import sys
 import tempfile
 import unittest
+from collections.abc import Mapping
 from pathlib import Path
-from typing import Any, Dict, List, NamedTuple
+from typing import Any, NamedTuple
+from unittest import mock
 
-import support
-
-from pops_import.language import ENGLISH, FRENCH, GERMAN, meaning
-from pops_import.origins import date_text, origin_of
-from pops_import.sections import wanted_of
-from pops_import.yaml_text import YamlError, documents
+from pops_companions.import_.language import ENGLISH, FRENCH, GERMAN, meaning
+from pops_companions.import_.origins import date_text, origin_of
+from pops_companions.import_.sections import wanted_of
+from pops_companions.import_.yaml_text import YamlError, documents
+from tests import run_here, support
 
 DATA = Path(__file__).resolve().parent / "data" / "import"
 IMPORT = support.loaded("pops-import")
 
 
 class Imported(NamedTuple):
-    """What an import in this process left behind; lines of error without the program's name."""
+    """What an import in this process left; lines of error without the program's name."""
 
     status: int
     output: bytes
-    told: List[str]
+    told: list[str]
 
 
 def imported(*words: str) -> Imported:
@@ -48,7 +50,7 @@ def imported(*words: str) -> Imported:
 
 
 def imported_text(text: bytes, *words: str) -> Imported:
-    """Imports a text, which is called `text` in what is told."""
+    """Imports a text, which messages call `text`."""
     with tempfile.TemporaryDirectory() as room:
         source = Path(room) / "text"
         source.write_bytes(text)
@@ -56,9 +58,11 @@ def imported_text(text: bytes, *words: str) -> Imported:
     return made._replace(told=[line.replace(str(source), "text") for line in made.told])
 
 
-def made_files() -> List[Path]:
-    files = sorted(path for path in DATA.iterdir() if path.suffix in (".inp", ".yaml"))
-    assert len(files) > 15
+def made_files() -> list[Path]:
+    """The collections of data/import; those in YAML where PyYAML is installed."""
+    suffixes = (".inp", ".yaml") if importlib.util.find_spec("yaml") else (".inp",)
+    files = sorted(path for path in DATA.iterdir() if path.suffix in suffixes)
+    assert len(files) > 12
     return files
 
 
@@ -87,8 +91,8 @@ class MadeFiles(unittest.TestCase):
                 self.assertEqual(imported(str(path)), (0, path.read_bytes(), []))
 
     def test_line_ends_of_other_systems(self) -> None:
-        for name in ("twins.inp", "german.inp", "olive.yaml"):
-            text = (DATA / name).read_bytes()
+        for path in made_files():
+            name, text = path.name, path.read_bytes()
             wanted = imported_text(text)
             for end in (b"\r\n", b"\r"):
                 with self.subTest(name, end=end):
@@ -152,14 +156,15 @@ class Origins(unittest.TestCase):
                 self.assertEqual(date_text(date), wanted)
 
     def test_parts_in_their_order(self) -> None:
-        for parts, wanted in (
+        cases: list[tuple[list[tuple[str, str]], tuple[str, str]]] = [
             ([("name", "Die Schwalbe"), ("date", "1977")], ("Die Schwalbe 1977", "")),
             ([("date", "1977-08"), ("name", "Die Schwalbe")], ("Die Schwalbe, August 1977", "")),
             ([("name", "feenschach"), ("problemid", "4711"), ("year", "1977"), ("month", "8")],
              ("feenschach, 4711, August 1977", "")),
             ([("name", "A"), ("volume", "3"), ("month", "8")], ("A", "volume 3, month 8")),
             ([], ("", "")),
-        ):  # fmt: skip
+        ]  # fmt: skip
+        for parts, wanted in cases:
             with self.subTest(parts):
                 self.assertEqual(origin_of(parts), wanted)
 
@@ -175,6 +180,7 @@ class WantedNumbers(unittest.TestCase):
             with self.subTest(text):
                 self.assertEqual(wanted_of(text), wanted)
 
+    @support.needs_module("yaml")
     def test_an_input_of_popeye(self) -> None:
         pieces = "Pieces White Kg6 Ra1 Black Kh8"
         given = f"BeginProblem\nStipulation h#2 2.1..\n{pieces}\nEndProblem\n"
@@ -206,7 +212,7 @@ class RoundTrips(unittest.TestCase):
         self.assertGreater(tried, 70)
 
     def test_the_example_of_faults(self) -> None:
-        """Of its seven problems a comma and a lost number are no faults of Popeye's."""
+        """A comma and a lost number in two of its seven problems are no faults for Popeye."""
         made = imported(str(support.REPOSITORY / "examples" / "faults.pop"))
         self.assertEqual(made.status, 1)
         self.assertEqual(made.output.count(b"Pieces "), 4)
@@ -256,7 +262,7 @@ def translated(text: str, place: int) -> str:
 
 
 def made_problems(chance: random.Random) -> str:
-    """Problems of this profile, as pops-import writes them; some have a fault that pops tells."""
+    """Problems of this profile, as pops-import writes them; some have a fault that pops reports."""
     problems = []
     for number in range(chance.randrange(1, 5)):
         squares = [f"{file}{rank}" for file in "abcdefgh" for rank in range(2, 8)]
@@ -303,12 +309,13 @@ class Languages(unittest.TestCase):
 
     def test_the_words_of_the_document(self) -> None:
         """Its tables name all words that are taken, each with what it means."""
-        section = (support.COMPANIONS / "pops_import" / "WORDS.md").read_text("utf-8")
-        for title, places in (
+        section = (support.PACKAGE / "import_" / "WORDS.md").read_text("utf-8")
+        cases: list[tuple[str, list[Mapping[str, frozenset[Any]]]]] = [
             ("Command", [one.commands for one in (ENGLISH, GERMAN, FRENCH)]),
             ("Option", [one.options for one in (ENGLISH, GERMAN, FRENCH)]),
             ("Twin", [one.twinnings for one in (ENGLISH, GERMAN, FRENCH)]),
-        ):
+        ]
+        for title, places in cases:
             rows = table(section, title)
             for place, words in enumerate(places):
                 known = {}
@@ -329,7 +336,7 @@ def is_beginning(word: str, words: Any) -> bool:
     return any(other != word and other.startswith(word) for other in words)
 
 
-def table(text: str, title: str) -> List[List[str]]:
+def table(text: str, title: str) -> list[list[str]]:
     """The rows of the table whose first column has a title."""
     lines = text.split("\n")
     start = next(at for at, line in enumerate(lines) if line.startswith(f"| {title} |")) + 2
@@ -361,6 +368,7 @@ class Texts(unittest.TestCase):
             ],
         )
 
+    @support.needs_module("yaml")
     def test_a_text_line_stays_one_line(self) -> None:
         made = imported_text(
             b'title: "two\\nlines\\tand\\fmore"\nstipulation: h#1\n'
@@ -396,6 +404,7 @@ class Texts(unittest.TestCase):
         self.assertIn(b"Title b)\nRemark both\n", made.output)
 
 
+@support.needs_module("yaml")
 class Yaml(unittest.TestCase):
     """The part of YAML that is read, by the definitions of YAML 1.2."""
 
@@ -483,7 +492,7 @@ class Yaml(unittest.TestCase):
         self.assertEqual(found, [(2, {"a": "b"}), (6, "d"), (8, ["e"])])
 
     def test_keys_and_texts_know_their_lines(self) -> None:
-        value: Dict[Any, Any] = self.value("a: |\n  b\nc:\n  - d\n  - [e,\n  f]\n")
+        value: dict[Any, Any] = self.value("a: |\n  b\nc:\n  - d\n  - [e,\n  f]\n")
         self.assertEqual([key.line for key in value], [1, 3])
         texts = [value["a"], value["c"][0], *value["c"][1]]
         self.assertEqual([text.line for text in texts], [1, 4, 5, 6])
@@ -501,6 +510,15 @@ class Yaml(unittest.TestCase):
             for document in documents(text):
                 with contextlib.suppress(YamlError):
                     document.node()
+
+
+class WithoutPyYaml(unittest.TestCase):
+    def test_yaml_is_refused_and_nothing_else(self) -> None:
+        with mock.patch.dict(sys.modules, {"yaml": None}):
+            made = run_here.companion("pops-import", str(DATA / "olive.yaml"))
+            self.assertEqual((made.status, made.output), (3, b""))
+            self.assertIn("needs PyYAML (Debian: python3-yaml), which isn't installed", made.error)
+            self.assertEqual(run_here.companion("pops-import", str(DATA / "twins.inp")).status, 0)
 
 
 class Robustness(unittest.TestCase):
@@ -545,6 +563,7 @@ class NewUser(unittest.TestCase):
         named = support.companion("pops-import", str(path))
         self.assertEqual((named.status, named.output), (0, wanted))
 
+    @support.needs_module("yaml")
     def test_several_files_become_one_text(self) -> None:
         paths = [DATA / "white_to_play.inp", DATA / "olive.yaml"]
         made = imported(*map(str, paths))

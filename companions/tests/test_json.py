@@ -1,19 +1,22 @@
 """JSON: nothing of a report is lost, and the objects are what the schema says."""
 
+import importlib
 import json
 import subprocess
 import sys
 import tempfile
 import unittest
+from collections.abc import Callable
 from pathlib import Path
-from typing import Any, Dict, List
+from typing import Any
 
-import rebuilt
-import schema
-import support
+from tests import rebuilt, support
+
+# A test of what an object satisfies.
+Test = Callable[[object], bool]
 
 
-def objects(report: bytes, *words: str) -> List[Dict[str, Any]]:
+def objects(report: bytes, *words: str) -> list[dict[str, Any]]:
     outcome = support.companion("pops2json", *words, text=report)
     assert outcome.status == 0 and outcome.error == "", outcome
     lines = outcome.output.decode("utf-8").split("\n")
@@ -146,34 +149,54 @@ class Inputs(unittest.TestCase):
         names = (faulty["title"], faulty["author"], faulty["origin"])
         self.assertEqual(names, ("One", None, "Die Schwalbe 1977"))
         self.assertNotIn("origin", sound)
-        self.assertEqual(schema.Schema(schema.stored()).faults(faulty), [])
+        self.assertEqual(set(faulty) - {"number", "sound", "fault"}, {"title", "author", "origin"})
+
+
+def stored_schema() -> dict[str, Any]:
+    """The schema of pops2json's objects."""
+    path = support.PACKAGE / "show" / "item.schema.json"
+    stored: dict[str, Any] = json.loads(path.read_text("utf-8"))
+    return stored
 
 
 class Schema(unittest.TestCase):
+    @support.needs_module("jsonschema")
     def test_every_stored_report_has_the_stored_schema(self) -> None:
-        wanted = schema.Schema(schema.stored())
         report = b"".join(path.read_bytes() for path in support.stored_reports())
-        for one in objects(report):
-            self.assertEqual(wanted.faults(one), [])
-        self.assertEqual(set(wanted.used), set(schema.stored()["$defs"]))
+        found = objects(report)
+        stored = stored_schema()
+        self.assertTrue(all(map(self.validity(stored), found)))
+        for name in stored["$defs"]:
+            with self.subTest(name):
+                without = {**stored, "$defs": {**stored["$defs"], name: False}}
+                self.assertFalse(all(map(self.validity(without), found)), "no report has one")
 
+    def validity(self, schema: dict[str, Any]) -> Test:
+        test: Test = importlib.import_module("jsonschema").Draft202012Validator(schema).is_valid
+        return test
+
+    @support.needs_module("jsonschema")
     def test_other_objects_have_not(self) -> None:
-        wanted = schema.Schema(schema.stored())
+        is_valid = self.validity(stored_schema())
         report = (support.REPOSITORY / "examples/mate_in_one.report").read_bytes()
-        for change in (
+        (one,) = objects(report)
+        self.assertTrue(is_valid(one))
+        changes: list[dict[str, object]] = [
             {"number": 0}, {"number": True}, {"sound": False}, {"title": 1}, {"board": {}},
             {"condition": "Circ"}, {"phases": []}, {"more": 1}, {"stipulation": "#1"},
-        ):  # fmt: skip
+        ]  # fmt: skip
+        for change in changes:
             with self.subTest(change):
-                (one,) = objects(report)
-                self.assertEqual(wanted.faults(one), [])
-                self.assertNotEqual(wanted.faults({**one, **change}), [])
-        self.assertNotEqual(wanted.faults({"number": 1, "sound": False}), [])
+                self.assertFalse(is_valid({**one, **change}))
+        self.assertFalse(is_valid({"number": 1, "sound": False}))
+        fault = {"line": 1, "number": 2, "text": "a"}
+        faulty = {"number": 1, "sound": False, "fault": fault, "title": None, "origin": "A"}
+        self.assertTrue(is_valid(faulty))
 
     def test_the_schema_is_printed(self) -> None:
         outcome = support.companion("pops2json", "--schema")
         self.assertEqual((outcome.status, outcome.error), (0, ""))
-        self.assertEqual(json.loads(outcome.output), schema.stored())
+        self.assertEqual(json.loads(outcome.output), stored_schema())
         self.assertEqual(support.companion("pops2json", "--schema", "x.report").status, 2)
 
 
@@ -186,7 +209,7 @@ class Command(unittest.TestCase):
             "pops2json: standard input is no report of pops:"
             " line 6: the report is cut inside a problem\n",
         )
-        for words in ([], ["--array"]):
+        for words in ((), ("--array",)):
             empty = support.companion("pops2json", *words)
             told = "pops2json: standard input is empty: no report of pops\n"
             self.assertEqual(empty, (1, b"", told))

@@ -3,13 +3,9 @@
 import tempfile
 import unittest
 from pathlib import Path
-from typing import List
 
-import support
-import test_pages
-import test_soundness
-
-from pops_review.judging_run import lines_below_head
+from pops_companions.review.judging_run import lines_below_head
+from tests import support, test_pages, test_soundness
 
 ONE = b"BeginProblem\nTitle A mate\nOrigin A & B 1900\nPieces White Kg6 Ra1 Black Kg8\nStipulation #1\n"
 TWO = b"NextProblem\nTitle A help\nPieces White Kg6 Ra1 Black Kh8\nStipulation h#1\nEndProblem\n"
@@ -34,10 +30,10 @@ class Judging(unittest.TestCase):
         words = ("--pops", pops or support.pops(), "-o", str(self.sheet), *words)
         return support.companion("pops-judge", text or str(self.text), *words)
 
-    def articles(self) -> List[test_pages.SeenArticle]:
+    def articles(self) -> list[test_pages.SeenArticle]:
         return test_pages.SeenPage(self.sheet.read_text("utf-8")).articles
 
-    def files(self) -> List[str]:
+    def files(self) -> list[str]:
         return sorted(path.name for path in self.room.iterdir())
 
     def test_the_collection_of_known_soundness(self) -> None:

@@ -4,7 +4,7 @@ import shutil
 import subprocess
 import unittest
 
-import man_pages
+from tests import man_pages
 
 
 class ManPages(unittest.TestCase):
@@ -16,7 +16,7 @@ class ManPages(unittest.TestCase):
         for name in names:
             with self.subTest(name):
                 stored = (man_pages.FOLDER / f"{name}.1").read_text("utf-8")
-                message = "call companions/tests/man_pages.py to write it again"
+                message = "call `python3 -m tests.man_pages` in companions/ to write it again"
                 self.assertEqual(stored, man_pages.page_of(name), message)
 
     def test_each_is_shown_without_warnings(self) -> None:

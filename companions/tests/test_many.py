@@ -1,4 +1,4 @@
-"""Many problems at once: the bytes and the status are those of one run of pops."""
+"""Many problems at once: bytes and status as of one run of pops."""
 
 import io
 import os
@@ -9,19 +9,16 @@ import sys
 import tempfile
 import unittest
 from pathlib import Path
-from typing import List, Tuple
 
-import made_inputs
-import support
-from six_problems import SIX, SixProblems
-
-from pops_many.cutting import Rest, cut, rest_of
-from pops_many.progress import Progress, duration
+from pops_companions.input.pieces import Rest, cut, rest_of
+from pops_companions.many.progress import Progress, duration
+from tests import made_inputs, support
+from tests.six_problems import SIX, SixProblems
 
 MANY = support.loaded("pops-many")
 
 
-def solved(*words: str) -> Tuple[int, bytes]:
+def solved(*words: str) -> tuple[int, bytes]:
     """Status and output of pops-many, within this process."""
     target = io.BytesIO()
     settings = MANY.arguments(["--pops", support.pops(), *words])
@@ -59,7 +56,7 @@ class TextAfterTheEnd(unittest.TestCase):
 
 
 class Cutting(unittest.TestCase):
-    def blocks(self, text: bytes) -> List[bytes]:
+    def blocks(self, text: bytes) -> list[bytes]:
         return [text[piece.start : piece.stop] for piece in cut(text)]
 
     def test_words_that_end_a_problem(self) -> None:
@@ -239,7 +236,7 @@ class Interruptions(SixProblems):
         self.assertEqual(outcome.status, 6)
         self.assertEqual(outcome.output.count(b"solutions: 1\n"), 3)
         journal = outcome.error.split("--journal ")[1].strip()
-        self.addCleanup(lambda: os.path.exists(journal) and os.unlink(journal))
+        self.addCleanup(Path(journal).unlink, missing_ok=True)
         words = ["--pops", support.pops(), "--resume", "--journal", journal, str(self.input)]
         self.assertEqual(support.companion("pops-many", *words), (0, self.wanted, ""))
         self.assertFalse(os.path.exists(journal))

@@ -1,4 +1,4 @@
-"""pops-many that is stopped or killed: what ends, what is left behind, what --resume takes up."""
+"""pops-many that is stopped or killed: what ends, what is left, what --resume takes up."""
 
 import os
 import pty
@@ -9,10 +9,9 @@ import tempfile
 import unittest
 from pathlib import Path
 
-import support
-from six_problems import SixProblems, has_worked, wait_for
-
-from pops_many import sessions
+from pops_companions.many import sessions
+from tests import support
+from tests.six_problems import SixProblems, has_worked, wait_for
 
 WAITS = "sleep 60 & sleep 61"
 
@@ -151,8 +150,7 @@ class Journals(SixProblems):
 # Watches a session, two of whose processes are in groups of their own, until it is killed.
 WATCHED = """
 import os, subprocess, sys, time
-sys.path.insert(0, {companions!r})
-from pops_many import sessions
+from pops_companions.many import sessions
 code = "import os, subprocess; " + "subprocess.Popen(['sleep', '60'], preexec_fn=os.setpgrp); " * 2
 run = subprocess.Popen([sys.executable, "-c", code + "import time; time.sleep(60)"],
     start_new_session=True)
@@ -164,8 +162,9 @@ with sessions.watched(run.pid, {folder!r}):
 
 class Sessions(unittest.TestCase):
     def watching(self, folder: str, then: str) -> "subprocess.Popen[bytes]":
-        code = WATCHED.format(companions=str(support.COMPANIONS), folder=folder, then=then)
-        return subprocess.Popen([sys.executable, "-c", code], stdout=subprocess.PIPE)
+        code = WATCHED.format(folder=folder, then=then)
+        words = [sys.executable, "-c", code]
+        return subprocess.Popen(words, stdout=subprocess.PIPE, cwd=support.COMPANIONS)
 
     def session(self, run: "subprocess.Popen[bytes]") -> int:
         """The session that is watched, once its processes are there."""

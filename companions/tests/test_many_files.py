@@ -4,10 +4,9 @@ import subprocess
 import sys
 import unittest
 from pathlib import Path
-from typing import List
 
-import support
-from six_problems import SIX, SixProblems
+from tests import support
+from tests.six_problems import SIX, SixProblems
 
 FAULTY = b"BeginProblem\nPieces White Kg6\n\n\nNextProblem\nPieces White Ka1 x\nEndProblem\n"
 # Where the problems of FAULTY begin: the second block follows its NextProblem.
@@ -66,7 +65,7 @@ class Several(SixProblems):
         self.assertEqual(self.many(support.pops(), "--index", str(table), "--resume").status, 0)
         self.assertEqual(len(table.read_text().splitlines()), 7)
 
-    def check_reports(self, paths: List[Path]) -> None:
+    def check_reports(self, paths: list[Path]) -> None:
         self.assertEqual([path.read_bytes() for path in paths], self.reports)
 
     def test_a_report_each(self) -> None:

@@ -3,10 +3,9 @@
 import subprocess
 import unittest
 
-import support
-from six_problems import SixProblems
-
-from pops_many.tasks import whole_lines
+from pops_companions.many.tasks import whole_lines
+from tests import support
+from tests.six_problems import SixProblems
 
 # On the fourth problem: two lines, the beginning of a third, and no end.
 TWO_LINES = "printf 'problem 1\\nline one\\nline two\\nline th'; exec sleep 60"
@@ -75,7 +74,7 @@ class Seconds(SixProblems):
         self.assertIn("4 of 6 problems are done", outcome.error)
         self.assertEqual(self.files(), ["six.report.journal", "six.report.unfinished"])
         self.assertEqual(self.rest.read_bytes(), self.marked(b"line one\nline two\n", b"3"))
-        # The fourth had its time: the second alone is run once more, and fails no longer.
+        # The fourth had its time: only the second runs again, and no longer fails.
         self.many(self.stand_in(TWO_LINES), "--resume", "--seconds", "3")
         self.assertEqual(self.runs(), 8)
         self.assertEqual(self.report.read_bytes(), self.others)

@@ -3,15 +3,12 @@
 import tempfile
 import unittest
 from pathlib import Path
-from typing import List
 
-import run_here
-import support
-from test_explain import slips
-
-from pops_explain.mending import further_faults, mend
-from pops_explain.notices import notices
-from pops_many.cutting import cut
+from pops_companions.explain.mending import further_faults, mend
+from pops_companions.explain.notices import notices
+from pops_companions.input.pieces import cut
+from tests import run_here, support
+from tests.test_explain import slips
 
 PIECES = "Pieces White Kg6 Ra1 Black Kg8"
 
@@ -92,7 +89,7 @@ class Mending(unittest.TestCase):
 
 
 class Further(unittest.TestCase):
-    def found(self, *lines: str) -> List[str]:
+    def found(self, *lines: str) -> list[str]:
         """Line, number and marked words of the faults after the first one."""
         text = text_of(*lines)
         return [

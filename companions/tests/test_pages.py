@@ -4,9 +4,9 @@ import tempfile
 import unittest
 from html.parser import HTMLParser
 from pathlib import Path
-from typing import Dict, List, Optional, Tuple
+from typing import Optional
 
-import support
+from tests import support
 
 NAMES = {
     "k": "king",
@@ -29,10 +29,10 @@ class SeenArticle:
 
     def __init__(self, name: Optional[str]) -> None:
         self.name = name
-        self.links: List[Optional[str]] = []
-        self.words: List[str] = []
+        self.links: list[Optional[str]] = []
+        self.words: list[str] = []
         self.diagrams = 0
-        self.men: Dict[Tuple[float, float], Tuple[str, str]] = {}
+        self.men: dict[tuple[float, float], tuple[str, str]] = {}
 
 
 class SeenPage(HTMLParser):
@@ -40,9 +40,9 @@ class SeenPage(HTMLParser):
 
     def __init__(self, page: str):
         super().__init__()
-        self.articles: List[SeenArticle] = []
-        self.shapes: Dict[str, List[Dict[str, Optional[str]]]] = {}
-        self.open: List[Tuple[str, Dict[str, Optional[str]]]] = []
+        self.articles: list[SeenArticle] = []
+        self.shapes: dict[str, list[dict[str, Optional[str]]]] = {}
+        self.open: list[tuple[str, dict[str, Optional[str]]]] = []
         self.feed(page)
         self.close()
         assert not self.open, self.open
@@ -51,7 +51,7 @@ class SeenPage(HTMLParser):
     def _inside(self) -> Optional[SeenArticle]:
         return self.articles[-1] if any(tag == "article" for tag, _ in self.open) else None
 
-    def handle_starttag(self, tag: str, attributes: list) -> None:
+    def handle_starttag(self, tag: str, attributes: list[tuple[str, Optional[str]]]) -> None:
         values = dict(attributes)
         if tag not in TAGS_WITHOUT_END:
             self.open.append((tag, values))
@@ -61,10 +61,10 @@ class SeenPage(HTMLParser):
             self.articles[-1].words.append("")
         self._see(tag, values)
 
-    def handle_startendtag(self, tag: str, attributes: list) -> None:
+    def handle_startendtag(self, tag: str, attributes: list[tuple[str, Optional[str]]]) -> None:
         self._see(tag, dict(attributes))
 
-    def _see(self, tag: str, values: Dict[str, Optional[str]]) -> None:
+    def _see(self, tag: str, values: dict[str, Optional[str]]) -> None:
         article = self._inside
         if article is None:
             groups = [place["id"] for name, place in self.open if name == "g" and "id" in place]
@@ -113,7 +113,7 @@ class Diagrams(unittest.TestCase):
                 boards += article.diagrams
         self.assertGreater(boards, 50)
 
-    def squares(self, article: SeenArticle) -> Dict[str, Tuple[str, str]]:
+    def squares(self, article: SeenArticle) -> dict[str, tuple[str, str]]:
         """The men by square: the board begins 22 units from the left, a square has 45 units."""
         men = {}
         for (x, y), man in article.men.items():
@@ -123,7 +123,7 @@ class Diagrams(unittest.TestCase):
         return men
 
     @staticmethod
-    def wanted(item: support.PlainItem) -> Dict[str, Tuple[str, str]]:
+    def wanted(item: support.PlainItem) -> dict[str, tuple[str, str]]:
         men = {}
         for rank, line in zip("87654321", item.board):
             for file, letter in zip("abcdefgh", line):
@@ -258,7 +258,8 @@ class Inputs(unittest.TestCase):
         self.assertIn("Die Schwalbe 1977", page.articles[0].words)
 
     def test_twins_share_a_diagram(self) -> None:
-        for words, said in ((["--input", "GIVEN"], "Move a1 b2"), ([], "white Ra1 to b2")):
+        cases: list[tuple[list[str], str]] = [(["--input", "GIVEN"], "Move a1 b2"), ([], "white Ra1 to b2")]
+        for words, said in cases:
             twins, other = self.shown(*words).articles
             self.assertEqual((twins.diagrams, len(twins.men), other.diagrams), (1, 3, 1))
             self.assertEqual(twins.words.count("A pair"), 1)

@@ -2,38 +2,44 @@
 
 import io
 import unittest
-from typing import List
+from typing import Union
 
-import support
-
-from pops_texts.chess import Colour, Kind, Man, Square
-from pops_texts.report import (
-    Castling,
+from pops_companions.chess.men import Colour, Kind, Man, Square
+from pops_companions.chess.stipulation import Condition, Goal, Play, Stipulation
+from pops_companions.report.items import (
     FaultyItem,
     HelpLine,
     Item,
-    Mark,
     Node,
     PhaseKind,
-    ReportError,
     SoundItem,
     named_items,
-    read_report,
 )
-from pops_texts.stipulation import Condition, Goal, Play, Stipulation
+from pops_companions.report.moves import Castling, Mark
+from pops_companions.report.reader import ReportError, read_report
+from tests import support
 
 
-def read(text: str) -> List[Item]:
+def read(text: str) -> list[Item]:
     return list(read_report(io.BytesIO(text.encode())))
 
 
-def solutions(stipulation: str, *lines: str, phase: str = "play", count: int = 1) -> tuple:
+def solutions(
+    stipulation: str, *lines: str, phase: str = "play", count: int = 1
+) -> tuple[Union[HelpLine, Node], ...]:
     """The solutions of a phase of these lines."""
     play = f"{phase}\n" + "".join(line + "\n" for line in lines) + f"solutions: {count}\n"
     rest = "play\nsolutions: 0\n" if phase == "set" else ""
     (item,) = read(f"problem 1\n{stipulation}\n{play}{rest}\n")
     assert isinstance(item, SoundItem) and item.phases is not None
     return item.phases[0].solutions
+
+
+def nodes_of(stipulation: str, *lines: str, count: int = 1) -> list[Node]:
+    """The moves of battle play of these lines."""
+    found = [it for it in solutions(stipulation, *lines, count=count) if isinstance(it, Node)]
+    assert len(found) == count
+    return found
 
 
 class Items(unittest.TestCase):
@@ -106,16 +112,17 @@ class Items(unittest.TestCase):
 
 class Moves(unittest.TestCase):
     def test_en_passant_with_rebirth(self) -> None:
-        (node,) = solutions("#1", "1.e5*d6 ep.[+bPd7]#")
+        (node,) = nodes_of("#1", "1.e5*d6 ep.[+bPd7]#")
         move = node.move
         self.assertEqual((move.kind, move.origin.name, move.arrival.name), (Kind.PAWN, "e5", "d6"))
         self.assertTrue(move.capture and move.en_passant)
+        assert move.rebirth is not None
         self.assertEqual(move.rebirth.man, Man(Colour.BLACK, Kind.PAWN))
         self.assertEqual(move.rebirth.square, Square(4, 7))
         self.assertIs(move.mark, Mark.MATE)
 
     def test_promotion_and_stalemate(self) -> None:
-        nodes = solutions("=1", "1.f7-f8=Q=", "1.Rb2-b7=", "1.g7*h8=N", count=3)
+        nodes = nodes_of("=1", "1.f7-f8=Q=", "1.Rb2-b7=", "1.g7*h8=N", count=3)
         promotions = [node.move.promotion for node in nodes]
         self.assertEqual(promotions, [Kind.QUEEN, None, Kind.NIGHTRIDER])
         marks = [node.move.mark for node in nodes]
@@ -123,6 +130,7 @@ class Moves(unittest.TestCase):
 
     def test_castling_of_either_side(self) -> None:
         (line,) = solutions("h#1", "1.0-0-0 0-0+")
+        assert isinstance(line, HelpLine)
         black, white = line.moves
         self.assertEqual((black.castling, white.castling), (Castling.LONG, Castling.SHORT))
         self.assertEqual((black.origin.name, black.arrival.name), ("e8", "c8"))
@@ -145,10 +153,9 @@ class Moves(unittest.TestCase):
                 self.assertIs(solution.moves[-1].side, Colour.WHITE)
 
     def test_tree_of_a_battle(self) -> None:
-        first, second = solutions(
+        first, second = nodes_of(
             "#3", "1.Ra1-a2", "  1...Kb8-c8", "    2.Ra2-a8#", "  1...Kb8-a8", "1.Ra1-a3", count=2
         )
-        assert isinstance(first, Node)
         self.assertEqual([node.move.origin.name for node in first.below], ["b8", "b8"])
         self.assertEqual(first.below[0].below[0].move.half, 3)
         self.assertEqual([len(node.below) for node in first.below], [1, 0])

@@ -6,19 +6,17 @@ import re
 import tempfile
 import unittest
 from pathlib import Path
-from typing import Dict, List, Optional, Tuple
+from typing import Optional, Union
 
-import run_here
-import support
-import test_pages
-
-from pops_review.duals import Place, late_partings, tree_duals
-from pops_texts.given import given_problems
-from pops_review.judging import Judgement, Verdict, judged
-from pops_review.posing import AnswersError, ShortAnswers, posed_problems, shorter
-from pops_texts.problem_text import text_of_problems
-from pops_texts.report import HelpLine, Item, Node, SoundItem, read_report
-from pops_texts.stipulation import Stipulation
+from pops_companions.chess.stipulation import Stipulation
+from pops_companions.input.given import given_problems
+from pops_companions.input.writing import text_of_problems
+from pops_companions.report.items import HelpLine, Item, Node, SoundItem
+from pops_companions.report.reader import read_report
+from pops_companions.review.duals import Place, late_partings, tree_duals
+from pops_companions.review.judging import Judgement, Verdict, judged
+from pops_companions.review.posing import AnswersError, ShortAnswers, posed_problems, shorter
+from tests import run_here, support, test_pages
 
 COLLECTION = support.COMPANIONS / "data" / "soundness.pop"
 
@@ -56,7 +54,7 @@ SELF_TREE = """\
 """
 
 
-def items(text: str) -> List[Item]:
+def items(text: str) -> list[Item]:
     return list(read_report(io.BytesIO(text.encode())))
 
 
@@ -71,16 +69,20 @@ def item(stipulation: str, play: str, *, set_play: Optional[str] = None, stopped
     return one
 
 
-def solutions(one: Item) -> tuple:
+def solutions(one: Item) -> tuple[Union[HelpLine, Node], ...]:
     assert isinstance(one, SoundItem) and one.phases is not None
     return one.phases[-1].solutions
 
 
-def judge(one: Item, wanted: int = 1, short: Optional[Tuple[str, ...]] = ()) -> Judgement:
+def nodes_of(one: Item) -> list[Node]:
+    return [it for it in solutions(one) if isinstance(it, Node)]
+
+
+def judge(one: Item, wanted: int = 1, short: Optional[tuple[str, ...]] = ()) -> Judgement:
     return judged(one, wanted, short)
 
 
-def texts(judgement: Judgement) -> List[str]:
+def texts(judgement: Judgement) -> list[str]:
     return [finding.text for finding in judgement.findings]
 
 
@@ -92,8 +94,7 @@ def documented(program: str) -> str:
 
 class Duals(unittest.TestCase):
     def test_direct_play_by_length_and_place(self) -> None:
-        keys = [node for node in solutions(item("#3", DIRECT_TREE)) if isinstance(node, Node)]
-        duals = list(tree_duals(keys))
+        duals = list(tree_duals(nodes_of(item("#3", DIRECT_TREE))))
         self.assertEqual(
             [(dual.text, dual.move, dual.end, dual.place) for dual in duals],
             [
@@ -109,16 +110,15 @@ class Duals(unittest.TestCase):
         )
 
     def test_a_selfmate_has_choices_of_white_alone(self) -> None:
-        keys = [node for node in solutions(item("s#2", SELF_TREE)) if isinstance(node, Node)]
-        (dual,) = tree_duals(keys)
+        (dual,) = tree_duals(nodes_of(item("s#2", SELF_TREE)))
         self.assertEqual(dual.text, "1.Qa1-a2 Kh8-g8 2.Qa2-a8+ | Qa2-b3+")
         self.assertEqual((dual.move, dual.end, dual.place), (2, 2, Place.AT_THE_END))
 
     def test_what_a_pawn_becomes(self) -> None:
         tree = "1.e6-e7\n  1...Kh8-g8\n    2.e7-e8=Q#\n    2.e7-e8=R#\n"
-        (dual,) = tree_duals(solutions(item("#2", tree)))
+        (dual,) = tree_duals(nodes_of(item("#2", tree)))
         self.assertTrue(dual.by_promotion)
-        (other,) = tree_duals(solutions(item("#2", tree.replace("e8=R", "d8=R"))))
+        (other,) = tree_duals(nodes_of(item("#2", tree.replace("e8=R", "d8=R"))))
         self.assertFalse(other.by_promotion)
 
     def test_help_lines_that_part_late(self) -> None:
@@ -233,7 +233,7 @@ class Judgements(unittest.TestCase):
 
 class Inputs(unittest.TestCase):
     def test_wanted_numbers(self) -> None:
-        cases: List[Tuple[str, Optional[int]]] = [
+        cases: list[tuple[str, Optional[int]]] = [
             ("Remark solutions 2", 2),
             ("rem Solutions: 3", 3),
             ("REMARK 2 solutions.", 2),
@@ -264,7 +264,7 @@ class Inputs(unittest.TestCase):
                 self.assertEqual(list(posed_problems(given_problems(text))), [])
 
     def test_shorter_stipulations(self) -> None:
-        cases: Dict[str, List[str]] = {
+        cases: dict[str, list[str]] = {
             "#3": ["#2"],
             "#1": [],
             "s=2": ["s=1"],
@@ -313,8 +313,8 @@ class StoredInputs(unittest.TestCase):
                         self.assertEqual(problem.stipulation, one.stipulation)
 
     def test_what_is_posed_is_the_same_position(self) -> None:
-        posed: List[List[str]] = []
-        originals: List[SoundItem] = []
+        posed: list[list[str]] = []
+        originals: list[SoundItem] = []
         for path in support.stored_inputs():
             report = list(read_report(io.BytesIO(support.stored_report(path).read_bytes())))
             for problem, one in zip(given_problems(path.read_bytes()), report):
@@ -367,13 +367,13 @@ class Answers(unittest.TestCase):
 class Collection(unittest.TestCase):
     """A collection whose soundness was worked out by hand; Morphy's and the array's are published.
 
-    Of pawn e6 White makes a queen or a rook, and both mate. The mate in two of Kf6 and Qa7 is one
+    Pawn e6 becomes a queen or a rook, and both mate. The mate in two of Kf6 and Qa7 is one
     in one as well; Black has one first move alone, so that its two lines part later. In the array's
     lines f7-f5 or f7-f6 and g7-g5 come in either order, with e2-e3 or e2-e4 between. Four moves
     along the eighth rank leave Black b3-b2 alone.
     """
 
-    WANTED = [
+    WANTED: list[tuple[str, list[str]]] = [
         ("sound", []),
         ("unsound", ["cooked: 2 keys, 1 wanted"]),
         ("sound", ["1 dual at the mate: 1 on move 2; 1 by promotion alone",
@@ -388,6 +388,11 @@ class Collection(unittest.TestCase):
         ("unsound", ["cooked: 4 keys, 1 wanted"]),
         ("sound", []),
     ]  # fmt: skip
+
+    room: Path
+    report: Path
+    short: Path
+    words: list[str]
 
     @classmethod
     def setUpClass(cls) -> None:
@@ -409,7 +414,7 @@ class Collection(unittest.TestCase):
 
     def test_text(self) -> None:
         text = self.judged("--all").output.decode()
-        found: List[Tuple[str, List[str]]] = []
+        found: list[tuple[str, list[str]]] = []
         for line in text.splitlines()[:-1]:
             if line.startswith("problem "):
                 found.append((line.split(": ")[1], []))
@@ -479,12 +484,13 @@ class Collection(unittest.TestCase):
 
     def test_the_number_wanted_of_help_problems(self) -> None:
         report = str(support.REPOSITORY / "examples" / "game_array.report")
-        for words, said in (
+        cases: list[tuple[list[str], bytes]] = [
             (["--solutions", "8"], b"undecided"),
             (["--solutions", "7"], b"cooked: 8 solutions, 7 wanted"),
             (["--solutions", "9"], b"solutions missing: 8 solutions, 9 wanted"),
             ([], b"cooked: 8 solutions, 1 wanted"),
-        ):
+        ]
+        for words, said in cases:
             outcome = run_here.companion("pops-test", report, *words)
             self.assertEqual((outcome.status, outcome.error), (1, ""))
             self.assertIn(said, outcome.output)
@@ -492,7 +498,7 @@ class Collection(unittest.TestCase):
         self.assertIn(b"2 keys, 1 wanted", both.output)
 
     def test_published_keys_are_the_only_ones(self) -> None:
-        """Of the game endings and problems in examples/ each published key is the only one."""
+        """Each published key of the game endings and problems in examples/ is the only one."""
         for name in ("morphy_1856", "legal_paris_1750", "boden_london_1853", "reti_vienna_1910"):
             report = support.REPOSITORY / "examples" / f"{name}.report"
             outcome = run_here.companion("pops-test", str(report))
@@ -507,7 +513,7 @@ class Unfinished(unittest.TestCase):
     ONE = "problem 1\n#1\nplay\n1.Ra1-a8#\nsolutions: 1\n\n"
     MARK = "unfinished: stopped after 5 s (six.pop, line 9)\n\n"
 
-    def found(self, text: str, *words: str) -> List[str]:
+    def found(self, text: str, *words: str) -> list[str]:
         outcome = run_here.companion("pops-test", *words, text=text.encode())
         self.assertEqual((outcome.status, outcome.error), (1, ""))
         return outcome.output.decode().splitlines()
@@ -689,7 +695,7 @@ class Command(unittest.TestCase):
         self.assertIn("given.pop isn't the report's input: it has no problem 2", outcome.error)
 
     def test_problems_that_the_report_lacks_are_undecided(self) -> None:
-        """As those behind the place where a run was interrupted."""
+        """As after the place where a run was interrupted."""
         with tempfile.TemporaryDirectory() as room:
             given = Path(room) / "given.pop"
             given.write_bytes(b"Beg Stipulation #1 Next Stipulation #1 Next Stipulation #2 End")

@@ -5,19 +5,14 @@ import random
 import re
 import tempfile
 import unittest
+from collections.abc import Callable, Generator, Iterator, Mapping, Sequence
 from pathlib import Path
-from typing import Callable, Generator, Iterator, List, Mapping, Optional, Sequence, Tuple
+from typing import Any, Optional
 from unittest import mock
 
-import made_inputs
-import parts_told
-import problems_in_parts
-import support
-
-from pops_many.in_parts import ProblemInParts, Reader
-from pops_many.lots import Lot, Lots, numbers_of
-from pops_many.part_program import PartProgram
-from pops_many.parts import (
+from pops_companions.many.batches import Batch, Batches, numbers_of
+from pops_companions.many.part_program import PartProgram
+from pops_companions.many.parts import (
     Part,
     PartsError,
     Phase,
@@ -28,12 +23,14 @@ from pops_many.parts import (
     solutions_in,
     up_to_totals,
 )
-from pops_many.program import PAUSE, Program
-from pops_many.progress import Progress
-from pops_many.tasks import UNFINISHED, Source, Task, tasks_of
+from pops_companions.many.program import PAUSE, Program
+from pops_companions.many.progress import Progress
+from pops_companions.many.split_problem import Reader, SplitProblem
+from pops_companions.many.tasks import UNFINISHED, Source, Task, tasks_of
+from tests import made_inputs, parts_told, problems_in_parts, support
 
 MANY = support.loaded("pops-many")
-# A program that is there; what it tells is asked for within this process.
+# A program that is there; this process makes what it writes.
 NAMED = "/bin/true"
 DATA = support.COMPANIONS / "data"
 
@@ -43,7 +40,7 @@ class Slow(Program):
 
     cut = 0
 
-    def _one(self, text: bytes) -> Tuple[int, bytes]:
+    def _one(self, text: bytes) -> tuple[int, bytes]:
         status, report = super()._one(text)
         if self.seconds is None or status != 0:
             return status, report
@@ -54,7 +51,7 @@ class Slow(Program):
 class Told(PartProgram):
     """pops-part, asked for all parts of a phase at once."""
 
-    def _answer(self, words: Sequence[str], text: bytes) -> Tuple[int, bytes, bytes]:
+    def _answer(self, words: Sequence[str], text: bytes) -> tuple[int, bytes, bytes]:
         return 0, parts_told.answer(words, text), b""
 
     def _pieces(
@@ -64,7 +61,7 @@ class Told(PartProgram):
         yield from (text[begin : begin + 100] for begin in range(0, len(text), 100))
 
 
-def split(path: Path, *words: str) -> Tuple[int, bytes]:
+def split(path: Path, *words: str) -> tuple[int, bytes]:
     """Status and output of pops-many, each sound problem in parts, within this process."""
     target = io.BytesIO()
     settings = MANY.arguments(
@@ -121,7 +118,7 @@ class AsPops(BesidePops):
         self.assertGreater(cut, 80)
 
     @staticmethod
-    def depths(text: bytes) -> List[int]:
+    def depths(text: bytes) -> list[int]:
         """In help play 1 to 3, as long as there aren't too many parts."""
         if re.search(rb"\bh[#=]", text, re.IGNORECASE) is None:
             return [1]
@@ -153,19 +150,19 @@ class WrongJoiners(BesidePops):
         for limit in (10, 40)
     ]
 
-    def are_refused(self, wrong: Mapping[str, object]) -> None:
+    def are_refused(self, wrong: Mapping[str, Any]) -> None:
         """None of the texts is solved as pops does with that in place of the joiner's own."""
         for text in self.TEXTS:
             with self.subTest(text):
                 self.assertEqual(self.is_as_pops(text, "--split-depth", "1"), 1)
-                with mock.patch.multiple(ProblemInParts, **wrong):
+                with mock.patch.multiple(SplitProblem, **wrong):
                     with self.assertRaises(AssertionError):
                         self.is_as_pops(text, "--split-depth", "1")
 
     def test_each_part_up_to_the_limit(self) -> None:
         """All that the parts show, each of which has no more than the limit."""
 
-        def solutions(of: ProblemInParts, phase: Phase, read: Reader) -> Iterator[bytes]:
+        def solutions(of: SplitProblem, phase: Phase, read: Reader) -> Iterator[bytes]:
             numbers = range(1, (phase.parts or 0) + 1)
             parts = [Part(of.task, phase.name, number, 1) for number in numbers]
             reports = [read(part) for part in parts]
@@ -173,13 +170,13 @@ class WrongJoiners(BesidePops):
             yield b"solutions: %d\n" % sum(count_in(report) or 0 for report in reports)
 
         never = mock.Mock(return_value=False)
-        with mock.patch("pops_many.in_parts._PhaseInParts._end_at_limit", never):
+        with mock.patch("pops_companions.many.split_problem._PhaseInParts._end_at_limit", never):
             self.are_refused({"_solutions": solutions})
 
     def test_the_last_part_whole(self) -> None:
         """All solutions of the parts up to the one in which the limit is reached."""
 
-        def all_of_them(of: ProblemInParts, solutions: List[bytes]) -> List[bytes]:
+        def all_of_them(of: SplitProblem, solutions: list[bytes]) -> list[bytes]:
             return solutions
 
         self.are_refused({"_up_to_limit": all_of_them})
@@ -268,35 +265,36 @@ class Texts(unittest.TestCase):
 class Handed(unittest.TestCase):
     """How parts are handed out."""
 
-    def parts(self, phase: str, numbers: Sequence[int]) -> List[Part]:
+    def parts(self, phase: str, numbers: Sequence[int]) -> list[Part]:
         task = tasks_of([Source(None, b"")])[0]
         return [Part(task, phase, number, 1) for number in numbers]
 
-    def lots(self, parts: List[Part], alone: Sequence[int] = ()) -> Lots:
-        return Lots(parts, lambda part: part.number in alone)
+    def batches(self, parts: list[Part], alone: Sequence[int] = ()) -> Batches:
+        return Batches(parts, lambda part: part.number in alone)
 
-    def next(self, lots: Lots) -> Lot:
-        """The next lot, where every seventh part is needless."""
-        lot = lots.next(lambda part: part.number % 7 == 0)
-        assert lot is not None
-        return lot
+    def next(self, batches: Batches) -> Batch:
+        """The next batch, where every seventh part is needless."""
+        batch = batches.next(lambda part: part.number % 7 == 0)
+        assert batch is not None
+        return batch
 
     def test_lots_stand_one_behind_another(self) -> None:
         parts = self.parts("set", [1, 2, 3, 5, 6, 7]) + self.parts("play", range(8, 14))
-        for alone, wanted in (
+        cases: list[tuple[Sequence[int], str]] = [
             ([], "1..3 5..7 8..13"),
             ([2, 11], "1 2..3 5..7 8..10 11..13"),
             (range(20), "1 2 3 5 6 8 9 10 11 12 13"),
-        ):
-            lots = self.lots(parts, alone)
-            found = [self.next(lots) for _ in wanted.split()]
-            self.assertEqual([numbers_of(lot.left) for lot in found], wanted.split())
-            for lot in found:
-                self.assertEqual({part.phase for part in lot.left}, {lot.first.phase})
+        ]
+        for alone, wanted in cases:
+            batches = self.batches(parts, alone)
+            found = [self.next(batches) for _ in wanted.split()]
+            self.assertEqual([numbers_of(batch.left) for batch in found], wanted.split())
+            for batch in found:
+                self.assertEqual({part.phase for part in batch.left}, {batch.first.phase})
 
     def test_a_free_run_takes_half_of_the_longest_lot(self) -> None:
-        lots = self.lots(self.parts("play", range(1, 14)))
-        first = self.next(lots)
+        batches = self.batches(self.parts("play", range(1, 14)))
+        first = self.next(batches)
         steps = [
             ("8..13", "1..7"),
             ("5..7", "1..4"),
@@ -307,27 +305,27 @@ class Handed(unittest.TestCase):
             ("13", "1..2"),
         ]
         for given, left in steps:
-            taken = self.next(lots)
-            self.assertEqual([numbers_of(lot.left) for lot in (taken, first)], [given, left])
+            taken = self.next(batches)
+            self.assertEqual([numbers_of(batch.left) for batch in (taken, first)], [given, left])
         first.pass_first()
         self.assertEqual(numbers_of(first.left), "2")
 
     def test_the_part_at_work_stays(self) -> None:
-        lots = self.lots(self.parts("play", range(1, 6)))
-        first = self.next(lots)
+        batches = self.batches(self.parts("play", range(1, 6)))
+        first = self.next(batches)
         for _ in range(3):
             first.pass_first()
-        self.assertEqual(numbers_of(self.next(lots).left), "5")
-        self.assertIsNone(lots.next(lambda part: False))
+        self.assertEqual(numbers_of(self.next(batches).left), "5")
+        self.assertIsNone(batches.next(lambda part: False))
         first.pass_first()
         self.assertEqual(len(first), 0)
-        lots.end(first)
-        self.assertIsNone(lots.next(lambda part: False))
-        self.assertIsNone(self.lots([]).next(lambda part: False))
+        batches.end(first)
+        self.assertIsNone(batches.next(lambda part: False))
+        self.assertIsNone(self.batches([]).next(lambda part: False))
 
     def test_a_run_ends_where_its_parts_were_taken(self) -> None:
         """The rest of what it was asked for isn't read."""
-        lot = Lot(self.parts("play", range(1, 7)))
+        batch = Batch(self.parts("play", range(1, 7)))
         program = PartProgram(NAMED, 1)
         closed = []
 
@@ -345,33 +343,35 @@ class Handed(unittest.TestCase):
 
         with mock.patch.object(program, "_pieces", pieces):
             found = []
-            for part, report in program.reports(lot):
+            for part, report in program.reports(batch):
                 found.append((part.number, report))
                 if part.number == 2:
-                    self.assertEqual(numbers_of(lot.half()), "5..6")
+                    self.assertEqual(numbers_of(batch.half()), "5..6")
         self.assertEqual(found, [(number, b"solutions: 0\n") for number in range(1, 5)])
         self.assertEqual(closed, ["1..6"])
         # It is read soon once few parts are left to it and others were taken.
         self.assertEqual([pause < PAUSE for pause in pauses], [False, True, True])
 
     def test_cut_soon_where_processors_have_nothing_to_do(self) -> None:
-        for words, problems, moment in (
+        cases: list[tuple[list[str], int, float]] = [
             ([], 3, 0.02),
             ([], 4, 2),
             (["--split-after", "7"], 3, 7),
             (["--split-after", "0.1"], 5, 0.1),
-        ):
+        ]
+        for words, problems, moment in cases:
             with self.subTest(words, problems=problems):
                 settings = MANY.arguments(["--split", *words])
                 self.assertEqual(MANY.moment_of(settings, problems, 4), moment)
 
     def test_depths(self) -> None:
-        for words, depth in (
+        cases: list[tuple[list[str], int]] = [
             ([], 2),
             (["--split-depth", "1"], 1),
             (["--sshlogin", "x"], 1),
             (["--sshlogin", "x", "--split-depth", "3"], 3),
-        ):
+        ]
+        for words, depth in cases:
             with self.subTest(words):
                 self.assertEqual(MANY.depth_of(MANY.arguments(["--split", *words])), depth)
 
@@ -379,9 +379,9 @@ class Handed(unittest.TestCase):
 class Problems(unittest.TestCase):
     """What is known of a problem, whatever the order in which its parts are done."""
 
-    def problem(self, limit: Optional[int]) -> ProblemInParts:
+    def problem(self, limit: Optional[int]) -> SplitProblem:
         self.task: Task = tasks_of([Source(None, b"")])[0]
-        return ProblemInParts(self.task, b"", [Phase("set", 2), Phase("play", 8)], limit, 1)
+        return SplitProblem(self.task, b"", [Phase("set", 2), Phase("play", 8)], limit, 1)
 
     def part(self, number: int, phase: str = "play") -> Part:
         return Part(self.task, phase, number, 1)
@@ -390,7 +390,7 @@ class Problems(unittest.TestCase):
     def report(count: int) -> bytes:
         return b"1.a\n" * count + b"solutions: %d\n" % count
 
-    def needless(self, problem: ProblemInParts) -> str:
+    def needless(self, problem: SplitProblem) -> str:
         return "".join(str(part.number) for part in problem.parts() if problem.is_needless(part))
 
     def test_parts_behind_enough_solutions_are_needless(self) -> None:
@@ -420,7 +420,7 @@ class Problems(unittest.TestCase):
             self.part(2).key: b"1.e\n  1...f\n    2.g\nsolutions: 1\n",
             self.part(4).key: b"1.i\n1.j\nsolutions: 2\n",
         }
-        # Of the first part less is known than pops wrote, of the second one more.
+        # Less is known of the first part than pops wrote, and more of the second.
         begun = {self.part(1).key: b"1.a\n  1...b\n", self.part(3).key: b"1.h\n"}
         for number in (1, 2):
             problem.keep(self.part(number, "set"), self.report(0))

@@ -5,15 +5,12 @@ import signal
 import time
 import unittest
 from pathlib import Path
-from typing import List
 
-import support
-from six_problems import wait_for
-from split_room import SplitRoom
-
-from pops_many import sessions
-from pops_many.machines import logins_of
-from pops_many.parallel import machine_of
+from pops_companions.many.machines import logins_of
+from pops_companions.many.parallel import machine_of
+from tests import support
+from tests.six_problems import wait_for
+from tests.split_room import SplitRoom
 
 # In the place of ssh: the command runs here, and knows the machine that it was for.
 _SSH = """#!/bin/bash
@@ -38,7 +35,7 @@ class Machines(SplitRoom):
         super().setUp()
         self.where = f"problem 1 ({self.input}, line 1)"
 
-    def words_there(self, pops_part: str, *more: str, logins: str = "one,2/two") -> List[str]:
+    def words_there(self, pops_part: str, *more: str, logins: str = "one,2/two") -> list[str]:
         ssh = self.write("ssh", _SSH)
         words = self.words_of_split(pops_part, "--sshlogin", logins, "--ssh", ssh, *more)
         words += ["--remote-pops", str(self.room / "stand_in"), "--remote-pops-part", pops_part]
@@ -147,7 +144,7 @@ class Limits(Machines):
                 self.forget()
 
     @staticmethod
-    def left_running(word: bytes) -> List[str]:
+    def left_running(word: bytes) -> list[str]:
         """The processes with this word among theirs."""
         found = []
         for path in Path("/proc").glob("[0-9]*/cmdline"):

@@ -8,12 +8,10 @@ import subprocess
 import sys
 import time
 import unittest
-from typing import List, Tuple
 
-import run_here
-import support
-from six_problems import SIX, wait_for
-from split_room import SplitRoom
+from tests import run_here, support
+from tests.six_problems import SIX, wait_for
+from tests.split_room import SplitRoom
 
 
 class Runs(SplitRoom):
@@ -31,7 +29,7 @@ class Runs(SplitRoom):
         runs, asked = self.runs_on_parts(), self.parts()
         self.assertGreater(len(runs), 4)
         self.assertEqual(len(set(asked)), 26)
-        # A run that is stopped behind its last part may have begun the next one.
+        # A run that is stopped after its last part may have begun the next one.
         self.assertLess(len(asked), 26 + len(runs))
 
     def test_a_run_goes_through_several_parts(self) -> None:
@@ -87,7 +85,7 @@ class Runs(SplitRoom):
         self.assertEqual(
             outcome.error,
             f"pops-many: part 2 of the play of problem 1 ({self.input}, line 1):"
-            " pops-part ended with status 4; tried once more\n",
+            " pops-part ended with status 4; tried again\n",
         )
         self.assertEqual(self.report.read_bytes(), self.wanted)
         self.assertEqual(self.parts().count("play-2"), 2)
@@ -100,7 +98,7 @@ class Runs(SplitRoom):
         number = len(set(self.parts()))
         self.assertEqual(
             outcome.error,
-            f"pops-many: part 2 of the play of {where}: {ended}; tried once more\n"
+            f"pops-many: part 2 of the play of {where}: {ended}; tried again\n"
             f"pops-many: {where}: part 2 of the play: {ended}\n"
             f"pops-many: 1 of 1 problems aren't done: what was found of them is in {self.rest}\n"
             f"pops-many: 0 of 1 problems are done and kept in {self.journal}:"
@@ -162,7 +160,7 @@ class Limits(SplitRoom):
 
 
 class Ends(SplitRoom):
-    def interrupted(self, sign: int, *more: str) -> Tuple[int, str]:
+    def interrupted(self, sign: int, *more: str) -> tuple[int, str]:
         """A run that waits at the fifth part of the play and gets a signal there."""
         program = self.pops_part("problem-play-5", "echo 1.Kh8-g8; exec sleep 60")
         run = self.started(*self.words_of_split(program, "--jobs", "1", *more))
@@ -257,7 +255,7 @@ class Ends(SplitRoom):
         terminal, other_side = pty.openpty()
         if columns:
             support.run(["stty", "-F", os.ttyname(other_side), "cols", str(columns)])
-        words: List[str] = [sys.executable, str(support.COMPANIONS / "pops-many")]
+        words: list[str] = [sys.executable, str(support.COMPANIONS / "pops-many")]
         # The eighth part of the set play waits longer than a line is shown.
         words += self.words_of_split(self.pops_part("problem-set-8", "sleep 0.6"), "--jobs", "1")
         done = subprocess.run(words, stdin=subprocess.DEVNULL, stderr=other_side)
@@ -293,7 +291,9 @@ class Command(unittest.TestCase):
         )
 
     def test_an_empty_input_and_a_pipe(self) -> None:
-        words = ["--pops", support.pops(), "--split", "--pops-part", "/bin/true"]
+        # (also on a busy machine no problem takes so long that it is cut)
+        words = ["--pops", support.pops(), "--split", "--split-after", "60"]
+        words += ["--pops-part", "/bin/true"]
         for text in (b"", b"BeginProblem Pieces White Kg6 Ra1 Black Kg8 Stipulation #1 EndProblem"):
             wanted = support.run([support.pops()], text)
             with self.subTest(text):

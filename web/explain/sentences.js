@@ -1,5 +1,5 @@
 // @ts-check
-// The sentences of explanations: companions/pops_explain/explanations.json, which pops-explain reads too.
+// The sentences of explanations: companions/pops_companions/explain/explanations.json, which pops-explain reads too.
 import { EXPLANATIONS } from './explanations.js';
 
 

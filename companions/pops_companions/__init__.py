@@ -1,0 +1,1 @@
+"""The companions of pops: programs that write problems for it and read its reports."""

@@ -1,0 +1,1 @@
+"""Men, squares, stipulations and positions."""

@@ -1,0 +1,85 @@
+"""Colours, men and squares, by the names and letters that pops uses."""
+
+from collections.abc import Iterator
+from dataclasses import dataclass
+from enum import Enum
+
+
+class Colour(Enum):
+    """A side."""
+
+    WHITE = "white"
+    BLACK = "black"
+
+    @property
+    def opponent(self) -> "Colour":
+        return Colour.BLACK if self is Colour.WHITE else Colour.WHITE
+
+
+class Kind(Enum):
+    """A kind of man; its value is the letter that pops reads and prints for it."""
+
+    KING = "K"
+    QUEEN = "Q"
+    ROOK = "R"
+    BISHOP = "B"
+    KNIGHT = "S"
+    PAWN = "P"
+    GRASSHOPPER = "G"
+    NIGHTRIDER = "N"
+
+    @property
+    def word(self) -> str:
+        """The kind's English name, as `nightrider`."""
+        return self.name.lower()
+
+
+@dataclass(frozen=True)
+class Man:
+    """A man of a colour."""
+
+    colour: Colour
+    kind: Kind
+
+    @property
+    def letter(self) -> str:
+        """Its letter on a printed board: capital for White, small for Black."""
+        return self.kind.value if self.colour is Colour.WHITE else self.kind.value.lower()
+
+    @staticmethod
+    def of_letter(letter: str) -> "Man":
+        """Returns the man of a printed board's letter. ValueError for any other letter."""
+        colour = Colour.WHITE if letter.isupper() else Colour.BLACK
+        return Man(colour, Kind(letter.upper()))
+
+
+@dataclass(frozen=True)
+class Square:
+    """A square; file and rank run from 1 to 8, the file a being 1."""
+
+    file: int
+    rank: int
+
+    @property
+    def name(self) -> str:
+        """As `e4`."""
+        return "abcdefgh"[self.file - 1] + str(self.rank)
+
+    @property
+    def mirrored(self) -> "Square":
+        """The square that it becomes when the board is turned over, rank 1 to rank 8."""
+        return Square(self.file, 9 - self.rank)
+
+    @staticmethod
+    def of_name(name: str) -> "Square":
+        """Returns the square of a name from a1 to h8. ValueError for any other text."""
+        if len(name) != 2 or name[0] not in "abcdefgh" or name[1] not in "12345678":
+            raise ValueError(f"not a square: {name!r}")
+        return Square("abcdefgh".index(name[0]) + 1, int(name[1]))
+
+    @staticmethod
+    def of_diagram() -> "Iterator[Square]":
+        """Yields all squares as a diagram shows them: rank 8 first, each rank from a to h."""
+        for rank in range(8, 0, -1):
+            for file in range(1, 9):
+                yield Square(file, rank)

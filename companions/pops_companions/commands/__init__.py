@@ -1,0 +1,1 @@
+"""The commands: one module for each, with its options and its `main`."""

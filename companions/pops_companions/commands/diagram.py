@@ -1,0 +1,179 @@
+"""Writes the diagrams of a report of pops, a file for each problem."""
+
+import argparse
+import os
+import shutil
+import subprocess
+import sys
+from collections import deque
+from collections.abc import Callable, Iterator
+from functools import partial
+from pathlib import Path
+from typing import NoReturn, Optional
+
+from pops_companions import command
+from pops_companions.command import CommandError, Status
+from pops_companions.input.given_source import read_given
+from pops_companions.report.items import Board, Item, SoundItem, named_items
+from pops_companions.report.source import opened_report
+from pops_companions.show.diagram import diagram_file
+from pops_companions.show.latex import latex
+from pops_companions.show.titles import shown
+from pops_companions.show.twins import Group, groups
+
+NAME = "pops-diagram"
+# The pixels of a PNG's side where none are asked for.
+_WIDTH = 800
+
+Drawing = Callable[[Group, Board], bytes]
+
+
+class Settings(argparse.Namespace):
+    """The words of the command line."""
+
+    report: Optional[str]
+    kind: str
+    output: Optional[str]
+    width: int
+    input: Optional[str]
+    apart: bool
+    encoding: str
+
+
+def svg(group: Group, board: Board, encoding: str) -> bytes:
+    """Returns the diagram as SVG; title, author and stipulation are the title of the drawing."""
+    item = group.first
+    assert isinstance(item, SoundItem)
+    texts = [shown(text, encoding) for text in (item.title, item.author) if text is not None]
+    return diagram_file(board, ", ".join([*texts, item.asked])).encode("utf-8", "replace")
+
+
+def png_of(converter: str, width: int, drawing: bytes) -> bytes:
+    """Returns the SVG drawing as PNG."""
+    words = [converter, "--format", "png", "--background-color", "white"]
+    try:
+        done = subprocess.run(
+            [*words, "--keep-aspect-ratio", "--width", str(width)],
+            input=drawing,
+            capture_output=True,
+        )
+    except OSError as error:
+        raise CommandError(Status.DEVICE, f"cannot run {converter}: {error.strerror}") from None
+    if done.returncode != 0:
+        said = done.stderr.decode("utf-8", "replace").strip()
+        raise CommandError(Status.DEVICE, f"{converter} ended with {done.returncode}: {said}")
+    return done.stdout
+
+
+def drawing_of(settings: Settings) -> Drawing:
+    """Returns what makes the contents of a file."""
+    encoding = settings.encoding
+    if settings.kind == "svg":
+        return lambda group, board: svg(group, board, encoding)
+    if settings.kind == "tex":
+        return lambda group, board: latex(group, board, encoding).encode("utf-8", "replace")
+    converter = shutil.which("rsvg-convert")
+    if converter is None:
+        raise CommandError(
+            Status.DEVICE,
+            "--png needs rsvg-convert of librsvg (Debian: librsvg2-bin), which isn't on the PATH;"
+            " --svg and --latex need nothing",
+        )
+    as_png = partial(png_of, converter, settings.width)
+    return lambda group, board: as_png(svg(group, board, encoding))
+
+
+def beginning_of_names(place: Optional[str], report: Optional[str]) -> str:
+    """Returns what the names of the files begin with, their folder with it."""
+    name = f"{Path(report).stem if report else 'problem'}-"
+    if place is None:
+        return name
+    return os.path.join(place, name) if place.endswith("/") or os.path.isdir(place) else place
+
+
+def command_line() -> argparse.ArgumentParser:
+    parser = command.parser(
+        NAME,
+        "Writes the diagrams of a report of pops, one file per problem, and prints their names.\n"
+        "It leaves out, and names, problems that are faulty or have no board in the report.",
+        epilog="example: pops-diagram games.report --svg -o diagrams/",
+    )
+    parser.add_argument(
+        "report",
+        nargs="?",
+        metavar="REPORT",
+        help="the report (default: standard input)",
+    )
+    kinds = parser.add_mutually_exclusive_group(required=True)
+    for option, kind, said in (
+        ("--svg", "svg", "drawings as pops-page shows them"),
+        ("--png", "png", "the same as pictures; needs rsvg-convert of librsvg"),
+        ("--latex", "tex", "environments of the LaTeX package diagram, with the solutions"),
+    ):
+        kinds.add_argument(option, dest="kind", action="store_const", const=kind, help=said)
+    parser.add_argument(
+        "-o",
+        "--output",
+        metavar="PLACE",
+        help="a folder for the files (end a new one in /), or what their names begin with"
+        " (default: the current folder, and the report's name)",
+    )
+    parser.add_argument(
+        "--width", type=int, default=_WIDTH, metavar="PIXELS", help=f"the width of a PNG ({_WIDTH})"
+    )
+    parser.add_argument(
+        "--input",
+        metavar="INPUT",
+        help="the input of the report, for --latex: its Origin lines, and what changes in twins",
+    )
+    parser.add_argument(
+        "--apart", action="store_true", help="with --latex: each twin in a file of its own"
+    )
+    command.add_encoding(parser)
+    return parser
+
+
+def arguments(words: list[str]) -> Settings:
+    """Reads the words of the command line."""
+    parser = command_line()
+    settings = parser.parse_args(words, Settings())
+    if not 1 <= settings.width <= 20_000:
+        parser.error("--width needs a number from 1 to 20000")
+    return settings
+
+
+def main(words: list[str]) -> Status:
+    settings = arguments(words)
+    drawing = drawing_of(settings)
+    status = Status.GOOD
+    beginning = beginning_of_names(settings.output, settings.report)
+    given = () if settings.input is None else read_given(NAME, settings.input)
+    apart = settings.apart or settings.kind != "tex"
+    names: deque[str] = deque()
+
+    def named(items: Iterator[Item]) -> Iterator[Item]:
+        for name, item in named_items(items):
+            names.append(name)
+            yield item
+
+    with opened_report(NAME, settings.report, settings.encoding) as items:
+        for group in groups(named(items), given, settings.encoding, apart):
+            name = [names.popleft() for _ in group.twins][0]
+            item = group.first
+            if not isinstance(item, SoundItem) or item.board is None:
+                why = "has no board in the report" if isinstance(item, SoundItem) else "is faulty"
+                print(f"{NAME}: problem {name} {why}: no diagram", file=sys.stderr)
+                status = Status.FAULTY
+                continue
+            file = f"{beginning}{name}.{settings.kind}"
+            contents = drawing(group, item.board)
+            os.makedirs(os.path.dirname(file) or ".", exist_ok=True)
+            with command.written(file) as target:
+                target.write(contents)
+            print(file)
+    return status
+
+
+def run() -> NoReturn:
+    """Runs the command on the program's arguments."""
+    command.run(NAME, main)

@@ -1,0 +1,162 @@
+"""Explains the faults of problems: the word, what is wrong with it, and the likely cause."""
+
+import argparse
+import io
+import subprocess
+import sys
+from collections.abc import Iterator
+from pathlib import Path
+from typing import BinaryIO, NoReturn, Optional
+
+from pops_companions import command
+from pops_companions.command import CommandError, Status
+from pops_companions.explain.explaining import ExplainedFault, OtherText, explain
+from pops_companions.explain.mending import further_faults, mend
+from pops_companions.explain.notices import notices
+from pops_companions.explain.showing import Shower
+from pops_companions.many.program import LOOKED_FOR, MissingError, find
+from pops_companions.report.items import Item
+from pops_companions.report.reader import ReportError, read_report
+
+NAME = "pops-explain"
+STANDARD_INPUT = "-"
+
+
+class Settings(argparse.Namespace):
+    """The words of the command line."""
+
+    input: str
+    report: Optional[str]
+    output: Optional[str]
+    all: bool
+    fix: bool
+    pops: Optional[str]
+
+
+def arguments(words: list[str]) -> Settings:
+    parser = command.parser(
+        NAME,
+        "Explains each fault of a text of problems: the line with the word marked, what is wrong\n"
+        "and the likely cause. Without REPORT it asks pops --check for the faults.\n"
+        "Without INPUT, or for -, it reads standard input.",
+        epilog="examples: pops-explain problems.pop\n"
+        "          pops-explain --all --fix problems.pop\n"
+        "          pops problems.pop | pops-explain problems.pop -\n"
+        "exit status: 0 if no problem is faulty, 1 if one is.",
+    )
+    add = parser.add_argument
+    add("input", nargs="?", metavar="INPUT", default=STANDARD_INPUT, help="the text of problems")
+    add("report", nargs="?", metavar="REPORT", help="the report of pops on it")
+    add("-o", "--output", metavar="FILE", help="the explanations (default: standard output)")
+    add(
+        "--all",
+        action="store_true",
+        help="explain all faults of each problem, not only the first, which is the one pops reports",
+    )
+    add(
+        "--fix",
+        action="store_true",
+        help="write NAME.fixed.pop next to INPUT NAME.pop, with what the explanations say to write;"
+        " check it: the causes are guesses",
+    )
+    add("--pops", metavar="PROGRAM", help=LOOKED_FOR)
+    settings = parser.parse_args(words, Settings())
+    if settings.input == settings.report == STANDARD_INPUT:
+        parser.error("INPUT and REPORT can't both be standard input")
+    if settings.fix and settings.input == STANDARD_INPUT:
+        parser.error("--fix needs an INPUT: the corrected text stands next to it")
+    return settings
+
+
+def name_of(file: str) -> str:
+    """Returns a file as messages name it."""
+    return "standard input" if file == STANDARD_INPUT else file
+
+
+def read(file: str) -> bytes:
+    """Returns all bytes of a file, or of standard input."""
+    with command.opened(None if file == STANDARD_INPUT else file) as source:
+        return source.read()
+
+
+def checked(text: bytes, named: Optional[str]) -> bytes:
+    """Returns what pops says of a text without solving it."""
+    try:
+        program = find(named)
+    except MissingError as error:
+        raise CommandError(Status.DEVICE, f"{error}; or give REPORT") from None
+    run = subprocess.run([program, "--check", "--no-board"], input=text, capture_output=True)
+    if run.returncode not in (Status.GOOD, Status.FAULTY, Status.DEVICE):
+        said = run.stderr.decode("utf-8", "replace").strip()
+        raise CommandError(Status.DEVICE, f"pops ended with status {run.returncode}: {said}")
+    return run.stdout
+
+
+def write(name: str, text: bytes, report: BinaryIO, target: BinaryIO, every: bool) -> Status:
+    """Writes an explanation of each fault, the notices, and how many problems there are.
+
+    `every` is whether the faults after the first one of a problem are explained too.
+    """
+    total = faulty = further = 0
+    shower = Shower(name, text)
+
+    def counted() -> Iterator[Item]:
+        nonlocal total
+        for item in read_report(report):
+            total += 1
+            yield item
+
+    def show(explained: ExplainedFault) -> None:
+        target.write((shower.text_of(explained) + "\n").encode("utf-8", "replace"))
+
+    for explained in explain(text, counted()):
+        faulty += 1
+        show(explained)
+        for other in further_faults(text, explained.problem) if every else ():
+            further += 1
+            show(other.explained(explained.title))
+    if not total:
+        raise OtherText("it is empty")
+    noticed = "".join(notice.shown(name) for notice in notices(text))
+    target.write(f"{noticed}\n".encode("utf-8", "replace") if noticed else b"")
+    problems = "1 problem" if total == 1 else f"{total} problems"
+    faults = f", {faulty + further} faults" if every and further else ""
+    target.write(f"{problems}, {faulty or 'none'} faulty{faults}\n".encode("ascii"))
+    return Status.FAULTY if faulty else Status.GOOD
+
+
+def fix(file: str, text: bytes) -> str:
+    """Writes the corrected text next to its file; returns what there is to say of it."""
+    made = mend(text)
+    if not made.mended:
+        return f"{NAME}: {file}: nothing could be corrected\n" if made.left else ""
+    path = Path(file)
+    place = path.with_name(f"{path.stem}.fixed{path.suffix}")
+    with command.written(str(place)) as target:
+        target.write(made.text)
+    left = f", {made.left} left" if made.left else ""
+    return f"{NAME}: {place}: {made.mended} corrected{left}\n"
+
+
+def main(words: list[str]) -> Status:
+    settings = arguments(words)
+    name = name_of(settings.input)
+    text = read(settings.input)
+    if settings.report is None:
+        report = checked(text, settings.pops)
+    else:
+        report = read(settings.report)
+    try:
+        with command.written(settings.output) as target:
+            status = write(name, text, io.BytesIO(report), target, settings.all)
+    except (ReportError, OtherText) as error:
+        told = "what pops said" if settings.report is None else name_of(settings.report)
+        raise CommandError(Status.FAULTY, f"{told} is no report of {name}: {error}") from None
+    if settings.fix:
+        sys.stderr.write(fix(settings.input, text))
+    return status
+
+
+def run() -> NoReturn:
+    """Runs the command on the program's arguments."""
+    command.run(NAME, main)

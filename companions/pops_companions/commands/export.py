@@ -1,0 +1,114 @@
+"""Writes problems in the forms of other programs: an input of Popeye, or a collection in YAML."""
+
+import argparse
+import sys
+from typing import NoReturn, Optional
+
+from pops_companions import command
+from pops_companions.command import CommandError, Status
+from pops_companions.export.problems import Exported, joined, read_problems
+from pops_companions.export.yaml_form import yaml_of
+from pops_companions.import_.words import Unreadable
+from pops_companions.input.writing import text_of_problems
+from pops_companions.report.items import SoundItem
+from pops_companions.report.source import opened_report
+from pops_companions.show.titles import is_text, shown
+
+NAME = "pops-export"
+
+
+class Settings(argparse.Namespace):
+    """The words of the command line."""
+
+    file: Optional[str]
+    to: str
+    report: Optional[str]
+    apart: bool
+    output: Optional[str]
+    encoding: str
+
+
+def arguments(words: list[str]) -> Settings:
+    parser = command.parser(
+        NAME,
+        "Writes the problems of FILE as an input of Popeye, or in YAML as the Olive editor and\n"
+        "YACPDB have it. Twins that pops-import made of one problem are one again. pops-import\n"
+        "makes the same problems of what is written.",
+        epilog="example: pops-export --to yaml mine.pop --report mine.report -o mine.olv",
+    )
+    add = parser.add_argument
+    add("file", nargs="?", metavar="FILE", help="an input of pops (default: standard input)")
+    add("--to", required=True, choices=("popeye", "yaml"), help="the form")
+    add(
+        "--report",
+        metavar="REPORT",
+        help="with --to yaml: the report of pops on FILE, whose solutions are written too",
+    )
+    add("--apart", action="store_true", help="leave each twin a problem of its own")
+    add("-o", "--output", metavar="OUTPUT", help="what is written (default: standard output)")
+    command.add_encoding(parser)
+    settings = parser.parse_args(words, Settings())
+    if settings.report is not None and settings.to != "yaml":
+        parser.error("--report goes with --to yaml: an input of Popeye has no solutions")
+    return settings
+
+
+def read(file: Optional[str], encoding: str) -> str:
+    """Returns a text; lines that aren't in the encoding are read as Latin-1."""
+    with command.opened(file) as source:
+        data = source.read()
+    if is_text(data, encoding):
+        return data.decode(encoding)
+    return "".join(shown(line, encoding) for line in data.splitlines(keepends=True))
+
+
+def items_of(settings: Settings) -> dict[int, SoundItem]:
+    """Returns the solved problems of the report by their numbers."""
+    if settings.report is None:
+        return {}
+    with opened_report(NAME, settings.report, settings.encoding) as items:
+        return {item.number: item for item in items if isinstance(item, SoundItem)}
+
+
+def refuse_other_report(
+    problems: list[Exported], items: dict[int, SoundItem], settings: Settings
+) -> None:
+    """Raises CommandError where the report isn't of the problems."""
+    for one in problems:
+        for problem in [one.problem, *(twin.problem for twin in one.twins)]:
+            item = items.get(problem.number)
+            if item is not None and item.stipulation.text != problem.stipulation:
+                raise CommandError(
+                    Status.FAULTY,
+                    f"{settings.report} isn't the report of the problems: problem {problem.number}"
+                    f" is {item.stipulation.text} there, not {problem.stipulation}",
+                )
+
+
+def main(words: list[str]) -> Status:
+    settings = arguments(words)
+    name = settings.file or "standard input"
+    try:
+        reading = read_problems(read(settings.file, settings.encoding))
+    except Unreadable as error:
+        message = f"{name}, line {error.told.line}: {error}"
+        raise CommandError(Status.FAULTY, message) from None
+    for text in reading.left_out:
+        print(f"{NAME}: {name}, {text}", file=sys.stderr)
+    apart = settings.apart
+    problems = list(map(Exported, reading.problems) if apart else joined(reading.problems))
+    items = items_of(settings)
+    refuse_other_report(problems, items, settings)
+    if problems:
+        if settings.to == "yaml":
+            written = "".join(yaml_of(problems, items))
+        else:
+            written = text_of_problems(one.lines() for one in problems)
+        with command.written(settings.output) as target:
+            target.write(written.encode("utf-8", "replace"))
+    return Status.FAULTY if reading.left_out else Status.GOOD
+
+
+def run() -> NoReturn:
+    """Runs the command on the program's arguments."""
+    command.run(NAME, main)

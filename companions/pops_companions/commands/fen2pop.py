@@ -1,0 +1,222 @@
+"""Turns positions in FEN or EPD into input of pops."""
+
+import argparse
+import re
+import sys
+from collections.abc import Iterator
+from dataclasses import replace
+from typing import NamedTuple, NoReturn, Optional
+
+from pops_companions import command
+from pops_companions.chess.fen import FenError, Position, read_position
+from pops_companions.chess.stipulation import Condition, Stipulation
+from pops_companions.command import Status
+from pops_companions.input.writing import Wishes, is_turned, problem_lines, text_of_problems
+
+NAME = "fen2pop"
+# At most this many positions with reversed colours are named.
+_TURNED_NAMED = 3
+
+
+class Settings(argparse.Namespace):
+    """The words of the command line."""
+
+    position: list[str]
+    file: list[str]
+    stipulation: Stipulation
+    title: str
+    author: str
+    condition: Optional[str]
+    options: list[str]
+    max_solutions: Optional[int]
+    keep_colours: bool
+    output: Optional[str]
+
+
+class Given(NamedTuple):
+    """A text that should be a position, with where it stands."""
+
+    place: str
+    text: str
+
+
+def of_words(words: list[str]) -> Iterator[Given]:
+    """Yields the positions of the command line, quoted or not: a word with a slash begins one."""
+    positions: list[list[str]] = []
+    for word in words:
+        if "/" in word or not positions:
+            positions.append([])
+        positions[-1].append(word)
+    for number, position in enumerate(positions, start=1):
+        yield Given(f"position {number}", " ".join(position))
+
+
+def of_file(file: Optional[str]) -> Iterator[Given]:
+    """Yields the positions of a file, one a line, without empty lines and lines that begin with #."""
+    name = file or "standard input"
+    with command.opened(file) as source:
+        for number, line in enumerate(source, start=1):
+            text = line.decode("utf-8", "surrogateescape").lstrip("\ufeff").strip()
+            if text and not text.startswith("#"):
+                yield Given(f"{name}, line {number}", text)
+
+
+def stipulation(text: str) -> Stipulation:
+    """Returns a stipulation of the command line; capital letters are as good as small ones."""
+    return Stipulation.of_text(text.lower())
+
+
+class Problem(NamedTuple):
+    """The lines of a position's problem, and whether its colours were turned round."""
+
+    lines: list[str]
+    is_turned: bool
+
+
+def problem_of(given: Given, wishes: Wishes, named: Optional[Stipulation]) -> Problem:
+    """Returns a position's problem; an EPD may have its title and its mate in itself."""
+    position = read_position(given.text)
+    asked = named or mate_of(position)
+    if asked is None:
+        raise FenError("no stipulation: give --stipulation")
+    title = position.operations.get("id", "") or wishes.title
+    lines = problem_lines(position, given.text, asked, replace(wishes, title=title))
+    return Problem(lines, is_turned(position, asked, wishes))
+
+
+def tell_turned(places: list[str]) -> None:
+    """Says whose colours were turned round."""
+    named = "; ".join(places[:_TURNED_NAMED])
+    more = f"; and {len(places) - _TURNED_NAMED} more" if len(places) > _TURNED_NAMED else ""
+    print(
+        f"{NAME}: {named}{more}: colours turned round, since the other side starts;"
+        " --keep-colours leaves them",
+        file=sys.stderr,
+    )
+
+
+def mate_of(position: Position) -> Optional[Stipulation]:
+    """Returns the stipulation of an EPD's operation `dm`, direct mate."""
+    moves = position.operations.get("dm", "")
+    return Stipulation.of_text(f"#{int(moves)}") if re.fullmatch("[0-9]{1,3}", moves) else None
+
+
+def _add_options(parser: argparse.ArgumentParser) -> None:
+    """Adds the options that stand in each problem."""
+    add = parser.add_argument
+    add(
+        "--set-play",
+        action="append_const",
+        dest="options",
+        const="SetPlay",
+        default=[],
+        help="show set play too",
+    )
+    add(
+        "--variation",
+        action="append_const",
+        dest="options",
+        const="Variation",
+        help="show defences and continuations",
+    )
+    add(
+        "--no-board",
+        action="append_const",
+        dest="options",
+        const="NoBoard",
+        help="print no board",
+    )
+    add(
+        "--max-solutions",
+        metavar="N",
+        type=command.number_from_one,
+        help="no more than N solutions in a phase",
+    )
+
+
+def command_line() -> argparse.ArgumentParser:
+    parser = command.parser(
+        NAME,
+        "Turns positions in FEN or EPD into input for pops, one problem from each.\n\n"
+        "Castling rights become the option NoCastling, an en passant square the option EnPassant.\n"
+        "If the side to move isn't the one that starts, as Black in #2, the colours are reversed;\n"
+        "a Remark and standard error say so.",
+        epilog="example: fen2pop --stipulation '#2' 'kbK5/pp6/1P6/8/8/8/8/R7 w - -' > morphy.pop",
+    )
+    add = parser.add_argument
+    add(
+        "position",
+        nargs="*",
+        metavar="FEN",
+        help="a position; without FEN and --file, each line of standard input is one",
+    )
+    add("-f", "--file", action="append", default=[], help="a file of positions, one per line")
+    add(
+        "-s",
+        "--stipulation",
+        type=stipulation,
+        help="such as '#2', 's#3', 'h#2.5', '=1'; not needed if each EPD has a dm",
+    )
+    add("-t", "--title", default="", help="the title of each problem; an EPD's id takes precedence")
+    add("-a", "--author", default="", help="the author of each problem")
+    add(
+        "-c",
+        "--condition",
+        choices=[condition.value for condition in Condition],
+        help="the condition of each problem",
+    )
+    _add_options(parser)
+    add("--keep-colours", action="store_true", help="ignore the side to move")
+    add("-o", "--output", metavar="FILE", help="the input of pops (default: standard output)")
+    return parser
+
+
+def arguments(words: list[str]) -> Settings:
+    """Reads the words of the command line."""
+    parser = command_line()
+    settings = parser.parse_args(words, Settings())
+    if settings.max_solutions is not None:
+        settings.options.append(f"MaxSolutions {settings.max_solutions}")
+    return settings
+
+
+def main(words: list[str]) -> Status:
+    settings = arguments(words)
+    wishes = Wishes(
+        settings.title,
+        settings.author,
+        Condition(settings.condition) if settings.condition else None,
+        settings.options,
+        settings.keep_colours,
+    )
+    given = list(of_words(settings.position))
+    for file in settings.file:
+        given.extend(of_file(file))
+    if not settings.position and not settings.file:
+        given.extend(of_file(None))
+    status = Status.GOOD
+    problems: list[list[str]] = []
+    turned: list[str] = []
+    for one in given:
+        try:
+            problem = problem_of(one, wishes, settings.stipulation)
+            problems.append(problem.lines)
+            if problem.is_turned:
+                turned.append(one.place)
+        except FenError as error:
+            print(f"{NAME}: {one.place}: {error}", file=sys.stderr)
+            status = Status.FAULTY
+    if not given:
+        raise command.CommandError(Status.FAULTY, "no position was given")
+    if turned:
+        tell_turned(turned)
+    if problems:
+        text = text_of_problems(problems).encode("utf-8", "surrogateescape")
+        with command.written(settings.output) as target:
+            target.write(text)
+    return status
+
+
+def run() -> NoReturn:
+    """Runs the command on the program's arguments."""
+    command.run(NAME, main)

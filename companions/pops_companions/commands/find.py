@@ -1,0 +1,205 @@
+"""Keeps a collection of problems in one file, and finds anticipations, authors, men in it."""
+
+import argparse
+import re
+import sys
+from pathlib import Path
+from typing import NoReturn, Optional
+
+from pops_companions import command
+from pops_companions.command import CommandError, Status
+from pops_companions.find.collection import Collection, CollectionError, Found, Wanted
+from pops_companions.find.entries import EntriesError, Entry, entries_of, men_in, plays_of
+from pops_companions.find.showing import Answer, as_page, as_text
+from pops_companions.review.naming import counted
+
+NAME = "pops-find"
+MOST = 50
+_WORDS = ("author", "title", "stipulation", "condition", "men", "count")
+
+
+class Settings(argparse.Namespace):
+    """The words of the command line."""
+
+    collection: str
+    add: Optional[list[str]]
+    near: Optional[str]
+    play: Optional[str]
+    report: Optional[str]
+    author: Optional[str]
+    title: Optional[str]
+    stipulation: Optional[str]
+    condition: Optional[str]
+    men: Optional[str]
+    count: Optional[str]
+    most: int
+    output: Optional[str]
+    encoding: str
+    wanted: Wanted
+
+
+def command_line() -> argparse.ArgumentParser:
+    parser = command.parser(
+        NAME,
+        "Keeps problems in COLLECTION, an SQLite file, and finds them again: by words and men, by\n"
+        "key and mates, and by positions that are the same or one man apart, mirrored, turned,\n"
+        "shifted or with colours reversed. FILEs are inputs of pops, Popeye inputs, collections in\n"
+        "YAML and reports with boards.",
+        epilog="examples: pops-find mine.db --add *.pop\n"
+        "          pops-find mine.db --near new.pop -o anticipations.html\n"
+        "          pops-find mine.db --author Loyd --stipulation '#3' --men 'White Kh1'\n"
+        "exit status: 0 if something was found or added, 1 if nothing was, or a problem is left\n"
+        "out, 2 for a mistake in the command line, 3 if a file can't be read or written.",
+    )
+    add = parser.add_argument
+    add("collection", metavar="COLLECTION", help="the file; --add makes it if it isn't there")
+    actions = parser.add_mutually_exclusive_group()
+    actions.add_argument(
+        "--add", nargs="+", metavar="FILE", help="add the problems of FILEs; a FILE's older ones go"
+    )
+    actions.add_argument("--near", metavar="FILE", help="find positions near each one in FILE")
+    actions.add_argument(
+        "--play", metavar="REPORT", help="find problems with the keys and mates of a report"
+    )
+    add("--report", metavar="REPORT", help="with --add of one FILE: its report, for key and mates")
+    add("--author", metavar="TEXT", help="find this in authors")
+    add("--title", metavar="TEXT", help="find this in titles")
+    add("--stipulation", metavar="S", help="find this stipulation, such as h#2")
+    add("--condition", metavar="C", help="find this condition")
+    add("--men", metavar="MEN", help="find positions with these men, as 'White Kg6 Black Pa7'")
+    add("--count", metavar="W+B", help="find positions by numbers of men, such as 3+4")
+    add(
+        "--most",
+        type=command.number_from_one,
+        default=MOST,
+        metavar="N",
+        help=f"show N problems at most for each question ({MOST})",
+    )
+    add("-o", "--output", metavar="PAGE", help="an HTML page with the diagrams of what was found")
+    command.add_encoding(parser)
+    return parser
+
+
+def arguments(words: list[str]) -> Settings:
+    """Reads the words of the command line."""
+    parser = command_line()
+    settings = parser.parse_args(words, Settings())
+    is_search = any(getattr(settings, name) is not None for name in _WORDS)
+    actions_given = [settings.add, settings.near, settings.play]
+    if is_search == any(it is not None for it in actions_given):
+        parser.error("give one of --add, --near and --play, or what to look for, as --author TEXT")
+    if settings.report is not None and (settings.add is None or len(settings.add) != 1):
+        parser.error("--report goes with --add of one FILE")
+    settings.wanted = wanted_of(parser, settings)
+    return settings
+
+
+def wanted_of(parser: argparse.ArgumentParser, settings: Settings) -> Wanted:
+    """Returns what found problems have to have."""
+    try:
+        men = dict(men_in(settings.men or ""))
+    except ValueError:
+        parser.error("--men needs a colour and men, as 'White Kg6 Ra1 Black Kg8'")
+    counts: Optional[tuple[int, int]] = None
+    if settings.count is not None:
+        parts = re.fullmatch(r"([0-9]{1,2})\+([0-9]{1,2})", settings.count)
+        if parts is None:
+            parser.error("--count needs two numbers, as 3+4")
+        counts = int(parts[1]), int(parts[2])
+    return Wanted(
+        settings.author or "",
+        settings.title or "",
+        settings.stipulation or "",
+        settings.condition or "",
+        men,
+        counts,
+    )
+
+
+def read(file: str) -> bytes:
+    with command.opened(file) as source:
+        return source.read()
+
+
+def entries_in(file: str, encoding: str) -> tuple[list[Entry], bool]:
+    """Returns the problems of a file, and whether all of them could be taken."""
+    try:
+        entries, left_out = entries_of(file, read(file), encoding)
+    except EntriesError as error:
+        raise CommandError(Status.DEVICE, f"{file}: {error}") from None
+    for text in left_out:
+        print(f"{NAME}: {file}, {text}", file=sys.stderr)
+    return entries, not left_out
+
+
+def add(collection: Collection, files: list[str], settings: Settings) -> Status:
+    """Adds the problems of FILEs."""
+    status = Status.GOOD
+    plays = {}
+    if settings.report is not None:
+        try:
+            plays = plays_of(read(settings.report))
+        except EntriesError as error:
+            raise CommandError(Status.DEVICE, f"{settings.report}: {error}") from None
+    for file in files:
+        entries, is_whole = entries_in(file, settings.encoding)
+        status = status if is_whole else Status.FAULTY
+        with_play = (entry.with_play(plays.get(entry.number)) for entry in entries)
+        print(f"{file}: {counted(collection.add(file, with_play), 'problem')} added")
+    print(f"{settings.collection}: {counted(len(collection), 'problem')}")
+    return status
+
+
+def answers(collection: Collection, settings: Settings) -> list[Answer]:
+    """Returns what is found for each question."""
+    file = settings.near or settings.play
+    if file is None:
+        asked = ", ".join(
+            f"{name} {getattr(settings, name)}"
+            for name in _WORDS
+            if getattr(settings, name) is not None
+        )
+        found = [Found(entry, (), ()) for entry in collection.matching(settings.wanted)]
+        return [Answer(asked, None, found[: settings.most])]
+    entries, _ = entries_in(file, settings.encoding)
+    made = []
+    for entry in entries:
+        if settings.near is not None:
+            hits = collection.near(entry.board)
+        else:
+            hits = [] if entry.play is None else collection.same_play(entry.play)
+        others = [it for it in hits if it.entry != entry]
+        heading = f"problem {entry.number}: {entry.name}" if entry.name else f"{entry.number}"
+        made.append(Answer(heading, entry, others[: settings.most]))
+    return made
+
+
+def find(collection: Collection, settings: Settings) -> Status:
+    """Prints what is found, and writes the page."""
+    found = answers(collection, settings)
+    if settings.output is not None:
+        page = as_page(found, Path(settings.collection).stem)
+        with command.written(settings.output) as target:
+            target.write(page.encode("utf-8", "replace"))
+    for answer in found:
+        sys.stdout.buffer.write(as_text(answer).encode("utf-8", "replace"))
+    return Status.GOOD if any(answer.found for answer in found) else Status.FAULTY
+
+
+def main(words: list[str]) -> Status:
+    settings = arguments(words)
+    try:
+        collection = Collection(settings.collection, new=settings.add is not None)
+        try:
+            if settings.add is None:
+                return find(collection, settings)
+            return add(collection, settings.add, settings)
+        finally:
+            collection.close()
+    except CollectionError as error:
+        raise CommandError(Status.DEVICE, str(error)) from None
+
+
+def run() -> NoReturn:
+    """Runs the command on the program's arguments."""
+    command.run(NAME, main)

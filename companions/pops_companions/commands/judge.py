@@ -1,0 +1,149 @@
+"""Judges a collection: solves it, looks for short solutions, and writes one sheet of verdicts."""
+
+import argparse
+import sys
+from pathlib import Path
+from typing import NoReturn, Optional
+
+from pops_companions import command
+from pops_companions.command import CommandError, Status
+from pops_companions.input.given import given_problems
+from pops_companions.many.program import LOOKED_FOR, MissingError, find
+from pops_companions.report.source import is_input
+from pops_companions.review.beside import Beside
+from pops_companions.review.judged_groups import judged_groups
+from pops_companions.review.judgement_text import MOST_LINES, Tally, as_text
+from pops_companions.review.judging_run import TRIES_LOOKED_FOR, Runs, Work, find_tries
+from pops_companions.review.reading import reviewed_unfinished_report
+from pops_companions.review.sheet import Evidence, sheet
+
+NAME = "pops-judge"
+SECONDS = 60.0
+
+
+class Settings(argparse.Namespace):
+    """The words of the command line."""
+
+    collection: str
+    output: str
+    heading: Optional[str]
+    seconds: float
+    jobs: Optional[int]
+    solutions: int
+    resume: bool
+    apart: bool
+    all: bool
+    pops: Optional[str]
+    pops_tries: Optional[str]
+    encoding: str
+
+
+def command_line() -> argparse.ArgumentParser:
+    parser = command.parser(
+        NAME,
+        "Solves the problems of COLLECTION, looks for short solutions, and writes one sheet with a\n"
+        "verdict for each problem and the evidence: cooks, short solutions, duals, set play.\n"
+        "docs/SOUNDNESS.md explains the verdicts. Where pops-tries is installed, the sheet also has\n"
+        "tries and threats.",
+        epilog="example: pops-judge tourney.pop -o sheet.html\n"
+        "exit status: 0 if all problems are sound, 1 if one isn't or is undecided, 2 for a\n"
+        "mistake in the command line, 3 if a text can't be read or written, 6 if the run was\n"
+        "stopped. What is done is then kept in SHEET.work, as it is while problems need more than\n"
+        "--seconds; --resume goes on from there.",
+    )
+    add = parser.add_argument
+    add("collection", metavar="COLLECTION", help="an input of pops")
+    add("-o", "--output", metavar="SHEET", required=True, help="the sheet, an HTML page")
+    add("--heading", metavar="TEXT", help="the sheet's heading (the name of the collection)")
+    add(
+        "--seconds",
+        type=float,
+        default=SECONDS,
+        metavar="N",
+        help=f"stop a problem after N seconds ({SECONDS:g}); 0 is no limit",
+    )
+    add("-j", "--jobs", type=command.number_from_one, metavar="N", help="runs at a time")
+    add(
+        "--solutions",
+        type=command.number_from_one,
+        default=1,
+        metavar="N",
+        help="the wanted number for help problems without `Remark solutions N` (1)",
+    )
+    add("--resume", action="store_true", help="go on where a run stopped")
+    add("--apart", action="store_true", help="judge each twin by itself")
+    add("--all", action="store_true", help=f"show all moves of a finding, not only {MOST_LINES}")
+    add("--pops", metavar="PROGRAM", help=LOOKED_FOR)
+    add("--pops-tries", metavar="PROGRAM", help=TRIES_LOOKED_FOR)
+    command.add_encoding(parser)
+    return parser
+
+
+def arguments(words: list[str]) -> Settings:
+    """Reads the words of the command line."""
+    parser = command_line()
+    settings = parser.parse_args(words, Settings())
+    if not 0 <= settings.seconds < float("inf"):
+        parser.error("--seconds needs a number from 0")
+    return settings
+
+
+def runs_of(settings: Settings) -> Runs:
+    """Returns the programs, and how they are run."""
+    try:
+        pops = find(settings.pops)
+    except MissingError as error:
+        raise CommandError(Status.DEVICE, str(error)) from None
+    tries = find_tries(settings.pops_tries, pops)
+    return Runs(pops, tries, settings.jobs, settings.seconds or None)
+
+
+def read_collection(name: str) -> bytes:
+    """Returns the text of a collection. CommandError where it doesn't begin as an input of pops."""
+    with command.opened(name) as source:
+        text = source.read()
+    if not any(map(is_input, text.split(b"\n"))):
+        message = f"{name} is no input of pops: pops-import makes one of Popeye inputs and YAML"
+        raise CommandError(Status.DEVICE, message)
+    return text
+
+
+def judge(settings: Settings) -> Status:
+    """Runs what is needed, writes the sheet and prints the verdicts."""
+    text = read_collection(settings.collection)
+    given = given_problems(text)
+    work = Work(Path(settings.output + ".work"), runs_of(settings))
+    work.begin(text, settings.resume)
+    work.solve()
+    short: Optional[str] = str(work.short) if work.solve_shorter(given) else None
+    tries = work.tries(text, given)
+    beside = Beside(NAME, settings.solutions, settings.collection, short)
+    tally = Tally()
+    most = None if settings.all else MOST_LINES
+    with reviewed_unfinished_report(
+        NAME, str(work.report), work.unfinished_problems, settings.encoding
+    ) as items:
+        judgements = beside.judgements(items)
+        judged = list(judged_groups(judgements, given, settings.encoding, settings.apart))
+    heading = settings.heading or Path(settings.collection).stem
+    evidence = Evidence(tries, settings.encoding, most)
+    page = sheet(tally.counted(judged), tally, heading, evidence)
+    with command.written(settings.output) as target:
+        target.write(page.encode("utf-8", "replace"))
+    for one in judged:
+        print(as_text(one, settings.encoding, 0).split("\n")[0])
+    print(tally.text)
+    work.end()
+    if not work.is_finished:
+        message = "some problems took longer: --resume with more --seconds goes on with them"
+        print(f"{NAME}: {message}", file=sys.stderr)
+    return Status.GOOD if tally.all_sound else Status.FAULTY
+
+
+def main(words: list[str]) -> Status:
+    return judge(arguments(words))
+
+
+def run() -> NoReturn:
+    """Runs the command on the program's arguments."""
+    command.run(NAME, main)

@@ -1,0 +1,308 @@
+"""Solves many problems on all processors, and on other machines, as one run of pops would."""
+
+import os
+import signal
+import sys
+import tempfile
+from collections.abc import Sequence
+from dataclasses import dataclass
+from pathlib import Path
+from typing import BinaryIO, NoReturn, Optional
+
+from pops_companions import command
+from pops_companions.command import CommandError, Status
+from pops_companions.commands.many_options import (
+    NAME,
+    SPLIT_AFTER,
+    Settings,
+    arguments,
+    depth_of,
+    moment_of,
+)
+from pops_companions.input.pieces import rest_of
+from pops_companions.many.joining import Joined, Report, path_of_report, write_index
+from pops_companions.many.journal import Journal, JournalError, fingerprint
+from pops_companions.many.machines import Machines, MachinesError
+from pops_companions.many.parallel import Parallel, ParallelError
+from pops_companions.many.part_program import PartProgram
+from pops_companions.many.program import MissingError, Program, find, find_part_program
+from pops_companions.many.progress import Progress
+from pops_companions.many.remote_parts import RemoteParts
+from pops_companions.many.running import Elsewhere, PartPrograms, Programs, Run
+from pops_companions.many.targets import Target
+from pops_companions.many.tasks import Source, Task, tasks_of
+
+_FILES_TOLD = 3
+# What the file's name ends in that has what was found of problems that aren't done.
+UNFINISHED = ".unfinished"
+
+
+def read_source(name: Optional[str], progress: Progress) -> Source:
+    """Reads a whole input, and reports what follows its EndProblem.
+
+    An input that can't be opened or read is reported and left to pops.
+    """
+    try:
+        source = Source(name, sys.stdin.buffer.read() if name is None else Path(name).read_bytes())
+    except OSError as error:
+        if name is None:
+            raise
+        progress.say(f"cannot open {name}: {error.strerror}")
+        return Source(name, None)
+    rest = rest_of(source.text or b"")
+    if rest is not None:
+        progress.say(f"{source.shown}: {rest.text}")
+    return source
+
+
+def reports_of(
+    settings: Settings, tasks: Sequence[Task], run: bytes
+) -> list[Report]:
+    """Returns the reports that are to be written, with their files."""
+    limited = settings.seconds is not None or settings.split or settings.resume
+
+    def report(tasks: Sequence[Task], path: Optional[str]) -> Report:
+        second = settings.unfinished or (path and path + UNFINISHED)
+        return Report(
+            tasks,
+            Target(path, run) if path else None,
+            Target(second, run) if second and limited else None,
+        )
+
+    if not settings.each:
+        return [report(tasks, settings.output)]
+    if settings.output:
+        os.makedirs(settings.output, exist_ok=True)
+    # What pops says of a FILE that can't be read goes to standard output.
+    reports = [Report([task for task in tasks if task.source.text is None], None, None)]
+    of_path: dict[str, tuple[Source, list[Task]]] = {}
+    for task in tasks:
+        if task.source.text is not None:
+            path = path_of_report(str(task.source.name), settings.output)
+            source, of_file = of_path.setdefault(path, (task.source, []))
+            if source is not task.source:
+                raise CommandError(Status.USAGE, f"two FILEs have the report {path}")
+            of_file.append(task)
+    return reports + [report(of_file, path) for path, (_, of_file) in of_path.items()]
+
+
+def path_of_journal(settings: Settings) -> Optional[str]:
+    """Returns the journal that is named, else the one beside the report."""
+    if settings.journal is None and settings.output is not None:
+        return settings.output.rstrip("/") + ".journal"
+    return settings.journal
+
+
+def open_journal(
+    path: Optional[str], settings: Settings, run: bytes
+) -> Journal:
+    """Returns the run's journal; that of a run that stopped isn't overwritten."""
+    try:
+        if path is None:
+            handle, path = tempfile.mkstemp(prefix=f"{NAME}-", suffix=".journal")
+            os.close(handle)
+        return Journal(path, run, settings.resume, settings.seconds)
+    except JournalError as error:
+        raise CommandError(Status.USAGE, str(error)) from None
+    except OSError as error:
+        raise CommandError(Status.DEVICE, f"cannot write {path}: {error.strerror}") from None
+
+
+def try_out(targets: Sequence[Target]) -> None:
+    """Refuses a file that can't be written before anything is solved."""
+    for target in targets:
+        try:
+            target.try_out()
+        except OSError as error:
+            raise CommandError(
+                Status.DEVICE, f"cannot write {target.path}: {error.strerror}"
+            ) from None
+
+
+def refuse_shared(read: Sequence[str], written: Sequence[str]) -> None:
+    """Refuses what would be written over an input or over another file of the run."""
+    taken = {os.path.realpath(path) for path in read}
+    for path in written:
+        real = os.path.realpath(path)
+        if real in taken:
+            raise CommandError(Status.USAGE, f"{path} is named twice")
+        if os.path.isfile(real) or not os.path.exists(real):
+            taken.add(real)
+
+
+_SIGNALS = (signal.SIGINT, signal.SIGTERM, signal.SIGHUP)
+
+
+def stopped(*_: object) -> NoReturn:
+    """Ends the run in order; later signals don't disturb that."""
+    for sign in _SIGNALS:
+        signal.signal(sign, signal.SIG_IGN)
+    raise KeyboardInterrupt
+
+
+def watch_signals() -> None:
+    """Stops the run at these signals, but at one that was to be ignored, as by nohup."""
+    for sign in _SIGNALS:
+        if signal.getsignal(sign) is not signal.SIG_IGN:
+            signal.signal(sign, stopped)
+
+
+def programs_of(settings: Settings, options: list[str]) -> Programs:
+    """Returns the programs on this machine."""
+    try:
+        pops = find(settings.pops)
+        if not settings.split:
+            return Programs(Program(pops, options, settings.seconds), None)
+        part_program = PartProgram(find_part_program(settings.pops_part, pops), depth_of(settings))
+    except MissingError as error:
+        raise CommandError(Status.DEVICE, str(error)) from None
+    checking = Program(pops, options + ["--check"], None)
+    whole = Program(pops, options, SPLIT_AFTER)
+    return Programs(whole, PartPrograms(checking, part_program))
+
+
+def elsewhere_of(
+    settings: Settings,
+    options: list[str],
+    programs: Programs,
+    progress: Progress,
+) -> Optional[Elsewhere]:
+    """Returns the programs on other machines, where any are asked for."""
+    if not settings.sshlogin:
+        return None
+    say, pops_part = progress.say, settings.remote_pops_part or "pops-part"
+    try:
+        parallel = Parallel(settings.jobs, settings.ssh)
+        machines = Machines(
+            settings.sshlogin, parallel, settings.remote_pops, options, programs.whole, say
+        )
+        if programs.parts is None:
+            return Elsewhere(machines, None)
+        there = RemoteParts(machines, parallel, pops_part, programs.parts.parts, say)
+    except (MachinesError, ParallelError) as error:
+        raise CommandError(Status.DEVICE, str(error)) from None
+    return Elsewhere(machines, there)
+
+
+@dataclass(frozen=True)
+class Files:
+    """What a run writes besides its journal."""
+
+    reports: list[Report]
+    index: Optional[Target]
+
+    @property
+    def targets(self) -> list[Target]:
+        """All files, in the order in which they are refused."""
+        files = [report.file for report in self.reports]
+        seconds = [report.unfinished for report in self.reports]
+        return [target for target in [*files, *seconds, self.index] if target is not None]
+
+
+class Solving:
+    """A run on what the command line asks for."""
+
+    def __init__(self, settings: Settings):
+        self._settings = settings
+        self._options = ["--check"] * settings.check + ["--no-board"] * settings.no_board
+        self._programs = programs_of(settings, self._options)
+        self._progress = Progress(NAME)
+        sources = [read_source(name, self._progress) for name in settings.inputs]
+        self._tasks = tasks_of(sources)
+        self._jobs = settings.jobs or len(os.sched_getaffinity(0))
+        if settings.split:
+            self._programs.whole.seconds = moment_of(settings, len(self._tasks), self._jobs)
+        self._name = fingerprint(sources, self._options)
+
+    def solve(self, output: BinaryIO) -> int:
+        """Runs what is left to run; returns the exit status of the runs of pops."""
+        settings = self._settings
+        index = Target(settings.index, self._name) if settings.index else None
+        files = Files(reports_of(settings, self._tasks, self._name), index)
+        journal_path = path_of_journal(settings)
+        beside = [journal_path, *[journal_path + UNFINISHED] * settings.split] if journal_path else []
+        refuse_shared(settings.files, [file.path for file in files.targets] + beside)
+        elsewhere = elsewhere_of(settings, self._options, self._programs, self._progress)
+        journal = open_journal(journal_path, settings, self._name)
+        try:
+            try_out(files.targets)
+        except CommandError:
+            journal.close(kept=settings.resume)
+            raise
+        reports = files.reports
+        if settings.split:
+            second = Target(journal.path + UNFINISHED, self._name)
+            reports = [it._replace(unfinished=it.unfinished or second) for it in reports]
+        return self._go(journal, Joined(journal, reports, output), index, elsewhere)
+
+    def _go(
+        self, journal: Journal, joined: Joined, index: Optional[Target], where: Optional[Elsewhere]
+    ) -> int:
+        """Runs the tasks and writes the index; ends the command where not all is done."""
+        kept_in: list[str] = []
+        complete = False
+        try:
+            try:
+                run = Run(self._tasks, self._programs, journal, joined, self._progress)
+                run.go(where, self._jobs)
+            finally:
+                kept_in = joined.write_unfinished()
+            if joined.complete and index is not None:
+                write_index(index, self._tasks, journal)
+            complete = joined.complete
+        except KeyboardInterrupt:
+            self._progress.say("stopped")
+        except BrokenPipeError:
+            settings = self._settings
+            journal.close(kept=settings.output is not None or settings.journal is not None)
+            raise
+        except OSError as error:
+            self._progress.say(f"cannot write: {error.strerror}")
+        self._progress.end()
+        if complete and self._done(journal) == len(self._tasks):
+            worst = max(journal.statuses())
+            journal.close(kept=False)
+            return worst
+        if kept_in:
+            self._say_unfinished(joined, kept_in)
+        journal.close(kept=True)
+        raise self._end(journal, complete)
+
+    def _done(self, journal: Journal) -> int:
+        return sum(journal.is_finished(task.place) for task in self._tasks)
+
+    def _say_unfinished(self, joined: Joined, kept_in: Sequence[str]) -> None:
+        """Says how many problems are unfinished, and in which files their solutions are."""
+        how = "aren't done" if self._settings.split else "took longer"
+        unfinished = sum(joined.has_unfinished(task.place) for task in self._tasks)
+        more = f" and {len(kept_in) - _FILES_TOLD} more" if kept_in[_FILES_TOLD:] else ""
+        self._progress.say(
+            f"{unfinished} of {len(self._tasks)} problems {how}:"
+            f" what was found of them is in {', '.join(kept_in[:_FILES_TOLD])}{more}"
+        )
+
+    def _end(self, journal: Journal, complete: bool) -> CommandError:
+        more = ", and more --seconds or none" if complete else ""
+        return CommandError(
+            Status.UNFINISHED,
+            f"{self._done(journal)} of {len(self._tasks)} problems are done and kept in"
+            f" {journal.path}: go on with --resume --journal {journal.path}{more}",
+        )
+
+
+def solve(settings: Settings, output: BinaryIO) -> int:
+    """Runs all that the command line asks for; returns the exit status of the runs of pops."""
+    return Solving(settings).solve(output)
+
+
+def main(words: list[str]) -> int:
+    settings = arguments(words)
+    watch_signals()
+    status = solve(settings, sys.stdout.buffer)
+    sys.stdout.buffer.flush()
+    return status
+
+
+def run() -> NoReturn:
+    """Runs the command on the program's arguments."""
+    command.run(NAME, main)

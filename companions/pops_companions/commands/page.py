@@ -1,0 +1,81 @@
+"""Turns a report of pops into a page of diagrams and solutions."""
+
+import argparse
+import sys
+from collections.abc import Iterator
+from typing import NoReturn, Optional
+
+from pops_companions import command
+from pops_companions.command import Status
+from pops_companions.input.given_source import read_given
+from pops_companions.report.items import AnyItem, FaultyItem
+from pops_companions.report.reader import CUT
+from pops_companions.report.source import opened_unfinished_report
+from pops_companions.show.page import Page
+
+NAME = "pops-page"
+
+
+class Settings(argparse.Namespace):
+    """The words of the command line."""
+
+    report: Optional[str]
+    output: Optional[str]
+    heading: str
+    input: Optional[str]
+    unfinished: Optional[str]
+    apart: bool
+    encoding: str
+
+
+def arguments(words: list[str]) -> Settings:
+    parser = command.parser(
+        NAME,
+        "Turns a report of pops into an HTML page: for each problem a diagram with title and\n"
+        "author, next to it the solutions or the fault, in the report's own words.\n"
+        "Twins that pops-import made share one diagram.",
+        epilog="example: pops problems.pop | pops-page --input problems.pop -o problems.html",
+    )
+    add = parser.add_argument
+    add("report", nargs="?", metavar="REPORT", help="the report (default: standard input)")
+    add("-o", "--output", metavar="FILE", help="the page (default: standard output)")
+    add("--heading", metavar="TEXT", default="Problems", help="the page's heading (Problems)")
+    add(
+        "--input",
+        metavar="INPUT",
+        help="the input of the report: its Origin lines are shown, and what changes in twins",
+    )
+    add(
+        "--unfinished",
+        metavar="FILE",
+        help="what pops-many kept of problems that it stopped (REPORT.unfinished, if it is there)",
+    )
+    add("--apart", action="store_true", help="show each twin as a problem of its own")
+    command.add_encoding(parser)
+    return parser.parse_args(words, Settings())
+
+
+def main(words: list[str]) -> Status:
+    settings = arguments(words)
+    given = () if settings.input is None else read_given(NAME, settings.input)
+    shown = Page(settings.heading, settings.encoding, given, settings.apart)
+    status = Status.GOOD
+
+    def noted(items: Iterator[AnyItem]) -> Iterator[AnyItem]:
+        """Hands the items on; a report that ends inside a problem isn't what it should be."""
+        nonlocal status
+        for item in items:
+            if not isinstance(item, FaultyItem) and item.unfinished == CUT:
+                print(f"{NAME}: the report ends inside problem {item.number}", file=sys.stderr)
+                status = Status.FAULTY
+            yield item
+
+    opened = opened_unfinished_report(NAME, settings.report, settings.unfinished, settings.encoding)
+    with opened as items, command.written(settings.output) as target:
+        target.write(shown.of(noted(items)).encode("utf-8", "replace"))
+    return status
+
+
+def run() -> NoReturn:
+    """Runs the command on the program's arguments."""
+    command.run(NAME, main)

@@ -1,0 +1,185 @@
+"""Says which problems of a report of pops are sound, and what is wrong with the others."""
+
+import argparse
+from collections.abc import Iterator
+from typing import NoReturn, Optional
+
+from pops_companions import command
+from pops_companions.command import CommandError, Status
+from pops_companions.input.given_source import read_given
+from pops_companions.input.writing import text_of_problems
+from pops_companions.review.beside import Beside
+from pops_companions.review.judged_groups import JudgedGroup, judged_groups
+from pops_companions.review.judgement_page import page
+from pops_companions.review.judgement_text import (
+    COLUMNS,
+    MOST_LINES,
+    Tally,
+    as_csv,
+    as_text,
+    csv_line,
+)
+from pops_companions.review.posing import posed_problems
+from pops_companions.review.reading import reviewed_unfinished_report
+
+NAME = "pops-test"
+
+
+class Settings(argparse.Namespace):
+    """The words of the command line."""
+
+    text: Optional[str]
+    input: Optional[str]
+    solutions: int
+    pose: bool
+    short: Optional[str]
+    unfinished: Optional[str]
+    csv: bool
+    page: bool
+    heading: str
+    apart: bool
+    all: bool
+    output: Optional[str]
+    encoding: str
+
+
+def _add_evidence(parser: argparse.ArgumentParser) -> None:
+    """Adds the options for what the report alone doesn't show."""
+    add = parser.add_argument
+    add(
+        "--pose",
+        action="store_true",
+        help="write the input that asks for short solutions of an input, and nothing else",
+    )
+    add("--short", metavar="REPORT", help="the report of what --pose wrote")
+    add(
+        "--unfinished",
+        metavar="FILE",
+        help="what pops-many kept of problems that it stopped (REPORT.unfinished, if it is there)",
+    )
+
+
+def _add_forms(parser: argparse.ArgumentParser) -> None:
+    """Adds the options for what is written."""
+    add = parser.add_argument
+    form = parser.add_mutually_exclusive_group()
+    form.add_argument("--csv", action="store_true", help="one row of CSV per problem")
+    form.add_argument("--page", action="store_true", help="an HTML page with diagrams")
+    add(
+        "--heading",
+        metavar="TEXT",
+        default="Soundness",
+        help="the page's heading (Soundness)",
+    )
+    add("--apart", action="store_true", help="judge each twin by itself, as --csv always does")
+    add("--all", action="store_true", help=f"show all moves of a finding, not only {MOST_LINES}")
+    add("-o", "--output", metavar="FILE", help="what is written (default: standard output)")
+
+
+def command_line() -> argparse.ArgumentParser:
+    parser = command.parser(
+        NAME,
+        "Says which problems of a report of pops are sound, and what is wrong with the others:\n"
+        "no solution, cooks, short solutions. Also lists duals, set play and unprovided checks.\n"
+        "docs/SOUNDNESS.md explains each word, and what a report can't show.",
+        epilog="example: pops problems.pop > problems.report\n"
+        "         pops-test --pose problems.pop | pops > shorter.report\n"
+        "         pops-test problems.report --input problems.pop --short shorter.report\n"
+        "exit status: 0 if all problems are sound, 1 if one isn't or is undecided, 2 for a\n"
+        "mistake in the command line, 3 if a text can't be read or isn't what it should be.",
+    )
+    add = parser.add_argument
+    add(
+        "text",
+        nargs="?",
+        metavar="REPORT",
+        help="the report, or with --pose the input (default: standard input)",
+    )
+    add(
+        "--input",
+        metavar="INPUT",
+        help="the input of the report; `Remark solutions 2` gives a problem's wanted number",
+    )
+    add(
+        "--solutions",
+        type=command.number_from_one,
+        default=1,
+        metavar="N",
+        help="the wanted number for help problems without this Remark (1)",
+    )
+    _add_evidence(parser)
+    _add_forms(parser)
+    command.add_encoding(parser)
+    return parser
+
+
+def arguments(words: list[str]) -> Settings:
+    """Reads the words of the command line."""
+    parser = command_line()
+    settings = parser.parse_args(words, Settings())
+    beside = (settings.input, settings.short, settings.unfinished, settings.csv, settings.page)
+    if settings.pose and any(beside):
+        parser.error("--pose goes only with an input and --output")
+    return settings
+
+
+def pose(file: Optional[str], output: Optional[str]) -> None:
+    """Writes the input that asks for the short solutions of an input's problems."""
+    posed = list(posed_problems(read_given(NAME, file)))
+    if not posed:
+        raise CommandError(
+            Status.DEVICE,
+            f"{file or 'standard input'} has no problem with a shorter stipulation",
+        )
+    with command.written(output) as target:
+        target.write(text_of_problems(posed).encode("utf-8", "surrogateescape"))
+
+
+def test(settings: Settings) -> Status:
+    """Judges a report and writes what was found."""
+    beside = Beside(NAME, settings.solutions, settings.input, settings.short)
+    tally = Tally()
+    most = None if settings.all else MOST_LINES
+    with reviewed_unfinished_report(
+        NAME, settings.text, settings.unfinished, settings.encoding
+    ) as items:
+        judgements = beside.judgements(items)
+        apart = settings.apart or settings.csv
+        judged = judged_groups(judgements, beside.given, settings.encoding, apart)
+        with command.written(settings.output) as target:
+            for text in texts(tally.counted(judged), tally, settings, most):
+                target.write(text.encode("utf-8", "replace"))
+                target.flush()
+    return Status.GOOD if tally.all_sound else Status.FAULTY
+
+
+def texts(
+    judged: Iterator[JudgedGroup],
+    tally: Tally,
+    settings: Settings,
+    most: Optional[int],
+) -> Iterator[str]:
+    """Yields what is written, piece by piece: text and CSV problem by problem."""
+    if settings.page:
+        yield page(judged, tally, settings.heading, settings.encoding, most)
+    elif settings.csv:
+        yield csv_line(COLUMNS)
+        for one in judged:
+            yield as_csv(one.judgements[0], settings.encoding)
+    else:
+        for one in judged:
+            yield as_text(one, settings.encoding, most)
+        yield tally.text + "\n"
+
+
+def main(words: list[str]) -> Status:
+    settings = arguments(words)
+    if settings.pose:
+        pose(settings.text, settings.output)
+        return Status.GOOD
+    return test(settings)
+
+
+def run() -> NoReturn:
+    """Runs the command on the program's arguments."""
+    command.run(NAME, main)

@@ -1,0 +1,132 @@
+"""A fault with all that is known of its problem, and what an explanation is made of."""
+
+import re
+from collections.abc import Iterable, Sequence
+from dataclasses import dataclass, replace
+from typing import Optional
+
+from pops_companions.explain.characters import decoded, shown
+from pops_companions.input.reading import COMMANDS, CONDITIONS, OPTIONS, Reading, Section, step
+from pops_companions.input.words import TEXT_WORDS, Span, TextLine, Word, named
+
+_LONGEST_QUOTED = 48
+# The word before is looked for in this many bytes.
+_NEAR = 400
+_LAST_WORD = re.compile(rb"([^\t\n\x0b\x0c\r ]+)[\t\n\x0b\x0c\r ]+$")
+NAMES = (*COMMANDS, *TEXT_WORDS, *CONDITIONS, *OPTIONS, "White", "Black")
+
+
+@dataclass(frozen=True)
+class Explanation:
+    """What is wrong and what to do, with the places to look at, in the order of the text."""
+
+    text: str
+    marks: tuple[Span, ...]
+
+
+@dataclass(frozen=True)
+class Case:
+    """The fault of a problem of an input."""
+
+    text: bytes
+    reading: Reading
+
+    @property
+    def word(self) -> Word:
+        return self.reading.word
+
+    @property
+    def plain(self) -> str:
+        """The faulty word as text."""
+        return decoded(self.word.bytes)
+
+    @property
+    def quoted(self) -> str:
+        return quoted(self.word)
+
+    @property
+    def before(self) -> Optional[Word]:
+        return self.reading.neighbour(-1)
+
+    @property
+    def after(self) -> Optional[Word]:
+        return self.reading.neighbour(1)
+
+    @property
+    def span_before(self) -> Optional[Span]:
+        """Where the word before the faulty one stands, also where it ends the problem before."""
+        start = max(self.word.start - _NEAR, 0)
+        found = _LAST_WORD.search(self.text[start : self.word.start])
+        return None if found is None else Span(start + found.start(1), start + found.end(1))
+
+    @property
+    def line_above(self) -> Optional[TextLine]:
+        """The text line right before the faulty word."""
+        place = self.reading.tokens.index(self.word) - 1
+        token = self.reading.tokens[place] if place >= 0 else None
+        return token if isinstance(token, TextLine) else None
+
+    def says(self, text: str, *marks: Span) -> Explanation:
+        """Returns an explanation that marks the faulty word, and these places too."""
+        return at(text, self.word.span, *marks)
+
+    def fits(self, text: str) -> bool:
+        """Returns whether these words could stand in place of the faulty one."""
+        reading = self._copied()
+        words = text.encode("utf-8").split()
+        if not words:
+            return False
+        for place, word in enumerate(words):
+            if named(word, TEXT_WORDS):
+                return True
+            if not self._begun and place == 0:
+                if named(word, ["BeginProblem"]) is None:
+                    return False
+            elif step(reading, Word(word, 0, 0)) is not None:
+                return False
+        return True
+
+    @property
+    def _begun(self) -> bool:
+        return not self.reading.first or self.word is not self.reading.words[0]
+
+    def _copied(self) -> Reading:
+        old = self.reading
+        return replace(
+            old, colours=list(old.colours), men=dict(old.men), openers=list(old.openers)
+        )
+
+    def names_here(self) -> list[str]:
+        """Returns the words of pops that could stand in place of the faulty one."""
+        return [name for name in NAMES if self.fits(name)]
+
+    def openers_of(self, section: Section) -> list[Word]:
+        """Returns the commands that open sections of this kind in the problem."""
+        return [it for it in self.reading.openers if named(it.bytes, [section.value])]
+
+    def last_colour(self) -> Optional[Word]:
+        """Returns the colour before the faulty word."""
+        return self.reading.colours[-1][1] if self.reading.colours else None
+
+
+def at(text: str, *marks: Span) -> Explanation:
+    """Returns an explanation with the places that it speaks of."""
+    return Explanation(text, tuple(sorted(set(marks), key=lambda mark: mark.start)))
+
+
+def quoted(word: Word) -> str:
+    """Returns a word as explanations name it; only the beginning of a long word."""
+    text = shown(word.bytes)
+    return f"`{text if len(text) <= _LONGEST_QUOTED else text[:_LONGEST_QUOTED] + '..'}`"
+
+
+def listed(names: Sequence[str], last: str = "and") -> str:
+    """Returns the names as `a, b and c`."""
+    if len(names) < 2:
+        return "".join(names)
+    return f"{', '.join(names[:-1])} {last} {names[-1]}"
+
+
+def first_of(found: Iterable[Optional[Explanation]]) -> Explanation:
+    """Returns the first explanation that there is."""
+    return next(it for it in found if it is not None)

@@ -1,0 +1,126 @@
+"""Characters that don't show, or that look like others."""
+
+import unicodedata
+from typing import Any, NamedTuple, Optional
+
+from pops_companions.explain.sentences import DATA
+
+_KNOWN: dict[str, Any] = DATA["characters"]
+_LIKE = {name: dict(zip(*_KNOWN[name])) for name in ("cyrillic", "greek")}
+_FIGURINES: dict[str, str] = dict(zip(*_KNOWN["figurines"]))
+_NAMES: dict[str, str] = _KNOWN["names"]
+
+
+class Odd(NamedTuple):
+    """A character of a word, with its place in the decoded word."""
+
+    place: int
+    character: str
+
+    @property
+    def name(self) -> str:
+        """As `no-break space`."""
+        code = f"{ord(self.character):04X}"
+        return _NAMES.get(code, f"character U+{code}")
+
+
+def decoded(text: bytes) -> str:
+    """Returns the text of some bytes: as UTF-8 if they are, else as Latin-1."""
+    try:
+        return text.decode("utf-8")
+    except UnicodeDecodeError:
+        return text.decode("latin-1")
+
+
+def shown(text: bytes) -> str:
+    """Returns the text of some bytes, with each character that doesn't show as `<U+00A0>`."""
+    return "".join(_shown(character) for character in decoded(text))
+
+
+def _shown(character: str) -> str:
+    if character == " " or not (_is_invisible(character) or _is_control(character)):
+        return character
+    return f"<U+{ord(character):04X}>"
+
+
+def _is_invisible(character: str) -> bool:
+    return character > "\x7f" and unicodedata.category(character) in ("Zs", "Zl", "Zp", "Cf")
+
+
+def _is_control(character: str) -> bool:
+    return unicodedata.category(character) in ("Cc", "Co", "Cs", "Cn")
+
+
+def width(text: str) -> int:
+    """Returns how many columns a text takes on a terminal."""
+    return sum(_width(character) for character in text)
+
+
+def _width(character: str) -> int:
+    if unicodedata.combining(character):
+        return 0
+    return 2 if unicodedata.east_asian_width(character) in "WF" else 1
+
+
+def invisible(text: str) -> list[Odd]:
+    """Returns the characters that don't show, or show as a blank and are none."""
+    return [Odd(place, it) for place, it in enumerate(text) if _is_invisible(it)]
+
+
+def is_wide_blank(character: str) -> bool:
+    """Returns whether it takes room, as a blank does."""
+    return unicodedata.category(character).startswith("Z")
+
+
+def with_blanks(text: str) -> str:
+    """Returns the text with a blank for each invisible character that takes room, without the others."""
+    changed = (
+        (" " if is_wide_blank(it) else "") if _is_invisible(it) else it
+        for it in text
+    )
+    return " ".join("".join(changed).split())
+
+
+def look_alike(text: str) -> Optional[Odd]:
+    """Returns the first letter of another alphabet that looks like one of ours, or a wide one."""
+    for place, character in enumerate(text):
+        if plain(character) != character:
+            return Odd(place, character)
+    return None
+
+
+def plain(text: str) -> str:
+    """Returns the text with plain letters in place of those that look like them."""
+    return "".join(_plain(character) for character in text)
+
+
+def _plain(character: str) -> str:
+    tables: list[dict[str, str]] = [*_LIKE.values(), _FIGURINES]
+    for table in tables:
+        if character in table:
+            return table[character]
+    if _is_wide(character):
+        return unicodedata.normalize("NFKC", character)
+    return character
+
+
+def _is_wide(character: str) -> bool:
+    return unicodedata.east_asian_width(character) == "F"
+
+
+def script_of(character: str) -> str:
+    """Returns the script of a letter that looks like one of ours, as `a Greek`."""
+    script = next((name for name, table in _LIKE.items() if character in table), "fullwidth")
+    scripts: dict[str, str] = _KNOWN["scripts"]
+    return scripts[script]
+
+
+def is_figurine(character: str) -> bool:
+    """Returns whether it is a chessman of Unicode."""
+    return character in _FIGURINES
+
+
+def without_accents(text: str) -> str:
+    """Returns the text with its letters alone, as `pieces` of `pièces`."""
+    parts = unicodedata.normalize("NFKD", text.replace("ß", "ss"))
+    return "".join(it for it in parts if not unicodedata.combining(it))

@@ -1,0 +1,113 @@
+"""Explains the faults of a report by the text that it is of."""
+
+from collections.abc import Callable, Iterable, Iterator
+from dataclasses import dataclass
+from typing import Optional
+
+from pops_companions.explain import endings, men, misplaced, options, stipulations
+from pops_companions.explain.case import Case, Explanation
+from pops_companions.input.pieces import cut
+from pops_companions.input.reading import FaultKind, Reading, Section, read_piece
+from pops_companions.input.words import TextWord
+from pops_companions.report.items import Fault, FaultyItem, Item
+
+
+class OtherText(ValueError):
+    """A report that isn't of the text at hand."""
+
+
+@dataclass(frozen=True)
+class ExplainedFault:
+    """The fault of a problem with its explanation."""
+
+    problem: int
+    title: Optional[bytes]
+    fault: Fault
+    explanation: Explanation
+
+
+def explain(text: bytes, items: Iterable[Item]) -> Iterator[ExplainedFault]:
+    """Yields the faults of a report, explained one by one. OtherText where it isn't of this text.
+    """
+    pieces = cut(text)
+    last = 0
+    for item in items:
+        number = item.number
+        if number <= last:
+            raise OtherText("it is of several texts: give the report of one")
+        last = number
+        if not isinstance(item, FaultyItem):
+            if number > len(pieces):
+                raise OtherText(f"it has problem {number}, and the text has {len(pieces)}")
+            continue
+        fault = item.fault
+        if fault.number in _WITHOUT_WORD:
+            yield ExplainedFault(number, None, fault, _WITHOUT_WORD[fault.number]())
+            continue
+        if number > len(pieces):
+            raise OtherText(f"it has problem {number}, and the text has {len(pieces)}")
+        piece = pieces[number - 1]
+        reading = read_piece(text, piece)
+        _compare(text, number, fault, reading)
+        yield ExplainedFault(number, _title(reading), fault, explanation(text, reading))
+
+
+def explanation(text: bytes, reading: Reading) -> Explanation:
+    """Returns what is wrong with a faulty problem, and what to do."""
+    assert reading.number is not None
+    if reading.at is None:
+        if reading.number is FaultKind.END_MISSING:
+            return endings.end_missing(text, reading)
+        return misplaced.no_problem(text, bool(reading.text_lines))
+    return _of_a_word(reading)(Case(text, reading))
+
+
+def _of_a_word(reading: Reading) -> Callable[[Case], Explanation]:
+    if reading.number is FaultKind.SQUARE_MISSING and reading.section is Section.PIECES:
+        return men.square_missing
+    assert reading.number is not None
+    return _BY_WORD[reading.number]
+
+
+def _compare(text: bytes, number: int, fault: Fault, reading: Reading) -> None:
+    line = text.count(b"\n") + 1 if reading.at is None else reading.word.line
+    if (fault.number, fault.line) == (reading.number, line):
+        return
+    here = "no fault"
+    if reading.number is not None:
+        here = f"fault {reading.number.value} in line {line}"
+    raise OtherText(
+        f"it tells fault {fault.number} in line {fault.line} of problem {number}, and the text as"
+        f" it is has {here} there"
+    )
+
+
+def _title(reading: Reading) -> Optional[bytes]:
+    titles = [line.text.strip() for line in reading.text_lines if line.kind is TextWord.TITLE]
+    return titles[-1] if titles and titles[-1] else None
+
+
+_WITHOUT_WORD: dict[int, Callable[[], Explanation]] = {
+    FaultKind.INPUT_TOO_LONG: endings.input_too_long,
+    FaultKind.DEVICE_FAILED: endings.device_failed,
+}
+_BY_WORD: dict[FaultKind, Callable[[Case], Explanation]] = {
+    FaultKind.BEGIN_MISSING: misplaced.begin_missing,
+    FaultKind.MISPLACED: misplaced.word_misplaced,
+    FaultKind.TOO_LONG: misplaced.too_long,
+    FaultKind.COLOUR_MISSING: men.colour_missing,
+    FaultKind.SQUARE_TAKEN: men.square_taken,
+    FaultKind.PAWN_OUTSIDE: men.pawn_outside,
+    FaultKind.SECOND_KING: men.second_king,
+    FaultKind.BAD_STIPULATION: stipulations.bad,
+    FaultKind.SECOND_STIPULATION: stipulations.second,
+    FaultKind.STIPULATION_MISSING: endings.stipulation_missing,
+    FaultKind.NO_MEN: endings.no_men,
+    FaultKind.SECOND_CONDITION: options.second_condition,
+    FaultKind.BAD_NUMBER: options.bad_number,
+    FaultKind.SQUARE_MISSING: options.square_missing,
+    FaultKind.EN_PASSANT_IMPOSSIBLE: options.en_passant_impossible,
+    FaultKind.NO_CASTLING_SQUARE: options.no_castling_square,
+    FaultKind.KING_MISSING: men.king_missing,
+    FaultKind.IN_CHECK: men.in_check,
+}

@@ -1,0 +1,278 @@
+"""Faults 4 to 7, 14, 17 and 18: men, their colours and squares, and the kings."""
+
+import re
+from collections.abc import Iterator
+from typing import Optional
+
+from pops_companions.chess.men import Colour, Kind, Square
+from pops_companions.chess.stipulation import Condition, Play
+from pops_companions.explain import wordings
+from pops_companions.explain.case import Case, Explanation, at, first_of, listed, quoted
+from pops_companions.explain.characters import decoded, shown
+from pops_companions.explain.other_men import man_by_name, two_letters
+from pops_companions.explain.sentences import sentence
+from pops_companions.input.reading import (
+    COLOURS,
+    COMMANDS,
+    Placed,
+    Section,
+    checkers,
+    is_man,
+    kind_of,
+    king_of,
+    to_be_mated,
+)
+from pops_companions.input.words import TEXT_WORDS, Span, named
+
+_DIGITS_FIRST = re.compile(r"([KQRBSPGN])((?:[1-8][a-h])+)", re.IGNORECASE)
+
+
+def colour_missing(case: Case) -> Explanation:
+    """Explains fault 4."""
+    return first_of(_causes_of_no_colour(case))
+
+
+def _causes_of_no_colour(case: Case) -> Iterator[Optional[Explanation]]:
+    opener = case.reading.opener
+    assert opener is not None
+    yield from wordings.characters_in(case)
+    yield _colour_before_man(case)
+    yield _short_command(case)
+    if len(case.openers_of(Section.PIECES)) > 1:
+        yield case.says(
+            sentence("colour_of_each", opener=quoted(opener)),
+            opener.span,
+        )
+    after = case.after
+    if after is not None and named(after.bytes, COLOURS, 1):
+        yield case.says(
+            sentence("colour_first", colour=decoded(after.bytes), word=case.quoted),
+            after.span,
+        )
+    yield case.says(
+        sentence("no_colour", word=case.quoted, opener=quoted(opener)),
+        opener.span,
+    )
+
+
+def _colour_before_man(case: Case) -> Optional[Explanation]:
+    word = case.word.bytes
+    if word[:1] not in (b"b", b"B") or not is_man(word[1:]):
+        return None
+    return case.says(sentence("black_apart", rest=case.plain[1:], word=case.quoted))
+
+
+def _short_command(case: Case) -> Optional[Explanation]:
+    word = case.plain.lower()
+    names = [it for it in (*COMMANDS, *TEXT_WORDS) if it.lower().startswith(word)]
+    if len(word) != 2 or not names:
+        return None
+    return case.says(sentence("too_short", word=case.quoted, short=names[0][:3], name=names[0]))
+
+
+def square_taken(case: Case) -> Explanation:
+    """Explains fault 5."""
+    square, placed = _square_of(case)
+    before = case.reading.men[square]
+    first = span_of(before)
+    what = f"{before.man.colour.value} {before.man.kind.word}"
+    kind, colour = kind_of(case.word.bytes), case.reading.colour
+    assert kind is not None and colour is not None
+    if before.word is case.word:
+        text = sentence("square_twice_in_word", word=case.quoted, square=square.name)
+        return at(text, first, placed)
+    if (before.man.kind, before.man.colour) == (kind, colour):
+        text = sentence("man_given_twice", what=what, square=square.name, before=quoted(before.word))
+        return at(text, first, placed)
+    text = sentence(
+        "square_taken",
+        what=what,
+        before=quoted(before.word),
+        square=square.name,
+        colour=colour.value,
+        kind=kind.word,
+        word=case.quoted,
+    )
+    return at(text, first, placed)
+
+
+def pawn_outside(case: Case) -> Explanation:
+    """Explains fault 6."""
+    square, placed = _square_of(case)
+    text = sentence("pawn_outside", square=square.name, rank=square.rank)
+    if square.rank == (8 if case.reading.colour is Colour.WHITE else 1):
+        text = sentence("pawn_promoted", text=text, square=square.name)
+    return at(text, placed)
+
+
+def second_king(case: Case) -> Explanation:
+    """Explains fault 7."""
+    square, placed = _square_of(case)
+    colour = case.reading.colour
+    assert colour is not None
+    king = king_of(case.reading, colour)
+    assert king is not None
+    before = case.reading.men[king]
+    name = colour.value
+    if before.word is case.word:
+        text = sentence("two_kings_in_word", word=case.quoted, colour=name.title())
+        return at(text, span_of(before), placed)
+    if colour.opponent not in [it for it, _ in case.reading.colours]:
+        other = colour.opponent.name.title()
+        text = sentence(
+            "second_king_colour",
+            colour=name.title(),
+            before=quoted(before.word),
+            other=other,
+            word=case.quoted,
+        )
+    else:
+        text = sentence("second_king", colour=name.title(), before=quoted(before.word))
+    return at(text, span_of(before), placed)
+
+
+def _square_of(case: Case) -> tuple[Square, Span]:
+    """Returns the square of the fault and where in the word it stands."""
+    square, place = case.reading.square, case.reading.square_place
+    assert square is not None
+    return square, case.word.part(place, place + 2)
+
+
+def span_of(placed: Placed) -> Span:
+    """Returns where the square of a man stands."""
+    return placed.word.part(*placed.square_span)
+
+
+def square_missing(case: Case) -> Explanation:
+    """Explains fault 14 among men."""
+    return first_of(_causes_of_no_square(case))
+
+
+def _causes_of_no_square(case: Case) -> Iterator[Optional[Explanation]]:
+    yield from wordings.characters_in(case)
+    yield _colour_before_man(case)
+    yield _letter_alone(case)
+    yield _short_command(case)
+    yield _rank_first(case)
+    yield wordings.signs(case)
+    yield wordings.joined(case)
+    yield _line_of_squares(case)
+    yield man_by_name(case)
+    yield two_letters(case)
+    yield _bad_square(case)
+
+
+def _letter_alone(case: Case) -> Optional[Explanation]:
+    if len(case.word.bytes) > 2:
+        return None
+    if case.after is not None:
+        whole = case.plain + decoded(case.after.bytes)
+        if case.fits(whole):
+            return case.says(
+                sentence("squares_parted", whole=whole),
+                case.after.span,
+            )
+    if len(case.word.bytes) > 1:
+        return None
+    return case.says(sentence("no_square", word=case.quoted, plain=case.plain))
+
+
+def _rank_first(case: Case) -> Optional[Explanation]:
+    found = _DIGITS_FIRST.fullmatch(case.plain)
+    if found is None:
+        return None
+    mended = found[1] + re.sub("(.)(.)", r"\2\1", found[2])
+    return case.says(sentence("rank_first", mended=mended))
+
+
+def _line_of_squares(case: Case) -> Optional[Explanation]:
+    found = re.match(r"[A-Za-z](?:[a-h][1-8])+(?:-|\.\.+|–)[a-h][1-8]", case.plain)
+    if found is None:
+        return None
+    return case.says(sentence("range_of_squares", letter=case.plain[0].upper()))
+
+
+def _bad_square(case: Case) -> Explanation:
+    rest = case.plain[1:]
+    good = re.match(r"(?:[a-h][1-8])*", rest, re.IGNORECASE)
+    assert good is not None
+    bad = rest[good.end() :]
+    place = 1 + good.end()
+    part = bad[:2]
+    if re.fullmatch("[a-h]", bad, re.IGNORECASE):
+        text = sentence("rank_missing", word=case.quoted)
+    elif re.fullmatch("[1-8]", bad) or (good.end() > 0 and bad[0] in "12345678"):
+        text = sentence("file_missing", sign=bad[0], word=case.quoted)
+        part = bad[:1]
+    else:
+        text = sentence("bad_square", part=part, word=case.quoted)
+    stop = place + len(part)
+    whole = len(decoded(case.word.bytes)) != len(case.word.bytes)
+    return at(text, case.word.span if whole else case.word.part(place, stop))
+
+
+def king_missing(case: Case) -> Explanation:
+    """Explains fault 17."""
+    stipulation, given = case.reading.stipulation, case.reading.stipulation_word
+    assert stipulation is not None and given is not None
+    side = to_be_mated(stipulation)
+    name, other = side.name.title(), side.opponent.name.title()
+    head = sentence("no_king", given=quoted(given), name=name)
+    for line in case.reading.text_lines:
+        kings = [it for it in line.text.split() if is_man(it) and kind_of(it) is Kind.KING]
+        if kings:
+            return case.says(
+                sentence("king_in_text", head=head, opener=line.name, king=shown(kings[-1])),
+                line.span,
+            )
+    men = [placed for placed in case.reading.men.values() if placed.man.colour is side]
+    last = max(case.reading.men.values(), key=lambda placed: placed.word.start).word
+    words = [word for colour, word in case.reading.colours if colour is side]
+    if not words:
+        text = sentence("no_colour_of_king", head=head, name=name)
+        return case.says(f"{text} {quoted(last)}.", last.span)
+    if not men:
+        return case.says(
+            sentence(
+                "no_man_of_colour", head=head, after=quoted(words[0]), other=other
+            ), words[0].span
+        )
+    rooks = [placed for placed in men if placed.man.kind is Kind.ROOK]
+    here = listed([f"{it.man.kind.value}{_square_name(case, it)}" for it in men])
+    text = sentence("king_after", head=head, name=name, here=here, after=quoted(words[0]))
+    if len(rooks) == 1 and stipulation.play is not Play.SELF:
+        text = sentence("french_king", text=text)
+    return case.says(text, words[0].span)
+
+
+def _square_name(case: Case, placed: Placed) -> str:
+    return next(square.name for square, it in case.reading.men.items() if it is placed)
+
+
+def in_check(case: Case) -> Explanation:
+    """Explains fault 18."""
+    reading = case.reading
+    assert reading.stipulation is not None and reading.stipulation_word is not None
+    starter = reading.stipulation.starter
+    waiting = starter.opponent
+    king = king_of(reading, waiting)
+    assert king is not None
+    who: list[str] = []
+    marks = [span_of(reading.men[king])]
+    for square in checkers(reading):
+        placed = reading.men[square]
+        who.append(sentence("kind_on", kind=placed.man.kind.word, square=square.name))
+        marks.append(span_of(placed))
+    text = sentence(
+        "in_check_once" if len(who) == 1 else "in_check",
+        given=quoted(reading.stipulation_word),
+        side=starter.name.title(),
+        colour=waiting.value,
+        king=king.name,
+        men=listed(who),
+    )
+    if starter is Colour.BLACK:
+        text = sentence("in_check_help", text=text)
+    if reading.condition is Condition.CIRCE:
+        text = sentence("in_check_circe", text=text)
+    return case.says(text, *marks)

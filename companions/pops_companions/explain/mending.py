@@ -1,0 +1,276 @@
+"""Mends the faults of a text as far as their explanations say how, and finds those after the first.
+
+What an explanation says to write is written, and kept if the fault is gone then: if pops would read
+on, past the place of the fault.
+"""
+
+import re
+from collections.abc import Callable, Iterator
+from dataclasses import dataclass
+from typing import NamedTuple, Optional
+
+from pops_companions.explain.case import Explanation
+from pops_companions.explain.explaining import ExplainedFault, explanation
+from pops_companions.explain.fault_texts import FAULT_TEXTS
+from pops_companions.input.pieces import cut, rest_of
+from pops_companions.input.reading import FaultKind, Reading, read_piece, squares_of
+from pops_companions.input.words import Span, short_forms
+from pops_companions.report.items import Fault
+
+_QUOTED = "`([^`]+)`"
+_BEFORE = re.compile(rf"(?:[Ww]rite {_QUOTED} before |^{_QUOTED} is missing before )")
+_IN_PLACE = re.compile(
+    rf"(?:[Ww]rite|Type the word again:|It looks like|digit 1 is meant:|A bishop is one word:) "
+    rf"{_QUOTED}(?=[.,]| in place of| in its place)"
+)
+_JOINED = re.compile(rf"^{_QUOTED} is one word, without a blank")
+_LONGER = re.compile(rf"Write three letters or more: {_QUOTED} or {_QUOTED}")
+_PAWN = re.compile(rf"A pawn is {_QUOTED}\.$")
+_LEFT_OUT = re.compile(
+    r"Leave (?:it|`BeginProblem`) out\.$|(?:stipulation|condition) .* Leave one out"
+)
+_SQUARE_LEFT_OUT = re.compile(r"(?:names .* twice|was given before, .*)\. Leave one out")
+# Where men may have the letters of that language, a word alone isn't mended.
+_IN_ANOTHER_LANGUAGE = re.compile(
+    rf" is (?:German|French), .* Write `(?:BeginProblem|Pieces|White|Black)`|Then {_QUOTED} is "
+)
+_STIPULATION_IN_WORDS = re.compile("A stipulation is one word")
+# A command without the word that was left out.
+_BARE = re.compile(rb"(?i)^[ \t]*(?:sti|con)[a-z]*[ \t]+$")
+_BYTE_ORDER_MARK = "\ufeff".encode("utf-8")
+_END_AND_BEGIN = re.compile(rb"(?i)\S+\s+(?:" + short_forms("BeginProblem") + rb")(?!\S)")
+_MOST_FAULTS = 50
+# What may only be missing because a word before was passed over.
+_AT_THE_END = (
+    FaultKind.STIPULATION_MISSING,
+    FaultKind.NO_MEN,
+    FaultKind.EN_PASSANT_IMPOSSIBLE,
+    FaultKind.KING_MISSING,
+    FaultKind.IN_CHECK,
+)
+
+
+class Edit(NamedTuple):
+    """Some bytes of a text, and what stands there instead."""
+
+    span: Span
+    text: bytes
+
+    def of(self, text: bytes) -> bytes:
+        return text[: self.span.start] + self.text + text[self.span.stop :]
+
+
+@dataclass(frozen=True)
+class FurtherFault:
+    """A fault of a problem that shows once those before it are mended or passed over."""
+
+    problem: int
+    kind: FaultKind
+    line: int
+    explanation: Explanation
+
+    def explained(self, title: Optional[bytes]) -> ExplainedFault:
+        """Returns the fault as pops would report it, of a problem with this title."""
+        fault = Fault(self.line, self.kind.value, FAULT_TEXTS[self.kind])
+        return ExplainedFault(self.problem, title, fault, self.explanation)
+
+
+@dataclass
+class Mended:
+    """A text with the faults mended that could be; how many were, and how many could not be."""
+
+    text: bytes
+    mended: int = 0
+    left: int = 0
+
+
+def mend(text: bytes) -> Mended:
+    """Mends all faults of a text as far as their explanations say how."""
+    made = Mended(text)
+    number = 1
+    while number <= len(cut(made.text)):
+        for _ in range(_MOST_FAULTS):
+            reading = read_number(made.text, number)
+            if reading is None or reading.number is None:
+                break
+            edit = edit_for(made.text, number, reading)
+            if edit is None:
+                made.left += 1
+                break
+            made.text = edit.of(made.text)
+            made.mended += 1
+        number += 1
+    return _with_rest(made)
+
+
+def _with_rest(made: Mended) -> Mended:
+    """Joins the block after the first EndProblem; its faults aren't looked for."""
+    rest = rest_of(made.text)
+    if rest is None or not rest.problems:
+        return made
+    end = _END_AND_BEGIN.match(made.text, cut(made.text)[-1].stop)
+    if end is None:
+        return made
+    joined = made.text[: end.start()] + b"NextProblem" + made.text[end.end() :]
+    more = mend(joined)
+    return Mended(more.text, made.mended + 1 + more.mended, made.left + more.left)
+
+
+def read_number(text: bytes, number: int) -> Optional[Reading]:
+    """Reads a problem by its number; None where the text has no problem of this number."""
+    pieces = cut(text)
+    if number > len(pieces):
+        return None
+    return read_piece(text, pieces[number - 1])
+
+
+def edit_for(text: bytes, number: int, reading: Reading) -> Optional[Edit]:
+    """Returns the edit that mends a problem's fault; None where the explanation names none."""
+    said = explanation(text, reading)
+    if _IN_ANOTHER_LANGUAGE.search(said.text):
+        return None
+    left = 0 if reading.at is None else len(text) - reading.word.span.stop
+    for edit in _proposed(text, reading, said):
+        changed = edit.of(text)
+        again = read_number(changed, number)
+        if again is not None and (again.number is None or _left(changed, again) <= left):
+            return edit
+    return None
+
+
+def _left(text: bytes, reading: Reading) -> int:
+    """Returns how many bytes a text has from the fault of a problem on."""
+    return 0 if reading.at is None else len(text) - reading.word.start
+
+
+def _proposed(text: bytes, reading: Reading, said: Explanation) -> Iterator[Edit]:
+    """Yields what an explanation says to write, as edits."""
+    yield from _of_whole_text(text, said)
+    if reading.at is None:
+        if reading.number is FaultKind.END_MISSING and "has no `EndProblem`" in said.text:
+            end = Span(len(text), len(text))
+            yield Edit(end, (b"" if text.endswith(b"\n") else b"\n") + b"EndProblem\n")
+        yield from _in_place(text, said.marks, said.text)
+        return
+    word = reading.word
+    before = _BEFORE.search(said.text)
+    if before is not None:
+        wanted = (before[1] or before[2]).encode("utf-8")
+        yield Edit(Span(word.start, word.start), wanted + b" ")
+        return
+    section = re.search(rf"Write {_QUOTED} before it\.$", said.text)
+    if section is not None:
+        yield Edit(Span(word.start, word.start), section[1].encode("utf-8") + b" ")
+        return
+    yield from _taken_out(text, reading, said.text)
+    crossed = re.search(r"write `EnPassant ([a-h][1-8])`", said.text)
+    if crossed is not None and reading.crossed_word is not None:
+        yield Edit(reading.crossed_word.span, crossed[1].encode("ascii"))
+        return
+    yield from _in_place(text, said.marks, said.text)
+
+
+def _of_whole_text(text: bytes, said: Explanation) -> Iterator[Edit]:
+    whole = Span(0, len(text))
+    if said.text.startswith("The text is in UTF-16"):
+        for encoding in ("utf-16", "utf-16-le", "utf-16-be"):
+            try:
+                yield Edit(whole, text.decode(encoding).encode("utf-8"))
+            except UnicodeDecodeError:
+                pass
+    if "lines end in carriage returns only" in said.text:
+        yield Edit(whole, text.replace(b"\r", b"\n"))
+
+
+def _taken_out(text: bytes, reading: Reading, said: str) -> Iterator[Edit]:
+    """Yields a word, a square of it or a mark in it that is left out."""
+    word = reading.word
+    if said.startswith("There is a byte order mark"):
+        yield Edit(word.span, word.bytes.replace(_BYTE_ORDER_MARK, b""))
+    if _SQUARE_LEFT_OUT.search(said) and reading.square is not None:
+        place = reading.square_place
+        rest = word.bytes[:place] + word.bytes[place + 2 :]
+        yield Edit(word.span, rest if squares_of(rest[1:]) else b"")
+    if _LEFT_OUT.search(said):
+        line = text.rfind(b"\n", 0, word.start) + 1
+        is_bare = _BARE.match(text[line : word.start]) and text[word.span.stop :][:1] in b"\r\n"
+        yield Edit(Span(line, word.span.stop) if is_bare else word.span, b"")
+    if said.startswith("`BeginProblem` comes once"):
+        yield Edit(word.span, b"NextProblem")
+
+
+def _in_place(text: bytes, marks: tuple[Span, ...], said: str) -> Iterator[Edit]:
+    """Yields what replaces the marked words, which are neighbours, or one of them."""
+    longer = _LONGER.search(said)
+    found = [_IN_PLACE.search(said), _JOINED.search(said), _PAWN.search(said)]
+    texts = ([longer[2]] if longer else []) + [it[1] for it in found if it is not None]
+    for wanted in texts:
+        if _STIPULATION_IN_WORDS.match(said) and not _has_number_of(wanted, text, marks):
+            continue
+        if marks and not text[marks[0].start : marks[-1].stop].count(b"\n"):
+            yield Edit(Span(marks[0].start, marks[-1].stop), wanted.encode("utf-8"))
+        for mark in marks:
+            yield Edit(mark, wanted.encode("utf-8"))
+
+
+def _has_number_of(wanted: str, text: bytes, marks: tuple[Span, ...]) -> bool:
+    """Returns whether a stipulation's number is in the marked words, and no example."""
+    number = re.sub("[^0-9]", "", wanted).encode("ascii")
+    return any(number in text[mark.start : mark.stop] for mark in marks)
+
+
+def further_faults(text: bytes, number: int) -> Iterator[FurtherFault]:
+    """Yields the faults of a problem after its first one, each with the others mended or passed
+    over.
+
+    A word that can't be mended is passed over; what is missing at the end of the problem may be
+    missing for that alone, and isn't reported then.
+    """
+    changed = text
+    back = _Places()
+    is_passed_over = False
+    for fault in range(_MOST_FAULTS):
+        reading = read_number(changed, number)
+        if reading is None or reading.number is None:
+            return
+        if is_passed_over and reading.number in _AT_THE_END:
+            return
+        if fault > 0:
+            said = explanation(changed, reading)
+            marks = tuple(back.span(mark, len(text)) for mark in said.marks)
+            at = len(changed) if reading.at is None else reading.word.start
+            line = changed.count(b"\n", 0, at) + 1
+            yield FurtherFault(number, reading.number, line, Explanation(said.text, marks))
+        edit = edit_for(changed, number, reading)
+        if edit is None:
+            if reading.at is None or reading.number in _AT_THE_END:
+                return
+            edit = Edit(reading.word.span, b"")
+            is_passed_over = True
+        if edit.text.count(b"\n") != changed[edit.span.start : edit.span.stop].count(b"\n"):
+            return
+        back.note(edit)
+        changed = edit.of(changed)
+
+
+class _Places:
+    """Where the places of a changed text were before its edits."""
+
+    def __init__(self) -> None:
+        self._undo: list[Callable[[int], int]] = []
+
+    def note(self, edit: Edit) -> None:
+        start, stop, size = edit.span.start, edit.span.stop, len(edit.text)
+
+        def before(place: int) -> int:
+            if place <= start:
+                return place
+            return max(place - size + stop - start, start)
+
+        self._undo.append(before)
+
+    def span(self, span: Span, end: int) -> Span:
+        start, stop = span.start, span.stop
+        for before in reversed(self._undo):
+            start, stop = before(start), before(stop)
+        return Span(min(start, end), min(max(stop, start), end))

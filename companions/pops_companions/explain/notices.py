@@ -1,0 +1,55 @@
+"""What is no fault of a text, and may not be meant: nightriders, names in Latin-1, text that is lost."""
+
+from collections.abc import Iterator
+from typing import NamedTuple, Optional
+
+from pops_companions.chess.men import Kind
+from pops_companions.input.pieces import Piece, cut, rest_of
+from pops_companions.input.reading import Reading, read_piece
+from pops_companions.input.words import TextLine, TextWord
+from pops_companions.show.titles import is_text
+
+_NIGHTRIDERS = "`N` is a nightrider, and there is no knight: knights are `S`"
+_NAMES = (TextWord.TITLE, TextWord.AUTHOR)
+
+
+class Notice(NamedTuple):
+    """What is said of a line of a text, and of a problem, if it is of one."""
+
+    line: int
+    problem: Optional[int]
+    text: str
+
+    def shown(self, name: str) -> str:
+        """Returns the notice as a line of text, for a text of this name."""
+        problem = "" if self.problem is None else f"problem {self.problem}: "
+        return f"{name}:{self.line}: {problem}{self.text}\n"
+
+
+def notices(text: bytes) -> Iterator[Notice]:
+    """Yields the notices of a text, problem by problem."""
+    for piece in cut(text):
+        yield from _of_problem(text, piece)
+    rest = rest_of(text)
+    if rest is not None:
+        yield Notice(rest.line, None, rest.text)
+
+
+def _of_problem(text: bytes, piece: Piece) -> Iterator[Notice]:
+    for token in piece.tokens(text):
+        if isinstance(token, TextLine) and token.kind in _NAMES:
+            if not is_text(token.text, "utf-8"):
+                said = f"`{token.name}` isn't UTF-8: the companions read it as Latin-1"
+                yield Notice(token.word.line, piece.number, said)
+    line = _line_of_nightrider(read_piece(text, piece))
+    if line is not None:
+        yield Notice(line, piece.number, _NIGHTRIDERS)
+
+
+def _line_of_nightrider(reading: Reading) -> Optional[int]:
+    """Returns the line of the first nightrider of a problem without knights."""
+    placed = list(reading.men.values())
+    if any(it.man.kind is Kind.KNIGHT for it in placed):
+        return None
+    lines = [it.word.line for it in placed if it.man.kind is Kind.NIGHTRIDER]
+    return min(lines, default=None)

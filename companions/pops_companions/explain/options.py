@@ -1,0 +1,148 @@
+"""Faults 12 to 16: a second condition, and the numbers and squares of options."""
+
+import re
+from collections.abc import Iterator
+from typing import Optional
+
+from pops_companions.chess.men import Colour, Square
+from pops_companions.explain import wordings
+from pops_companions.explain.case import Case, Explanation, at, first_of, listed, quoted
+from pops_companions.explain.men import span_of
+from pops_companions.explain.sentences import sentence
+from pops_companions.explain.vocabulary import unread
+from pops_companions.input.reading import (
+    CASTLING_SQUARES,
+    COMMANDS,
+    MOST_SOLUTIONS,
+    OPTIONS,
+    Awaited,
+    EnPassantWants,
+    en_passant_wants,
+    is_man,
+    is_number,
+    squares_of,
+)
+from pops_companions.input.words import Word, named
+
+_SIDES = re.compile(r"white|black|w|b|[kq]{1,4}|0-0(-0)?|o-o(-o)?|-|both|yes|no", re.IGNORECASE)
+
+
+def second_condition(case: Case) -> Explanation:
+    """Explains fault 12."""
+    given = case.reading.condition_word
+    assert given is not None and case.reading.condition is not None
+    if named(case.word.bytes, [case.reading.condition.value]):
+        return case.says(sentence("condition_twice", given=quoted(given)), given.span)
+    return case.says(
+        sentence("second_condition", given=quoted(given)),
+        given.span,
+    )
+
+
+def bad_number(case: Case) -> Explanation:
+    """Explains fault 13."""
+    return first_of(_causes_of_no_number(case))
+
+
+def _causes_of_no_number(case: Case) -> Iterator[Optional[Explanation]]:
+    option = case.reading.option
+    assert option is not None
+    yield wordings.invisible(case)
+    yield wordings.parted(case)
+    yield _missing(case, option, "number", "MaxSolutions 5")
+    if is_number(case.word.bytes):
+        yield case.says(
+            sentence("number_range", most=f"{MOST_SOLUTIONS:,}", word=case.quoted)
+            + (sentence("all_solutions") if not int(case.word.bytes) else "")
+        )
+    digits = re.sub(r"[,.'_’]", "", case.plain)
+    if digits != case.plain and case.fits(digits):
+        yield case.says(sentence("digits_only", digits=digits))
+    yield wordings.signs(case)
+    yield case.says(sentence("number_wanted", word=case.quoted), option.span)
+
+
+def _missing(case: Case, option: Word, what: str, example: str) -> Optional[Explanation]:
+    """Explains a missing value: the next word is another command or option."""
+    there = unread(case.plain)
+    if there is None and not named(case.word.bytes, (*COMMANDS, *OPTIONS)):
+        return None
+    text = sentence(
+        "value_missing", what=what, option=quoted(option), example=example, word=case.quoted
+    )
+    if there is not None:
+        text = sentence("and_unread", text=text, instead=there.instead)
+    return case.says(text, option.span)
+
+
+def square_missing(case: Case) -> Explanation:
+    """Explains fault 14 after EnPassant and NoCastling."""
+    return first_of(_causes_of_no_square(case))
+
+
+def _causes_of_no_square(case: Case) -> Iterator[Optional[Explanation]]:
+    option = case.reading.option
+    assert option is not None
+    one = case.reading.awaited is Awaited.SQUARE
+    name = "EnPassant" if one else "NoCastling"
+    wanted = sentence("wanted_crossed") if one else sentence("wanted_castling")
+    example = "EnPassant d6" if one else "NoCastling e1h8"
+    yield wordings.invisible(case)
+    yield wordings.parted(case)
+    yield _missing(case, option, "square", example)
+    if one and len(squares_of(case.word.bytes)) > 1:
+        yield case.says(sentence("one_square", wanted=wanted, word=case.quoted))
+    if one and is_man(case.word.bytes):
+        yield case.says(sentence("only_square", wanted=wanted, rest=case.plain[1:]))
+    if _SIDES.fullmatch(case.plain):
+        yield case.says(
+            sentence(
+                "square_names_none", name=name, wanted=wanted, example=example, word=case.quoted
+            )
+        )
+    yield wordings.signs(case)
+    yield case.says(
+        sentence("square_wanted", name=name, wanted=wanted, example=example, word=case.quoted)
+    )
+
+
+def en_passant_impossible(case: Case) -> Explanation:
+    """Explains fault 15."""
+    reading = case.reading
+    stipulation, given, crossed = reading.stipulation, reading.crossed_word, reading.crossed
+    assert stipulation is not None and given is not None and crossed is not None
+    assert reading.stipulation_word is not None
+    wants = en_passant_wants(reading)
+    starter = stipulation.starter
+    head = sentence(
+        "moves_first", given=quoted(reading.stipulation_word), side=starter.name.title()
+    )
+    about = {"head": head, "pawn": f"{starter.opponent.value} pawn"}
+    if not wants.right_rank:
+        text = sentence("passed_rank", **about, rank=wants.rank)
+        return case.says(_with_rank(text, wants, starter, crossed), given.span)
+    about["square"] = crossed.name
+    if not wants.pawn_stands:
+        text = sentence("passed_no_pawn", **about, pawn_square=wants.pawn.name)
+        return case.says(text, given.span)
+    taken = listed([square.name for square in wants.occupied])
+    marks = [span_of(reading.men[square]) for square in wants.occupied]
+    text = sentence("passed_occupied", **about, home=wants.home.name, taken=taken)
+    return case.says(text, given.span, *marks)
+
+
+def _with_rank(text: str, wants: EnPassantWants, starter: Colour, crossed: Square) -> str:
+    """Adds to a text which square is meant, or on which rank the named one is."""
+    pawn_rank = 5 if starter is Colour.WHITE else 4
+    if crossed.rank == pawn_rank:
+        name = f"{crossed.name[0]}{wants.rank}"
+        return sentence("passed_where", text=text, square=crossed.name, name=name)
+    return sentence("passed_other", text=text, square=crossed.name, there=crossed.rank)
+
+
+def no_castling_square(case: Case) -> Explanation:
+    """Explains fault 16."""
+    square, place = case.reading.square, case.reading.square_place
+    assert square is not None
+    text = sentence("no_castling_square", squares=listed(CASTLING_SQUARES), square=square.name)
+    return at(text, case.word.part(place, place + 2))

@@ -1,0 +1,110 @@
+"""Men written otherwise than pops reads them: by name, by two letters, in another language."""
+
+import re
+from typing import Optional
+
+from pops_companions.chess.men import Kind
+from pops_companions.explain.case import Case, Explanation, listed
+from pops_companions.explain.characters import decoded
+from pops_companions.explain.sentences import DATA, sentence
+from pops_companions.explain.vocabulary import Alphabet, alphabets_of, alphabets_with
+from pops_companions.input.reading import Section, squares_of
+from pops_companions.input.words import Word, named
+
+_NAMES = {kind.word: kind for kind in Kind}
+_CYRILLIC_MEN: str = DATA["characters"]["cyrillicMen"]
+
+
+def foreign_letter(case: Case) -> Optional[Explanation]:
+    """Explains a letter that isn't English, with squares."""
+    found = re.fullmatch(r"([^\W\d_]{1,2})((?:[a-h][1-8])+)", case.plain, re.IGNORECASE)
+    if found is None:
+        return None
+    letter, squares = found[1], found[2]
+    if letter[0] in _CYRILLIC_MEN or letter == "Кр":
+        return case.says(sentence("cyrillic_man", letter=letter))
+    possible = alphabets_with(letter) if len(letter) == 1 else []
+    if not possible:
+        return None
+    men = men_words(case)
+    fitting = [it for it in alphabets_of("".join(letters_of(men))) if it in possible]
+    if len(fitting) == 1:
+        possible = fitting
+    kinds = {_kind(alphabet, letter) for alphabet in possible}
+    text = sentence("no_letter", letter=letter)
+    if len(kinds) > 1:
+        ways = [sentence(
+            "kind_in", kind=_kind(it, letter).word, languages=listed(it.languages)
+        ) for it in possible]
+        return case.says(sentence("letter_of_several", text=text, ways=listed(ways, 'or')))
+    kind = kinds.pop()
+    languages = [language for it in possible for language in it.languages]
+    text = sentence(
+        "letter_of_one",
+        text=text,
+        kind=kind.word,
+        languages=listed(languages),
+        man=kind.value,
+        squares=squares,
+    )
+    if len(fitting) == 1:
+        others = _others(men, case.word, fitting[0])
+        if others:
+            text = sentence("other_letters", text=text, others=listed(others))
+    return case.says(text)
+
+
+def man_by_name(case: Case) -> Optional[Explanation]:
+    """Explains a man by its English name."""
+    word = case.plain.lower()
+    for name in sorted(_NAMES, key=len, reverse=True):
+        letter, rest = _NAMES[name].value, word[len(name) :]
+        if word.startswith(name) and (rest in ("", "s") or case.fits(letter + rest)):
+            return case.says(sentence("man_by_name", name=name, letter=letter))
+    return None
+
+
+def two_letters(case: Case) -> Optional[Explanation]:
+    """Explains a man of two letters, as Popeye has them."""
+    word = case.plain
+    if not re.fullmatch(r"[a-z]{2}(?:[a-h][1-8])+", word, re.IGNORECASE):
+        return None
+    if word[:2].lower() in ("kt", "kn"):
+        return case.says(sentence("knight_is_s", squares=word[2:]))
+    return case.says(sentence("two_letters", word=case.quoted))
+
+
+def _kind(alphabet: Alphabet, letter: str) -> Kind:
+    kind = alphabet.kind(letter)
+    assert kind is not None
+    return kind
+
+
+def men_words(case: Case) -> list[Word]:
+    """Returns the words of the problem's Pieces sections that have the form of a man, before and
+    after the fault.
+    """
+    words = []
+    inside = False
+    for word in case.reading.words:
+        name = named(word.bytes, [section.value for section in Section])
+        if name is not None:
+            inside = name == Section.PIECES.value
+        elif inside and word.bytes[:1].isalpha() and squares_of(word.bytes[1:]):
+            words.append(word)
+    return words
+
+
+def letters_of(men: list[Word]) -> list[str]:
+    """Returns the letters of men, each once."""
+    return list(dict.fromkeys(decoded(man.bytes)[0].upper() for man in men))
+
+
+def _others(men: list[Word], faulty: Word, alphabet: Alphabet) -> list[str]:
+    """Returns what the letters of the other men mean where they mean something else in English."""
+    others = []
+    for letter in letters_of(men):
+        kind = alphabet.kind(letter)
+        if kind is not None and kind.value != letter and letter != decoded(faulty.bytes)[0].upper():
+            others.append(sentence("letter_means", letter=letter, man=kind.value, kind=kind.word))
+    return others

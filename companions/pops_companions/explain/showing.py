@@ -1,0 +1,97 @@
+"""Shows explained faults as text: the place, the lines with their words marked, the words."""
+
+import textwrap
+from bisect import bisect_right
+from itertools import accumulate
+
+from pops_companions.explain.characters import shown, width
+from pops_companions.explain.explaining import ExplainedFault
+from pops_companions.input.words import Span
+
+_WIDEST = 96
+_WIDTH = 88
+_TITLE_SHOWN = 60
+_BLANKS = bytes.maketrans(b"\t\x0b\x0c\r", b"    ")
+
+
+class Shower:
+    """Shows the faults of one text, under its name."""
+
+    def __init__(self, name: str, text: bytes):
+        self._name = name
+        self._text = text
+        lengths = (len(line) + 1 for line in text.split(b"\n"))
+        self._ends = list(accumulate(lengths))
+
+    def text_of(self, explained: ExplainedFault) -> str:
+        """Returns an explained fault as some lines of text."""
+        fault = explained.fault
+        head = f"{self._name}:{fault.line}: problem {explained.problem}"
+        if explained.title is not None:
+            title = shown(explained.title)
+            head += f' "{title if len(title) <= _TITLE_SHOWN else title[:_TITLE_SHOWN] + ".."}"'
+        lines = [f"{head}: fault {fault.number}: {fault.text}"]
+        lines.extend(self._marked_lines(explained.explanation.marks))
+        lines.extend(
+            textwrap.wrap(
+                explained.explanation.text,
+                _WIDTH,
+                initial_indent="  ",
+                subsequent_indent="  ",
+                break_long_words=False,
+                break_on_hyphens=False,
+            )
+        )
+        return "\n".join(lines) + "\n"
+
+    def _marked_lines(self, marks: tuple[Span, ...]) -> list[str]:
+        """Returns the lines that hold the marks, each with its number and a line of signs below it.
+        """
+        by_line: dict[int, list[Span]] = {}
+        for mark in marks:
+            by_line.setdefault(bisect_right(self._ends, mark.start), []).append(mark)
+        digits = max((len(str(line + 1)) for line in by_line), default=0)
+        lines = []
+        for line, its_marks in by_line.items():
+            start = self._ends[line - 1] if line else 0
+            text, signs = marked(
+                self._text[start : self._ends[line] - 1],
+                [(mark.start - start, mark.stop - start) for mark in its_marks],
+            )
+            lines.append(f"{line + 1:{digits + 4}} | {text}")
+            lines.append(f"{'':{digits + 4}} | {signs}")
+        return lines
+
+
+def marked(line: bytes, marks: list[tuple[int, int]]) -> tuple[str, str]:
+    """Returns a line as it is shown, and the line of signs below its marked bytes.
+
+    A long line is shown as far as its marks reach.
+    """
+    line = line.rstrip(b"\r").translate(_BLANKS)
+    start, stop = _part(line, marks)
+    head, tail = ("" if start == 0 else ".."), ("" if stop == len(line) else "..")
+    text, signs, place = head, " " * len(head), start
+    for first, last in marks:
+        last = min(last, stop)
+        between, word = shown(line[place:first]), shown(line[first:last])
+        text += between + word
+        signs += " " * width(between) + "^" * max(width(word), 1)
+        place = last
+    return text + shown(line[place:stop]) + tail, signs
+
+
+def _part(line: bytes, marks: list[tuple[int, int]]) -> tuple[int, int]:
+    """Returns the bytes to show of a line: all of it, or some around the marks."""
+    if len(line) <= _WIDEST:
+        return 0, len(line)
+    first, last = marks[0][0], marks[-1][1]
+    room = max(_WIDEST - (last - first), 0)
+    start = max(first - room // 2, 0)
+    stop = min(start + _WIDEST, len(line))
+    start = max(stop - _WIDEST, 0)
+    while 0 < start and line[start] & 0xC0 == 0x80:
+        start -= 1
+    while stop < len(line) and line[stop] & 0xC0 == 0x80:
+        stop += 1
+    return min(start, first), stop if len(marks) == 1 else max(stop, last)

@@ -1,0 +1,238 @@
+"""Faults 8 to 10: a bad, a second or no stipulation."""
+
+import re
+from collections.abc import Iterator
+from typing import Any, Optional
+
+from pops_companions.explain import wordings
+from pops_companions.explain.case import Case, Explanation, first_of, quoted
+from pops_companions.explain.characters import decoded
+from pops_companions.explain.sentences import DATA, sentence
+from pops_companions.input.reading import (
+    COLOURS,
+    CONDITIONS,
+    MOST_MOVES,
+    OPTIONS,
+    Section,
+    is_man,
+    is_number,
+)
+from pops_companions.input.words import Word, named
+
+_FORMS = sentence("forms")
+_STIPULATION = re.compile(r"(?:[a-z]{0,5}-)?[a-z]{0,2}(?:#|==?)[0-9]+(?:\.5)?", re.IGNORECASE)
+_COUNTS = re.compile(r"[0-9]+(?:\.[0-9]+)+\.*")
+_GOOD = re.compile(r"([sh]?)([#=])([0-9]+)(\.5)?", re.IGNORECASE)
+_KNOWN: dict[str, Any] = DATA["stipulations"]
+_OTHER_PLAY = tuple((re.compile(plays, re.IGNORECASE), what) for plays, what in _KNOWN["plays"])
+_OTHER_GOALS = re.compile(_KNOWN["goals"], re.IGNORECASE)
+_SIGNS_OF_MATE: str = _KNOWN["mates"]
+_WORDS: dict[str, str] = _KNOWN["words"]
+
+
+def looks_like_stipulation(word: str) -> bool:
+    """Returns whether a word would be a stipulation in Popeye, or nearly so."""
+    return _STIPULATION.fullmatch(word) is not None
+
+
+def solution_numbers(case: Case) -> Optional[Explanation]:
+    """Explains a number of solutions after a stipulation, as `2.1.1.1`."""
+    if case.reading.section is not Section.STIPULATION or not _COUNTS.fullmatch(case.plain):
+        return None
+    return case.says(sentence("count_of_solutions", word=case.quoted))
+
+
+def bad(case: Case) -> Explanation:
+    """Explains fault 8."""
+    return first_of(_causes(case))
+
+
+def _causes(case: Case) -> Iterator[Optional[Explanation]]:
+    yield wordings.utf_16(case)
+    yield wordings.invisible(case)
+    yield _half(case)
+    yield _sign_of_mate(case)
+    yield wordings.look_alike(case)
+    yield _section_empty(case)
+    yield wordings.of_popeye(case)
+    yield _without_number(case)
+    yield _number(case)
+    yield _star(case)
+    yield _counted(case)
+    yield _other_play(case)
+    yield _exact(case)
+    yield _other_goal(case)
+    yield _comma(case)
+    yield _reversed(case)
+    yield wordings.signs(case)
+    yield _in_words(case)
+    yield wordings.in_another_language(case)
+    yield wordings.comment(case)
+    yield case.says(sentence("no_stipulation", word=case.quoted, forms=_FORMS))
+
+
+def _half(case: Case) -> Optional[Explanation]:
+    if "½" not in case.plain and not re.search(r"1/2$", case.plain):
+        return None
+    mended = re.sub(r"½|[- ]?1/2$", ".5", case.plain)
+    if not case.fits(mended):
+        return case.says(sentence("half_only_help"))
+    return case.says(sentence("half", mended=mended))
+
+
+def _sign_of_mate(case: Case) -> Optional[Explanation]:
+    mended = re.sub(f"[{_SIGNS_OF_MATE}]|\\+\\+", "#", case.plain)
+    if mended == case.plain or not case.fits(mended):
+        return None
+    return case.says(sentence("sign_of_mate", mended=mended, word=case.quoted))
+
+
+def _section_empty(case: Case) -> Optional[Explanation]:
+    word, opener = case.word.bytes, case.reading.opener
+    kinds = (
+        (sentence("an_option"), bool(named(word, OPTIONS)), "Option"),
+        (sentence("a_condition"), bool(named(word, CONDITIONS)), "Condition"),
+        (sentence("a_colour"), bool(named(word, COLOURS, 3)), "Pieces"),
+        (sentence("a_man"), is_man(word), "Pieces"),
+    )
+    for what, holds, section in kinds:
+        if holds and opener is not None:
+            return case.says(
+                sentence(
+                    "stipulation_missing_after",
+                    word=case.quoted,
+                    what=what,
+                    opener=quoted(opener),
+                    section=section,
+                ),
+                opener.span,
+            )
+    return None
+
+
+def _without_number(case: Case) -> Optional[Explanation]:
+    if not re.fullmatch("[sh]?[#=]", case.plain, re.IGNORECASE):
+        return None
+    if case.after is not None:
+        whole = case.plain + decoded(case.after.bytes)
+        if case.fits(whole):
+            return case.says(
+                sentence("number_parted", whole=whole),
+                case.after.span,
+            )
+    return case.says(sentence("number_missing_in_word", plain=case.plain))
+
+
+def _number(case: Case) -> Optional[Explanation]:
+    found = _GOOD.fullmatch(case.plain)
+    if found is None:
+        return None
+    play, number, half = found[1].lower(), found[3], found[4]
+    if half and play != "h":
+        return case.says(sentence("half_in_help", first=found[1], second=found[2], number=number))
+    if len(number) > 1 and number.startswith("0"):
+        mended = f"{found[1]}{found[2]}{int(number)}{half or ''}"
+        if case.fits(mended):
+            return case.says(sentence("leading_zeros", mended=mended))
+    least, most = (0, MOST_MOVES - 1) if half else (1, MOST_MOVES)
+    form = f"{found[1]}{found[2]}n{half or ''}"
+    return case.says(
+        sentence("number_out_of_range", form=form, least=least, most=most, number=int(number))
+    )
+
+
+def _star(case: Case) -> Optional[Explanation]:
+    found = re.fullmatch(r"(.*?)\*+(.*)", case.plain)
+    if found is None or not case.fits(found[1] + found[2]):
+        return None
+    return case.says(sentence("star", first=found[1], second=found[2]))
+
+
+def _counted(case: Case) -> Optional[Explanation]:
+    found = re.fullmatch(r"(.+?)[;:,(\[/]+([0-9]+(?:[.,][0-9]+)*)\.*[)\]]?", case.plain)
+    if found is None or not case.fits(found[1]) or re.fullmatch(r"h[#=]\d+,5", case.plain):
+        return None
+    return case.says(sentence("counted", second=found[2], first=found[1]))
+
+
+def _other_play(case: Case) -> Optional[Explanation]:
+    for pattern, what in _OTHER_PLAY:
+        if pattern.match(case.plain):
+            return case.says(sentence("other_play", what=what, forms=_FORMS))
+    return None
+
+
+def _exact(case: Case) -> Optional[Explanation]:
+    found = re.fullmatch(r"exact-(.+)", case.plain, re.IGNORECASE)
+    if found is None:
+        return None
+    if found[1].lower().startswith("h"):
+        return case.says(sentence("exact_help", first=found[1]))
+    return case.says(sentence("exact", first=found[1]))
+
+
+def _other_goal(case: Case) -> Optional[Explanation]:
+    found = _OTHER_GOALS.fullmatch(case.plain)
+    if found is None or (found[1].lower() == "k" and is_man(case.word.bytes)):
+        return None
+    return case.says(sentence("other_goal", first=found[1], forms=_FORMS))
+
+
+def _comma(case: Case) -> Optional[Explanation]:
+    mended = re.sub(r",5$", ".5", case.plain)
+    if mended == case.plain or not case.fits(mended):
+        return None
+    return case.says(sentence("half_point", mended=mended))
+
+
+def _reversed(case: Case) -> Optional[Explanation]:
+    found = re.fullmatch(r"([0-9]+)(\.5)?([sh]?[#=])|([sh])([0-9]+)(\.5)?([#=])", case.plain)
+    if found is None:
+        return None
+    if found[1]:
+        mended = found[3] + found[1] + (found[2] or "")
+    else:
+        mended = found[4] + found[7] + found[5] + (found[6] or "")
+    if not case.fits(mended):
+        return None
+    return case.says(sentence("sign_first", mended=mended))
+
+
+def _in_words(case: Case) -> Optional[Explanation]:
+    word = case.plain.lower().strip("-")
+    if is_number(case.word.bytes):
+        return case.says(sentence("only_number", word=case.quoted, plain=case.plain))
+    found = re.fullmatch(r"([a-z]+?)[-#=]*(?:in)?-*([0-9]*)", word)
+    sign = _WORDS.get(found[1]) if found is not None else None
+    if found is None or sign is None:
+        return None
+    number = found[2] or next(
+        (
+            decoded(it.bytes)
+            for it in case.reading.words[case.reading.words.index(case.word) + 1 :][:3]
+            if is_number(it.bytes)
+        ),
+        "2",
+    )
+    return case.says(sentence("in_words", sign=sign, number=number))
+
+
+def second(case: Case) -> Explanation:
+    """Explains fault 9."""
+    given = case.reading.stipulation_word
+    assert given is not None
+    return first_of(_causes_of_a_second(case, given))
+
+
+def _causes_of_a_second(case: Case, given: Word) -> Iterator[Optional[Explanation]]:
+    yield wordings.invisible(case)
+    if not looks_like_stipulation(case.plain):
+        yield wordings.comment(case)
+        yield wordings.signs(case)
+    if case.word.bytes.lower() == given.bytes.lower():
+        text = sentence("stipulation_twice", given=quoted(given))
+        yield case.says(text, given.span)
+    yield case.says(
+        sentence("second_stipulation", given=quoted(given), word=case.quoted),
+        given.span,
+    )

@@ -1,0 +1,80 @@
+"""Words of Popeye that pops doesn't read, German and French ones, and what to write instead."""
+
+from collections.abc import Mapping
+from typing import Any, NamedTuple, Optional
+
+from pops_companions.chess.men import Kind
+from pops_companions.explain.sentences import DATA, sentence
+from pops_companions.import_.language import ForeignWord, folded
+
+_KNOWN: dict[str, Any] = DATA["popeye"]
+_COLOURS = ("white", "black")
+
+
+class Unread(NamedTuple):
+    """A word of Popeye that pops doesn't read: what it is, and what to do instead."""
+
+    what: str
+    name: str
+    instead: str
+
+
+def _unread(kind: str, instead: Mapping[str, str]) -> dict[str, Unread]:
+    what = sentence(kind)
+    return {name.lower(): Unread(what, name, text) for name, text in instead.items()}
+
+
+_UNREAD: dict[str, Unread] = {
+    **_unread("a_command", _KNOWN["commands"]),
+    **_unread("an_option", _KNOWN["options"]),
+    **_unread("a_kind_of_men", dict.fromkeys(_KNOWN["kinds"], sentence("two_colours"))),
+}
+_FOREIGN: dict[str, ForeignWord] = {
+    folded(word): ForeignWord(language, word, english)
+    for language, words in reversed(DATA["foreign"].items())
+    for word, english in words.items()
+}
+
+
+def unread(word: str) -> Optional[Unread]:
+    """Returns the word of Popeye of which this is a short form, of three letters or more."""
+    return _found(word, _UNREAD)
+
+
+def foreign(word: str) -> Optional[ForeignWord]:
+    """Returns the German or French word that this is, in full; accents may stand or lack."""
+    return _FOREIGN.get(folded(word))
+
+
+def _found(word: str, table: dict[str, Unread]) -> Optional[Unread]:
+    small = word.lower()
+    if small in table:
+        return table[small]
+    if len(small) < 3 or small in _COLOURS:
+        return None
+    return next((it for name, it in table.items() if name.startswith(small)), None)
+
+
+class Alphabet(NamedTuple):
+    """The letters of languages for king, queen, rook, bishop, knight and pawn, and for grasshopper
+    and nightrider where Popeye has them."""
+
+    languages: tuple[str, ...]
+    letters: str
+
+    def kind(self, letter: str) -> Optional[Kind]:
+        place = self.letters.find(letter.upper())
+        return tuple(Kind)[place] if place >= 0 else None
+
+
+_ALPHABETS = tuple(Alphabet(tuple(it["languages"]), it["letters"]) for it in DATA["alphabets"])
+
+
+def alphabets_of(letters: str) -> list[Alphabet]:
+    """Returns the languages in whose letters these men may be written, the likeliest first."""
+    return [it for it in _ALPHABETS if set(letters.upper()) <= set(it.letters)]
+
+
+def alphabets_with(letter: str) -> list[Alphabet]:
+    """Returns the languages that have this letter."""
+    return [it for it in _ALPHABETS if letter.upper() in it.letters]

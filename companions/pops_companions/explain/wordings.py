@@ -1,0 +1,264 @@
+"""Causes that a word of any section may have: characters, signs, blanks, comments, spelling."""
+
+import re
+from collections.abc import Iterator
+from typing import Optional
+
+from pops_companions.explain import characters
+from pops_companions.explain.case import NAMES, Case, Explanation
+from pops_companions.explain.sentences import DATA, sentence
+from pops_companions.explain.vocabulary import foreign, unread
+from pops_companions.input.words import TEXT_WORDS, named
+
+_SIGNS: dict[str, str] = DATA["signs"]
+_SIGN = "[" + re.escape("".join(_SIGNS)) + "]"
+_COMMENT = re.compile(r"(#|%|//|/\*|\*|;|--|<!--|\{|!|\")")
+_FEN = re.compile(r"(?:[kqrbnpKQRBNP1-8]{1,8}/){7}[kqrbnpKQRBNP1-8]{1,8}")
+_HALVES = re.compile(rb"^(?:\xff\xfe|\xfe\xff)|^[ -~]\x00|^\x00[ -~]")
+
+
+def utf_16(case: Case) -> Optional[Explanation]:
+    """Explains a text in UTF-16, two bytes a letter."""
+    if not _HALVES.match(case.text):
+        return None
+    return case.says(sentence("utf_16"))
+
+
+def invisible(case: Case) -> Optional[Explanation]:
+    """Characters in the word that don't show, or look like blanks."""
+    found = characters.invisible(case.plain)
+    if not found:
+        return None
+    odd = found[0]
+    if odd.character == "\ufeff":
+        where = sentence("mark_first" if odd.place == 0 else "mark_inside")
+        cure = sentence("mark_joined" if case.word.start > 0 else "mark_save")
+        return case.says(sentence("mark", where=where, word=case.quoted, cure=cure))
+    blanks = characters.with_blanks(case.plain)
+    mended = next((it for it in (blanks, blanks.replace(" ", "")) if case.fits(it)), None)
+    cure = sentence("blank_in_place") if mended is None else sentence("write", mended=mended)
+    is_wide = characters.is_wide_blank(odd.character)
+    looks = sentence("looks_like_blank" if is_wide else "does_not_show")
+    return case.says(sentence("invisible", word=case.quoted, name=odd.name, looks=looks, cure=cure))
+
+
+def look_alike(case: Case) -> Optional[Explanation]:
+    """Explains a letter of another alphabet, or a figurine, in place of one of ours."""
+    odd = characters.look_alike(case.plain)
+    if odd is None:
+        return None
+    mended = characters.plain(case.plain)
+    if not characters.is_figurine(odd.character) and not case.fits(mended):
+        return None
+    if characters.is_figurine(odd.character):
+        return case.says(sentence("figurine", letter=odd.character, mended=mended))
+    script = characters.script_of(odd.character)
+    return case.says(
+        sentence(
+            "look_alike",
+            letter=odd.character,
+            word=case.quoted,
+            script=script,
+            like=characters.plain(odd.character),
+            mended=mended,
+        )
+    )
+
+
+def comment(case: Case) -> Optional[Explanation]:
+    """Explains a sign that begins a comment elsewhere."""
+    found = _COMMENT.match(case.plain)
+    if found is None or case.fits(case.plain.strip("".join(_SIGNS))):
+        return None
+    return case.says(sentence("comment", first=found[1]))
+
+
+def position(case: Case) -> Optional[Explanation]:
+    """Explains a position in FEN."""
+    if not _FEN.fullmatch(case.plain):
+        return None
+    return case.says(sentence("position", word=case.quoted, plain=case.plain))
+
+
+def signs(case: Case) -> Optional[Explanation]:
+    """Punctuation that belongs to the word, since blanks alone part words."""
+    inside = re.findall(_SIGN, case.plain)
+    if not inside:
+        return None
+    stripped = re.sub(f"^{_SIGN}+|{_SIGN}+$", "", case.plain)
+    parted = " ".join(re.sub(_SIGN, " ", case.plain).split())
+    joined = re.sub(_SIGN, "", case.plain)
+    mended = next((it for it in (stripped, parted, joined) if case.fits(it)), None)
+    if mended is None:
+        return None
+    kinds = {_SIGNS[it] for it in inside}
+    if len(kinds) > 1:
+        listed_signs = " ".join(dict.fromkeys(inside))
+        return case.says(sentence("signs", signs=listed_signs, word=case.quoted, mended=mended))
+    (kind,) = kinds
+    if len(inside) == 1:
+        return case.says(sentence("sign", kind=kind, word=case.quoted, mended=mended))
+    kinds_said = kind + ("es" if kind.endswith("sh") else "s")
+    return case.says(sentence("sign_often", kinds=kinds_said, word=case.quoted, mended=mended))
+
+
+def parted(case: Case) -> Optional[Explanation]:
+    """Explains a word that a blank parts in two."""
+    word = case.plain
+    if case.after is not None:
+        whole = word + characters.decoded(case.after.bytes)
+        if case.fits(whole) and _is_name(whole):
+            return case.says(sentence("parted", whole=whole), case.after.span)
+    before = case.span_before
+    if before is not None:
+        whole = characters.decoded(case.text[before.start : before.stop]) + word
+        if _is_name(whole):
+            return case.says(sentence("parted", whole=whole), before)
+    return None
+
+
+def _is_name(word: str) -> bool:
+    return any(word.lower() == name.lower() for name in NAMES)
+
+
+def joined(case: Case) -> Optional[Explanation]:
+    """Explains two words without a blank between them."""
+    word = case.plain
+    if re.fullmatch("endproblembeg[a-z]*", word, re.IGNORECASE):
+        return case.says(sentence("texts_joined", word=case.quoted))
+    for place in range(len(word) - 1, 0, -1):
+        first, second = word[:place], word[place:]
+        if second.islower() and (len(second) < 3 or named(first.encode("utf-8"), TEXT_WORDS)):
+            continue
+        if case.fits(f"{first} {second}"):
+            return case.says(sentence("joined", word=case.quoted, first=first, second=second))
+    return None
+
+
+def of_popeye(case: Case) -> Optional[Explanation]:
+    """Explains a word of Popeye that pops doesn't read."""
+    found = unread(case.plain.rstrip(":,;."))
+    if found is None:
+        return None
+    is_whole = case.plain.lower() == found.name.lower()
+    return case.says(
+        sentence(
+            "unread" if is_whole else "unread_short",
+            word=case.quoted,
+            what=found.what,
+            name=found.name,
+            instead=found.instead,
+        )
+    )
+
+
+def in_another_language(case: Case) -> Optional[Explanation]:
+    """Explains a German or French word."""
+    found = foreign(case.plain.rstrip(":,;."))
+    if found is None:
+        return None
+    text = sentence("foreign", word=case.quoted, language=found.language)
+    there = unread(found.english)
+    if there is not None:
+        return case.says(
+            sentence("foreign_unread", text=text, name=there.name, instead=there.instead)
+        )
+    return case.says(sentence("foreign_written", text=text, english=found.english))
+
+
+def accented(case: Case) -> Optional[Explanation]:
+    """Explains an accent on a letter of a word of pops."""
+    plain = characters.without_accents(case.plain)
+    if plain == case.plain or not case.fits(plain):
+        return None
+    return case.says(sentence("accented", plain=plain, word=case.quoted))
+
+
+def lengthened(case: Case) -> Optional[Explanation]:
+    """Explains a word of pops with letters after it."""
+    word = case.plain.lower()
+    for name in NAMES:
+        if word.startswith(name.lower()) and word[len(name) :].isalpha():
+            if case.fits(name):
+                return case.says(sentence("lengthened", name=name, word=case.quoted))
+    return None
+
+
+def too_short(case: Case) -> Optional[Explanation]:
+    """Explains two letters of a word of pops."""
+    word = case.plain
+    if len(word) != 2 or not word.isalpha():
+        return None
+    for name in case.names_here():
+        if name.lower().startswith(word.lower()):
+            return case.says(sentence("too_short", word=case.quoted, short=name[:3], name=name))
+    return None
+
+
+def misspelt(case: Case) -> Optional[Explanation]:
+    """Explains a word that is nearly one of pops."""
+    word = case.plain.lower()
+    if len(word) < 3:
+        return None
+    best = min(case.names_here(), key=lambda name: _nearness(word, name), default=None)
+    if best is None or _nearness(word, best) > (1 if len(word) < 6 else 2):
+        return None
+    return case.says(sentence("misspelt", word=case.quoted, best=best))
+
+
+def _nearness(word: str, name: str) -> float:
+    """Returns how many letters of the word have to be changed to make it a short form of the name.
+    """
+    small = name.lower()
+    if sorted(word) == sorted(small):
+        return 1
+    ends = range(max(3, len(word) - 1), min(len(small), len(word) + 1) + 1)
+    whole = _distance(word, small)
+    forms = [_distance(word, small[:end]) + 0.1 for end in ends if end < len(small)]
+    return min([whole, *forms])
+
+
+def _distance(one: str, other: str) -> int:
+    """Letters put in, left out, changed or exchanged with a neighbour."""
+    rows: list[list[int]] = [list(range(len(other) + 1))]
+    for i, a in enumerate(one, start=1):
+        row = [i]
+        for j, b in enumerate(other, start=1):
+            least = min(row[-1] + 1, rows[-1][j] + 1, rows[-1][j - 1] + (a != b))
+            if i > 1 and j > 1 and a == other[j - 2] and one[i - 2] == b:
+                least = min(least, rows[-2][j - 2] + 1)
+            row.append(least)
+        rows.append(row)
+    return rows[-1][-1]
+
+
+def rest_of_a_text(case: Case) -> Optional[Explanation]:
+    """Explains a line that seems to go on with the text line above it."""
+    above = case.line_above
+    if above is None or above.word.line != case.word.line - 1:
+        return None
+    return case.says(
+        sentence("rest_of_a_text", name=above.name),
+        above.span,
+    )
+
+
+def characters_in(case: Case) -> Iterator[Optional[Explanation]]:
+    """Yields the causes that lie in single characters."""
+    yield utf_16(case)
+    yield invisible(case)
+    yield look_alike(case)
+
+
+def spelling(case: Case) -> Iterator[Optional[Explanation]]:
+    """Yields the causes that lie in how a word of pops is written."""
+    yield accented(case)
+    yield joined(case)
+    yield lengthened(case)
+    yield too_short(case)
+    yield misspelt(case)
+
+
+def old_mac(text: bytes) -> bool:
+    """Returns whether carriage returns alone stand in a text, in place of line ends."""
+    return b"\r" in text and b"\n" not in text

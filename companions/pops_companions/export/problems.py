@@ -1,0 +1,180 @@
+"""The problems of a text in any of the forms that pops-import reads, and twins joined again."""
+
+import re
+from collections.abc import Iterable, Iterator
+from dataclasses import dataclass, field, replace
+from typing import NamedTuple, Optional
+
+from pops_companions.import_.posing import posed
+from pops_companions.import_.sources import read_drafts
+from pops_companions.input.writing import text_of_problems
+from pops_companions.show.twins import label_and_title
+
+_FIRST_LABEL = "a)"
+
+
+@dataclass(frozen=True)
+class Problem:
+    """A problem as an input of pops has it; its number is that of the item in a report."""
+
+    number: int
+    title: str = ""
+    author: str = ""
+    origins: tuple[str, ...] = ()
+    remarks: tuple[str, ...] = ()
+    pieces: str = ""
+    stipulation: str = ""
+    condition: str = ""
+    options: tuple[str, ...] = ()
+
+    @staticmethod
+    def of_lines(number: int, lines: Iterable[str]) -> "Problem":
+        """Returns the problem of the lines that pops-import writes."""
+        made = Problem(number)
+        for line in lines:
+            word, _, text = line.partition(" ")
+            made = replace(made, **_changed(made, word, text))
+        return made
+
+    @property
+    def posed(self) -> tuple[str, str, str, tuple[str, ...]]:
+        """What decides its solutions."""
+        return self.pieces, self.stipulation, self.condition, self.options
+
+    def lines(self) -> list[str]:
+        """Returns the lines of the problem, without BeginProblem, NextProblem and EndProblem."""
+        texts = [("Title", self.title), ("Author", self.author)]
+        texts += [("Origin", text) for text in self.origins]
+        texts += [("Remark", text) for text in self.remarks]
+        texts += [("Pieces", self.pieces), ("Stipulation", self.stipulation)]
+        texts += [("Condition", self.condition), ("Option", " ".join(self.options))]
+        return [f"{word} {text}" for word, text in texts if text]
+
+
+def _changed(made: Problem, word: str, text: str) -> "dict[str, object]":
+    if word == "Origin":
+        return {"origins": (*made.origins, text)}
+    if word == "Remark":
+        return {"remarks": (*made.remarks, text)}
+    if word == "Option":
+        return {"options": tuple(options_of(text))}
+    return {word.lower(): text}
+
+
+def options_of(text: str) -> Iterator[str]:
+    """Yields the options of a line, each with its number or squares."""
+    option = ""
+    for word in text.split():
+        if option and re.match("[0-9]|[a-h][1-8]", word):
+            option += f" {word}"
+            continue
+        if option:
+            yield option
+        option = word
+    if option:
+        yield option
+
+
+class Twin(NamedTuple):
+    """A twin by its letter, the changes that make it, and its problem."""
+
+    letter: str
+    changes: str
+    problem: Problem
+
+
+@dataclass(frozen=True)
+class Exported:
+    """A problem with its twins; the title has no label then."""
+
+    problem: Problem
+    twins: tuple[Twin, ...] = ()
+
+    @property
+    def numbers(self) -> list[int]:
+        return [self.problem.number, *(twin.problem.number for twin in self.twins)]
+
+    def lines(self) -> list[str]:
+        """Returns its lines in an input of Popeye."""
+        return [*self.problem.lines(), *(f"Twin {twin.changes}" for twin in self.twins)]
+
+
+@dataclass
+class Reading:
+    """The problems of a text, and what had to be left out, in words with their lines."""
+
+    problems: list[Problem] = field(default_factory=list)
+    left_out: list[str] = field(default_factory=list)
+
+
+def read_problems(text: str) -> Reading:
+    """Returns the problems that pops can read. `Unreadable` of pops_import where the text has none.
+    """
+    reading = Reading()
+    for draft in read_drafts(text):
+        for one in posed(draft):
+            number = len(reading.problems) + len(reading.left_out) + 1
+            if one.faults:
+                label = f"problem {draft.number} {one.label}".rstrip()
+                why = "; ".join(fault.text for fault in one.faults)
+                reading.left_out.append(f"line {one.faults[0].line}, {label}: left out: {why}")
+            else:
+                reading.problems.append(Problem.of_lines(number, one.lines))
+    return reading
+
+
+def joined(problems: Iterable[Problem]) -> Iterator[Exported]:
+    """Yields the problems with the twins that pops-import made of one, as one again.
+
+    They stay apart where an import of the joined problem wouldn't give them back.
+    """
+    run: list[Problem] = []
+    for problem in problems:
+        if run and not _continues(run, problem):
+            yield from _joined_run(run)
+            run = []
+        run.append(problem)
+    yield from _joined_run(run)
+
+
+def _continues(run: list[Problem], problem: Problem) -> bool:
+    first_title, first = label_and_title(run[0].title)
+    title, label = label_and_title(problem.title)
+    expected = chr(ord("a") + len(run)) + ")"
+    return (
+        (first.text, label.text) == (_FIRST_LABEL, expected)
+        and (title or "", problem.author, problem.origins)
+        == (first_title or "", run[0].author, run[0].origins)
+        and problem.number == run[-1].number + 1
+    )
+
+
+def _joined_run(run: list[Problem]) -> Iterator[Exported]:
+    whole = _whole(run)
+    if whole is not None and _gives_back(whole, run):
+        yield whole
+    else:
+        yield from map(Exported, run)
+
+
+def _whole(run: list[Problem]) -> Optional[Exported]:
+    """Twins as one problem; None where their Remarks don't say what changes."""
+    if len(run) < 2:
+        return None
+    twins = []
+    for problem in run[1:]:
+        _, label = label_and_title(problem.title)
+        said = [text for text in problem.remarks if text.startswith(f"{label.text} ")]
+        others = [text for text in problem.remarks if text not in said]
+        if not said or not set(others) <= set(run[0].remarks):
+            return None
+        changes = said[0][len(label.text) + 1 :].replace(",", "")
+        twins.append(Twin(label.text[:-1], changes, problem))
+    title, _ = label_and_title(run[0].title)
+    return Exported(replace(run[0], title=title or ""), tuple(twins))
+
+
+def _gives_back(whole: Exported, run: list[Problem]) -> bool:
+    """Returns whether an import of the whole makes the same problems."""
+    reading = read_problems(text_of_problems([whole.lines()]))
+    return [it.posed for it in reading.problems] == [it.posed for it in run]

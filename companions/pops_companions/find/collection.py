@@ -1,0 +1,211 @@
+"""A collection in an SQLite file: problems are added, and found by words, men and positions.
+
+A position one man apart is found by hashes: the file has a hash of each position, and of the position
+without each of its men; a search looks up the hashes of all variants of a position.
+"""
+
+import sqlite3
+from collections.abc import Iterable, Iterator, Sequence
+from contextlib import closing
+from dataclasses import astuple, dataclass, field, fields
+from typing import NamedTuple, Optional
+
+from pops_companions.chess.men import Colour, Man, Square
+from pops_companions.find.boards import Variant, differences, hashes, men_of, variants
+from pops_companions.find.entries import Entry, mirrored_play
+
+# The mark that the file is a collection of this form.
+_FORM = 0x706F7031
+_SCHEMA = """
+CREATE TABLE problems (
+  id INTEGER PRIMARY KEY, source TEXT NOT NULL, number INTEGER NOT NULL, title TEXT NOT NULL,
+  author TEXT NOT NULL, origin TEXT NOT NULL, stipulation TEXT NOT NULL, condition TEXT NOT NULL,
+  board TEXT NOT NULL, play TEXT);
+CREATE TABLE positions (hash INTEGER NOT NULL, problem INTEGER NOT NULL,
+  PRIMARY KEY (hash, problem)) WITHOUT ROWID;
+CREATE INDEX problems_by_source ON problems (source);
+CREATE INDEX problems_by_play ON problems (play) WHERE play IS NOT NULL;
+"""
+_COLUMNS = ", ".join(one.name for one in fields(Entry))
+# How many hashes one question names.
+_HASHES_AT_ONCE = 500
+
+
+class CollectionError(Exception):
+    """A file that is no collection, or can't be read or written, with the reason."""
+
+
+@dataclass(frozen=True)
+class Wanted:
+    """What found problems have: these words in author and title, these men, this stipulation.
+
+    `counts` are the numbers of White's and Black's men.
+    """
+
+    author: str = ""
+    title: str = ""
+    stipulation: str = ""
+    condition: str = ""
+    men: dict[Square, Man] = field(default_factory=dict)
+    counts: Optional[tuple[int, int]] = None
+
+
+class Found(NamedTuple):
+    """A problem with what makes its position of the one in question, the nearest ones first.
+
+    `how` is how the position was moved, `changes` what differs then, both in words.
+    """
+
+    entry: Entry
+    how: tuple[str, ...]
+    changes: tuple[str, ...]
+
+    @property
+    def text(self) -> str:
+        return "; ".join([*self.how, *self.changes]) or "the same position"
+
+
+class Collection:
+    """An SQLite file of problems."""
+
+    def __init__(self, path: str, new: bool):
+        """Opens a file; `new` makes it where it isn't there. CollectionError for other files."""
+        try:
+            mode = "rwc" if new else "ro"
+            self._data = sqlite3.connect(f"{_uri(path)}?mode={mode}", uri=True)
+            (form,) = self._data.execute("PRAGMA application_id").fetchone()
+            tables = self._data.execute("SELECT count(*) FROM sqlite_master").fetchone()[0]
+            if new and not tables:
+                self._data.executescript(_SCHEMA + f"PRAGMA application_id = {_FORM};")
+            elif form != _FORM:
+                raise CollectionError(f"{path} is no collection of pops-find")
+        except sqlite3.Error as error:
+            raise CollectionError(f"cannot open {path}: {error}") from None
+
+    def close(self) -> None:
+        self._data.close()
+
+    def __len__(self) -> int:
+        return int(self._data.execute("SELECT count(*) FROM problems").fetchone()[0])
+
+    def add(self, source: str, entries: Iterable[Entry]) -> int:
+        """Adds the problems of a source, whose older ones go; returns their number."""
+        try:
+            with self._data:
+                self._remove(source)
+                (last,) = self._data.execute("SELECT max(id) FROM problems").fetchone()
+                numbered = list(enumerate(entries, (last or 0) + 1))
+                marks = ", ".join("?" * (1 + len(fields(Entry))))
+                self._data.executemany(
+                    f"INSERT INTO problems (id, {_COLUMNS}) VALUES ({marks})",
+                    ((number, *astuple(entry)) for number, entry in numbered),
+                )
+                rows = sorted(
+                    (one, number) for number, entry in numbered for one in hashes(entry.board)
+                )
+                self._data.executemany("INSERT OR IGNORE INTO positions VALUES (?, ?)", rows)
+        except sqlite3.Error as error:
+            raise CollectionError(f"cannot write the collection: {error}") from None
+        return len(numbered)
+
+    def _remove(self, source: str) -> None:
+        rows = self._data.execute("SELECT id, board FROM problems WHERE source = ?", (source,))
+        keys = [(one, number) for number, board in rows for one in hashes(board)]
+        self._data.executemany("DELETE FROM positions WHERE hash = ? AND problem = ?", keys)
+        self._data.execute("DELETE FROM problems WHERE source = ?", (source,))
+
+    def matching(self, wanted: Wanted) -> Iterator[Entry]:
+        """Yields the problems that have all that is wanted, in the order in which they were added.
+        """
+        conditions, values = _conditions(wanted)
+        where = f" WHERE {' AND '.join(conditions)}" if conditions else ""
+        question = f"SELECT {_COLUMNS} FROM problems{where} ORDER BY id"
+        for row in self._data.execute(question, values):
+            entry = Entry(*row)
+            if wanted.counts is None or wanted.counts == _counts(entry.board):
+                yield entry
+
+    def near(self, board: str) -> list[Found]:
+        """Returns the problems of which at most one man differs, moved over the board or not."""
+        by_hash: dict[int, list[Variant]] = {}
+        for variant in variants(board):
+            for one in hashes(variant.board):
+                by_hash.setdefault(one, []).append(variant)
+        best: dict[int, Found] = {}
+        for one, number in self._with_hashes(list(by_hash)):
+            entry = self._entry(number)
+            for variant in by_hash[one]:
+                changes = tuple(differences(variant.board, entry.board))
+                found = Found(entry, variant.how, changes)
+                if len(changes) <= 1 and (number not in best or _nearer(found, best[number])):
+                    best[number] = found
+        return [found for _, found in sorted(best.items(), key=_nearest_first)]
+
+    def _with_hashes(self, wanted: Sequence[int]) -> Iterator[tuple[int, int]]:
+        for start in range(0, len(wanted), _HASHES_AT_ONCE):
+            some = wanted[start : start + _HASHES_AT_ONCE]
+            marks = ", ".join("?" * len(some))
+            question = f"SELECT hash, problem FROM positions WHERE hash IN ({marks})"
+            with closing(self._data.execute(question, some)) as rows:
+                yield from rows
+
+    def _entry(self, number: int) -> Entry:
+        question = f"SELECT {_COLUMNS} FROM problems WHERE id = ?"
+        return Entry(*self._data.execute(question, (number,)).fetchone())
+
+    def same_play(self, play: str) -> list[Found]:
+        """Returns the problems with the same keys and mates, or help lines, mirrored or not."""
+        found: list[Found] = []
+        for one, how in ((play, ()), (mirrored_play(play), ("mirrored left to right",))):
+            question = f"SELECT {_COLUMNS} FROM problems WHERE play = ? ORDER BY id"
+            entries = [Entry(*row) for row in self._data.execute(question, (one,))]
+            known = [it.entry for it in found]
+            changes = ("the same key and mates",)
+            found += [Found(entry, how, changes) for entry in entries if entry not in known]
+        return found
+
+
+def _uri(path: str) -> str:
+    return "file:" + path.replace("%", "%25").replace("?", "%3f").replace("#", "%23")
+
+
+def _conditions(wanted: Wanted) -> tuple[list[str], list[str]]:
+    conditions: list[str] = []
+    values: list[str] = []
+    for column, text in (("author", wanted.author), ("title", wanted.title)):
+        if text:
+            conditions.append(f"{column} LIKE ? ESCAPE '\\'")
+            values.append(f"%{_escaped(text)}%")
+    for column, text in (("stipulation", wanted.stipulation), ("condition", wanted.condition)):
+        if text:
+            conditions.append(f"{column} = ? COLLATE NOCASE")
+            values.append(text)
+    for place, square in enumerate(Square.of_diagram(), start=1):
+        if square in wanted.men:
+            conditions.append(f"substr(board, {place}, 1) = ?")
+            values.append(wanted.men[square].letter)
+    return conditions, values
+
+
+def _escaped(text: str) -> str:
+    for sign in "\\%_":
+        text = text.replace(sign, "\\" + sign)
+    return text
+
+
+def _counts(board: str) -> tuple[int, int]:
+    colours = [man.colour for man in men_of(board).values()]
+    return colours.count(Colour.WHITE), colours.count(Colour.BLACK)
+
+
+def _rank(found: Found) -> tuple[int, int]:
+    return len(found.changes), len(found.how)
+
+
+def _nearer(found: Found, other: Found) -> bool:
+    return _rank(found) < _rank(other)
+
+
+def _nearest_first(numbered: tuple[int, Found]) -> tuple[int, int, int]:
+    number, found = numbered
+    return (*_rank(found), number)

@@ -1,0 +1,174 @@
+"""Problems as a collection keeps them, from inputs of pops and Popeye, YAML and reports."""
+
+import io
+import re
+from collections.abc import Iterable, Iterator, Sequence
+from dataclasses import dataclass, replace
+from typing import Optional
+
+from pops_companions.chess.men import Colour, Kind, Man, Square
+from pops_companions.export.problems import Problem, read_problems
+from pops_companions.find.boards import board_of
+from pops_companions.import_.words import Unreadable
+from pops_companions.report.items import HelpLine, Node, PhaseKind, SoundItem
+from pops_companions.report.moves import Mark
+from pops_companions.report.reader import ReportError, read_report
+from pops_companions.show.titles import is_text, shown
+
+_REPORT = re.compile(rb"problem [1-9][0-9]*\r?\n")
+_MAN = re.compile("([KQRBSPGNkqrbspgn])((?:[a-h][1-8])+)")
+_FILES = str.maketrans("abcdefgh", "hgfedcba")
+_SQUARE = re.compile("[a-h](?=[1-8])")
+
+
+class EntriesError(ValueError):
+    """A text that holds no problems, with the reason."""
+
+
+@dataclass(frozen=True)
+class Entry:
+    """A problem of a collection. `source` is the file it is from, `number` its place there.
+
+    `play` is its key and mates, or its help lines, where a report shows them.
+    """
+
+    source: str
+    number: int
+    title: str
+    author: str
+    origin: str
+    stipulation: str
+    condition: str
+    board: str
+    play: Optional[str]
+
+    def with_play(self, play: Optional[str]) -> "Entry":
+        """Returns the problem with this play, if there is one."""
+        return self if play is None else replace(self, play=play)
+
+    @property
+    def name(self) -> str:
+        """As `#2, Excelsior (Sam Loyd), London Era 1861`."""
+        author = f"({self.author})" if self.author else ""
+        title = " ".join(filter(None, (self.title, author)))
+        asked = " ".join(filter(None, (self.stipulation, self.condition)))
+        return ", ".join(filter(None, (asked, title, self.origin)))
+
+
+def entries_of(source: str, data: bytes, encoding: str) -> tuple[list[Entry], list[str]]:
+    """Returns the problems of a file, and what was left out, in words. EntriesError for other
+    texts.
+    """
+    if _REPORT.match(data):
+        return _of_report(source, data, encoding)
+    text = data.decode(encoding) if is_text(data, encoding) else shown(data, encoding)
+    try:
+        reading = read_problems(text)
+    except Unreadable as error:
+        raise EntriesError(f"line {error.told.line}: {error}") from None
+    return [_of_problem(source, problem) for problem in reading.problems], reading.left_out
+
+
+def _of_problem(source: str, problem: Problem) -> Entry:
+    return Entry(
+        source,
+        problem.number,
+        problem.title,
+        problem.author,
+        "; ".join(problem.origins),
+        problem.stipulation,
+        problem.condition,
+        board_of(dict(men_in(problem.pieces))),
+        None,
+    )
+
+
+def men_in(pieces: str) -> Iterator[tuple[Square, Man]]:
+    """Yields the men of a text such as `White Kg6 Ra1b1 Black Kg8`. ValueError for other words."""
+    colour: Optional[Colour] = None
+    for word in pieces.split():
+        found = _MAN.fullmatch(word)
+        if found is None or colour is None:
+            colour = Colour(word.lower())
+            continue
+        man = Man(colour, Kind(found[1].upper()))
+        for place in range(0, len(found[2]), 2):
+            yield Square.of_name(found[2][place : place + 2]), man
+
+
+def _of_report(source: str, data: bytes, encoding: str) -> tuple[list[Entry], list[str]]:
+    entries, left_out = [], []
+    try:
+        for item in read_report(io.BytesIO(data)):
+            if isinstance(item, SoundItem) and item.board is not None:
+                entries.append(_of_item(source, item, encoding))
+            else:
+                left_out.append(f"problem {item.number}: left out: the report shows no board")
+    except ReportError as error:
+        raise EntriesError(f"it is no report of pops: {error}") from None
+    return entries, left_out
+
+
+def _of_item(source: str, item: SoundItem, encoding: str) -> Entry:
+    assert item.board is not None
+    return Entry(
+        source,
+        item.number,
+        shown(item.title or b"", encoding),
+        shown(item.author or b"", encoding),
+        "",
+        item.stipulation.text,
+        "" if item.condition is None else item.condition.value,
+        "".join(item.board.ranks),
+        play_of(item),
+    )
+
+
+def plays_of(data: bytes) -> "dict[int, str]":
+    """Returns the play of each problem of a report, by its number. EntriesError for another text.
+    """
+    try:
+        items = [item for item in read_report(io.BytesIO(data)) if isinstance(item, SoundItem)]
+    except ReportError as error:
+        raise EntriesError(f"it is no report of pops: {error}") from None
+    found = ((item.number, play_of(item)) for item in items)
+    return {number: play for number, play in found if play is not None}
+
+
+def play_of(item: SoundItem) -> Optional[str]:
+    """Returns the keys of a problem and the moves that mate below them, or its help lines, in
+    order.
+
+    None where the report doesn't show them.
+    """
+    for phase in item.phases or ():
+        if phase.kind is PhaseKind.PLAY and phase.solutions:
+            nodes = [it for it in phase.solutions if isinstance(it, Node)]
+            lines = [it.text for it in phase.solutions if isinstance(it, HelpLine)]
+            if lines:
+                return " | ".join(sorted(lines))
+            keys = ", ".join(sorted(node.move.text for node in nodes))
+            mates = sorted(set(_mates(nodes)))
+            return f"{keys}: {', '.join(mates)}" if mates else None
+    return None
+
+
+def _mates(nodes: Iterable[Node]) -> Iterator[str]:
+    for node in nodes:
+        if node.move.mark in (Mark.MATE, Mark.STALEMATE):
+            yield node.move.text
+        yield from _mates(node.below)
+
+
+def mirrored_play(play: str) -> str:
+    """Returns a play with all squares mirrored left to right, its moves in order again."""
+    text = _SQUARE.sub(lambda found: found[0].translate(_FILES), play)
+    if " | " in text or ": " not in text:
+        return " | ".join(sorted(text.split(" | ")))
+    keys, mates = text.split(": ", 1)
+    return f"{_sorted(keys)}: {_sorted(mates)}"
+
+
+def _sorted(moves: str) -> str:
+    texts: Sequence[str] = sorted(moves.split(", "))
+    return ", ".join(texts)

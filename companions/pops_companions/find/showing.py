@@ -1,0 +1,88 @@
+"""What was found, as text and as a page of diagrams."""
+
+import html
+from collections.abc import Iterable, Sequence
+from typing import NamedTuple, Optional
+
+from pops_companions.find.boards import men_of
+from pops_companions.find.collection import Found
+from pops_companions.find.entries import Entry
+from pops_companions.input.writing import pieces_line
+from pops_companions.report.items import Board
+from pops_companions.review.naming import counted
+from pops_companions.show import diagram
+from pops_companions.show.titles import printable
+
+_STYLE = """
+body { font: 11pt/1.35 serif; margin: 1.5em auto; max-width: 60em; padding: 0 1em;
+  color: #000; background: #fff; overflow-wrap: anywhere; }
+h1 { font-size: 1.5em; font-weight: normal; border-bottom: 1px solid #000; }
+h2 { font-size: 1.1em; margin: 1.2em 0 .3em; border-top: 1px solid #bbb; padding-top: .6em; }
+.found { display: flex; flex-wrap: wrap; gap: 1.2em; }
+figure { margin: 0; width: 13em; break-inside: avoid; }
+figure.asked { outline: 1px solid #999; outline-offset: .4em; }
+figcaption { font-size: .9em; }
+.how { font-style: italic; }
+.where { color: #444; }
+.diagram { width: 100%; display: block; }
+"""
+
+
+class Answer(NamedTuple):
+    """What was asked for, in words or as a problem, and what was found."""
+
+    heading: str
+    asked: Optional[Entry]
+    found: Sequence[Found]
+
+
+def as_text(answer: Answer) -> str:
+    """Returns a block of lines: what was asked for, below it each problem found."""
+    lines = [f"{answer.heading}: {_counted(len(answer.found))}"]
+    for found in answer.found:
+        entry = found.entry
+        lines.append(f"  {entry.source}, problem {entry.number}: {printable(entry.name)}")
+        if answer.asked is not None:
+            lines.append(f"    {found.text}")
+        lines.append(f"    {pieces_line(men_of(entry.board))[len('Pieces ') :]}")
+    return "\n".join(lines) + "\n"
+
+
+def _counted(number: int) -> str:
+    return f"{counted(number, 'problem')} found" if number else "nothing found"
+
+
+def as_page(answers: Iterable[Answer], heading: str) -> str:
+    """Returns a page with the diagrams of all that was found."""
+    title = _safe(heading)
+    parts = [
+        '<!DOCTYPE html>\n<html lang="en">\n<head>\n<meta charset="utf-8"/>\n',
+        '<meta name="viewport" content="width=device-width"/>\n',
+        f"<title>{title}</title>\n<style>{_STYLE}</style>\n</head>\n<body>\n",
+        diagram.shapes(),
+        f"<h1>{title}</h1>\n",
+    ]
+    for answer in answers:
+        parts.append(f"<h2>{_safe(answer.heading)}: {_counted(len(answer.found))}</h2>\n")
+        parts.append('<div class="found">\n')
+        if answer.asked is not None:
+            parts.append(_figure(answer.asked, "asked", []))
+        for found in answer.found:
+            how = [("how", found.text)] if answer.asked is not None else []
+            where = f"{found.entry.source}, problem {found.entry.number}"
+            parts.append(_figure(found.entry, "hit", [*how, ("where", where)]))
+        parts.append("</div>\n")
+    return "".join([*parts, "</body>\n</html>\n"])
+
+
+def _figure(entry: Entry, kind: str, texts: list["tuple[str, str]"]) -> str:
+    board = Board(tuple(entry.board[start : start + 8] for start in range(0, 64, 8)))
+    below = "".join(f'<br/><span class="{name}">{_safe(text)}</span>' for name, text in texts)
+    return (
+        f'<figure class="{kind}">{diagram.diagram(board)}\n'
+        f"<figcaption>{_safe(entry.name)}{below}</figcaption></figure>\n"
+    )
+
+
+def _safe(text: str) -> str:
+    return html.escape(printable(text))

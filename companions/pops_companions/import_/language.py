@@ -1,0 +1,323 @@
+"""The words of Popeye's inputs in English, German and French."""
+
+import unicodedata
+from collections.abc import Iterable, Iterator, Mapping
+from dataclasses import dataclass
+from enum import Enum
+from typing import AbstractSet, NamedTuple, Optional, TypeVar
+
+from pops_companions.chess.men import Kind
+
+Meaning = TypeVar("Meaning")
+
+
+class Command(Enum):
+    """A command of Popeye; its value is the English word."""
+
+    BEGIN = "BeginProblem"
+    END = "EndProblem"
+    NEXT = "NextProblem"
+    ZERO_POSITION = "ZeroPosition"
+    TWIN = "Twin"
+    PIECES = "Pieces"
+    STIPULATION = "Stipulation"
+    STRUCTURED = "SStipulation"
+    CONDITION = "Condition"
+    OPTION = "Option"
+    FORSYTH = "Forsyth"
+    ARRAY = "Array"
+    TITLE = "Title"
+    AUTHOR = "Author"
+    ORIGIN = "Origin"
+    REMARK = "Remark"
+    AWARD = "Award"
+    PROTOCOL = "Protocol"
+    LATEX = "LaTeX"
+    LATEX_PIECES = "LaTeXPieces"
+    TRACE = "Trace"
+    INPUT = "InputFile"
+
+
+# What follows these is the rest of their line.
+TEXT_COMMANDS = frozenset(
+    (Command.TITLE, Command.AUTHOR, Command.ORIGIN, Command.REMARK, Command.AWARD)
+)
+
+
+class Option(Enum):
+    """An option of Popeye; its value is the English word."""
+
+    SET_PLAY = "SetPlay"
+    VARIATION = "Variation"
+    NO_BOARD = "NoBoard"
+    MAX_SOLUTIONS = "MaxSolutions"
+    EN_PASSANT = "EnPassant"
+    NO_CASTLING = "NoCastling"
+    DUPLEX = "Duplex"
+    HALF_DUPLEX = "HalfDuplex"
+    WHITE_TO_PLAY = "WhiteToPlay"
+    TRY = "Try"
+    DEFENCE = "Defence"
+    THREAT = "Threat"
+    NO_THREAT = "NoThreat"
+    NON_TRIVIAL = "NonTrivial"
+    MAX_FLIGHT_SQUARES = "MaxFlightSquares"
+    NO_SHORT_VARIATIONS = "NoShortVariations"
+    STOP_ON_SHORT_SOLUTIONS = "StopOnShortSolutions"
+    INTELLIGENT = "Intelligent"
+    MAX_TIME = "MaxTime"
+    MOVE_NUMBERS = "MoveNumbers"
+    START_MOVE_NUMBER = "StartMoveNumber"
+    BEEP = "Beep"
+    POST_KEY_PLAY = "PostKeyPlay"
+    QUODLIBET = "Quodlibet"
+
+
+# The commands that pops reads. A short form that fits several commands means one of these.
+OWN_OPTIONS = frozenset(
+    (
+        Option.SET_PLAY,
+        Option.VARIATION,
+        Option.NO_BOARD,
+        Option.MAX_SOLUTIONS,
+        Option.EN_PASSANT,
+        Option.NO_CASTLING,
+    )
+)
+
+
+class Twinning(Enum):
+    """What Popeye does to a position to make a twin; its value is the English word."""
+
+    MOVE = "Move"
+    EXCHANGE = "Exchange"
+    REMOVE = "Remove"
+    ADD = "Add"
+    SUBSTITUTE = "Substitute"
+    STIPULATION = "Stipulation"
+    STRUCTURED = "SStipulation"
+    CONDITION = "Condition"
+    ROTATE = "Rotate"
+    MIRROR = "Mirror"
+    SHIFT = "Shift"
+    POLISH_TYPE = "PolishType"
+    CONTINUED = "Continued"
+
+
+# Each row: what the words mean, then the words in English, German and French.
+_COMMANDS = (
+    (Command.BEGIN, "BeginProblem", "AnfangProblem", "DebutProbleme"),
+    (Command.END, "EndProblem", "EndeProblem EndProblem", "FinProbleme"),
+    (Command.NEXT, "NextProblem", "WeiteresProblem NaechstesProblem", "ASuivre"),
+    (Command.ZERO_POSITION, "ZeroPosition", "NullStellung", "ZeroPosition"),
+    (Command.TWIN, "Twin", "Zwilling Mehrling Mehrlinge", "Jumeau"),
+    (Command.PIECES, "Pieces", "Steine", "Pieces"),
+    (Command.STIPULATION, "Stipulation", "Forderung", "Enonce"),
+    (Command.STRUCTURED, "SStipulation", "SForderung", "SEnonce"),
+    (Command.CONDITION, "Condition", "Bedingung", "Condition"),
+    (Command.OPTION, "Option", "Option", "Option"),
+    (Command.FORSYTH, "Forsyth", "Forsyth", "Forsyth"),
+    (Command.ARRAY, "Array", "PartieAnfangsStellung", "PositionInitiale"),
+    (Command.TITLE, "Title", "Titel", "Titre"),
+    (Command.AUTHOR, "Author", "Autor", "Auteur"),
+    (Command.ORIGIN, "Origin", "Quelle", "Source Origine"),
+    (Command.REMARK, "Remark", "Bemerkung", "Remarque"),
+    (Command.AWARD, "Award", "Auszeichnung", "Distinction Prix"),
+    (Command.PROTOCOL, "Protocol", "Protokoll", "Protocole"),
+    (Command.LATEX, "LaTeX", "LaTeX", "LaTeX"),
+    (Command.LATEX_PIECES, "LaTeXPieces", "LaTeXSteine", "LaTeXPieces"),
+    (Command.TRACE, "Trace", "Trace Spur", "Trace"),
+    (Command.INPUT, "InputFile", "EingabeDatei", "Entree Lecture"),
+)
+_OPTIONS = (
+    (Option.SET_PLAY, "SetPlay", "SatzSpiel", "ApparentJeu JeuApparent"),
+    (Option.VARIATION, "Variation", "Variante Varianten Variation", "Variante Variantes"),
+    (Option.NO_BOARD, "NoBoard", "OhneBrett KeinBrett", "SansEchiquier"),
+    (Option.MAX_SOLUTIONS, "MaxSolutions", "MaxLoesungen", "MaxSolutions"),
+    (Option.EN_PASSANT, "EnPassant", "EnPassant", "EnPassant PriseEnPassant"),
+    (Option.NO_CASTLING, "NoCastling", "KeineRochade OhneRochade", "SansRoque RoqueInterdit"),
+    (Option.DUPLEX, "Duplex", "Duplex", "Duplex"),
+    (Option.HALF_DUPLEX, "HalfDuplex", "HalbDuplex", "DemiDuplex SemiDuplex"),
+    (
+        Option.WHITE_TO_PLAY,
+        "WhiteToPlay",
+        "WeissBeginnt WeissAmZug",
+        "TraitAuxBlancs BlancsAuTrait",
+    ),
+    (Option.TRY, "Try", "Verfuehrung Verfuehrungen", "Essai Essais"),
+    (Option.DEFENCE, "Defence Defense", "Verteidigung Widerlegung", "Defense"),
+    (Option.THREAT, "Threat", "Drohung", "Menace"),
+    (Option.NO_THREAT, "NoThreat", "OhneDrohung KeineDrohung", "SansMenace"),
+    (Option.NON_TRIVIAL, "NonTrivial", "NichtTrivial", "NonTrivial"),
+    (Option.MAX_FLIGHT_SQUARES, "MaxFlightSquares", "MaxFluchtFelder", "MaxFuites"),
+    (
+        Option.NO_SHORT_VARIATIONS,
+        "NoShortVariations",
+        "OhneKurzVarianten KeineKurzVarianten",
+        "SansVariantesCourtes",
+    ),
+    (
+        Option.STOP_ON_SHORT_SOLUTIONS,
+        "StopOnShortSolutions",
+        "StopBeiKurzLoesungen",
+        "ArretSolutionsCourtes",
+    ),
+    (Option.INTELLIGENT, "Intelligent", "Intelligent", "Intelligent"),
+    (Option.MAX_TIME, "MaxTime", "MaxZeit", "MaxTemps"),
+    (Option.MOVE_NUMBERS, "MoveNumbers", "ZugNummern", "NumerosDeCoups"),
+    (Option.START_MOVE_NUMBER, "StartMoveNumber", "StartZugNummer", "PremierCoup"),
+    (Option.BEEP, "Beep", "Beep", "Beep"),
+    (Option.POST_KEY_PLAY, "PostKeyPlay", "NachSchluessel", "ApresClef ApresCle"),
+    (Option.QUODLIBET, "Quodlibet", "Quodlibet", "Quodlibet"),
+)
+_TWINNINGS = (
+    (Twinning.MOVE, "Move", "Versetze Versetzung", "Deplacement Deplacer"),
+    (Twinning.EXCHANGE, "Exchange", "Tausche Vertausche", "Echange Echanger"),
+    (Twinning.REMOVE, "Remove", "Entferne Entfernen", "Enlever Oter Retirer Supprimer"),
+    (Twinning.ADD, "Add", "HinzuFuegen", "Ajouter"),
+    (Twinning.SUBSTITUTE, "Substitute", "Ersetze Ersetzen", "Remplacer Substituer"),
+    (Twinning.STIPULATION, "Stipulation", "Forderung", "Enonce"),
+    (Twinning.STRUCTURED, "SStipulation", "SForderung", "SEnonce"),
+    (Twinning.CONDITION, "Condition", "Bedingung", "Condition"),
+    (Twinning.ROTATE, "Rotate", "Drehung Drehe", "Rotation"),
+    (Twinning.MIRROR, "Mirror", "Spiegelung Spiegele", "Miroir"),
+    (Twinning.SHIFT, "Shift", "Verschiebung Verschiebe", "Translation Decalage"),
+    (
+        Twinning.POLISH_TYPE,
+        "PolishType",
+        "PolnischerTyp PolishType",
+        "TypePolonais Polonais PolishType",
+    ),
+    (Twinning.CONTINUED, "Continued", "Fortgesetzt", "Continue Suite"),
+)
+_COLOURS = (
+    ("white", "White", "Weiss", "Blanc Blancs"),
+    ("black", "Black", "Schwarz", "Noir Noirs"),
+    ("neutral", "Neutral", "Neutral", "Neutre Neutres"),
+)
+_LETTERS = (
+    (Kind.KING, "K", "K", "R"),
+    (Kind.QUEEN, "Q", "D", "D"),
+    (Kind.ROOK, "R", "T", "T"),
+    (Kind.BISHOP, "B", "L", "F"),
+    (Kind.KNIGHT, "S", "S", "C"),
+    (Kind.PAWN, "P", "B", "P"),
+    (Kind.GRASSHOPPER, "G", "G", "S"),
+    (Kind.NIGHTRIDER, "N", "N", "N"),
+)
+# Words before men that give them other powers; English, German and French together.
+_ATTRIBUTES = (
+    "Royal Koeniglich Kamikaze Paralysing Laehmend Paralysant Chameleon Chamaeleon Cameleon Jigger"
+    " Volage Functionary Funktionaer Fonctionnaire Half HalfNeutral HalbNeutral SemiNeutre Protean"
+    " Magic Magisch Magique Uncapturable"
+)
+
+
+def folded(word: str) -> str:
+    """Returns a word as it is looked up: in small letters, and without the accents that Popeye
+    lacks.
+    """
+    word = word.lower()
+    if word.isascii():
+        return word
+    for letter, letters in (("ä", "ae"), ("ö", "oe"), ("ü", "ue"), ("ß", "ss")):
+        word = word.replace(letter, letters)
+    return "".join(one for one in unicodedata.normalize("NFD", word) if ord(one) < 0x300)
+
+
+# What each word, and each beginning of one, may mean.
+Table = Mapping[str, frozenset[Meaning]]
+
+
+@dataclass(frozen=True)
+class Language:
+    """A language of Popeye's inputs, its words as they are looked up."""
+
+    name: str
+    commands: Table[Command]
+    options: Table[Option]
+    twinnings: Table[Twinning]
+    colours: Table[str]
+    letters: Mapping[str, Kind]
+
+
+def meaning(
+    word: str, table: Table[Meaning], preferred: Optional[AbstractSet[Meaning]] = None
+) -> Optional[Meaning]:
+    """Returns what a word of a table, or one that is short for it, means. None where that isn't
+    certain.
+
+    Where it is short for several, it means the preferred one.
+    """
+    meanings = table.get(word, frozenset())
+    if len(meanings) > 1 and preferred is not None:
+        meanings = meanings & preferred
+    return next(iter(meanings)) if len(meanings) == 1 else None
+
+
+def is_attribute(word: str) -> bool:
+    """Returns whether a word before men gives them other powers."""
+    return word in _ATTRIBUTE_FORMS
+
+
+def table_of(words: Iterable[tuple[str, Meaning]]) -> Table[Meaning]:
+    """Returns the table of words with their meanings. A whole word means nothing else."""
+    forms: dict[str, frozenset[Meaning]] = {}
+    whole: dict[str, frozenset[Meaning]] = {}
+    for word, what in words:
+        key = word.lower()
+        whole[key] = frozenset((what,))
+        for length in range(1, len(key)):
+            forms[key[:length]] = forms.get(key[:length], frozenset()) | whole[key]
+    return {**forms, **whole}
+
+
+def _words(
+    rows: Iterable[tuple[Meaning, str, str, str]], place: int
+) -> Iterator[tuple[str, Meaning]]:
+    for what, *words in rows:
+        for word in words[place].split():
+            yield word, what
+
+
+def _language(place: int, name: str) -> Language:
+    return Language(
+        name,
+        table_of(_words(_COMMANDS, place)),
+        table_of(_words(_OPTIONS, place)),
+        table_of(_words(_TWINNINGS, place)),
+        table_of(_words(_COLOURS, place)),
+        {letter.lower(): kind for letter, kind in _words(_LETTERS, place)},
+    )
+
+
+_ATTRIBUTE_FORMS = frozenset(_ATTRIBUTES.lower().split())
+_NAMES = ("English", "German", "French")
+ENGLISH, GERMAN, FRENCH = LANGUAGES = tuple(
+    _language(place, name) for place, name in enumerate(_NAMES)
+)
+
+
+class ForeignWord(NamedTuple):
+    """A German or French word for a command, an option or a colour, and the English one."""
+
+    language: str
+    word: str
+    english: str
+
+
+def foreign_words() -> Iterator[ForeignWord]:
+    """Yields the words that are German or French and not English too, the German ones first."""
+    for place in (1, 2):
+        for rows in (_COMMANDS, _OPTIONS, _COLOURS):
+            yield from _foreign_words(rows, place)
+
+
+def _foreign_words(
+    rows: Iterable[tuple[Meaning, str, str, str]], place: int
+) -> Iterator[ForeignWord]:
+    for _, *words in rows:
+        english = words[0].split()
+        for word in words[place].split():
+            if word not in english:
+                yield ForeignWord(_NAMES[place], word, english[0])

@@ -1,0 +1,236 @@
+"""Reads inputs of Popeye."""
+
+import re
+from collections.abc import Iterable
+from typing import Optional
+
+from pops_companions.chess.fen import read_position
+from pops_companions.chess.men import Kind, Man
+from pops_companions.import_.draft import Draft, Twin
+from pops_companions.import_.language import (
+    LANGUAGES,
+    TEXT_COMMANDS,
+    Command,
+    Language,
+    folded,
+    meaning,
+)
+from pops_companions.import_.men import PlacedMan, read_forsyth, read_men
+from pops_companions.import_.options import read_options
+from pops_companions.import_.sections import take_conditions, take_stipulation, take_wanted
+from pops_companions.import_.twins import read_twin
+from pops_companions.import_.words import Told, Unreadable, Word, Words
+
+_FIRST_WORD = re.compile(r"^[^\w\n]*([^\W\d_]+)", re.MULTILINE)
+_LEAST_LETTERS = 3
+_GAME_ARRAY = "rnbqkbnr/pppppppp/8/8/8/8/PPPPPPPP/RNBQKBNR"
+# Where Popeye writes; a file's name may follow.
+_OUTPUTS = (Command.PROTOCOL, Command.LATEX, Command.LATEX_PIECES, Command.TRACE)
+_SECOND_BLOCK = (
+    "it comes after EndProblem, where neither Popeye nor pops reads on, and so do those after it:"
+    " write NextProblem for EndProblem and the BeginProblem after it"
+)
+_UNREADABLE = {
+    Command.BEGIN: "a second BeginProblem: NextProblem parts problems",
+    Command.STRUCTURED: "pops knows no SStipulation",
+    Command.INPUT: "InputFile isn't followed: give that file by itself",
+    Command.ZERO_POSITION: "ZeroPosition comes after a twin",
+}
+
+
+def read_popeye(text: str) -> list[Draft]:
+    """Returns the problems of an input of Popeye. Unreadable where no problem begins."""
+    beginning = _beginning(text)
+    if beginning is None:
+        raise Unreadable(1, "there is no BeginProblem, AnfangProblem or DebutProbleme")
+    language, start = beginning
+    first_line = text.count("\n", 0, start) + 1
+    drafts = _Reader(Words(text, language, start, first_line)).drafts()
+    before = []
+    for number, line in enumerate(text[:start].split("\n")[:-1], start=1):
+        if line.strip():
+            before.append(Told(number, f"skipped before the first problem: {line.strip()}"))
+    drafts[0].notes[:0] = before
+    return drafts
+
+
+def begins(text: str) -> bool:
+    """Returns whether a problem of Popeye begins somewhere in a text."""
+    return _beginning(text) is not None
+
+
+def _beginning(text: str) -> Optional[tuple[Language, int]]:
+    """Returns the language of the word that begins the first problem, and where that word ends.
+
+    It is the first one of its line.
+    """
+    for found in _FIRST_WORD.finditer(text):
+        word = folded(found[1])
+        for language in LANGUAGES:
+            begins = meaning(word, language.commands) is Command.BEGIN
+            if begins and len(word) >= _LEAST_LETTERS:
+                return language, found.end()
+    return None
+
+
+class _Reader:
+    """Reads the problems of a text whose first word has been taken."""
+
+    def __init__(self, words: Words):
+        self._words = words
+
+    def drafts(self) -> list[Draft]:
+        drafts: list[Draft] = []
+        closed: Optional[Command] = Command.NEXT
+        while closed is Command.NEXT:
+            draft = Draft(len(drafts) + 1, self._words.line)
+            drafts.append(draft)
+            closed = self._problem(draft)
+            draft.texts.extend(self._words.texts)
+            self._words.texts = []
+            draft.tell_of_skipped(self._words)
+        if closed is Command.END:
+            self._tell_of_rest(drafts)
+        return drafts
+
+    def _tell_of_rest(self, drafts: list[Draft]) -> None:
+        """Notes what follows EndProblem; another block there is a problem that is left out."""
+        line = self._words.line
+        rest = self._words.take_all()
+        if not rest.strip():
+            return
+        another = _beginning(rest)
+        if another is None:
+            drafts[-1].notes.append(Told(line, "nothing after EndProblem is read"))
+            return
+        line += rest.count("\n", 0, another[1])
+        lost = Draft(len(drafts) + 1, line)
+        lost.faults.append(Told(line, _SECOND_BLOCK))
+        drafts.append(lost)
+
+    def _problem(self, draft: Draft) -> Optional[Command]:
+        """Reads a problem and the word that closes it; what that is, None at the text's end."""
+        try:
+            return self._sections(draft)
+        except Unreadable as error:
+            draft.faults.append(error.told)
+        self._skip_to((Command.NEXT, Command.END))
+        return None if self._words.peek() is None else self._command(self._words.take())
+
+    def _command(self, word: Word) -> Optional[Command]:
+        return meaning(word.key, self._words.language.commands)
+
+    def _skip_to(self, commands: Iterable[Command]) -> None:
+        """Skips the words up to one of the commands."""
+        while True:
+            word = self._words.peek()
+            if word is None:
+                return
+            command = self._command(word) if len(word.key) >= _LEAST_LETTERS else None
+            if command is not None and command in commands:
+                return
+            self._words.take()
+
+    def _sections(self, draft: Draft) -> Command:
+        while True:
+            word = self._words.peek()
+            if word is None:
+                raise Unreadable(self._words.line, "the text ends before EndProblem")
+            command = self._command(word)
+            if command is None:
+                raise Unreadable(word.line, self._unknown(word))
+            self._words.take()
+            if command in (Command.NEXT, Command.END):
+                return command
+            self._section(command, draft)
+
+    def _unknown(self, word: Word) -> str:
+        own = self._words.language
+        for language in LANGUAGES if len(word.key) >= _LEAST_LETTERS else ():
+            if meaning(word.key, language.commands) is not None:
+                return f"{word.text} is {language.name}, and the text began in {own.name}"
+        return f"{word.text} isn't known here"
+
+    def _section(self, command: Command, draft: Draft) -> None:
+        words = self._words
+        if command in TEXT_COMMANDS:
+            words.put_text_line_aside(command)
+        elif command in _OUTPUTS:
+            text = f"{command.value} {words.take_rest()}".strip()
+            why = "pops writes only to standard output"
+            draft.notes.append(Told(words.line, f"{text} left out: {why}"))
+        elif command is Command.TWIN or (command is Command.ZERO_POSITION and not draft.twins):
+            draft.first = draft.first and command is Command.TWIN
+            self._twin(command, draft)
+        elif command in _UNREADABLE:
+            raise Unreadable(words.line, _UNREADABLE[command])
+        elif draft.twins:
+            raise Unreadable(words.line, f"{command.value} comes after a twin")
+        else:
+            self._of_setting(command, draft)
+
+    def _of_setting(self, command: Command, draft: Draft) -> None:
+        words, setting = self._words, draft.setting
+        if command is Command.PIECES:
+            place(draft, read_men(words))
+        elif command is Command.FORSYTH:
+            place(draft, self._forsyth(draft))
+        elif command is Command.ARRAY:
+            men = read_position(_GAME_ARRAY).men
+            place(draft, [PlacedMan(square, man, words.line) for square, man in men.items()])
+        elif command is Command.STIPULATION:
+            if setting.stipulation is not None:
+                raise Unreadable(words.line, "a second stipulation")
+            setting.stipulation = take_stipulation(words)
+            wanted, text = take_wanted(words)
+            if wanted is not None:
+                draft.want(wanted, text)
+        elif command is Command.CONDITION:
+            setting.conditions = take_conditions(words, setting.conditions)
+        elif command is Command.OPTION:
+            read_options(words, draft)
+
+    def _forsyth(self, draft: Draft) -> list[PlacedMan]:
+        words = self._words
+        if words.peek() is None:
+            raise Unreadable(words.line, "a position is missing after Forsyth")
+        word = words.take()
+        try:
+            men = read_forsyth(word.text, words.language.letters)
+        except ValueError as error:
+            raise Unreadable(word.line, f"Forsyth {word.text}: {error}") from None
+        following = words.peek()
+        if following is not None and following.text in ("w", "b"):
+            raise Unreadable(word.line, "Forsyth is followed by the fields of a FEN: see fen2pop")
+        if any(isinstance(man, Man) and man.kind is Kind.NIGHTRIDER for man in men.values()):
+            text = "N is a nightrider in Forsyth, as in Popeye"
+            draft.notes.append(Told(word.line, text))
+        return [PlacedMan(square, man, word.line) for square, man in men.items()]
+
+    def _twin(self, command: Command, draft: Draft) -> None:
+        """Reads a twin. ZeroPosition may stand by itself, before the twin a)."""
+        number = len(draft.twins) + (1 if draft.first else 0)
+        twin = Twin(label_of_twin(number), self._words.line)
+        try:
+            read_twin(self._words, twin)
+            word = self._words.peek()
+            if word is not None and self._command(word) is None:
+                raise Unreadable(word.line, self._unknown(word))
+        except Unreadable as error:
+            twin.faults.append(error.told)
+            self._skip_to((Command.TWIN, Command.NEXT, Command.END))
+        if command is Command.TWIN or twin.changes or twin.faults:
+            draft.twins.append(twin)
+
+
+def label_of_twin(number: int) -> str:
+    """As `a)` for 0 and `b)` for 1; `27)` follows `z)`."""
+    return f"{chr(ord('a') + number)})" if number < 26 else f"{number + 1})"
+
+
+def place(draft: Draft, men: list[PlacedMan]) -> None:
+    """Adds men to the setting; two on a square are a fault."""
+    for square, man, line in men:
+        if square in draft.setting.men:
+            draft.faults.append(Told(line, f"two men on {square.name}"))
+        draft.setting.men[square] = man

@@ -1,0 +1,286 @@
+"""Problems as pops reads them, made of those that other programs give."""
+
+import re
+from collections.abc import Iterator
+from dataclasses import dataclass, field, replace
+from typing import NamedTuple, Optional
+
+from pops_companions.chess.men import Colour, Kind, Man, Square
+from pops_companions.chess.stipulation import Condition, Goal, Play, Stipulation
+from pops_companions.import_.draft import Draft, Impossible, Options, Setting
+from pops_companions.import_.language import Command
+from pops_companions.import_.twins import with_other_colour
+from pops_companions.import_.words import Told
+from pops_companions.input.writing import pieces_line
+
+LONGEST_TEXT = 200
+_MOST_MOVES = 16
+
+
+class Posed(NamedTuple):
+    """A problem for pops: its lines, or why it has none. Its label is another one than its twins'."""
+
+    label: str
+    line: int
+    lines: list[str]
+    notes: list[Told]
+    faults: list[Told]
+
+
+@dataclass
+class _Version:
+    """A problem or a twin of it, played by White or with colours turned."""
+
+    label: str
+    line: int
+    setting: Setting
+    options: Options
+    remarks: list[str] = field(default_factory=list)
+    notes: list[Told] = field(default_factory=list)
+    faults: list[Told] = field(default_factory=list)
+
+
+def posed(draft: Draft) -> list[Posed]:
+    """Returns all problems that a draft holds, as far as pops can read them."""
+    faults = list(draft.faults)
+    if not draft.first and not draft.twins and not faults:
+        faults.append(Told(draft.line, "ZeroPosition without a twin"))
+    if faults:
+        return [Posed("", draft.line, [], [], faults)]
+    made: list[Posed] = []
+    for version in _versions(draft):
+        for part in _parts(version):
+            made.append(_posed(draft, part, not any(one.lines for one in made)))
+    return made
+
+
+def _versions(draft: Draft) -> Iterator[_Version]:
+    """Yields the problem and its twins."""
+    if draft.first:
+        label = "a)" if draft.twins else ""
+        yield _Version(label, draft.line, draft.setting, draft.options)
+    setting: Optional[Setting] = draft.setting
+    for twin in draft.twins:
+        version = _Version(twin.label, twin.line, draft.setting, draft.options)
+        version.faults.extend(twin.faults)
+        if not twin.changes and not twin.faults:
+            version.faults.append(Told(twin.line, "a twin without a change"))
+        if not twin.continued:
+            setting = draft.setting
+        elif setting is None:
+            version.faults.append(Told(twin.line, "it continues a twin that can't be made"))
+        texts = ["continued"] * twin.continued + [change.text for change in twin.changes]
+        version.remarks.append(f"{twin.label} {', '.join(texts)}")
+        if setting is not None and not version.faults:
+            for change in twin.changes:
+                said: list[str] = []
+                try:
+                    setting = change.made(setting, said)
+                except Impossible as error:
+                    version.faults.append(Told(change.line, str(error)))
+                    break
+                version.notes.extend(Told(change.line, text) for text in said)
+        if version.faults:
+            setting = None
+        else:
+            assert setting is not None
+            version.setting = setting
+        yield version
+
+
+def _parts(version: _Version) -> Iterator[_Version]:
+    """Yields the version as the options ask for it: as it is, with colours turned, or both."""
+    if version.options.plain or version.faults:
+        yield version
+    if version.options.turned and not version.faults:
+        yield _turned(version)
+
+
+def _turned(version: _Version) -> _Version:
+    """Returns the version with the colours turned round, rank 1 becoming rank 8."""
+    options = version.options
+    men = {square.mirrored: with_other_colour(man) for square, man in version.setting.men.items()}
+    may_not_castle = [square.mirrored for square in options.may_not_castle]
+    crossed = None if options.crossed is None else options.crossed.mirrored
+    return replace(
+        version,
+        label=f"{version.label} duplex".strip(),
+        setting=replace(version.setting, men=men),
+        options=replace(options, crossed=crossed, may_not_castle=may_not_castle),
+        remarks=version.remarks + ["duplex: colours turned round"],
+        notes=[] if options.plain else list(version.notes),
+    )
+
+
+def _posed(draft: Draft, version: _Version, is_first: bool) -> Posed:
+    faults = list(version.faults)
+    notes = list(version.notes)
+    lines: list[str] = []
+    if not faults:
+        checked = _Checked(version, notes)
+        faults.extend(Told(version.line, text) for text in checked.faults)
+        if not faults:
+            lines = _texts(draft, version, notes, is_first) + checked.lines()
+    return Posed(version.label, version.line, lines, notes, faults)
+
+
+class _Checked:
+    """A version, asked whether pops can read it."""
+
+    def __init__(self, version: _Version, notes: list[Told]):
+        self.faults: list[str] = []
+        self._version = version
+        self._notes = notes
+        self._crossed = version.options.crossed
+        self._men = self._own_men()
+        self._stipulation = self._own_stipulation()
+        self._condition = self._own_condition()
+        if not self.faults:
+            self._check_men()
+
+    def _own_men(self) -> dict[Square, Man]:
+        men = {}
+        for square, man in self._version.setting.men.items():
+            if isinstance(man, Man):
+                men[square] = man
+            else:
+                self.faults.append(f"pops knows no {man}, on {square.name}")
+        return men
+
+    def _own_stipulation(self) -> Optional[Stipulation]:
+        text = self._version.setting.stipulation
+        if text is None:
+            self.faults.append("there is no stipulation")
+            return None
+        # Popeye reads #02 as #2.
+        plain = re.sub("([#=])0+(?=[0-9])", r"\1", text.lower())
+        try:
+            stipulation = Stipulation.of_text(plain)
+        except ValueError:
+            self.faults.append(f"pops knows no stipulation {text}")
+            return None
+        if self._version.options.white_to_play:
+            stipulation = self._with_white_to_play(stipulation)
+        least, most = (0, _MOST_MOVES - 1) if stipulation.half_more else (1, _MOST_MOVES)
+        if not least <= stipulation.moves <= most:
+            self.faults.append(f"stipulation {text} has more or fewer moves than {least} to {most}")
+        return stipulation
+
+    def _with_white_to_play(self, stipulation: Stipulation) -> Stipulation:
+        line = self._version.line
+        if stipulation.starter is Colour.WHITE:
+            self._notes.append(Told(line, "WhiteToPlay left out: White starts anyway"))
+            return stipulation
+        changed = Stipulation(stipulation.play, stipulation.goal, stipulation.moves - 1, True)
+        text = f"WhiteToPlay: {stipulation.text} is written {changed.text}"
+        self._notes.append(Told(line, text))
+        return changed
+
+    def _own_condition(self) -> Optional[Condition]:
+        conditions = self._version.setting.conditions
+        if not conditions:
+            return None
+        text = " ".join(conditions)
+        try:
+            return Condition(text)
+        except ValueError:
+            self.faults.append(f"pops knows no condition {text}")
+            return None
+
+    def _check_men(self) -> None:
+        """Returns what pops would report as a fault of the diagram, but for checks."""
+        stipulation = self._stipulation
+        assert stipulation is not None
+        if not self._men:
+            self.faults.append("there are no men")
+        for square, man in self._men.items():
+            if man.kind is Kind.PAWN and square.rank in (1, 8):
+                self.faults.append(f"a pawn is on {square.name}")
+        mated = Colour.WHITE if stipulation.play is Play.SELF else Colour.BLACK
+        men = list(self._men.values())
+        for colour in Colour:
+            kings = men.count(Man(colour, Kind.KING))
+            if kings > 1:
+                self.faults.append(f"{kings} {colour.value} kings")
+            if kings == 0 and colour is mated and stipulation.goal is Goal.MATE and self._men:
+                self.faults.append(f"there is no {colour.value} king")
+        self._check_crossed(stipulation.starter)
+
+    def _check_crossed(self, starter: Colour) -> None:
+        """In a duplex the en passant square may be meant for the first move of only one side."""
+        options = self._version.options
+        if options.crossed is None or self._was_crossed(options.crossed, starter):
+            return
+        name = options.crossed.name
+        duplex = options.plain and options.turned
+        if duplex and self._was_crossed(options.crossed, starter.opponent):
+            text = f"EnPassant {name} left out: it is for the other side's first move"
+            self._notes.append(Told(self._version.line, text))
+            self._crossed = None
+        else:
+            self.faults.append(f"no pawn can just have crossed {name}")
+
+    def _was_crossed(self, square: Square, starter: Colour) -> bool:
+        rank, step = (6, 1) if starter is Colour.WHITE else (3, -1)
+        home, arrival = Square(square.file, rank + step), Square(square.file, rank - step)
+        return (
+            square.rank == rank
+            and square not in self._men
+            and home not in self._men
+            and self._men.get(arrival) == Man(starter.opponent, Kind.PAWN)
+        )
+
+    def lines(self) -> list[str]:
+        """Returns men, stipulation, condition and options."""
+        assert self._stipulation is not None
+        lines = [pieces_line(self._men), f"Stipulation {self._stipulation.text}"]
+        if self._condition is not None:
+            lines.append(f"Condition {self._condition.value}")
+        options = self._version.options
+        words = list(options.words)
+        if options.max_solutions is not None:
+            words.append(f"MaxSolutions {options.max_solutions}")
+        if self._crossed is not None:
+            words.append(f"EnPassant {self._crossed.name}")
+        if options.may_not_castle:
+            words.append("NoCastling " + "".join(one.name for one in options.may_not_castle))
+        if words:
+            lines.append("Option " + " ".join(words))
+        return lines
+
+
+def _texts(draft: Draft, version: _Version, notes: list[Told], is_first: bool) -> list[str]:
+    """Returns the lines of text: what pops prints, and Remarks for all else.
+
+    The draft's own Remarks stand with the first of its problems alone.
+    """
+    lines = []
+    remarks = []
+    for command, label in ((Command.TITLE, version.label), (Command.AUTHOR, "")):
+        whole = "; ".join(one.text for one in draft.texts if one.command is command and one.text)
+        text = _shortened(whole, LONGEST_TEXT - len(f" {label}".rstrip()))
+        if text != whole:
+            remarks.append(f"{command.value} {whole}")
+            notes.append(
+                Told(version.line, f"{command.value} shortened to {LONGEST_TEXT} bytes: see Remark")
+            )
+        if text or label:
+            lines.append(" ".join(filter(None, (command.value, text, label))))
+    for command, text in draft.texts:
+        if command is Command.ORIGIN:
+            lines.append(f"Origin {text}")
+        elif is_first and command is Command.REMARK:
+            remarks.append(text)
+        elif is_first and command is Command.AWARD:
+            remarks.append(f"Award {text}")
+    if draft.wanted is not None:
+        remarks.append(f"solutions {draft.wanted}")
+    remarks += version.remarks + [note.text for note in draft.notes + notes]
+    lines += [f"Remark {remark}" for remark in remarks if remark]
+    return [line.replace("\n", " ") for line in lines]
+
+
+def _shortened(text: str, most: int) -> str:
+    """Returns as many letters of the text as fit into this many bytes."""
+    data = text.encode("utf-8", "replace")
+    return text if len(data) <= most else data[:most].decode("utf-8", "ignore").rstrip()

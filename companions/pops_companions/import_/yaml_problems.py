@@ -1,0 +1,221 @@
+"""Reads collections in YAML, as the Olive editor keeps them and as YACPDB gives them out."""
+
+from collections.abc import Callable, Iterator
+
+from pops_companions.import_.draft import Draft, Twin
+from pops_companions.import_.language import ENGLISH, Command
+from pops_companions.import_.men import read_men
+from pops_companions.import_.options import read_options
+from pops_companions.import_.origins import origin_of
+from pops_companions.import_.popeye import place
+from pops_companions.import_.sections import take_conditions, wanted_of
+from pops_companions.import_.twins import read_twin
+from pops_companions.import_.words import TextLine, Told, Unreadable, Words
+from pops_companions.import_.yaml_text import Node, Scalar, YamlError, documents, line_of
+
+_COLOURS = ("white", "black", "neutral")
+# The twin that stands in place of the position itself.
+_FIRST_TWIN = "a"
+
+
+def read_yaml(text: str) -> list[Draft]:
+    """Returns the problems of a stream of documents, each of them a problem or a list of problems.
+    """
+    drafts: list[Draft] = []
+    for document in documents(text):
+        try:
+            node = document.node()
+        except YamlError as error:
+            drafts.append(Draft(len(drafts) + 1, document.line))
+            drafts[-1].faults.append(Told(error.line, f"this isn't read as YAML: {error}"))
+            continue
+        for problem in node if isinstance(node, list) else [node]:
+            draft = Draft(len(drafts) + 1, document.line)
+            drafts.append(draft)
+            if isinstance(problem, dict):
+                draft.line = min(map(line_of, problem), default=document.line)
+                for key, value in problem.items():
+                    _read_key(key, value, draft)
+                _read_origin(problem, draft)
+            else:
+                line = problem.line if isinstance(problem, Scalar) else draft.line
+                draft.faults.append(Told(line, "there are no keys of a problem"))
+    return drafts
+
+
+def _read_key(key: str, value: Node, draft: Draft) -> None:
+    readers = {
+        "title": _read_title,
+        "author": _read_authors,
+        "authors": _read_authors,
+        "source": _read_later,
+        "date": _read_later,
+        "algebraic": _read_men,
+        "stipulation": _read_stipulation,
+        "conditions": _read_conditions,
+        "options": _read_options,
+        "twins": _read_twins,
+        "intended-solutions": _read_wanted,
+        "comments": _read_comments,
+    }
+    reader = readers.get(key.lower(), _read_other)
+    try:
+        reader(key, value, draft)
+    except Unreadable as error:
+        draft.faults.append(error.told)
+
+
+def _read_later(_: str, __: Node, ___: Draft) -> None:
+    """Source and date are read together, after all keys."""
+
+
+def _texts(node: Node) -> list[Scalar]:
+    """Returns the texts of a node, the text of a key with the key before it."""
+    if node is None:
+        return []
+    if isinstance(node, list):
+        return [text for one in node for text in _texts(one)]
+    if isinstance(node, dict):
+        return [
+            Scalar(f"{key} {' '.join(_texts(value))}".rstrip(), line_of(key))
+            for key, value in node.items()
+        ]
+    return [node]
+
+
+def _one_line(node: Node, between: str) -> str:
+    return between.join(text.replace("\n", " ") for text in _texts(node))
+
+
+def _read_title(_: str, value: Node, draft: Draft) -> None:
+    draft.texts.append(TextLine(Command.TITLE, _one_line(value, "; ")))
+
+
+def _read_authors(_: str, value: Node, draft: Draft) -> None:
+    draft.texts.append(TextLine(Command.AUTHOR, _one_line(value, "; ")))
+
+
+def _read_origin(keys: dict[str, Node], draft: Draft) -> None:
+    """Source and date, which are one line."""
+    parts: list[tuple[str, str]] = []
+    for key, value in keys.items():
+        name = key.lower()
+        if name == "source":
+            parts.extend(_parts_of_origin("name", value))
+        elif name == "date":
+            parts.extend(_parts_of_origin("date", value))
+    line, rest = origin_of(parts)
+    if line:
+        draft.texts.append(TextLine(Command.ORIGIN, line))
+    if rest:
+        draft.texts.append(TextLine(Command.REMARK, f"source: {rest}"))
+
+
+def _parts_of_origin(name: str, node: Node) -> Iterator[tuple[str, str]]:
+    """Yields the named texts of a source or a date; a text without a key has this name."""
+    if isinstance(node, dict):
+        for key, value in node.items():
+            yield from _parts_of_origin(key.lower(), value)
+    else:
+        text = _one_line(node, ", ")
+        if text:
+            yield name, text
+
+
+def _read_stipulation(key: str, value: Node, draft: Draft) -> None:
+    texts = _texts(value)
+    if not texts:
+        raise Unreadable(
+            line_of(key), "the stipulation is empty: in YAML # begins a comment, so put it in quotes"
+        )
+    text = " ".join(texts)
+    stipulation, _, number = text.rpartition(" ")
+    wanted = wanted_of(number) if stipulation else None
+    if wanted is None:
+        draft.setting.stipulation = text
+        return
+    draft.setting.stipulation = stipulation
+    draft.want(wanted, number)
+
+
+def _read_wanted(key: str, value: Node, draft: Draft) -> None:
+    """The number of solutions wanted: as it is, or as 2.1.1, of which the product is meant."""
+    text = _one_line(value, " ")
+    wanted = wanted_of(text)
+    if wanted is None:
+        _read_other(key, value, draft)
+    else:
+        draft.want(wanted, text)
+
+
+def _read_comments(_: str, value: Node, draft: Draft) -> None:
+    for text in _texts(value):
+        draft.texts.extend(TextLine(Command.REMARK, line) for line in text.split("\n"))
+
+
+def _read_other(key: str, value: Node, draft: Draft) -> None:
+    """Keeps what pops has no word for: a Remark for each line."""
+    for name, text in _named_texts(key, value):
+        for line in text.split("\n"):
+            draft.texts.append(TextLine(Command.REMARK, f"{name}: {line}".rstrip()))
+
+
+def _named_texts(name: str, node: Node) -> Iterator[tuple[str, Scalar]]:
+    if isinstance(node, dict):
+        for key, value in node.items():
+            yield from _named_texts(f"{name}.{key}", value)
+    elif isinstance(node, list):
+        for one in node:
+            yield from _named_texts(name, one)
+    elif node is not None:
+        yield name, node
+
+
+def _words_of(text: Scalar, read: Callable[[Words], None], draft: Draft, before: str = "") -> None:
+    """Reads the words of a text; all have to be taken. What is skipped is noted."""
+    words = Words(f"{before}{text}", ENGLISH, 0, text.line)
+    read(words)
+    left = words.peek()
+    for unknown in [left.text] if left is not None else [one.command.value for one in words.texts]:
+        raise Unreadable(text.line, f"{unknown} isn't known here")
+    draft.tell_of_skipped(words)
+
+
+def _read_men(key: str, value: Node, draft: Draft) -> None:
+    if not isinstance(value, dict):
+        raise Unreadable(line_of(key), "algebraic holds no lists white and black")
+    for colour, node in value.items():
+        if colour not in _COLOURS:
+            raise Unreadable(line_of(colour), f"{colour} is none of white, black and neutral")
+        for text in _texts(node):
+            _words_of(text, lambda words: place(draft, read_men(words)), draft, f"{colour} ")
+
+
+def _read_conditions(_: str, value: Node, draft: Draft) -> None:
+    def read(words: Words) -> None:
+        draft.setting.conditions = take_conditions(words, draft.setting.conditions)
+
+    for text in _texts(value):
+        _words_of(text, read, draft)
+
+
+def _read_options(_: str, value: Node, draft: Draft) -> None:
+    for text in _texts(value):
+        _words_of(text, lambda words: read_options(words, draft), draft)
+
+
+def _read_twins(key: str, value: Node, draft: Draft) -> None:
+    if value is None:
+        return
+    if not isinstance(value, dict):
+        raise Unreadable(line_of(key), "twins holds no keys b, c ..")
+    for label, node in value.items():
+        twin = Twin(f"{label})", line_of(label))
+        draft.twins.append(twin)
+        if label == _FIRST_TWIN:
+            draft.first = False
+        try:
+            for text in _texts(node):
+                _words_of(text, lambda words: read_twin(words, twin), draft)
+        except Unreadable as error:
+            twin.faults.append(error.told)

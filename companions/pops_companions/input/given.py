@@ -1,0 +1,98 @@
+"""What an input of pops says of its problems: the words that pops reads, and the text lines."""
+
+import re
+from dataclasses import dataclass
+from typing import Optional
+
+from pops_companions.chess.stipulation import Stipulation
+from pops_companions.input.pieces import Piece, cut
+from pops_companions.input.words import TextLine, TextWord, Word, is_short_for
+
+# The most bytes of a title or an author in a report, and what is cut off at both ends.
+LONGEST_TEXT = 200
+_BLANKS = b" \t\v\f\r"
+_WANTED = re.compile(
+    rb"\s*(?:solutions?\s*:?\s*([0-9]{1,9})|([0-9]{1,9})\s+solutions?)\s*\.?\s*", re.IGNORECASE
+)
+
+
+@dataclass(frozen=True)
+class GivenProblem:
+    """A problem of an input. `words` are those between its first and its last word, text lines
+    left out; there are none where the first or the last word is missing. `line` is the line of the
+    input on which it begins, from 1.
+    """
+
+    number: int
+    line: int
+    words: tuple[bytes, ...]
+    texts: tuple[TextLine, ...]
+
+    def lines_of(self, word: TextWord) -> list[bytes]:
+        """Returns the text lines of a word, without the blanks at both ends, empty ones left out.
+        """
+        texts = (line.text.strip(_BLANKS) for line in self.texts if line.kind is word)
+        return [text for text in texts if text]
+
+    @property
+    def title(self) -> Optional[bytes]:
+        """Its title, the last one as in a report."""
+        return _last(self.lines_of(TextWord.TITLE))
+
+    @property
+    def author(self) -> Optional[bytes]:
+        """Its author, the last one as in a report."""
+        return _last(self.lines_of(TextWord.AUTHOR))
+
+    @property
+    def origin(self) -> Optional[bytes]:
+        """Where it was published: its Origin lines, joined."""
+        return b"; ".join(self.lines_of(TextWord.ORIGIN)) or None
+
+    @property
+    def remarks(self) -> list[bytes]:
+        return self.lines_of(TextWord.REMARK)
+
+    @property
+    def stipulation(self) -> Optional[Stipulation]:
+        """Its stipulation; None where pops would find a fault in it."""
+        for word, following in zip(self.words, self.words[1:]):
+            if is_short_for(word, "Stipulation"):
+                try:
+                    return Stipulation.of_text(following.decode("latin-1").lower())
+                except ValueError:
+                    return None
+        return None
+
+    @property
+    def wanted(self) -> Optional[int]:
+        """The number of solutions that a Remark asks for, as `Remark solutions 2`; the last one."""
+        wanted = None
+        for remark in self.remarks:
+            parts = _WANTED.fullmatch(remark)
+            if parts is not None:
+                wanted = int(parts[1] or parts[2])
+        return wanted
+
+
+def _last(texts: list[bytes]) -> Optional[bytes]:
+    return texts[-1][:LONGEST_TEXT] if texts else None
+
+
+def given_problems(text: bytes) -> list[GivenProblem]:
+    """Returns the problems of an input, numbered as pops numbers them."""
+    return [_given(text, piece) for piece in cut(text)]
+
+
+def _given(text: bytes, piece: Piece) -> GivenProblem:
+    tokens = piece.tokens(text)
+    framed = piece.closed
+    if piece.number == 1:
+        # Text lines before BeginProblem have no effect.
+        begin = next((place for place, it in enumerate(tokens) if isinstance(it, Word)), None)
+        tokens = tokens if begin is None else tokens[begin:]
+        first = tokens.pop(0) if begin is not None else None
+        framed = framed and isinstance(first, Word) and is_short_for(first.bytes, "BeginProblem")
+    words = tuple(token.bytes for token in tokens if isinstance(token, Word))
+    texts = tuple(token for token in tokens if isinstance(token, TextLine))
+    return GivenProblem(piece.number, piece.line, words if framed else (), texts)

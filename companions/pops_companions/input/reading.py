@@ -1,0 +1,395 @@
+"""Reads a problem as pops does, up to its fault.
+
+The report of pops decides what the fault is; this reading finds the faulty word.
+"""
+
+import re
+from dataclasses import dataclass, field
+from enum import Enum, IntEnum
+from typing import Optional
+
+from pops_companions.chess.attacks import attackers
+from pops_companions.chess.men import Colour, Kind, Man, Square
+from pops_companions.chess.stipulation import Condition, Play, Stipulation
+from pops_companions.input.pieces import Piece
+from pops_companions.input.words import LONGEST_WORD, TextLine, Token, Word, named
+
+COLOURS = tuple(colour.name.title() for colour in Colour)
+CONDITIONS = tuple(condition.value for condition in Condition)
+CLOSING = ("NextProblem", "EndProblem")
+MOST_MOVES = 16
+MOST_SOLUTIONS = 4_000_000_000
+CASTLING_SQUARES = ("a1", "e1", "h1", "a8", "e8", "h8")
+
+_SQUARES = re.compile(rb"(?:[a-h][1-8])+", re.IGNORECASE)
+
+
+class Section(Enum):
+    """A section of a problem; its value is the command that opens it."""
+
+    PIECES = "Pieces"
+    STIPULATION = "Stipulation"
+    CONDITION = "Condition"
+    OPTION = "Option"
+
+
+class Awaited(Enum):
+    """What the next word has to be after an option, or may be after squares of NoCastling."""
+
+    NUMBER = "number"
+    SQUARE = "square"
+    SQUARES = "squares"
+    MORE_SQUARES = "more squares"
+
+
+_AWAITED = {
+    "MaxSolutions": Awaited.NUMBER,
+    "EnPassant": Awaited.SQUARE,
+    "NoCastling": Awaited.SQUARES,
+}
+SECTIONS = tuple(section.value for section in Section)
+COMMANDS = ("BeginProblem", *SECTIONS, *CLOSING)
+OPTIONS = ("SetPlay", "Variation", "NoBoard", *_AWAITED)
+
+
+class FaultKind(IntEnum):
+    """What a fault is about; its value is the number in a report."""
+
+    BEGIN_MISSING = 1
+    MISPLACED = 2
+    TOO_LONG = 3
+    COLOUR_MISSING = 4
+    SQUARE_TAKEN = 5
+    PAWN_OUTSIDE = 6
+    SECOND_KING = 7
+    BAD_STIPULATION = 8
+    SECOND_STIPULATION = 9
+    STIPULATION_MISSING = 10
+    NO_MEN = 11
+    SECOND_CONDITION = 12
+    BAD_NUMBER = 13
+    SQUARE_MISSING = 14
+    EN_PASSANT_IMPOSSIBLE = 15
+    NO_CASTLING_SQUARE = 16
+    KING_MISSING = 17
+    IN_CHECK = 18
+    END_MISSING = 19
+    INPUT_TOO_LONG = 20
+    DEVICE_FAILED = 21
+
+
+def squares_of(word: bytes) -> list[Square]:
+    """Returns the squares of a word that is nothing but squares, else none."""
+    if not _SQUARES.fullmatch(word):
+        return []
+    small = word.decode("ascii").lower()
+    return [Square.of_name(small[place : place + 2]) for place in range(0, len(small), 2)]
+
+
+def kind_of(word: bytes) -> Optional[Kind]:
+    """Returns the kind of man whose letter begins a word."""
+    try:
+        return Kind(word[:1].decode("ascii").upper())
+    except ValueError:
+        return None
+
+
+def is_number(word: bytes) -> bool:
+    """Returns whether the word is nothing but digits."""
+    return re.fullmatch(rb"[0-9]+", word) is not None
+
+
+def is_man(word: bytes) -> bool:
+    """Returns whether the word is a man's letter with squares."""
+    return kind_of(word) is not None and bool(squares_of(word[1:]))
+
+
+def stipulation_of(word: bytes) -> Optional[Stipulation]:
+    """Returns the stipulation of a word, where its number is one that pops takes."""
+    try:
+        stipulation = Stipulation.of_text(word.decode("ascii").lower())
+    except ValueError:
+        return None
+    least = 0 if stipulation.half_more else 1
+    most = MOST_MOVES - 1 if stipulation.half_more else MOST_MOVES
+    return stipulation if least <= stipulation.moves <= most else None
+
+
+def to_be_mated(stipulation: Stipulation) -> Colour:
+    """Returns the side that is to be mated or stalemated."""
+    return Colour.WHITE if stipulation.play is Play.SELF else Colour.BLACK
+
+
+@dataclass(frozen=True)
+class Placed:
+    """A man with the word that put it on its square."""
+
+    man: Man
+    word: Word
+    span_start: int
+
+    @property
+    def square_span(self) -> tuple[int, int]:
+        """Where in the word the square stands."""
+        return self.span_start, self.span_start + 2
+
+
+@dataclass
+class Reading:
+    """A problem as far as it was read: up to its fault, if it has one.
+
+    `at` is the place of the faulty word among the tokens; the end of the text has none.
+    """
+
+    tokens: list[Token]
+    first: bool
+    number: Optional[FaultKind] = None
+    at: Optional[int] = None
+    section: Optional[Section] = None
+    opener: Optional[Word] = None
+    awaited: Optional[Awaited] = None
+    option: Optional[Word] = None
+    colour: Optional[Colour] = None
+    colours: list[tuple[Colour, Word]] = field(default_factory=list)
+    men: dict[Square, Placed] = field(default_factory=dict)
+    square: Optional[Square] = None
+    square_place: int = 0
+    stipulation: Optional[Stipulation] = None
+    stipulation_word: Optional[Word] = None
+    condition: Optional[Condition] = None
+    condition_word: Optional[Word] = None
+    crossed: Optional[Square] = None
+    crossed_word: Optional[Word] = None
+    openers: list[Word] = field(default_factory=list)
+
+    @property
+    def word(self) -> Word:
+        """The faulty word."""
+        assert self.at is not None
+        token = self.tokens[self.at]
+        assert isinstance(token, Word)
+        return token
+
+    @property
+    def words(self) -> list[Word]:
+        return [token for token in self.tokens if isinstance(token, Word)]
+
+    @property
+    def text_lines(self) -> list[TextLine]:
+        return [token for token in self.tokens if isinstance(token, TextLine)]
+
+    def neighbour(self, step: int) -> Optional[Word]:
+        """Returns the word next to the faulty one, on either side, over text lines."""
+        words = self.words
+        place = words.index(self.word) + step
+        return words[place] if 0 <= place < len(words) else None
+
+
+def read_piece(text: bytes, piece: Piece) -> Reading:
+    """Reads a problem of an input up to its fault."""
+    is_first, closed = piece.number == 1, piece.closed
+    reading = Reading(piece.tokens_to_end(text), is_first)
+    begun = not is_first
+    for place, token in enumerate(reading.tokens):
+        if isinstance(token, TextLine):
+            continue
+        if len(token.bytes) > LONGEST_WORD:
+            fault: Optional[FaultKind] = FaultKind.TOO_LONG
+        elif begun:
+            fault = step(reading, token)
+        else:
+            is_begin = named(token.bytes, ["BeginProblem"]) is not None
+            fault = None if is_begin else FaultKind.BEGIN_MISSING
+            begun = True
+        if fault is None and place == len(reading.tokens) - 1 and closed:
+            fault = _end_fault(reading)
+        if fault is not None:
+            reading.number, reading.at = fault, place
+            return reading
+    if not closed:
+        reading.number = FaultKind.END_MISSING if begun else FaultKind.BEGIN_MISSING
+    return reading
+
+
+def step(reading: Reading, word: Word) -> Optional[FaultKind]:
+    """Takes the next word of a problem; returns its fault, if it has one."""
+    if reading.awaited is not None:
+        squares = squares_of(word.bytes)
+        if reading.awaited is not Awaited.MORE_SQUARES:
+            return _value(reading, word, squares)
+        if squares:
+            return _barred(reading, word, squares)
+        reading.awaited = reading.option = None
+    command = named(word.bytes, COMMANDS)
+    if command == "BeginProblem":
+        return FaultKind.MISPLACED
+    if command in SECTIONS:
+        reading.section, reading.opener = Section(command), word
+        reading.openers.append(word)
+        reading.colour = None
+        return None
+    if command is not None:
+        return None
+    if reading.section is None:
+        return FaultKind.MISPLACED
+    return _READERS[reading.section](reading, word)
+
+
+def _value(reading: Reading, word: Word, squares: list[Square]) -> Optional[FaultKind]:
+    """Takes the word that an option awaits."""
+    if reading.awaited is Awaited.SQUARES:
+        if not squares:
+            return FaultKind.SQUARE_MISSING
+        reading.awaited = Awaited.MORE_SQUARES
+        return _barred(reading, word, squares)
+    if reading.awaited is Awaited.SQUARE:
+        if len(squares) != 1:
+            return FaultKind.SQUARE_MISSING
+        reading.crossed, reading.crossed_word = squares[0], word
+    elif not is_number(word.bytes) or not 1 <= int(word.bytes) <= MOST_SOLUTIONS:
+        return FaultKind.BAD_NUMBER
+    reading.awaited = reading.option = None
+    return None
+
+
+def _barred(reading: Reading, word: Word, squares: list[Square]) -> Optional[FaultKind]:
+    for place, square in enumerate(squares):
+        if square.name not in CASTLING_SQUARES:
+            reading.square, reading.square_place = square, 2 * place
+            return FaultKind.NO_CASTLING_SQUARE
+    return None
+
+
+def _piece(reading: Reading, word: Word) -> Optional[FaultKind]:
+    colour = named(word.bytes, COLOURS, 1)
+    if colour is not None:
+        reading.colour = Colour[colour.upper()]
+        reading.colours.append((reading.colour, word))
+        return None
+    kind, squares = kind_of(word.bytes), squares_of(word.bytes[1:])
+    if kind is None:
+        return FaultKind.MISPLACED
+    if not squares and len(word.bytes) > 2 and not re.search(rb"[0-9]", word.bytes):
+        return FaultKind.MISPLACED
+    if reading.colour is None:
+        return FaultKind.COLOUR_MISSING
+    if not squares:
+        return FaultKind.SQUARE_MISSING
+    man = Man(reading.colour, kind)
+    for place, square in enumerate(squares):
+        fault = _man_fault(reading, man, square)
+        if fault is not None:
+            reading.square, reading.square_place = square, 1 + 2 * place
+            return fault
+        reading.men[square] = Placed(man, word, 1 + 2 * place)
+    return None
+
+
+def _man_fault(reading: Reading, man: Man, square: Square) -> Optional[FaultKind]:
+    if square in reading.men:
+        return FaultKind.SQUARE_TAKEN
+    if man.kind is Kind.PAWN and square.rank in (1, 8):
+        return FaultKind.PAWN_OUTSIDE
+    if man.kind is Kind.KING and king_of(reading, man.colour) is not None:
+        return FaultKind.SECOND_KING
+    return None
+
+
+def king_of(reading: Reading, colour: Colour) -> Optional[Square]:
+    """Returns the square of a side's king."""
+    king = Man(colour, Kind.KING)
+    return next((it for it, placed in reading.men.items() if placed.man == king), None)
+
+
+def _stipulation(reading: Reading, word: Word) -> Optional[FaultKind]:
+    if reading.stipulation is not None:
+        second = b"#" in word.bytes or b"=" in word.bytes
+        return FaultKind.SECOND_STIPULATION if second else FaultKind.MISPLACED
+    reading.stipulation, reading.stipulation_word = stipulation_of(word.bytes), word
+    return FaultKind.BAD_STIPULATION if reading.stipulation is None else None
+
+
+def _condition(reading: Reading, word: Word) -> Optional[FaultKind]:
+    name = named(word.bytes, CONDITIONS)
+    if name is None:
+        return FaultKind.MISPLACED
+    if reading.condition is not None:
+        return FaultKind.SECOND_CONDITION
+    reading.condition, reading.condition_word = Condition(name), word
+    return None
+
+
+def _option(reading: Reading, word: Word) -> Optional[FaultKind]:
+    name = named(word.bytes, OPTIONS)
+    if name is None:
+        return FaultKind.MISPLACED
+    reading.awaited = _AWAITED.get(name)
+    reading.option = word
+    return None
+
+
+_READERS = {
+    Section.PIECES: _piece,
+    Section.STIPULATION: _stipulation,
+    Section.CONDITION: _condition,
+    Section.OPTION: _option,
+}
+
+
+def _end_fault(reading: Reading) -> Optional[FaultKind]:
+    """Returns the fault that shows at the word that ends a problem."""
+    if reading.stipulation is None:
+        return FaultKind.STIPULATION_MISSING
+    if not reading.men:
+        return FaultKind.NO_MEN
+    if reading.crossed is not None and not en_passant_wants(reading).holds:
+        return FaultKind.EN_PASSANT_IMPOSSIBLE
+    if king_of(reading, to_be_mated(reading.stipulation)) is None:
+        if reading.stipulation.goal.value == "#":
+            return FaultKind.KING_MISSING
+    return FaultKind.IN_CHECK if checkers(reading) else None
+
+
+@dataclass(frozen=True)
+class EnPassantWants:
+    """What the en passant square of a problem needs, and whether it has it."""
+
+    rank: int
+    pawn: Square
+    home: Square
+    pawn_stands: bool
+    occupied: list[Square]
+
+    right_rank: bool
+
+    @property
+    def holds(self) -> bool:
+        return self.right_rank and self.pawn_stands and not self.occupied
+
+
+def en_passant_wants(reading: Reading) -> EnPassantWants:
+    """Returns what the square of EnPassant needs, and whether it has it."""
+    assert reading.stipulation is not None and reading.crossed is not None
+    starter, crossed = reading.stipulation.starter, reading.crossed
+    rank, pawn_rank, home_rank = (6, 5, 7) if starter is Colour.WHITE else (3, 4, 2)
+    pawn, home = Square(crossed.file, pawn_rank), Square(crossed.file, home_rank)
+    placed = reading.men.get(pawn)
+    return EnPassantWants(
+        rank,
+        pawn,
+        home,
+        placed is not None and placed.man == Man(starter.opponent, Kind.PAWN),
+        [square for square in (crossed, home) if square in reading.men],
+        crossed.rank == rank,
+    )
+
+
+def checkers(reading: Reading) -> list[Square]:
+    """Returns the men that give check to the side that doesn't start."""
+    assert reading.stipulation is not None
+    waiting = reading.stipulation.starter.opponent
+    king = king_of(reading, waiting)
+    if king is None:
+        return []
+    men = {square: placed.man for square, placed in reading.men.items()}
+    return attackers(men, king, waiting.opponent, reading.condition is Condition.MADRASI)

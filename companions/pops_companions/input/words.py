@@ -1,0 +1,117 @@
+"""The words and text lines of an input, as pops parts them."""
+
+import re
+from collections.abc import Iterator, Sequence
+from dataclasses import dataclass
+from enum import Enum
+from typing import Optional, Union
+
+# The bytes between words.
+BLANKS = rb"\t\n\x0b\x0c\r "
+LONGEST_WORD = 160
+
+_WORD = re.compile(rb"[^" + BLANKS + rb"]+")
+_LEAST_LETTERS = 3
+
+
+class TextWord(Enum):
+    """A word that makes the rest of its line text; its value is the word in full."""
+
+    TITLE = "Title"
+    AUTHOR = "Author"
+    ORIGIN = "Origin"
+    REMARK = "Remark"
+
+
+TEXT_WORDS = tuple(word.value for word in TextWord)
+
+
+@dataclass(frozen=True)
+class Span:
+    """Some bytes of an input."""
+
+    start: int
+    stop: int
+
+
+@dataclass(frozen=True)
+class Word:
+    """A word of an input: its bytes, where it begins, and its line, from 1."""
+
+    bytes: bytes
+    start: int
+    line: int
+
+    @property
+    def span(self) -> Span:
+        return Span(self.start, self.start + len(self.bytes))
+
+    def part(self, start: int, stop: int) -> Span:
+        """Returns where a part of the word is."""
+        return Span(self.start + start, self.start + stop)
+
+
+@dataclass(frozen=True)
+class TextLine:
+    """A text word with the rest of its line."""
+
+    word: Word
+    kind: TextWord
+    text: bytes
+
+    @property
+    def name(self) -> str:
+        """The text word in full."""
+        return self.kind.value
+
+    @property
+    def span(self) -> Span:
+        return Span(self.word.start, self.word.start + len(self.word.bytes) + len(self.text))
+
+
+Token = Union[Word, TextLine]
+
+
+def named(word: bytes, names: Sequence[str], least: int = _LEAST_LETTERS) -> Optional[str]:
+    """Returns the first name that the word is or is short for; short forms have three letters."""
+    if len(word) < least:
+        return None
+    small = word.lower()
+    return next((it for it in names if it.lower().encode("ascii").startswith(small)), None)
+
+
+def is_short_for(word: bytes, name: str) -> bool:
+    """Returns whether a word is this name or a short form of it."""
+    return named(word, (name,)) is not None
+
+
+def short_forms(name: str) -> bytes:
+    """Returns a pattern of a name and its short forms, the longer ones first."""
+    forms = (name[:length] for length in range(len(name), _LEAST_LETTERS - 1, -1))
+    return b"|".join(form.encode("ascii") for form in forms)
+
+
+def tokens_in(text: bytes, start: int, stop: int, line: int) -> Iterator[Token]:
+    """Yields the words and text lines between two places; the first place is on the line given."""
+    place = start
+    while True:
+        found = _WORD.search(text, place, stop)
+        if found is None:
+            return
+        line += text.count(b"\n", place, found.start())
+        word = Word(found[0], found.start(), line)
+        place = found.end()
+        name = named(word.bytes, TEXT_WORDS)
+        if name is None:
+            yield word
+            continue
+        end = text.find(b"\n", place, stop)
+        end = stop if end < 0 else end
+        yield TextLine(word, TextWord(name), text[place:end])
+        place = end
+
+
+def words_of(text: bytes) -> list[bytes]:
+    """Returns the words of a text without its text lines."""
+    tokens = tokens_in(text, 0, len(text), 1)
+    return [token.bytes for token in tokens if isinstance(token, Word)]

@@ -1,0 +1,140 @@
+"""Joins the reports in the order of the problems: on standard output, in a file, in many files."""
+
+import os
+from collections.abc import Callable, Sequence
+from typing import BinaryIO, NamedTuple, Optional
+
+from pops_companions.many.journal import Journal
+from pops_companions.many.targets import Target
+from pops_companions.many.tasks import Task
+from pops_companions.report import lines
+
+_COLUMNS = ("start", "bytes", "status", "problem", "line", "file")
+
+
+class Report(NamedTuple):
+    """A report that is to be written, with a second file for its unfinished problems.
+
+    Without a file it goes to standard output.
+    """
+
+    tasks: Sequence[Task]
+    file: Optional[Target]
+    unfinished: Optional[Target]
+
+
+def path_of_report(file: str, folder: Optional[str]) -> str:
+    """Returns the report's file for a FILE: NAME.report for NAME.pop, next to it or in a folder."""
+    path = (file[: -len(".pop")] if file.endswith(".pop") else file) + ".report"
+    return path if folder is None else os.path.join(folder, os.path.basename(path))
+
+
+class Joined:
+    """The reports of a run. Each file is written once all of its problems are done or stopped.
+
+    On standard output a problem is written once it and all before it are done or stopped.
+    Unfinished problems are left out.
+    """
+
+    def __init__(self, journal: Journal, reports: Sequence[Report], output: BinaryIO):
+        self._journal = journal
+        self._reports = reports
+        self._output = output
+        self._report_of = {task.place: report for report in reports for task in report.tasks}
+        self._unsettled = {id(report): len(report.tasks) for report in reports}
+        self._to_write = {id(report) for report in reports if report.tasks}
+        self._streamed = 0
+        # Returns what is known of an unfinished problem in parts, and how far it is.
+        self.in_parts: Callable[[int], Optional[tuple[bytes, str]]] = lambda place: None
+
+    def begin(self) -> None:
+        """Writes what is due before the first run."""
+        for place in self._report_of:
+            if self._journal.is_settled(place):
+                self.settle(place)
+
+    def settle(self, place: int) -> None:
+        """Writes what is due now that this task is done or stopped."""
+        report = self._report_of[place]
+        self._unsettled[id(report)] -= 1
+        if report.file is None:
+            self._stream(report)
+        if self._unsettled[id(report)] == 0:
+            if report.file is not None:
+                self._write(report, report.file)
+            self._to_write.remove(id(report))
+
+    def _stream(self, report: Report) -> None:
+        before = self._streamed
+        while self._streamed < len(report.tasks):
+            place = report.tasks[self._streamed].place
+            if not self._journal.is_settled(place):
+                break
+            if self._journal.is_finished(place):
+                self._output.write(self._journal.report(place))
+            self._streamed += 1
+        if self._streamed > before:
+            self._output.flush()
+
+    def _write(self, report: Report, target: Target) -> None:
+        with target.opened() as file:
+            for task in report.tasks:
+                if self._journal.is_finished(task.place):
+                    file.write(self._journal.report(task.place))
+
+    @property
+    def complete(self) -> bool:
+        """Whether all reports are written."""
+        return not self._to_write
+
+    def write_unfinished(self) -> list[str]:
+        """Writes what is kept of unfinished problems; returns the files. Older files are removed."""
+        written = []
+        for report in self._reports:
+            if report.unfinished is None:
+                continue
+            tasks = [task for task in report.tasks if self.has_unfinished(task.place)]
+            if not tasks:
+                report.unfinished.remove()
+                continue
+            with report.unfinished.opened() as file:
+                for task in tasks:
+                    file.write(self._marked(task))
+            written.append(report.unfinished.path)
+        return written
+
+    def has_unfinished(self, place: int) -> bool:
+        """Returns whether something is known of a problem that isn't done."""
+        if self._journal.is_finished(place):
+            return False
+        return self._journal.has_unfinished(place) or self.in_parts(place) is not None
+
+    def _marked(self, task: Task) -> bytes:
+        """Returns the lines of an unfinished problem, with a last line that says so."""
+        assert task.piece is not None
+        known = self.in_parts(task.place)
+        if known is None:
+            seconds = self._journal.kept[task.place].seconds
+            known = self._journal.report(task.place), f"stopped after {seconds:g} s"
+        text, how_far = known
+        return text + lines.UNFINISHED + os.fsencode(f"{how_far} ({task.where})\n\n")
+
+
+def write_index(target: Target, tasks: Sequence[Task], journal: Journal) -> None:
+    """Writes a table of the items of a report on all tasks: their places and their sources."""
+    start = 0
+    with target.opened() as file:
+        file.write("\t".join(_COLUMNS).encode("ascii") + b"\n")
+        for task in tasks:
+            if not journal.is_finished(task.place):
+                continue
+            kept = journal.kept[task.place]
+            number, line = ("", "") if task.piece is None else (task.piece.number, task.piece.line)
+            row = (start, kept.length, kept.status, number, line, _escaped(task.source.shown))
+            file.write(os.fsencode("\t".join(map(str, row)) + "\n"))
+            start += kept.length
+
+
+def _escaped(name: str) -> str:
+    """Returns a file's name without tabs and line ends."""
+    return name.replace("\\", "\\\\").replace("\t", "\\t").replace("\n", "\\n")

@@ -1,0 +1,201 @@
+"""The journal of a run: the reports of all its problems, in the order in which they came.
+
+Its first line is a fingerprint of the run's inputs and options. Each report follows a line with its
+task, status, length and checksum, so that a cut report is noticed; an unfinished report's line also
+has the seconds that its run took. Parts of a problem are kept in the same way, each with its phase,
+its number and the number of moves by which the problem was cut.
+"""
+
+import fcntl
+import hashlib
+import os
+import re
+import zlib
+from collections.abc import Sequence
+from typing import NamedTuple, Optional
+
+from pops_companions.many.parts import Key, Part
+from pops_companions.many.tasks import Result, Source
+
+_HEAD = b"pops-many journal 1 "
+_RECORD = re.compile(rb"task (\d+) status (\d+)(?: seconds (\d+\.\d+))? bytes (\d+) sum (\d+)\n")
+_PART = re.compile(rb"part (\d+) (set|play) (\d+) depth (\d+) bytes (\d+) sum (\d+)\n")
+_LONGEST_HEAD = 200
+
+
+class JournalError(Exception):
+    """A journal that isn't there, is in use, or belongs to no run or to another one."""
+
+
+class Kept(NamedTuple):
+    """Where a report is in the journal, and the seconds of an unfinished problem."""
+
+    status: int
+    seconds: Optional[float]
+    start: int
+    length: int
+
+
+def fingerprint(sources: Sequence[Source], options: Sequence[str]) -> bytes:
+    """Returns a checksum of a run's inputs and options."""
+    total = hashlib.sha256(repr(list(options)).encode("utf-8", "surrogateescape"))
+    for source in sources:
+        text = source.text
+        own = b"left to pops" if text is None else hashlib.sha256(text).digest()
+        total.update(hashlib.sha256(own).digest())
+    return total.hexdigest().encode("ascii")
+
+
+class Journal:
+    """An open journal, new or of a run that goes on. `seconds` is the time limit of each problem."""
+
+    def __init__(self, path: str, run: bytes, resume: bool, seconds: Optional[float]):
+        """Opens the journal. JournalError where it isn't there to be gone on with, or is another's.
+
+        No other run opens it meanwhile.
+        """
+        self.path = path
+        self.kept: dict[int, Kept] = {}
+        self.parts: dict[Key, Kept] = {}
+        self._seconds = seconds
+        self._head = _HEAD + run + b"\n"
+        try:
+            opened = os.open(path, os.O_RDWR | (0 if resume else os.O_CREAT), 0o666)
+        except FileNotFoundError:
+            if not resume:
+                raise
+            raise JournalError(f"there is no journal {path}: nothing to go on with") from None
+        self._file = os.fdopen(opened, "r+b")
+        try:
+            self._begin(resume)
+        except BaseException:
+            self._file.close()
+            raise
+        self._end = self._file.tell()
+
+    def _begin(self, resume: bool) -> None:
+        try:
+            fcntl.flock(self._file, fcntl.LOCK_EX | fcntl.LOCK_NB)
+        except BlockingIOError:
+            raise JournalError(f"{self.path} is in use by another run") from None
+        if resume:
+            self._read_all()
+        elif os.fstat(self._file.fileno()).st_size > 0:
+            raise JournalError(
+                f"{self.path} is the journal of a run that stopped: go on with --resume,"
+                " or remove it"
+            )
+        else:
+            self._file.write(self._head)
+            self._file.flush()
+
+    def _read_all(self) -> None:
+        """Reads what is kept; a last record that was cut is dropped."""
+        head = self._file.readline(len(self._head))
+        if not head.startswith(_HEAD):
+            raise JournalError(f"{self.path} is no journal of pops-many")
+        if head != self._head:
+            raise JournalError(f"{self.path} belongs to other problems or options")
+        end = self._file.tell()
+        while self._read_record():
+            end = self._file.tell()
+        self._file.seek(end)
+        self._file.truncate()
+
+    def _read_record(self) -> bool:
+        """Reads a record; False at the end of those that are whole."""
+        line = self._file.readline(_LONGEST_HEAD)
+        of_task, of_part = _RECORD.fullmatch(line), _PART.fullmatch(line)
+        found = of_task or of_part
+        if found is None:
+            return False
+        length, checksum = (int(part) for part in found.groups()[-2:])
+        start = self._file.tell()
+        report = self._file.read(length)
+        if len(report) != length or zlib.crc32(report) != checksum:
+            return False
+        if of_task:
+            seconds = None if of_task[3] is None else float(of_task[3])
+            self.kept[int(of_task[1])] = Kept(int(of_task[2]), seconds, start, length)
+        elif of_part:
+            place, number, depth = (int(part) for part in of_part.group(1, 3, 4))
+            key = Key(place, of_part[2].decode("ascii"), number, depth)
+            self.parts[key] = Kept(0, None, start, length)
+        return True
+
+    def keep(self, result: Result) -> None:
+        """Adds a report; it takes the place of an unfinished one of the same problem."""
+        place, report = result.task.place, result.report
+        seconds = b"" if result.seconds is None else b" seconds %f" % result.seconds
+        head = b"task %d status %d%s bytes %d sum %d\n" % (
+            place,
+            result.status,
+            seconds,
+            len(report),
+            zlib.crc32(report),
+        )
+        start = self._add(head, report)
+        self.kept[place] = Kept(result.status, result.seconds, start, len(report))
+
+    def keep_part(self, part: Part, report: bytes) -> None:
+        """Adds the report of a part."""
+        place, phase, number, depth = part.key
+        head = b"part %d %s %d depth %d bytes %d sum %d\n" % (
+            place,
+            phase.encode("ascii"),
+            number,
+            depth,
+            len(report),
+            zlib.crc32(report),
+        )
+        self.parts[part.key] = Kept(0, None, self._add(head, report), len(report))
+
+    def _add(self, head: bytes, report: bytes) -> int:
+        """Writes a record; returns where its report is."""
+        left, end = memoryview(head + report), self._end
+        while left:
+            written = os.pwrite(self._file.fileno(), left, end)
+            left, end = left[written:], end + written
+        self._end = end
+        return end - len(report)
+
+    def report(self, place: int) -> bytes:
+        """Returns the kept report of a task."""
+        return self._read(self.kept[place])
+
+    def part(self, part: Part) -> bytes:
+        """Returns the kept report of a part."""
+        return self._read(self.parts[part.key])
+
+    def _read(self, kept: Kept) -> bytes:
+        pieces, place, end = [], kept.start, kept.start + kept.length
+        while piece := os.pread(self._file.fileno(), end - place, place):
+            pieces.append(piece)
+            place += len(piece)
+        return b"".join(pieces)
+
+    def is_finished(self, place: int) -> bool:
+        """Returns whether the whole report of a task is kept."""
+        return place in self.kept and self.kept[place].seconds is None
+
+    def is_settled(self, place: int) -> bool:
+        """Returns whether a task needs no run: it is finished, or had as much time as runs have
+        now.
+        """
+        if place not in self.kept:
+            return False
+        had = self.kept[place].seconds
+        return had is None or (self._seconds is not None and self._seconds <= had)
+
+    def has_unfinished(self, place: int) -> bool:
+        """Returns whether an unfinished report of a task is kept."""
+        return place in self.kept and not self.is_finished(place)
+
+    def statuses(self) -> list[int]:
+        return [kept.status for kept in self.kept.values()]
+
+    def close(self, kept: bool) -> None:
+        """Ends the journal; that of a run that is complete isn't kept."""
+        if not kept:
+            os.unlink(self.path)
+        self._file.close()

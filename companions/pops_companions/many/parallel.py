@@ -1,0 +1,219 @@
+"""Runs of GNU parallel, which hands jobs out to machines through ssh.
+
+A job is a line of words for a script. A job that no longer matters is stopped, or never begins:
+each job knows its number from GNU parallel, and a file of this number stops it.
+"""
+
+import os
+import shlex
+import shutil
+import signal
+import subprocess
+import tempfile
+import threading
+from collections.abc import Callable, Iterable, Sequence
+from pathlib import Path
+from typing import NamedTuple, Optional
+
+from pops_companions.many import sessions
+from pops_companions.many.child_process import ChildProcess
+
+_SECONDS_BETWEEN_LOOKS = 0.3
+_SECONDS_TO_END = 3.0
+_SSH = "ssh -o BatchMode=yes -o ConnectTimeout=10 -o ServerAliveInterval=5 -o ServerAliveCountMax=3"
+# Ends a job that isn't to begin, before its login and, on this machine, before its script.
+UNLESS_OVER = '[ ! -e "$PARALLEL_HOME/over-$PARALLEL_SEQ" ] || exit 0; '
+_NUMBER = "PARALLEL_SEQ"
+
+
+class ParallelError(Exception):
+    """GNU parallel can't be used, with the reason."""
+
+
+class Ended(NamedTuple):
+    """A job that ended: its number, from 1, its machine, and whether it did well."""
+
+    job: int
+    machine: str
+    well: bool
+
+
+def machine_of(login: str) -> str:
+    """Returns a machine as GNU parallel names it: without how many jobs at a time it takes."""
+    number, slash, rest = login.partition("/")
+    return rest if slash and number.isdigit() else login
+
+
+class _Log:
+    """GNU parallel's log of its jobs, read as it grows."""
+
+    def __init__(self, path: Path):
+        self._path = path
+        self._read = 0
+
+    def news(self) -> list[Ended]:
+        """Returns the jobs that ended since the last look."""
+        try:
+            with open(self._path, "rb") as log:
+                log.seek(self._read)
+                text = log.read()
+        except FileNotFoundError:
+            return []
+        whole = text[: text.rfind(b"\n") + 1]
+        self._read += len(whole)
+        ended = []
+        for line in whole.decode("utf-8", "replace").splitlines():
+            fields = line.split("\t")
+            if len(fields) > 7 and fields[0].isdigit():
+                ended.append(Ended(int(fields[0]), fields[1], fields[6:8] == ["0", "0"]))
+        return ended
+
+
+class Parallel:
+    """GNU parallel, with `jobs` jobs at a time on each machine."""
+
+    def __init__(self, jobs: Optional[int], ssh: Optional[str]):
+        """Finds GNU parallel. ParallelError where it isn't installed: another program has its name."""
+        parallel = shutil.which("parallel")
+        if parallel is None or not _is_gnu(parallel):
+            raise ParallelError("--sshlogin needs GNU parallel: install Debian's package parallel")
+        self.jobs = jobs
+        self._words = [parallel, "--will-cite", "--line-buffer"]
+        self._words += ["--jobs", str(jobs)] if jobs else []
+        self._ssh = ssh or _SSH
+        # About the run at hand.
+        self._room: Optional[Path] = None
+        self._session = 0
+        self._said = ""
+
+    def run(
+        self,
+        logins: list[str],
+        script: Sequence[str],
+        lines: Iterable[str],
+        take: Callable[[bytes], None],
+        look: Callable[[list[Ended]], bool] = lambda ended: True,
+    ) -> None:
+        """Runs a script with its own words and a line's words, once for each line.
+
+        `take` gets each line that comes back, at once. `look` gets the jobs that ended now and
+        then; it may take logins out of their list, and ends the run where it returns False.
+        """
+        with tempfile.TemporaryDirectory(prefix="pops-many-") as name:
+            room = Path(name)
+            (room / "tasks").write_text("".join(line + "\n" for line in lines), "ascii")
+            (room / "ssh").write_text(f'{UNLESS_OVER}exec {self._ssh} "$@"\n')
+            _write_logins(room, logins)
+            environment = {**os.environ, "PARALLEL_HOME": name}
+            environment["PARALLEL_SSH"] = f"sh {shlex.quote(str(room / 'ssh'))}"
+            environment.pop(_NUMBER, None)
+            # (without it, jobs on machines where SHELL isn't set do nothing, and say nothing)
+            environment["PARALLEL_SHELL"] = "/bin/sh"
+            with open(room / "errors", "wb") as errors:
+                words = self._command(room, script)
+                child = ChildProcess(words, subprocess.DEVNULL, errors, environment)
+            self._room, self._session = room, child.run.pid
+            with sessions.watched(self._session, name):
+                looks = threading.Thread(target=_look, args=(child, room, logins, look))
+                looks.start()
+                try:
+                    _take_all(child, take)
+                finally:
+                    looks.join()
+                    child.release()
+                    self._said = self.last_error
+                    self._room = None
+
+    def _command(self, room: Path, script: Sequence[str]) -> list[str]:
+        return self._words + [
+            "--sshloginfile",
+            str(room / "machines"),
+            "--joblog",
+            str(room / "log"),
+            "-a",
+            str(room / "tasks"),
+            " ".join(map(shlex.quote, ["sh", "-c", *script])) + " {}",
+        ]
+
+    def stop(self, jobs: Sequence[int]) -> None:
+        """Stops jobs of the run at hand; those that aren't begun never are."""
+        assert self._room is not None
+        for job in jobs:
+            (self._room / f"over-{job}").touch()
+        marks = {f"{_NUMBER}={job}".encode("ascii") for job in jobs}
+        for process in sessions.members(self._session):
+            try:
+                own = Path(f"/proc/{process}/environ").read_bytes().split(b"\0")
+                if not marks.isdisjoint(own):
+                    os.kill(process, signal.SIGKILL)
+            except OSError:
+                pass
+
+    @property
+    def last_error(self) -> str:
+        """The last line that ssh or GNU parallel said in the last run or the one at hand."""
+        if self._room is None:
+            return self._said
+        said = (self._room / "errors").read_text("utf-8", "replace").strip().splitlines()
+        return said[-1] if said else "no report came back"
+
+
+def _is_gnu(parallel: str) -> bool:
+    said = subprocess.run([parallel, "--version"], stdin=subprocess.DEVNULL, capture_output=True)
+    return said.stdout.startswith(b"GNU parallel")
+
+
+def _write_logins(room: Path, logins: Sequence[str]) -> None:
+    (room / "machines.new").write_text("".join(login + "\n" for login in logins))
+    os.replace(room / "machines.new", room / "machines")
+
+
+def _take_all(child: ChildProcess, take: Callable[[bytes], None]) -> None:
+    """Hands each line on; also those that came before the run was ended."""
+    assert child.run.stdout is not None
+    try:
+        for line in child.run.stdout:
+            take(line)
+        child.run.wait()
+    except BaseException:
+        _end(child)
+        for line in child.run.stdout:
+            take(line)
+        raise
+
+
+def _look(
+    child: ChildProcess,
+    room: Path,
+    logins: list[str],
+    look: Callable[[list[Ended]], bool],
+) -> None:
+    log = _Log(room / "log")
+    before = len(logins)
+    while True:
+        ended = child.run.poll() is not None
+        if not look(log.news()):
+            sessions.end(child.run.pid)
+            return
+        if len(logins) < before:
+            before = len(logins)
+            _write_logins(room, logins)
+        if ended:
+            return
+        try:
+            child.run.wait(_SECONDS_BETWEEN_LOOKS)
+        except subprocess.TimeoutExpired:
+            pass
+
+
+def _end(child: ChildProcess) -> None:
+    """Ends GNU parallel; at its second signal it ends its jobs too."""
+    for _ in range(2):
+        if child.run.poll() is None:
+            child.send(signal.SIGTERM)
+            try:
+                child.run.wait(_SECONDS_TO_END)
+            except subprocess.TimeoutExpired:
+                pass
+    sessions.end(child.run.pid)
+    child.run.wait()

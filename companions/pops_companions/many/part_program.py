@@ -1,0 +1,145 @@
+"""Runs of the program pops-part on this machine."""
+
+import signal
+import subprocess
+import tempfile
+from collections.abc import Callable, Generator, Iterator, Sequence
+from contextlib import closing
+
+from pops_companions.many.batches import Batch, numbers_of
+from pops_companions.many.child_process import ChildProcess
+from pops_companions.many.parts import (
+    Key,
+    Part,
+    PartsError,
+    Phase,
+    count_in,
+    phases_listed,
+    up_to_totals,
+)
+from pops_companions.many.program import PAUSE, SOUND, RunError, Runs
+from pops_companions.many.tasks import whole_lines
+
+# In milliseconds, in place of PAUSE.
+_SHORT_PAUSE = 2
+
+
+def _whole(texts: Sequence[bytes]) -> bytes:
+    """Returns the report of a part. RunError where its number of solutions lacks or is another one.
+    """
+    report = b"".join(texts)
+    if count_in(report) is None:
+        raise RunError("the lines of a part don't end with their number")
+    return report
+
+
+def _pauses(batch: Batch, asked: Sequence[Part]) -> Callable[[], int]:
+    """Returns how long a run on a batch may go on unread, in milliseconds, before each piece that
+    it writes.
+
+    Where another run took over its last parts, it is read soon after the parts that are left.
+    """
+    before = len(asked)
+
+    def pause() -> int:
+        nonlocal before
+        left = len(batch)
+        came, before = before - left, left
+        return _SHORT_PAUSE if left <= max(came, 1) and batch.last is not asked[-1] else PAUSE
+
+    return pause
+
+
+class PartProgram(Runs):
+    """pops-part, which lists the parts of a problem and solves batches of them."""
+
+    def __init__(self, path: str, depth: int):
+        super().__init__("pops-part", [path])
+        self.depth = depth
+        # What parts had written that came to no end, as where they were stopped.
+        self.begun: dict[Key, bytes] = {}
+        self._at_work: dict[Key, ChildProcess] = {}
+        self._dropped: set[Key] = set()
+
+    def phases(self, text: bytes) -> list[Phase]:
+        """Returns the phases of the one problem of an input. PartsError where pops-part doesn't
+        list them.
+        """
+        status, listed, error = self._answer(["--list", "--depth", str(self.depth)], text)
+        if status != SOUND:
+            raise PartsError(self._reason(status, error))
+        return phases_listed(listed)
+
+    def _answer(self, words: Sequence[str], text: bytes) -> tuple[int, bytes, bytes]:
+        """Status, output and message of a run."""
+        child = self._started(words, subprocess.PIPE, subprocess.PIPE)
+        _, output, error = self._ended(child, text, None)
+        return child.run.returncode, output, error
+
+    def report(self, part: Part) -> bytes:
+        """Returns the report of a part. RunError where the run failed."""
+        return next(self.reports(Batch([part])))[1]
+
+    def reports(self, batch: Batch) -> Iterator[tuple[Part, bytes]]:
+        """Yields the parts that are left of a batch, each with its report as it comes, all from one
+        run.
+
+        RunError at the first part that didn't come to its end.
+        """
+        asked = batch.left
+        words = ["--item", "1", "--phase", asked[0].phase, "--part", numbers_of(asked)]
+        words += ["--depth", str(asked[0].depth)]
+        written: list[bytes] = []
+        try:
+            with closing(self._pieces(words, asked[0], _pauses(batch, asked))) as pieces:
+                for text, is_total in up_to_totals(pieces):
+                    written.append(text)
+                    # (the last part asked for is whole once the run has ended well)
+                    if is_total and batch.first is not asked[-1]:
+                        report, written = _whole(written), []
+                        yield batch.pass_first(), report
+                        if not batch:
+                            return
+            if batch.first is not asked[-1]:
+                raise RunError(self._reason(SOUND, b""))
+            report = _whole(written)
+            yield batch.pass_first(), report
+        except RunError:
+            if written:
+                self.begun[batch.first.key] = whole_lines(b"".join(written))
+            raise
+
+    def _pieces(
+        self, words: Sequence[str], first: Part, pause: Callable[[], int]
+    ) -> Generator[bytes, None, None]:
+        """Yields what a run on a batch writes, piece by piece after pauses; it may be dropped
+        meanwhile.
+
+        RunError where it doesn't end well.
+        """
+        with tempfile.TemporaryFile() as errors:
+            child = self._started(words, subprocess.PIPE, errors)
+            with self._lock:
+                self._at_work[first.key] = child
+                if first.key in self._dropped:
+                    child.send(signal.SIGKILL)
+            try:
+                yield from self._written(child, first.text, pause)
+            finally:
+                with self._lock:
+                    del self._at_work[first.key]
+            status = child.run.returncode
+            if status != SOUND:
+                errors.seek(0)
+                raise RunError(self._reason(status, errors.read()))
+
+    def drop(self, part: Part) -> None:
+        """Stops the run that begins with a part that can't matter any more."""
+        with self._lock:
+            self._dropped.add(part.key)
+            if part.key in self._at_work:
+                self._at_work[part.key].send(signal.SIGKILL)
+
+    def is_over(self, part: Part) -> bool:
+        """Returns whether a failed part was stopped on purpose."""
+        return self._stopped or part.key in self._dropped

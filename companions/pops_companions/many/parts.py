@@ -1,0 +1,164 @@
+"""Parts of a problem, and what the program pops-part says of them.
+
+A phase is cut by its first moves, one or a few of them. pops-part lists how many parts there are
+and solves each; in their order they make the phase.
+"""
+
+import re
+from collections.abc import Iterable, Iterator
+from typing import NamedTuple, Optional
+
+from pops_companions.input.words import is_short_for, words_of
+from pops_companions.many.tasks import Task
+from pops_companions.report import lines
+
+# A phase of more parts than that is cut too small.
+MOST_PARTS = 100_000
+
+_SOUND = lines.SOUND + b"\n\n"
+_LIST = re.compile(rb"1: (?:set (?:(?P<set>\d+)|(?P<barred>not possible)), )?play (?P<play>\d+)\n")
+
+
+class PartsError(Exception):
+    """A problem that can't be cut into parts, with the reason."""
+
+
+class Phase(NamedTuple):
+    """A phase and how many parts it has; None where it isn't possible."""
+
+    name: str
+    parts: Optional[int]
+
+
+class Key(NamedTuple):
+    """Identifies a part in a run. `place` is its problem's, `depth` the moves by which it is cut."""
+
+    place: int
+    phase: str
+    number: int
+    depth: int
+
+
+class Part(NamedTuple):
+    """One part of a phase of a problem, numbered from 1."""
+
+    task: Task
+    phase: str
+    number: int
+    depth: int
+
+    @property
+    def key(self) -> Key:
+        return Key(self.task.place, self.phase, self.number, self.depth)
+
+    @property
+    def text(self) -> bytes:
+        """The problem as an input of its own."""
+        return self.task.text_without_line_ends
+
+    @property
+    def shown(self) -> str:
+        """The part as messages name it."""
+        return f"part {self.number} of the {self.phase} of {self.task.shown}"
+
+
+def phases_listed(listed: bytes) -> list[Phase]:
+    """Returns the phases that pops-part lists of one problem."""
+    found = _LIST.fullmatch(listed)
+    if found is None:
+        raise PartsError(f"pops-part lists no parts but {listed[:80]!r}")
+    phases = [Phase("play", int(found["play"]))]
+    if found["barred"]:
+        phases.insert(0, Phase("set", None))
+    elif found["set"]:
+        phases.insert(0, Phase("set", int(found["set"])))
+    if any((phase.parts or 0) > MOST_PARTS for phase in phases):
+        raise PartsError("more than 100,000 parts: a smaller --split-depth makes fewer")
+    return phases
+
+
+def limit_of(text: bytes) -> Optional[int]:
+    """Returns the limit of the last MaxSolutions of a sound problem, where it has one.
+
+    Its number is the next word; text lines may stand before it.
+    """
+    limit = None
+    words = words_of(text)
+    for word, number in zip(words, words[1:]):
+        if is_short_for(word, "MaxSolutions"):
+            if not number.isdigit():
+                raise PartsError("no number after MaxSolutions")
+            limit = int(number)
+    return limit
+
+
+def head_of(checked: bytes) -> bytes:
+    """Returns the head of a sound problem's report, from that of `pops --check`."""
+    if not checked.endswith(b"\n" + _SOUND):
+        raise PartsError("pops --check doesn't call it sound")
+    return checked[: -len(_SOUND)]
+
+
+def solutions_in(text: bytes) -> list[bytes]:
+    """Returns the solutions: each a line, with the lines below it that stand further in."""
+    solutions: list[list[bytes]] = []
+    for line in text.splitlines(keepends=True):
+        if line.startswith(b" ") and solutions:
+            solutions[-1].append(line)
+        else:
+            solutions.append([line])
+    return [b"".join(solution) for solution in solutions]
+
+
+def without_totals(text: bytes) -> list[bytes]:
+    """Returns the lines that don't say how many solutions there are."""
+    return [line for line in text.splitlines(keepends=True) if not lines.is_total(line)]
+
+
+def up_to_totals(pieces: Iterable[bytes]) -> Iterator[tuple[bytes, bool]]:
+    """Yields the text in other pieces, each with at most one total, at its end, and whether it has."""
+    rest = b""
+    for piece in pieces:
+        whole, end, rest = (rest + piece).rpartition(b"\n")
+        whole, begin = whole + end, 0
+        for stop in _ends_of_totals(whole):
+            yield whole[begin:stop], True
+            begin = stop
+        if begin < len(whole):
+            yield whole[begin:], False
+    if rest:
+        yield rest, False
+
+
+def _ends_of_totals(whole: bytes) -> Iterator[int]:
+    """Yields where the totals among whole lines end; other lines aren't looked at one by one."""
+    begin = 0
+    while True:
+        if not whole.startswith(lines.SOLUTIONS, begin):
+            begin = whole.find(b"\n" + lines.SOLUTIONS, begin) + 1
+            if begin == 0:
+                return
+        stop = whole.index(b"\n", begin)
+        total = lines.TOTAL.fullmatch(whole, begin, stop)
+        begin = stop + 1
+        if total is not None:
+            yield begin
+
+
+def lines_without_total(report: bytes) -> bytes:
+    """Returns the lines of a whole part's report but the last, which is its total."""
+    return report[: report.rfind(b"\n", 0, -1) + 1]
+
+
+def solutions_of(report: bytes) -> list[bytes]:
+    """Returns the solutions of a part's report."""
+    return solutions_in(b"".join(without_totals(report)))
+
+
+def count_in(report: bytes) -> Optional[int]:
+    """Returns how many solutions a part has; None where its report is cut or has another number."""
+    start = report.rfind(b"\n", 0, -1) + 1
+    total = lines.TOTAL.fullmatch(report, start, len(report) - 1) if report.endswith(b"\n") else None
+    above = report[:start]
+    begun = above.count(b"\n") - above.count(b"\n ") - above.startswith(b" ")
+    return begun if total is not None and int(total[1]) == begun else None

@@ -1,0 +1,262 @@
+"""Programs on this machine: where they are, and runs of them."""
+
+import os
+import select
+import shutil
+import signal
+import subprocess
+import threading
+from collections.abc import Callable, Generator, Sequence
+from pathlib import Path
+from typing import Optional
+
+from pops_companions.many.child_process import ChildProcess, Stream
+from pops_companions.many.tasks import UNFINISHED, Result, Task, is_whole, whole_lines
+from pops_companions.places import COMPANIONS
+
+# A run of pops ends with one of these where every byte of its report was written.
+SOUND, FAULTY = 0, 1
+
+# What a run writes is read after pauses of this many milliseconds, unless it ends sooner or writes
+# much: it writes line by line, and waking for each line would cost more than the search.
+PAUSE = 20
+_PIECE = 1 << 16
+
+LOOKED_FOR = (
+    "the program (default: $POPS, the one built in this repository or released with its sources,"
+    " the one installed with the companions (../../../bin/pops from their folder), the one on the"
+    " PATH); nothing is built"
+)
+
+
+class MissingError(Exception):
+    """No program was found, with what to do."""
+
+
+class RunError(Exception):
+    """A run that came to no end, with the reason."""
+
+
+def find(named: Optional[str]) -> str:
+    """Finds the program as LOOKED_FOR says; builds none. MissingError where it is nowhere."""
+    named = named or os.environ.get("POPS")
+    if named:
+        found = shutil.which(named)
+        if found is None:
+            raise MissingError(f"there is no program {named}")
+        return _without_script(found)
+    repository = COMPANIONS.parent
+    places = ["pops"]
+    if COMPANIONS.parts[-3:] == ("share", "pops", "companions"):
+        places.insert(0, str(COMPANIONS.parents[2] / "bin" / "pops"))
+    for found in [_of_sources(repository, "pops"), *(shutil.which(it) for it in places)]:
+        if found is not None:
+            return _without_script(found)
+    if _is_repository(repository):
+        raise _unbuilt(repository)
+    raise MissingError("there is no program pops: name it with --pops")
+
+
+def find_part_program(named: Optional[str], pops: str) -> str:
+    """Returns the program of parts: as named, $POPS_PART, from the repository of pops or beside it,
+    from this repository, or on the PATH.
+    """
+    named = named or os.environ.get("POPS_PART")
+    if named:
+        found = shutil.which(named)
+        if found is None:
+            raise MissingError(f"there is no program {named}")
+        return _without_script(found, "pops-part")
+    folder = Path(pops).resolve().parent
+    # (built in crates/pops/out, or released in release)
+    above = list(folder.parents)
+    repositories = [it for it in above[2:3] + above[:1] if _is_repository(it)]
+    beside = [] if repositories else [shutil.which(str(folder / "pops-part"))]
+    repositories.append(COMPANIONS.parent)
+    of_sources = [_of_sources(it, "pops-part") for it in repositories]
+    for found in (*beside, *of_sources, shutil.which("pops-part")):
+        if found is not None:
+            return _without_script(found, "pops-part")
+    if _is_repository(COMPANIONS.parent):
+        raise _unbuilt(COMPANIONS.parent, "pops-part")
+    raise MissingError("there is no program pops-part, for --split: name it with --pops-part")
+
+
+def _is_repository(folder: Path) -> bool:
+    return (folder / "crates" / "pops").is_dir()
+
+
+def _of_sources(repository: Path, name: str) -> Optional[str]:
+    """Returns the program of a repository's sources, built or released, if there is one."""
+    script = repository / "find-program"
+    if not _is_repository(repository) or not script.is_file():
+        return None
+    found = subprocess.run([str(script), name], stdin=subprocess.DEVNULL, stdout=subprocess.PIPE)
+    return os.fsdecode(found.stdout).rstrip("\n") or None
+
+
+def _without_script(found: str, name: str = "pops") -> str:
+    """Returns what was found; for a repository's script, which may build, the program of its
+    sources.
+    """
+    folder = Path(found).resolve().parent
+    if not _is_repository(folder):
+        return found
+    program = _of_sources(folder, name)
+    if program is None:
+        raise _unbuilt(folder, name)
+    return program
+
+
+def _unbuilt(repository: Path, name: str = "pops") -> MissingError:
+    words = [str(repository / name), str(repository / "examples" / "mate_in_one.pop")]
+    if name != "pops":
+        words.insert(1, "--list")
+    return MissingError(
+        f"there is no {name} of these sources: build it by {' '.join(words)},"
+        f" or name one with --{name}"
+    )
+
+
+class Runs:
+    """Runs of a program; `stop` ends all runs and lets none begin."""
+
+    def __init__(self, name: str, words: Sequence[str]):
+        self._name = name
+        self._words = list(words)
+        self._running: set[ChildProcess] = set()
+        self._lock = threading.Lock()
+        self._stopped = False
+
+    def _started(self, words: Sequence[str], source: Stream, errors: Stream) -> ChildProcess:
+        """Starts it with more words."""
+        with self._lock:
+            if self._stopped:
+                raise RunError("stopped")
+            try:
+                child = ChildProcess([*self._words, *words], source, errors)
+            except OSError as error:
+                raise RunError(f"{self._name} can't be run: {error.strerror}") from None
+            self._running.add(child)
+            return child
+
+    def _ended(
+        self, child: ChildProcess, text: Optional[bytes], seconds: Optional[float]
+    ) -> tuple[bool, bytes, bytes]:
+        """Returns whether a run ended in its time, what it wrote and what it said."""
+        try:
+            in_time = True
+            try:
+                report, error = child.run.communicate(text, seconds)
+            except subprocess.TimeoutExpired:
+                in_time = False
+                child.send(signal.SIGKILL)
+                report, error = child.run.communicate()
+            return in_time, report, error or b""
+        finally:
+            with self._lock:
+                self._running.discard(child)
+            child.release()
+
+    def _written(
+        self, child: ChildProcess, text: bytes, pause: Callable[[], int]
+    ) -> Generator[bytes, None, None]:
+        """Yields what a run writes, piece by piece, after pauses in milliseconds. It is stopped where
+        it isn't read on."""
+        run, is_read = child.run, False
+        assert run.stdin is not None and run.stdout is not None
+        output = run.stdout.fileno()
+        # (without an event of its own it reports only the end)
+        end = select.poll()
+        end.register(output, 0)
+        try:
+            try:
+                with run.stdin:
+                    run.stdin.write(text)
+            except BrokenPipeError:
+                pass
+            while True:
+                piece = os.read(output, _PIECE)
+                if not piece:
+                    break
+                yield piece
+                if len(piece) < _PIECE // 2:
+                    end.poll(pause())
+            is_read = True
+        finally:
+            if not is_read:
+                child.send(signal.SIGKILL)
+            run.stdout.close()
+            run.wait()
+            with self._lock:
+                self._running.discard(child)
+            child.release()
+
+    def _reason(self, status: int, error: bytes) -> str:
+        """Returns why a run failed."""
+        if status < 0:
+            return f"{self._name} was ended by signal {-status}"
+        said = error.decode("utf-8", "replace").strip()
+        return f"{self._name} ended with status {status}" + (f": {said}" if said else "")
+
+    def stop(self) -> None:
+        """Ends all runs at hand; later ones are refused."""
+        with self._lock:
+            self._stopped = True
+            for child in self._running:
+                child.send(signal.SIGKILL)
+
+
+class Program(Runs):
+    """pops with the options of its runs.
+
+    A run on one problem is stopped after `seconds`, if there is a limit.
+    """
+
+    def __init__(self, path: str, options: Sequence[str], seconds: Optional[float]):
+        super().__init__("pops", [path, *options])
+        self.seconds = seconds
+
+    def solve(self, task: Task) -> Result:
+        """Runs a task. RunError where pops didn't come to its end, but for its time."""
+        if task.piece is None:
+            return self._whole(task)
+        return self.told_anew(task, *self._one(task.text))
+
+    def told_anew(self, task: Task, status: int, report: bytes) -> Result:
+        """Returns the result of a first run; for the line of a fault it runs the problem again, here.
+        """
+        if task.wants_line_ends(report):
+            status, report = self._one(task.text_with_line_ends)
+        if status == UNFINISHED:
+            return Result(task, status, task.numbered(whole_lines(report)), self.seconds)
+        return Result(task, status, task.numbered(report))
+
+    def report(self, text: bytes) -> bytes:
+        """Returns the report of one problem."""
+        return self._one(text)[1]
+
+    def _one(self, text: bytes) -> tuple[int, bytes]:
+        """Status and report of a run on one problem; UNFINISHED where its time was over."""
+        child = self._started([], subprocess.PIPE, subprocess.PIPE)
+        in_time, report, error = self._ended(child, text, self.seconds)
+        status = child.run.returncode
+        if status in (SOUND, FAULTY) and is_whole(report):
+            return status, report
+        if not in_time:
+            return UNFINISHED, report
+        raise RunError(self._reason(status, error))
+
+    def _whole(self, task: Task) -> Result:
+        """Returns a source that is left to pops: it reads it by itself.
+
+        What it says goes to standard error, unless the file was reported already.
+        """
+        name, text = task.source.name, task.source.text
+        source = subprocess.PIPE if name is None else None
+        errors = subprocess.DEVNULL if text is None else None
+        child = self._started([] if name is None else [name], source, errors)
+        _, report, _ = self._ended(child, text if name is None else None, None)
+        if child.run.returncode < 0:
+            raise RunError(self._reason(child.run.returncode, b""))
+        return Result(task, child.run.returncode, report)

@@ -1,0 +1,131 @@
+"""Shows how far a run is, only on a terminal."""
+
+import os
+import sys
+import time
+from collections.abc import Callable
+
+_SECONDS_BETWEEN = 0.5
+
+
+def duration(seconds: float) -> str:
+    """Returns a time as `0:05`, `1:02:03` or `2 days 3:04:05`."""
+    whole = int(seconds + 0.5)
+    days, rest = divmod(whole, 86400)
+    hours, rest = divmod(rest, 3600)
+    minutes, rest = divmod(rest, 60)
+    clock = f"{hours}:{minutes:02}:{rest:02}" if days or hours else f"{minutes}:{rest:02}"
+    return f"{days} days {clock}" if days else clock
+
+
+class Progress:
+    """One line that is rewritten: how much is done, and the time left.
+
+    It counts problems, and once problems are in parts, the parts of the problem that got on last.
+    """
+
+    def __init__(self, name: str):
+        self._name = name
+        self._before = self._done = self._total = 0
+        self._parts_before = self._parts_left = 0
+        self._is_of_parts = False
+        self._began = self._next = 0.0
+        # Whether standard error is a terminal.
+        self.is_shown = sys.stderr.isatty()
+        self._width = 0
+
+    def begin(self, done: int, total: int) -> None:
+        """Begins a run of `total` problems, of which `done` are done."""
+        self._before = self._done = done
+        self._total = total
+        self._began = self._next = time.monotonic()
+
+    def one_more(self) -> None:
+        """Counts another problem as done."""
+        self._done += 1
+        is_last = self._done == self._total
+        if is_last or not self._is_of_parts:
+            self._tell(self.line, is_last)
+
+    def wait_on(self) -> None:
+        """Shows that time passes while no problem is done."""
+        if not self._is_of_parts:
+            self._tell(self.line, False)
+
+    def line(self, seconds: float) -> str:
+        """Returns the line after `seconds` of this run."""
+        text = f"{self._name}: {self._done} of {self._total} problems"
+        left = self._total - self._done
+        if left and self._done > self._before:
+            text += f", about {duration(seconds / (self._done - self._before) * left)} left"
+        elif left:
+            text += f", {duration(seconds)} so far"
+        return text
+
+    def begin_parts(self, left: int) -> None:
+        """Begins to count the `left` parts of all problems in parts."""
+        self._is_of_parts = True
+        self._parts_before = self._parts_left = left
+        self._began = self._next = time.monotonic()
+
+    def part(self, problem: str, tally: tuple[int, int], found: int, left: int) -> None:
+        """Shows how far a problem is, in parts and solutions; `left` parts are left in all."""
+        self._parts_left = left
+
+        def line(seconds: float) -> str:
+            text = self.line_of_parts(problem, tally, found, seconds)
+            # In a narrow terminal without the FILE: a broken line can't be rewritten.
+            if len(text) < _columns() or not _columns():
+                return text
+            return self.line_of_parts(problem.partition(" (")[0], tally, found, seconds)
+
+        self._tell(line, False)
+
+    def line_of_parts(
+        self, problem: str, tally: tuple[int, int], found: int, seconds: float
+    ) -> str:
+        """Returns the line of a problem in parts after `seconds`."""
+        plural = "" if found == 1 else "s"
+        text = f"{self._name}: {problem}: {tally[0]} of {tally[1]} parts, {found} solution{plural}"
+        done = self._parts_before - self._parts_left
+        if done > 0 and self._parts_left > 0:
+            text += f", about {duration(seconds / done * self._parts_left)} left"
+        return text
+
+    def _tell(self, line: Callable[[float], str], is_last: bool) -> None:
+        """Writes a line, but where the one before is new."""
+        now = time.monotonic()
+        if self.is_shown and (now >= self._next or is_last):
+            self._next = now + _SECONDS_BETWEEN
+            text = line(now - self._began)
+            _tell("\r" + text.ljust(self._width))
+            self._width = len(text)
+
+    def say(self, message: str) -> None:
+        """A message of its own line."""
+        cleared = "\r" + " " * self._width + "\r" if self._width else ""
+        self._width = 0
+        _tell(f"{cleared}{self._name}: {message}\n")
+
+    def end(self) -> None:
+        """Ends the line."""
+        if self._width:
+            _tell("\n")
+            self._width = 0
+
+
+def _columns() -> int:
+    """Returns how wide the terminal is; 0 where nobody knows."""
+    try:
+        return os.get_terminal_size(sys.stderr.fileno()).columns
+    except OSError:
+        return 0
+
+
+def _tell(text: str) -> None:
+    """Writes on standard error. If nobody reads it, as on a closed terminal, no later write fails."""
+    try:
+        sys.stderr.write(text)
+        sys.stderr.flush()
+    except OSError:
+        os.dup2(os.open(os.devnull, os.O_WRONLY), sys.stderr.fileno())

@@ -1,0 +1,273 @@
+"""Runs parts of problems on other machines, through GNU parallel and ssh.
+
+A machine also needs pops-part, and MIME::Base64 of perl. Parts go out as problems do. What each
+writes comes back line by line, as soon as it is written, and last how it ended.
+"""
+
+import base64
+import binascii
+import re
+from collections.abc import Callable, Iterable, Sequence
+from typing import NamedTuple, Optional
+
+from pops_companions.input.pieces import cut
+from pops_companions.many.machines import (
+    PROBE,
+    ROUNDS_WITHOUT_REPORT,
+    Machines,
+    MachinesError,
+    Watch,
+    coded,
+    logins_of,
+)
+from pops_companions.many.parallel import UNLESS_OVER, Ended, Parallel, machine_of
+from pops_companions.many.part_program import PartProgram
+from pops_companions.many.parts import Key, Part, PartsError, count_in
+from pops_companions.many.program import SOUND, RunError
+from pops_companions.many.tasks import Source, Task
+
+# The program is $0; the one word after it holds number, phase, part and text of each in turn.
+_SCRIPT = (
+    UNLESS_OVER + "set -f; set -- $1; while [ $# -gt 3 ]; do "
+    '{{ printf %s "$4" | base64 -d | '
+    '"$0" --item 1 --phase "$2" --part "$3" --depth {depth}; '
+    'printf "ended %d %s\\n" "$?" "$PARALLEL_SSHLOGIN"; }} | '
+    "perl -MMIME::Base64 -ne "
+    '\'BEGIN {{ $| = 1; $n = shift }} print "$n ", encode_base64($_, ""), "\\n"\' "$1"; '
+    "shift 4; done"
+)
+_ENDED = re.compile(rb"ended (\d+) (.*)\n")
+# Where nobody says how many jobs a machine takes, it may be as many: each is to have some logins.
+_PLACES_OF_A_MACHINE = 64
+
+
+def _word(number: int, part: Part) -> str:
+    """Returns a part as the script takes it."""
+    return f"{number} {part.phase} {part.number} {coded(part.text)}"
+
+
+def _decoded(line: bytes) -> Optional[tuple[int, bytes]]:
+    """Returns the number of a part, and what it wrote; None where the line was cut."""
+    number, _, text = line.partition(b" ")
+    try:
+        return int(number), base64.b64decode(text.rstrip(b"\n"), validate=True)
+    except (binascii.Error, ValueError):
+        return None
+
+
+class Handling(NamedTuple):
+    """What is done with parts. `keep` takes a part that is done and returns whether others no longer
+    matter, `fail` reports parts that failed on a machine, with the reason."""
+
+    keep: Callable[[Part, bytes], bool]
+    fail: Callable[[Sequence[Part], str, str], None]
+    is_needless: Callable[[Part], bool]
+
+
+class _Round:
+    """Parts that are handed out once, and what comes back of them."""
+
+    def __init__(
+        self,
+        parts: Sequence[Part],
+        places: int,
+        parallel: Parallel,
+        watch: Watch,
+        handling: Handling,
+    ):
+        self._parts = parts
+        self._parallel = parallel
+        self._watch = watch
+        self._handling = handling
+        self._open = set(range(len(parts)))
+        self._written: dict[int, list[bytes]] = {}
+        logins = logins_of([_word(number, part) for number, part in enumerate(parts)], places)
+        self.lines = [" ".join(words) for words in logins]
+        # The numbers of the parts of each job, and the job of each part.
+        self._jobs: dict[int, range] = {}
+        self._job_of: list[int] = []
+        for job, words in enumerate(logins, start=1):
+            self._jobs[job] = range(len(self._job_of), len(self._job_of) + len(words))
+            self._job_of += [job] * len(words)
+        self._stopped: set[int] = set()
+        self._broken: list[Ended] = []
+
+    def take(self, line: bytes) -> None:
+        """Takes a line that came back."""
+        told = _decoded(line)
+        if told is None or told[0] not in self._open:
+            return
+        number, text = told
+        ended = _ENDED.fullmatch(text)
+        if ended is None:
+            self._written.setdefault(number, []).append(text)
+        else:
+            self._open.remove(number)
+            self._end(number, int(ended[1]), ended[2].decode("utf-8", "replace"))
+
+    def _end(self, number: int, status: int, machine: str) -> None:
+        part = self._parts[number]
+        report = b"".join(self._written.get(number, []))
+        fewer = False
+        if status == SOUND and count_in(report) is not None:
+            del self._written[number]
+            self._watch.note(machine, True)
+            fewer = self._handling.keep(part, report)
+        elif not self._handling.is_needless(part):
+            self._watch.note(machine, False)
+            self._handling.fail([part], machine, f"pops-part ended with status {status}")
+        self._stop(self._jobs if fewer else [self._job_of[number]])
+
+    def _stop(self, jobs: Iterable[int]) -> None:
+        """Stops the jobs that have no part left that matters."""
+        stale = []
+        for job in jobs:
+            left = [self._parts[number] for number in self._jobs[job] if number in self._open]
+            if left and job not in self._stopped and all(map(self._handling.is_needless, left)):
+                stale.append(job)
+        if stale:
+            self._stopped.update(stale)
+            self._parallel.stop(stale)
+
+    def note(self, jobs: Sequence[Ended]) -> None:
+        """Notes jobs that ended."""
+        for job in jobs:
+            if not job.well and job.job not in self._stopped:
+                self._broken.append(job)
+                self._watch.note(job.machine, False)
+
+    def close(self) -> None:
+        """Ends the round, after all jobs: a broken login failed at the first of its open parts."""
+        failed: dict[str, list[Part]] = {}
+        for job, machine, _ in self._broken:
+            left = [number for number in self._jobs[job] if number in self._open]
+            if left:
+                failed.setdefault(machine, []).append(self._parts[left[0]])
+        for machine, parts in failed.items():
+            self._handling.fail(parts, machine, self._parallel.last_error)
+
+    def begun(self) -> dict[Key, bytes]:
+        """Returns what came back of parts that failed."""
+        written = self._written.items()
+        return {self._parts[number].key: b"".join(lines) for number, lines in written}
+
+
+class RemoteParts:
+    """The program pops-part on other machines."""
+
+    def __init__(
+        self,
+        machines: Machines,
+        parallel: Parallel,
+        pops_part: str,
+        program: PartProgram,
+        say: Callable[[str], None],
+    ):
+        """Asks each machine for a part of one problem, and leaves out those that fail.
+
+        MachinesError where none is left, or the program here doesn't solve this part.
+        """
+        self._machines = machines
+        self._parallel = parallel
+        self._program = program
+        self._say = say
+        self._script = [_SCRIPT.format(depth=program.depth), pops_part]
+        self._probe()
+
+    def _probe(self) -> None:
+        part = Part(Task(0, Source(None, PROBE), cut(PROBE)[0]), "play", 1, self._program.depth)
+        try:
+            self._program.phases(PROBE)
+            wanted = self._program.report(part)
+        except (PartsError, RunError) as error:
+            raise MachinesError(str(error)) from None
+        self._machines.alive = [
+            login for login in self._machines.alive if self._is_sound(login, part, wanted)
+        ]
+        self._machines.expect_some()
+
+    def _is_sound(self, login: str, part: Part, wanted: bytes) -> bool:
+        answers: list[bytes] = []
+        reasons: list[str] = []
+
+        def keep(part: Part, report: bytes) -> bool:
+            answers.append(report)
+            return False
+
+        def fail(parts: Sequence[Part], machine: str, reason: str) -> None:
+            reasons.append(reason)
+
+        self._hand_out([part], [login], Handling(keep, fail, lambda part: False))
+        if answers == [wanted]:
+            return True
+        reasons.append("its pops-part gives another report" if answers else "no report came back")
+        self._say(f"machine {login} left out: {reasons[0]}")
+        return False
+
+    def run(
+        self,
+        parts: Sequence[Part],
+        keep: Callable[[Part, bytes], bool],
+        is_needless: Callable[[Part], bool],
+    ) -> None:
+        """Runs parts. A part that fails on a machine is reported, and tried on another.
+
+        Parts that failed on each machine are left over. MachinesError where no machine is left.
+        """
+        failed_on: dict[Key, set[str]] = {}
+        idle_rounds = 0
+        while idle_rounds < ROUNDS_WITHOUT_REPORT:
+            left = [part for part in parts if not is_needless(part)]
+            if left:
+                self._machines.expect_some()
+            machines, group = self._next(left, failed_on)
+            if not group:
+                return
+            idle_rounds += 1
+
+            def fail(parts: Sequence[Part], machine: str, reason: str) -> None:
+                nonlocal idle_rounds
+                idle_rounds = 0
+                for part in parts:
+                    failed_on.setdefault(part.key, set()).add(machine)
+                others = f" and {len(parts) - 1} more" if len(parts) > 1 else ""
+                told = f"{parts[0].shown}{others} failed on machine {machine}"
+                self._say(f"{told}: tried elsewhere: {reason}")
+
+            self._hand_out(group, machines, Handling(keep, fail, is_needless))
+            if any(map(is_needless, group)):
+                idle_rounds = 0
+
+    def _hand_out(self, parts: Sequence[Part], logins: list[str], handling: Handling) -> None:
+        """Hands out parts once, to these machines."""
+        places = len(logins) * (self._parallel.jobs or _PLACES_OF_A_MACHINE)
+        now = _Round(parts, places, self._parallel, Watch(self._machines), handling)
+
+        def look(jobs: Sequence[Ended]) -> bool:
+            now.note(jobs)
+            logins[:] = [login for login in logins if login in self._machines.alive]
+            return bool(logins)
+
+        try:
+            self._parallel.run(logins, self._script, now.lines, now.take, look)
+        finally:
+            self._program.begun.update(now.begun())
+        now.close()
+
+    def _next(
+        self, left: Sequence[Part], failed_on: dict[Key, set[str]]
+    ) -> tuple[list[str], list[Part]]:
+        """Returns the machines of the next round, and parts that failed on none of them.
+
+        Parts that failed nowhere come first.
+        """
+        groups: dict[tuple[str, ...], list[Part]] = {}
+        for part in left:
+            failed = failed_on.get(part.key, set())
+            logins = tuple(it for it in self._machines.alive if machine_of(it) not in failed)
+            if logins:
+                groups.setdefault(logins, []).append(part)
+        if not groups:
+            return [], []
+        most = max(groups, key=len)
+        return list(most), groups[most]

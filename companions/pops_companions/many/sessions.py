@@ -1,0 +1,75 @@
+"""Ends sessions with all their processes, in any process group.
+
+GNU parallel puts each job into a process group of its own, which a `ChildProcess` doesn't end; but
+all of them are in its session. Run as a program, this module watches the program that started it:
+if that is killed, it ends the session and removes a folder.
+"""
+
+import os
+import shutil
+import signal
+import subprocess
+import sys
+import time
+from collections.abc import Iterator
+from contextlib import contextmanager
+from pathlib import Path
+
+_SECONDS_BETWEEN = 0.05
+_ROUNDS = 100
+
+
+def members(session: int) -> list[int]:
+    """Returns the processes of a session that haven't ended."""
+    found = []
+    for folder in Path("/proc").glob("[0-9]*"):
+        try:
+            # The name is in brackets and may hold anything; the fields follow it.
+            fields = (folder / "stat").read_bytes().rpartition(b")")[2].split()
+        except OSError:
+            continue
+        if int(fields[3]) == session and fields[0] not in (b"Z", b"X"):
+            found.append(int(folder.name))
+    return found
+
+
+def end(session: int) -> None:
+    """Kills all processes of a session, new ones too."""
+    for _ in range(_ROUNDS):
+        left = members(session)
+        if not left:
+            return
+        for process in left:
+            try:
+                os.kill(process, signal.SIGKILL)
+            except ProcessLookupError:
+                pass
+        time.sleep(_SECONDS_BETWEEN)
+
+
+@contextmanager
+def watched(session: int, folder: str) -> Iterator[None]:
+    """Ends the session and removes the folder if this process is killed meanwhile."""
+    watcher = subprocess.Popen(
+        [sys.executable, "-I", __file__, str(session), folder],
+        stdin=subprocess.PIPE,
+        stdout=subprocess.DEVNULL,
+        start_new_session=True,
+    )
+    try:
+        yield
+    finally:
+        # Killed before its input ends, it does nothing.
+        watcher.kill()
+        watcher.communicate()
+
+
+def main() -> None:
+    session, folder = sys.argv[1:]
+    sys.stdin.buffer.read()
+    end(int(session))
+    shutil.rmtree(folder, ignore_errors=True)
+
+
+if __name__ == "__main__":
+    main()

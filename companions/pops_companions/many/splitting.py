@@ -1,0 +1,235 @@
+"""Solves problems in parts, on this machine and on others, and puts their reports together."""
+
+from collections.abc import Callable, Iterator, Sequence
+from concurrent.futures import Future, ThreadPoolExecutor
+from queue import SimpleQueue
+from typing import NamedTuple, Optional, Union
+
+from pops_companions.many.batches import Batch, Batches
+from pops_companions.many.journal import Journal
+from pops_companions.many.machines import Machines, MachinesError
+from pops_companions.many.part_program import PartProgram
+from pops_companions.many.parts import Part, PartsError, head_of, limit_of
+from pops_companions.many.program import SOUND, Program, RunError
+from pops_companions.many.progress import Progress
+from pops_companions.many.remote_parts import RemoteParts
+from pops_companions.many.split_problem import SplitProblem, Tally
+from pops_companions.many.tasks import Result, Task
+
+# How often a part that fails is tried on this machine in all.
+_TRIES = 2
+
+
+class Came(NamedTuple):
+    """What came of a part: its report, or why it failed."""
+
+    part: Part
+    report: Optional[bytes]
+    error: str
+
+
+class Splitting:
+    """The problems of a run that took longer than a moment, cut into parts."""
+
+    def __init__(
+        self,
+        checking: Program,
+        program: PartProgram,
+        journal: Journal,
+        progress: Progress,
+        finish: Callable[[Result], None],
+    ):
+        self._checking = checking
+        self._program = program
+        self._journal = journal
+        self._progress = progress
+        self._finish = finish
+        self._problems: dict[int, SplitProblem] = {}
+        self._failed: dict[int, tuple[Task, str]] = {}
+
+    @property
+    def failed(self) -> list[tuple[Task, str]]:
+        """The problems that failed, with the reasons."""
+        return list(self._failed.values())
+
+    def cut(self, tasks: Sequence[Task]) -> None:
+        """Cuts problems up that aren't yet."""
+        for task in tasks:
+            if task.place not in self._problems:
+                try:
+                    self._cut(task)
+                except (PartsError, RunError) as error:
+                    self._failed[task.place] = (task, str(error))
+
+    def _cut(self, task: Task) -> None:
+        """Lists a problem's parts, and takes up those that the journal has."""
+        checked = self._checking.solve(task)
+        if checked.status != SOUND:
+            self._finish(checked)
+            return
+        text = task.text_without_line_ends
+        head, phases = head_of(checked.report), self._program.phases(text)
+        problem = SplitProblem(task, head, phases, limit_of(text), self._program.depth)
+        self._problems[task.place] = problem
+        for part in problem.parts():
+            if part.key in self._journal.parts:
+                problem.keep(part, self._journal.part(part))
+        self._join(problem)
+
+    def run(self, there: Optional[RemoteParts], jobs: int) -> None:
+        """Solves the parts: on other machines where there are any, else here, `jobs` at a time."""
+        self._tell()
+        barred: list[Part] = []
+        if there is not None:
+            sent = [part for part in self._left() if Machines.takes(part.task)]
+            try:
+                there.run(sent, self._keep, self._is_needless)
+            except MachinesError as error:
+                barred = sent
+                self._fail(sent, str(error))
+        keys = {part.key for part in barred}
+        self._run_here([part for part in self._left() if part.key not in keys], jobs)
+
+    def _fail(self, parts: Sequence[Part], reason: str) -> None:
+        for part in parts:
+            if not self._is_needless(part):
+                told = f"part {part.number} of the {part.phase}: {reason}"
+                self._failed.setdefault(part.task.place, (part.task, told))
+
+    def _left(self) -> Iterator[Part]:
+        for _, problem in sorted(self._problems.items()):
+            for part in problem.parts():
+                if not problem.is_needless(part):
+                    yield part
+
+    def _tell(self) -> None:
+        """Shows how far the first unfinished problem is."""
+        for _, problem in sorted(self._problems.items()):
+            if not problem.is_done:
+                self._progress.begin_parts(self._parts_left())
+                self._progress.part(*self._how_far(problem))
+                return
+
+    def _how_far(self, problem: SplitProblem) -> tuple[str, Tally, int, int]:
+        return problem.task.shown, problem.tally, problem.found, self._parts_left()
+
+    def _parts_left(self) -> int:
+        tallies = [problem.tally for problem in self._problems.values()]
+        return sum(of_all - done for done, of_all in tallies)
+
+    def _is_needless(self, part: Part) -> bool:
+        return self._problems[part.task.place].is_needless(part)
+
+    def _keep(self, part: Part, report: bytes) -> bool:
+        """Takes a part that is done; the problem's report is made with its last one.
+
+        Returns whether others no longer matter.
+        """
+        if self._is_needless(part):
+            return False
+        problem = self._problems[part.task.place]
+        self._journal.keep_part(part, report)
+        fewer = problem.keep(part, report)
+        if self._progress.is_shown:
+            self._progress.part(*self._how_far(problem))
+        self._join(problem)
+        return fewer
+
+    def _join(self, problem: SplitProblem) -> None:
+        """Hands on the report of a problem whose parts are done."""
+        task = problem.task
+        if not problem.is_done:
+            return
+        report = problem.report(self._journal.part)
+        # What pops wrote in its first moments is how the report begins.
+        if self._journal.has_unfinished(task.place):
+            if not report.startswith(self._journal.report(task.place)):
+                reason = "its parts don't make the report that pops begins"
+                self._failed[task.place] = (task, reason)
+                return
+        self._finish(Result(task, SOUND, report))
+
+    def _run_here(self, parts: Sequence[Part], jobs: int) -> None:
+        batches = Batches(parts, lambda part: self._problems[part.task.place].is_limited)
+        came: "SimpleQueue[Union[Came, Future[None]]]" = SimpleQueue()
+        try:
+            with ThreadPoolExecutor(jobs) as pool:
+                try:
+                    self._hand_out(batches, jobs, pool, came)
+                except BaseException:
+                    self._program.stop()
+                    raise
+        finally:
+            # What came while the run was stopped is kept too.
+            while not came.empty():
+                last = came.get()
+                if isinstance(last, Came) and last.report is not None:
+                    self._keep(last.part, last.report)
+
+    def _hand_out(
+        self,
+        batches: Batches,
+        jobs: int,
+        pool: ThreadPoolExecutor,
+        came: "SimpleQueue[Union[Came, Future[None]]]",
+    ) -> None:
+        """Hands batches out to `jobs` runs at a time, and takes what comes of them."""
+        running: "dict[Future[None], Batch]" = {}
+        while True:
+            while len(running) < jobs:
+                batch = batches.next(self._is_needless)
+                if batch is None:
+                    break
+                future = pool.submit(self._go_through, batch, came.put)
+                running[future] = batch
+                future.add_done_callback(came.put)
+            if not running:
+                return
+            last = came.get()
+            if not isinstance(last, Came):
+                batches.end(running.pop(last))
+                last.result()
+            elif self._take(last):
+                for batch in running.values():
+                    left = batch.left
+                    if left and all(map(self._is_needless, left)):
+                        self._program.drop(left[0])
+
+    def _take(self, came: "Came") -> bool:
+        """Takes what came of a part. Returns whether others no longer matter."""
+        if came.report is not None:
+            return self._keep(came.part, came.report)
+        self._fail([came.part], came.error)
+        return False
+
+    def _go_through(self, batch: Batch, hand_on: Callable[["Came"], None]) -> None:
+        """Hands on what comes of the parts of a batch.
+
+        A part that fails is tried again with the parts after it, and then skipped.
+        """
+        tried = 0
+        while batch:
+            try:
+                for part, report in self._program.reports(batch):
+                    hand_on(Came(part, report, ""))
+                    tried = 0
+            except RunError as error:
+                tried += 1
+                is_over = self._program.is_over(batch.first)
+                if tried < _TRIES and not is_over:
+                    self._progress.say(f"{batch.first.shown}: {error}; tried again")
+                    continue
+                hand_on(Came(batch.pass_first(), None, str(error)))
+                tried = 0
+                if is_over:
+                    return
+
+    def lines_found(self, place: int) -> Optional[tuple[bytes, str]]:
+        """Returns what is known of an unfinished problem in parts, and how far it is, or None."""
+        problem = self._problems.get(place)
+        if problem is None:
+            return None
+        first = self._journal.report(place) if self._journal.has_unfinished(place) else b""
+        lines = problem.lines_found(self._journal.part, self._program.begun, first)
+        done, of_all = problem.tally
+        return lines, f"stopped with {done} of {of_all} parts done"

@@ -1,0 +1,1 @@
+"""Reports of pops, read by their grammar (docs/report.ebnf)."""

@@ -1,0 +1,32 @@
+"""The lines of a report that aren't moves, without their line ends (docs/report.ebnf)."""
+
+import re
+
+PROBLEM = re.compile(rb"problem ([1-9][0-9]*)")
+FAULT = re.compile(rb"line ([1-9][0-9]*): fault ([1-9][0-9]?): (.+)")
+TITLE = b"title: "
+AUTHOR = b"author: "
+RANK = re.compile(rb"([1-8]) ([KQRBSPGNkqrbspgn.]{8})")
+FILES = b"  abcdefgh"
+SOUND = b"sound"
+NOT_POSSIBLE = b"not possible"
+TOTAL = re.compile(rb"solutions: ([0-9]+)(, stopped)?")
+# How a total begins.
+SOLUTIONS = b"solutions: "
+# How the line begins that pops-many writes after the last line of a problem that it stopped.
+UNFINISHED = b"unfinished: "
+
+
+def problem_line(number: int) -> bytes:
+    """Returns the first line of an item with its line end."""
+    return b"problem %d\n" % number
+
+
+def total_line(count: int, stopped: bool) -> bytes:
+    """Returns the total of a phase with its line end."""
+    return b"%s%d%s\n" % (SOLUTIONS, count, b", stopped" if stopped else b"")
+
+
+def is_total(line: bytes) -> bool:
+    """Returns whether a line with its line end says how many solutions a phase has."""
+    return line.endswith(b"\n") and TOTAL.fullmatch(line, 0, len(line) - 1) is not None

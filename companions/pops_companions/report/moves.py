@@ -1,0 +1,114 @@
+"""Moves as a report prints them."""
+
+import re
+from dataclasses import dataclass
+from enum import Enum
+from typing import Optional
+
+from pops_companions.chess.men import Colour, Kind, Man, Square
+
+
+class Castling(Enum):
+    """Castling by its printed text: to the h side or to the a side."""
+
+    SHORT = "0-0"
+    LONG = "0-0-0"
+
+
+class Mark(Enum):
+    """What a move does to the king; its value is the sign after the move."""
+
+    CHECK = "+"
+    MATE = "#"
+    STALEMATE = "="
+
+
+@dataclass(frozen=True)
+class Rebirth:
+    """A man put back on the board by a capture under Circe."""
+
+    man: Man
+    square: Square
+
+
+@dataclass(frozen=True)
+class PlayedMove:
+    """A move of a solution. `text` is what the report prints, without the number.
+
+    A castling has the king's kind, origin and arrival.
+    """
+
+    text: str
+    half: int
+    side: Colour
+    kind: Kind
+    origin: Square
+    arrival: Square
+    capture: bool
+    en_passant: bool
+    promotion: Optional[Kind]
+    castling: Optional[Castling]
+    rebirth: Optional[Rebirth]
+    mark: Optional[Mark]
+
+
+_MOVE = re.compile(
+    r"(?:(?P<castling>0-0-0|0-0)"
+    r"|(?P<man>[KQRBSGN]?)(?P<origin>[a-h][1-8])(?P<step>[-*])(?P<arrival>[a-h][1-8])"
+    r"(?P<en_passant> ep\.)?(?:=(?P<promotion>[QRBSGN]))?"
+    r"(?:\[\+(?P<reborn_colour>[wb])(?P<reborn_kind>[QRBSPGN])(?P<reborn_square>[a-h][1-8])\])?)"
+    r"(?P<mark>[#+=]?)(?= |$)",
+    re.ASCII,
+)
+
+
+def prefix(half: int) -> str:
+    """Returns the number printed before a half-move: `2.` for half-move 3, `2...` for half-move 4."""
+    return f"{(half + 1) // 2}." if half % 2 == 1 else f"{half // 2}..."
+
+
+def read_move(text: str, place: int, half: int, side: Colour) -> Optional[tuple[PlayedMove, int]]:
+    """Returns the move at a place of a line and where it ends; None where there is none."""
+    parts = _MOVE.match(text, place)
+    return None if parts is None else (_played(parts, half, side), parts.end())
+
+
+def _played(parts: "re.Match[str]", half: int, side: Colour) -> PlayedMove:
+    mark = Mark(parts["mark"]) if parts["mark"] else None
+    if parts["castling"]:
+        castling = Castling(parts["castling"])
+        rank = 1 if side is Colour.WHITE else 8
+        arrival = Square(7 if castling is Castling.SHORT else 3, rank)
+        return PlayedMove(
+            parts[0],
+            half,
+            side,
+            Kind.KING,
+            Square(5, rank),
+            arrival,
+            False,
+            False,
+            None,
+            castling,
+            None,
+            mark,
+        )
+    rebirth = None
+    if parts["reborn_kind"]:
+        colour = Colour.WHITE if parts["reborn_colour"] == "w" else Colour.BLACK
+        reborn = Man(colour, Kind(parts["reborn_kind"]))
+        rebirth = Rebirth(reborn, Square.of_name(parts["reborn_square"]))
+    return PlayedMove(
+        parts[0],
+        half,
+        side,
+        Kind(parts["man"] or "P"),
+        Square.of_name(parts["origin"]),
+        Square.of_name(parts["arrival"]),
+        parts["step"] == "*",
+        parts["en_passant"] is not None,
+        Kind(parts["promotion"]) if parts["promotion"] else None,
+        None,
+        rebirth,
+        mark,
+    )

@@ -1,0 +1,138 @@
+"""A report as a companion reads it, and what the companion says if it isn't one."""
+
+import os
+import sys
+from collections.abc import Callable, Iterable, Iterator
+from contextlib import contextmanager
+from typing import BinaryIO, Optional, TypeVar
+
+from pops_companions import command
+from pops_companions.command import CommandError, Status
+from pops_companions.input.words import is_short_for
+from pops_companions.report.items import AnyItem, Item, SoundItem
+from pops_companions.report.reader import ReportError, read_report, read_unfinished_report
+from pops_companions.show.titles import is_text
+
+# What the name of the file ends in that pops-many writes for unfinished problems.
+UNFINISHED = ".unfinished"
+
+Read = TypeVar("Read", Item, AnyItem)
+
+
+@contextmanager
+def opened_report(companion: str, file: Optional[str], encoding: str) -> Iterator[Iterator[Item]]:
+    """The items of a report in a file, or on standard input where no file is named.
+
+    A text that is no report ends the companion, and so does a report without any problem. Titles
+    and authors that aren't in the encoding are reported on standard error after the last item.
+    """
+    with command.opened(file) as source:
+        yield _items(companion, file or "standard input", source, encoding, read_report)
+
+
+@contextmanager
+def opened_unfinished_report(
+    companion: str, file: Optional[str], unfinished: Optional[str], encoding: str
+) -> Iterator[Iterator[AnyItem]]:
+    """As `opened_report`; the report may hold unfinished problems or end inside a problem.
+
+    The problems of `unfinished`, by default of a file next to the report with its name and
+    UNFINISHED, are added at the places of their numbers.
+    """
+    named = unfinished is not None
+    if unfinished is None and file is not None and os.path.isfile(file + UNFINISHED):
+        unfinished = file + UNFINISHED
+    with command.opened(file) as source:
+        name = file or "standard input"
+        items = _items(companion, name, source, encoding, read_unfinished_report)
+        if unfinished is None:
+            yield items
+            return
+        with command.opened(unfinished) as rest:
+            more = list(_items(companion, unfinished, rest, encoding, read_unfinished_report))
+        yield iter(_merged(list(items), more, name, named))
+
+
+def _merged(
+    items: list[AnyItem], more: list[AnyItem], name: str, must_fit: bool
+) -> Iterable[AnyItem]:
+    """Returns the items of one report and its unfinished ones in the order of their numbers.
+
+    Several joined reports have no order of numbers: they stay as they are, or are refused.
+    """
+    numbers = [item.number for item in items]
+    others = {item.number: item for item in more}
+    is_one = all(one < other for one, other in zip(numbers, numbers[1:]))
+    if is_one and len(others) == len(more) and not others.keys() & set(numbers):
+        return sorted([*items, *more], key=lambda item: item.number)
+    if must_fit:
+        message = (
+            f"--unfinished isn't of {name}: both have a problem, or a file holds several reports"
+        )
+        raise CommandError(Status.FAULTY, message)
+    return items
+
+
+def is_input(line: bytes) -> bool:
+    """Returns whether a text's first line shows that it is an input of pops."""
+    words = line.split(None, 1)
+    return bool(words) and is_short_for(words[0], "BeginProblem")
+
+
+class _FirstLine:
+    """The lines of a source; the first one is kept."""
+
+    def __init__(self, source: BinaryIO):
+        self._source = source
+        self.line = b""
+
+    def __iter__(self) -> Iterator[bytes]:
+        for number, line in enumerate(self._source):
+            if number == 0:
+                self.line = line
+            yield line
+
+
+def _items(
+    companion: str,
+    name: str,
+    source: BinaryIO,
+    encoding: str,
+    read: Callable[[Iterable[bytes]], Iterator[Read]],
+) -> Iterator[Read]:
+    is_empty = True
+    undecodable: list[int] = []
+    lines = _FirstLine(source)
+    try:
+        for item in read(lines):
+            is_empty = False
+            if isinstance(item, SoundItem):
+                texts = filter(None, (item.title, item.author))
+                if not all(is_text(text, encoding) for text in texts):
+                    undecodable.append(item.number)
+            yield item
+    except ReportError as error:
+        raise CommandError(Status.FAULTY, _refusal(name, lines.line, error)) from None
+    if is_empty:
+        raise CommandError(Status.FAULTY, f"{name} is empty: no report of pops")
+    if undecodable:
+        _warn_of_names(companion, name, undecodable, encoding)
+
+
+def _refusal(name: str, first_line: bytes, error: ReportError) -> str:
+    if is_input(first_line):
+        solved = name if os.path.isfile(name) else "FILE"
+        return (
+            f"{name} is an input of pops, no report: solve it first, as in `pops {solved} > REPORT`,"
+            " or give it to pops-judge"
+        )
+    return f"{name} is no report of pops: {error}"
+
+
+def _warn_of_names(companion: str, name: str, undecodable: list[int], encoding: str) -> None:
+    more = f", and of {len(undecodable) - 1} more," if len(undecodable) > 1 else ""
+    print(
+        f"{companion}: {name}: title or author of problem {undecodable[0]}{more} isn't {encoding}"
+        " and is read as latin-1; --encoding names another",
+        file=sys.stderr,
+    )

@@ -1,0 +1,89 @@
+"""What is known of the problems of a report beside it: wanted numbers, and short solutions."""
+
+from collections.abc import Iterator
+from dataclasses import replace
+from typing import NoReturn, Optional
+
+from pops_companions.chess.stipulation import Play
+from pops_companions.command import CommandError, Status
+from pops_companions.input.given import GivenProblem
+from pops_companions.input.given_source import read_given
+from pops_companions.report.items import AnyItem, SoundItem
+from pops_companions.review.judging import Judgement, judged, missing
+from pops_companions.review.posing import AnswersError, ShortAnswers
+from pops_companions.review.reading import reviewed_unfinished_report
+
+
+class Beside:
+    """The input of a report and the report of the shorter stipulations, where they are named."""
+
+    def __init__(
+        self, companion: str, solutions: int, input_file: Optional[str], short_file: Optional[str]
+    ):
+        """Reads both. `solutions` are wanted in help play where the input says nothing.
+
+        `given` are the problems of the input, none where none is named.
+        """
+        self._solutions = solutions
+        self._input_file = input_file
+        self._short_file = short_file
+        self.given: list[GivenProblem] = []
+        self._answers: Optional[ShortAnswers] = None
+        if input_file is not None:
+            self.given = read_given(companion, input_file)
+        if short_file is not None:
+            with reviewed_unfinished_report(companion, short_file, None, "utf-8") as items:
+                try:
+                    self._answers = ShortAnswers(items)
+                except AnswersError as error:
+                    self._refuse_answers(error)
+
+    def judgements(self, items: Iterator[AnyItem]) -> Iterator[Judgement]:
+        """Judges the items of a report, and adds the problems that it lacks."""
+        last = 0
+        for item in items:
+            if item.number <= last:
+                if self._input_file is not None or self._short_file is not None:
+                    message = "--input and --short go with one report, not with several joined"
+                    raise CommandError(Status.DEVICE, message)
+                last = 0
+            yield from map(self._missing, range(last + 1, item.number))
+            last = item.number
+            yield self._judged(item)
+        yield from map(self._missing, range(last + 1, len(self.given) + 1))
+
+    def _given_of(self, number: int) -> Optional[GivenProblem]:
+        return self.given[number - 1] if number <= len(self.given) else None
+
+    def _missing(self, number: int) -> Judgement:
+        return replace(missing(number), given=self._given_of(number))
+
+    def _judged(self, item: AnyItem) -> Judgement:
+        if self._input_file is not None and item.number > len(self.given):
+            self._refuse_input(f"it has no problem {item.number}")
+        wanted, short = 1, None
+        if isinstance(item, SoundItem):
+            wanted = self._wanted(item)
+            if self._answers is not None:
+                try:
+                    short = self._answers.of(item)
+                except AnswersError as error:
+                    self._refuse_answers(error)
+        return replace(judged(item, wanted, short), given=self._given_of(item.number))
+
+    def _wanted(self, item: SoundItem) -> int:
+        usual = self._solutions if item.stipulation.play is Play.HELP else 1
+        if self._input_file is None:
+            return usual
+        problem = self.given[item.number - 1]
+        if problem.stipulation != item.stipulation:
+            self._refuse_input(f"problem {item.number} has another stipulation there")
+        return usual if problem.wanted is None else problem.wanted
+
+    def _refuse_answers(self, error: AnswersError) -> NoReturn:
+        message = f"{self._short_file} doesn't answer what --pose asked: {error}"
+        raise CommandError(Status.DEVICE, message) from None
+
+    def _refuse_input(self, reason: str) -> NoReturn:
+        message = f"{self._input_file} isn't the report's input: {reason}"
+        raise CommandError(Status.DEVICE, message)

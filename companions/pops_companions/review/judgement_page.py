@@ -1,0 +1,109 @@
+"""A page of HTML with the judgements: a table of all problems, and what was found of each."""
+
+import html
+from collections.abc import Iterable
+from typing import Optional
+
+from pops_companions.report.items import SoundItem
+from pops_companions.review.judged_groups import JudgedGroup
+from pops_companions.review.judgement_text import Tally, lines_of, name_of
+from pops_companions.review.judging import Finding
+from pops_companions.show import diagram
+from pops_companions.show.titles import printable
+
+STYLE = """
+body { font: 11pt/1.35 serif; margin: 1.5em auto; max-width: 60em; padding: 0 1em;
+  color: #000; background: #fff; overflow-wrap: anywhere; }
+h1 { font-size: 1.5em; font-weight: normal; border-bottom: 1px solid #000; }
+h2 { font-size: 1em; margin: 0 0 .3em; }
+h3 { font-size: 1em; font-weight: normal; margin: .6em 0 0; }
+table { border-collapse: collapse; width: 100%; }
+th, td { text-align: left; vertical-align: top; padding: .15em .6em .15em 0;
+  border-bottom: 1px solid #ddd; white-space: nowrap; }
+.name { white-space: normal; width: 100%; }
+.unsound, .faulty { font-weight: bold; }
+.undecided { font-style: italic; }
+article { display: grid; grid-template-columns: 15em minmax(0, 1fr); gap: 0 2em;
+  margin: 1.2em 0 0; padding-top: .8em; border-top: 1px solid #bbb; break-inside: avoid; }
+.finding { margin: 0; }
+.flaw, .fault { font-weight: bold; }
+.open { font-style: italic; }
+pre { font: 9.5pt/1.35 monospace; margin: .1em 0 .5em 1em; white-space: pre-wrap; }
+.diagram { width: 100%; display: block; }
+@media (max-width: 34em) { article { grid-template-columns: minmax(0, 1fr); } }
+"""
+
+
+def page(
+    judged: Iterable[JudgedGroup], tally: Tally, heading: str, encoding: str, most: Optional[int]
+) -> str:
+    """Returns the page; the tally has counted the judgements once they are all taken."""
+    rows: list[str] = []
+    articles: list[str] = []
+    for place, one in enumerate(judged, start=1):
+        has_more = any(judgement.findings for judgement in one.judgements)
+        rows.append(_row(one, place if has_more else None, encoding))
+        if has_more:
+            articles.append(_article(one, place, encoding, most))
+    title = html.escape(heading)
+    return "".join(
+        [
+            '<!DOCTYPE html>\n<html lang="en">\n<head>\n<meta charset="utf-8"/>\n',
+            '<meta name="viewport" content="width=device-width"/>\n',
+            f"<title>{title}</title>\n<style>{STYLE}</style>\n</head>\n<body>\n",
+            diagram.shapes(),
+            f"<h1>{title}</h1>\n<p>{tally.text}</p>\n",
+            "<table>\n<tr><th>No.</th><th>Problem</th><th>Verdict</th></tr>\n",
+            *rows,
+            "</table>\n",
+            *articles,
+            "</body>\n</html>\n",
+        ]
+    )
+
+
+def _row(one: JudgedGroup, place: Optional[int], encoding: str) -> str:
+    number = one.group.numbers.partition(" ")[2]
+    if place is not None:
+        number = f'<a href="#found-{place}">{number}</a>'
+    name = html.escape(name_of(one, encoding))
+    verdict = one.verdict.value
+    return (
+        f'<tr><td>{number}</td><td class="name">{name}</td>'
+        f'<td class="{verdict}">{verdict}</td></tr>\n'
+    )
+
+
+def _article(one: JudgedGroup, place: int, encoding: str, most: Optional[int]) -> str:
+    item = one.group.first
+    verdict = one.verdict.value
+    name = html.escape(name_of(one, encoding))
+    drawn = ""
+    if isinstance(item, SoundItem) and item.board is not None:
+        drawn = f"{diagram.diagram(item.board)}\n"
+    position = f"{drawn}<p>{name}</p>\n" if name else drawn
+    return (
+        f'<article id="found-{place}">\n<div>\n<h2>{one.group.numbers}</h2>\n{position}'
+        f'</div>\n<div>\n<p class="{verdict}">{verdict}</p>\n{_evidence(one, most)}</div>\n'
+        "</article>\n"
+    )
+
+
+def _evidence(one: JudgedGroup, most: Optional[int]) -> str:
+    """Returns what was found of a problem, or of each of its twins."""
+    parts = []
+    for heading, judgement in one.headings:
+        if heading:
+            verdict = judgement.verdict.value
+            text = html.escape(printable(heading))
+            parts.append(f'<h3>{text}: <span class="{verdict}">{verdict}</span></h3>\n')
+        parts.extend(finding_text(finding, most) for finding in judgement.findings)
+    return "".join(parts)
+
+
+def finding_text(finding: Finding, most: Optional[int]) -> str:
+    """Returns a finding with the moves that show it."""
+    moves = "\n".join(lines_of(finding, most))
+    below = f"<pre>{html.escape(moves)}</pre>\n" if moves else ""
+    text = html.escape(finding.text)
+    return f'<p class="finding {finding.weight.value}">{text}</p>\n{below}'

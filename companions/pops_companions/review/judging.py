@@ -1,0 +1,312 @@
+"""The judgement of a problem by its report; docs/SOUNDNESS.md states what each word means."""
+
+from collections import Counter
+from dataclasses import dataclass, field
+from enum import Enum
+from typing import Optional
+
+from pops_companions.chess.men import Kind
+from pops_companions.chess.stipulation import Play, Stipulation
+from pops_companions.input.given import GivenProblem
+from pops_companions.report.items import (
+    AnyItem,
+    FaultyItem,
+    HeadlessItem,
+    HelpLine,
+    Node,
+    Phase,
+    PhaseKind,
+    SoundItem,
+)
+from pops_companions.report.moves import Mark, PlayedMove
+from pops_companions.review.duals import Dual, Place, last_half, late_partings, tree_duals
+from pops_companions.review.naming import counted
+
+
+class Verdict(Enum):
+    """What a problem is found to be, the worst last."""
+
+    SOUND = "sound"
+    UNDECIDED = "undecided"
+    UNSOUND = "unsound"
+    FAULTY = "faulty"
+
+
+class Weight(Enum):
+    """What a finding does to the verdict."""
+
+    NOTE = "note"
+    OPEN = "open"
+    FLAW = "flaw"
+    FAULT = "fault"
+
+
+@dataclass(frozen=True)
+class Finding:
+    """Something found, in words, with the moves that show it."""
+
+    weight: Weight
+    text: str
+    lines: tuple[str, ...] = ()
+
+
+@dataclass
+class Judgement:
+    """A problem with all that was found; without an item the report lacks it.
+
+    `given` is the problem in the input, if there is one. A number is None where the report doesn't
+    show it.
+    """
+
+    number: int
+    item: Optional[AnyItem]
+    given: Optional[GivenProblem] = None
+    findings: list[Finding] = field(default_factory=list)
+    solutions: Optional[int] = None
+    stopped: bool = False
+    wanted: Optional[int] = None
+    short_solutions: Optional[int] = None
+    duals_at_the_end: Optional[int] = None
+    duals_earlier: Optional[int] = None
+    set_solutions: Optional[int] = None
+    unprovided_checks: Optional[int] = None
+
+    @property
+    def verdict(self) -> Verdict:
+        weights = {finding.weight for finding in self.findings}
+        if Weight.FAULT in weights:
+            return Verdict.FAULTY
+        if Weight.FLAW in weights:
+            return Verdict.UNSOUND
+        return Verdict.UNDECIDED if Weight.OPEN in weights else Verdict.SOUND
+
+    @property
+    def reasons(self) -> list[str]:
+        """What decides the verdict, in words; nothing for a sound problem."""
+        return [finding.text for finding in self.findings if finding.weight is not Weight.NOTE]
+
+    def find(self, weight: Weight, text: str, lines: tuple[str, ...] = ()) -> None:
+        self.findings.append(Finding(weight, text, lines))
+
+
+def judged(item: AnyItem, wanted: int, short: Optional[tuple[str, ...]]) -> Judgement:
+    """Returns the judgement of an item, by the number of solutions that it should have.
+
+    `short` are the short solutions that were found elsewhere, None where none were looked for.
+    """
+    judgement = Judgement(item.number, item)
+    if isinstance(item, FaultyItem):
+        fault = item.fault
+        judgement.find(Weight.FAULT, f"line {fault.line}: fault {fault.number}: {fault.text}")
+        return judgement
+    if isinstance(item, HeadlessItem):
+        judgement.find(Weight.OPEN, f"unfinished: {item.unfinished}")
+        return judgement
+    judgement.wanted = wanted
+    _warn_of_nightriders(judgement, item)
+    play = _phase(item, PhaseKind.PLAY)
+    if item.unfinished is not None and (play is None or play.total is None):
+        _judge_unfinished(judgement, item, play, short)
+        return judgement
+    if play is None or play.total is None:
+        judgement.find(Weight.OPEN, "not solved")
+        return judgement
+    _judge_number(judgement, item.stipulation, play)
+    _judge_short_solutions(judgement, item.stipulation, play, short)
+    _judge_duals(judgement, item.stipulation, play)
+    _judge_set_play(judgement, item, play)
+    return judgement
+
+
+def _warn_of_nightriders(judgement: Judgement, item: SoundItem) -> None:
+    kinds = set() if item.board is None else {man.kind for man in item.board.men.values()}
+    if Kind.NIGHTRIDER in kinds and Kind.KNIGHT not in kinds:
+        judgement.find(Weight.NOTE, "N is a nightrider here, and there is no knight: knights are S")
+
+
+def _judge_unfinished(
+    judgement: Judgement, item: SoundItem, play: Optional[Phase], short: Optional[tuple[str, ...]]
+) -> None:
+    """Judges by what was found before the problem was stopped; whatever is missing stays open.
+
+    The variations below a key may be cut, so that only keys that reach the goal at once are known
+    to be short.
+    """
+    assert judgement.wanted is not None
+    solutions = () if play is None else play.solutions
+    found, wanted = len(solutions), judgement.wanted
+    judgement.solutions, judgement.stopped = found, True
+    word = "solution" if item.stipulation.play is Play.HELP else "key"
+    lines = () if play is None else _texts(play)
+    if found > wanted:
+        text = f"cooked: at least {counted(found, word)}, {wanted} wanted"
+        judgement.find(Weight.FLAW, text, lines)
+    is_short = _can_be_short(item.stipulation)
+    ending = [node.text for node in solutions if isinstance(node, Node) and _ends(node.move)]
+    asked = (*(short or ()), *(text for text in ending if text not in (short or ())))
+    if is_short and asked:
+        judgement.short_solutions = len(asked)
+        judgement.find(Weight.FLAW, f"at least {counted(len(asked), 'short solution')}", asked)
+    if found > wanted:
+        judgement.find(Weight.OPEN, f"unfinished: {item.unfinished}")
+        return
+    so_far = f"at least {counted(found, word)}, {wanted} wanted" if found else f"no {word} so far"
+    judgement.find(Weight.OPEN, f"unfinished: {so_far} ({item.unfinished})", lines)
+
+
+def missing(number: int) -> Judgement:
+    """Returns the judgement of a problem that isn't in the report."""
+    judgement = Judgement(number, None)
+    judgement.find(Weight.OPEN, "not in the report")
+    return judgement
+
+
+def _phase(item: SoundItem, kind: PhaseKind) -> Optional[Phase]:
+    for phase in item.phases or ():
+        if phase.kind is kind:
+            return phase
+    return None
+
+
+def _texts(phase: Phase) -> tuple[str, ...]:
+    return tuple(solution.text.strip() for solution in phase.solutions)
+
+
+def _nodes(phase: Phase) -> list[Node]:
+    return [solution for solution in phase.solutions if isinstance(solution, Node)]
+
+
+def _judge_number(judgement: Judgement, stipulation: Stipulation, play: Phase) -> None:
+    assert play.total is not None and judgement.wanted is not None
+    found, wanted = play.total.count, judgement.wanted
+    judgement.solutions, judgement.stopped = found, play.total.stopped
+    word = "solution" if stipulation.play is Play.HELP else "key"
+    least = "at least " if judgement.stopped else ""
+    if found > wanted:
+        text = f"cooked: {least}{counted(found, word)}, {wanted} wanted"
+        judgement.find(Weight.FLAW, text, _texts(play))
+    elif judgement.stopped:
+        text = f"stopped: {least}{counted(found, word)}, {wanted} wanted"
+        judgement.find(Weight.OPEN, text, _texts(play))
+    elif found == 0:
+        judgement.find(Weight.FLAW, "no solution")
+    elif found < wanted:
+        text = f"solutions missing: {counted(found, word)}, {wanted} wanted"
+        judgement.find(Weight.FLAW, text, _texts(play))
+
+
+def _judge_short_solutions(
+    judgement: Judgement, stipulation: Stipulation, play: Phase, asked: Optional[tuple[str, ...]]
+) -> None:
+    if not _can_be_short(stipulation):
+        asked = ()
+    lines = list(asked or ())
+    all_shown = stipulation.play is not Play.HELP and not judgement.stopped
+    for key in _nodes(play):
+        length = _length_of_key(key)
+        if length is None:
+            all_shown = False
+        elif length < stipulation.moves and key.text not in lines:
+            lines.append(key.text)
+    if lines:
+        judgement.find(Weight.FLAW, counted(len(lines), "short solution"), tuple(lines))
+    elif asked is None and not all_shown:
+        judgement.find(Weight.OPEN, "short solutions not looked for")
+        return
+    judgement.short_solutions = len(lines)
+
+
+def _can_be_short(stipulation: Stipulation) -> bool:
+    return stipulation.moves > (0 if stipulation.half_more else 1)
+
+
+def _length_of_key(key: Node) -> Optional[int]:
+    """In how many moves a key reaches the goal; None where its variations aren't shown."""
+    if key.below:
+        return (last_half(key) + 1) // 2
+    return 1 if _ends(key.move) else None
+
+
+def _ends(move: PlayedMove) -> bool:
+    return move.mark in (Mark.MATE, Mark.STALEMATE)
+
+
+def _judge_duals(judgement: Judgement, stipulation: Stipulation, play: Phase) -> None:
+    if stipulation.play is Play.HELP:
+        lines = [line for line in play.solutions if isinstance(line, HelpLine)]
+        duals = list(late_partings(lines))
+    else:
+        keys = _nodes(play)
+        if any(not key.below and not _ends(key.move) for key in keys):
+            judgement.find(Weight.NOTE, "duals not shown: they need Variation")
+            return
+        duals = list(tree_duals(keys))
+    at_the_end = [dual for dual in duals if dual.place is Place.AT_THE_END]
+    earlier = [dual for dual in duals if dual.place is Place.EARLIER]
+    judgement.duals_at_the_end, judgement.duals_earlier = len(at_the_end), len(earlier)
+    goal = stipulation.goal.word
+    _find_duals(judgement, f"at the {goal}", at_the_end)
+    _find_duals(judgement, f"before the {goal}", earlier)
+
+
+def _find_duals(judgement: Judgement, where: str, duals: list[Dual]) -> None:
+    if not duals:
+        return
+    moves = Counter(dual.move for dual in duals)
+    places = ", ".join(f"{count} on move {move}" for move, count in sorted(moves.items()))
+    promotions = sum(dual.by_promotion for dual in duals)
+    of_these = f"; {promotions} by promotion alone" if promotions else ""
+    text = f"{counted(len(duals), 'dual')} {where}: {places}{of_these}"
+    lines = tuple(
+        dual.text if dual.place is Place.AT_THE_END else f"{dual.text} (ends on move {dual.end})"
+        for dual in duals
+    )
+    judgement.find(Weight.NOTE, text, lines)
+
+
+def _judge_set_play(judgement: Judgement, item: SoundItem, play: Phase) -> None:
+    phase = _phase(item, PhaseKind.SET)
+    if phase is None or (phase.total is None and phase.is_possible):
+        return
+    if phase.total is None:
+        judgement.find(Weight.NOTE, "set play not possible")
+        return
+    judgement.set_solutions = phase.total.count
+    least = "at least " if phase.total.stopped else ""
+    if item.stipulation.play is Play.HELP:
+        text = f"set play: {least}{counted(phase.total.count, 'solution')}"
+        judgement.find(Weight.NOTE, text, _texts(phase))
+        return
+    provided = _nodes(phase)
+    choices = sum(len(node.below) > 1 for node in provided)
+    text = f"set play: {least}{counted(len(provided), 'move')} of Black provided for"
+    if choices:
+        text += f", {choices} with a choice"
+    judgement.find(Weight.NOTE, text, tuple(map(_with_continuations, provided)))
+    keys = _nodes(play)
+    if phase.total.stopped or not any(key.below for key in keys):
+        return
+    unprovided = _unprovided_checks(provided, keys)
+    judgement.unprovided_checks = len(unprovided)
+    if unprovided:
+        judgement.find(Weight.NOTE, counted(len(unprovided), "unprovided check"), unprovided)
+
+
+def _with_continuations(node: Node) -> str:
+    choices = [below.text.strip() for below in node.below]
+    return " | ".join([f"{node.text} {choices[0]}", *choices[1:]]) if choices else node.text
+
+
+def _unprovided_checks(provided: list[Node], keys: list[Node]) -> tuple[str, ...]:
+    """Returns the checks of Black after the keys that set play doesn't show, by their squares."""
+    known = {_step(node.move) for node in provided}
+    checks: dict[str, None] = {}
+    for key in keys:
+        for defence in key.below:
+            if defence.move.mark is Mark.CHECK and _step(defence.move) not in known:
+                checks.setdefault(defence.text.strip())
+    return tuple(checks)
+
+
+def _step(move: PlayedMove) -> tuple[object, ...]:
+    return move.origin, move.arrival, move.promotion

@@ -1,0 +1,1 @@
+"""Reports shown: diagrams, pages, LaTeX, JSON."""

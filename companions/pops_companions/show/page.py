@@ -1,0 +1,206 @@
+"""A page of HTML that shows a report: a diagram for each problem, its solutions beside it."""
+
+import html
+import re
+from collections.abc import Iterable, Iterator, Sequence
+from dataclasses import dataclass
+
+from pops_companions.input.given import GivenProblem
+from pops_companions.report.items import (
+    AnyItem,
+    FaultyItem,
+    Node,
+    Phase,
+    PhaseKind,
+    SoundItem,
+    named_items,
+)
+from pops_companions.show import diagram
+from pops_companions.show.titles import printable, shown
+from pops_companions.show.twins import Group, Twin, groups
+
+STYLE = """
+body { font: 11pt/1.35 serif; margin: 1.5em auto; max-width: 60em; padding: 0 1em;
+  color: #000; background: #fff; overflow-wrap: anywhere; }
+h1 { font-size: 1.5em; font-weight: normal; border-bottom: 1px solid #000; }
+article { display: grid; grid-template-columns: minmax(0, 17em) minmax(0, 1fr); gap: 0 2em;
+  margin: 0 0 1.2em; padding-top: .8em; border-top: 1px solid #bbb; }
+h1 + article { border-top: none; }
+header, .below, .fault { break-inside: avoid; }
+h2 { font-size: 1em; margin: 0 0 .3em; }
+h2 a { color: inherit; text-decoration: none; }
+h2 a:hover, h2 a:focus { text-decoration: underline; }
+.title { margin: 0; }
+.author { font-style: italic; margin: 0 0 .3em; }
+.origin { margin: 0 0 .3em; font-size: .9em; }
+.twin + .twin { margin-top: 1em; }
+.twin .diagram { max-width: 13em; }
+.below { display: flex; justify-content: space-between; margin: 0 0 0 5.7%; }
+.stipulation { font-weight: bold; }
+.fairy, .without { font-size: .85em; margin: .2em 0 0 5.7%; color: #333; }
+.diagram { width: 100%; display: block; margin-top: .4em; }
+h3 { font-size: 1em; font-weight: normal; font-style: italic; margin: 0; }
+h3.label { font-weight: bold; font-style: normal; }
+.phase + .phase { margin-top: .8em; }
+pre { font: 9.5pt/1.35 monospace; margin: .1em 0; white-space: pre-wrap; }
+pre span { white-space: nowrap; }
+pre.many { columns: 17em auto; column-gap: 2em; }
+.total { margin: 0; font-size: .9em; color: #333; }
+.fault { font-weight: bold; margin: 0; }
+.unfinished { font-style: italic; margin: .5em 0 0; }
+@media print {
+  body { margin: 0; max-width: none; padding: 0; }
+  article { grid-template-columns: minmax(0, 13em) minmax(0, 1fr); }
+}
+@media (max-width: 36em) { article { grid-template-columns: minmax(0, 1fr); } }
+"""
+
+# More lines than this are set in columns, as far as the page is wide enough.
+_LINES_OF_A_COLUMN = 20
+
+# A word that a browser would break at its hyphen: a move, with its number where it has one.
+_MOVE = re.compile(r"[^\s-]+-\S+")
+
+
+def _safe(text: str) -> str:
+    return html.escape(printable(text))
+
+
+@dataclass(frozen=True)
+class Page:
+    """How a report is shown. `given` are the problems of its input by number, if there is one.
+
+    `apart` shows each twin as a problem of its own.
+    """
+
+    heading: str
+    encoding: str
+    given: Sequence[GivenProblem] = ()
+    apart: bool = False
+
+    def of(self, items: Iterable[AnyItem]) -> str:
+        """Returns the page of a report's items."""
+        heading = _safe(self.heading)
+        parts = [
+            '<!DOCTYPE html>\n<html lang="en">\n<head>\n<meta charset="utf-8">\n',
+            '<meta name="viewport" content="width=device-width">\n',
+            f"<title>{heading}</title>\n<style>{STYLE}</style>\n",
+            "</head>\n<body>\n",
+            diagram.shapes(),
+            f"<h1>{heading}</h1>\n",
+            *self._articles(items),
+            "</body>\n</html>\n",
+        ]
+        return "".join(parts)
+
+    def _articles(self, items: Iterable[AnyItem]) -> Iterator[str]:
+        names: list[str] = []
+
+        def named() -> Iterator[AnyItem]:
+            for name, item in named_items(items):
+                names.append(name)
+                yield item
+
+        place = 0
+        for group in groups(named(), self.given, self.encoding, self.apart):
+            yield self._article(names[place], group)
+            place += len(group.twins)
+
+    def _article(self, name: str, group: Group) -> str:
+        """Returns a problem with its twins: diagram and names, next to them the solutions."""
+        is_faulty = isinstance(group.first, FaultyItem) and group.is_alone
+        kind = "faulty" if is_faulty else "sound"
+        heading = f'<h2><a href="#problem-{name}">{group.numbers}</a></h2>\n'
+        parts = [f'<article class="{kind}" id="problem-{name}">\n']
+        if is_faulty:
+            parts.extend([heading, self._names(group), _solutions(group.first)])
+        else:
+            parts.append(f"<div>\n<header>\n{heading}{self._names(group)}")
+            parts.append(_position(group.first) if isinstance(group.first, SoundItem) else "")
+            parts.append('</header>\n</div>\n<div class="solutions">\n')
+            parts.extend(_twin(group, twin) for twin in group.twins)
+            parts.append("</div>\n")
+        return "".join([*parts, "</article>\n"])
+
+    def _names(self, group: Group) -> str:
+        given = group.twins[0].given
+        texts = (
+            ("title", group.title),
+            ("author", None if group.author is None else shown(group.author, self.encoding)),
+            (
+                "origin",
+                None
+                if given is None or given.origin is None
+                else shown(given.origin, self.encoding),
+            ),
+        )
+        return "".join(
+            f'<p class="{label}">{_safe(text)}</p>\n' for label, text in texts if text is not None
+        )
+
+
+def _twin(group: Group, twin: Twin) -> str:
+    """Returns the solutions of a problem, under its label for a twin."""
+    if group.is_alone:
+        return _solutions(twin.item)
+    item = twin.item
+    own = ""
+    if twin.has_own_diagram and isinstance(item, SoundItem) and item.board is not None:
+        own = f"{diagram.diagram(item.board)}\n"
+    asked = f" <span>{item.asked}</span>" if own and isinstance(item, SoundItem) else ""
+    return (
+        f'<section class="twin">\n<h3 class="label">{_safe(twin.heading)}{asked}</h3>\n{own}'
+        f"{_solutions(item)}</section>\n"
+    )
+
+
+def _in_words(phase: Phase) -> str:
+    """Returns what the total of the play means to a composer: no solution, or several keys."""
+    if phase.kind is not PhaseKind.PLAY or phase.total is None or phase.total.stopped:
+        return ""
+    if phase.total.count == 0:
+        return " <span>(no solution)</span>"
+    is_of_keys = any(isinstance(solution, Node) for solution in phase.solutions)
+    return (
+        f" <span>({phase.total.count} keys)</span>" if is_of_keys and phase.total.count > 1 else ""
+    )
+
+
+def _solutions(item: AnyItem) -> str:
+    if isinstance(item, FaultyItem):
+        fault = item.fault
+        text = f"line {fault.line}: fault {fault.number}: {fault.text}"
+        return f'<p class="fault">{_safe(text)}</p>\n'
+    shown_phases = ""
+    if isinstance(item, SoundItem):
+        if item.phases is None:
+            return "<p>sound <small>(no fault in the text; not solved)</small></p>\n"
+        shown_phases = "".join(_phase(phase) for phase in item.phases)
+    if item.unfinished is None:
+        return shown_phases
+    return f'{shown_phases}<p class="unfinished">unfinished: {_safe(item.unfinished)}</p>\n'
+
+
+def _position(item: SoundItem) -> str:
+    stipulation = item.asked
+    if item.board is None:
+        return (
+            f'<p class="below"><span class="stipulation">{stipulation}</span></p>\n'
+            '<p class="without">The report shows no board.</p>\n'
+        )
+    fairy: list[str] = diagram.fairy_men(item.board)
+    return (
+        f"{diagram.diagram(item.board)}\n"
+        f'<p class="below"><span class="stipulation">{stipulation}</span>'
+        f' <span class="count">{diagram.count(item.board)}</span></p>\n'
+        + "".join(f'<p class="fairy">{name}</p>\n' for name in fairy)
+    )
+
+
+def _phase(phase: Phase) -> str:
+    lines = _MOVE.sub(r"<span>\g<0></span>", _safe("\n".join(phase.lines)))
+    many = ' class="many"' if len(phase.lines) > _LINES_OF_A_COLUMN else ""
+    solutions = f"<pre{many}>{lines}</pre>\n" if phase.lines else ""
+    is_done = phase.total is not None or not phase.is_possible
+    total = f'<p class="total">{_safe(phase.last_line)}{_in_words(phase)}</p>\n' if is_done else ""
+    return f'<section class="phase">\n<h3>{phase.kind.value}</h3>\n{solutions}{total}</section>\n'
