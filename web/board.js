@@ -1,42 +1,29 @@
+// @ts-check
 // The board on the page, used by mouse, touch and keys. It passes each change to the page as new men.
-'use strict';
+import { drawn, element, makeButton } from './elements.js';
+import { FILES, placeOf, squareOf } from './position.js';
+import { KINDS } from './text.js';
+import { say, sayMan } from './words.js';
+
 const HAND = 'hand';
 const DRAG_PIXELS = 6;
-const SHAPE = 'http://www.w3.org/2000/svg';
 
-function element(id) {
-  return document.getElementById(id);
-}
-
-function drawn(man) {
-  const drawing = document.createElementNS(SHAPE, 'svg');
-  const use = document.createElementNS(SHAPE, 'use');
-  drawing.setAttribute('viewBox', '0 0 45 45');
-  drawing.setAttribute('class', `man ${man[0]}`);
-  drawing.setAttribute('aria-hidden', 'true');
-  use.setAttribute('href', `#${MAN_NAMES[man[1]]}`);
-  drawing.append(use);
-  return drawing;
-}
-
-function makeButton(label, act) {
-  const made = document.createElement('button');
-  made.type = 'button';
-  made.setAttribute('aria-label', label);
-  made.title = label;
-  made.onclick = act;
-  return made;
-}
-
-class Board {
-  // PAGE has change(changer), which takes a function from the men to other men; move(from, to); note(text, holds), which
-  // shows a note while its cause holds; and check(), which removes the note once the cause is gone.
+export class Board {
+  /**
+   * PAGE has change(changer), which takes a function from the men to other men; move(from, to); note(text, holds), which
+   * shows a note while its cause holds; and check(), which removes the note once the cause is gone.
+   * @param {BoardPage} page
+   */
   constructor(page) {
     this.page = page;
+    /** @type {Men} */
     this.men = new Map();
     this.tool = HAND;
+    /** @type {Square | null} */
     this.held = null;
+    /** @type {{ man: Man, square: Square | null, x: number, y: number, ghost: HTMLElement | null } | null} */
     this.drag = null;
+    this.wasDragged = false;
     this.buildSquares();
     this.buildTools();
     addEventListener('pointermove', event => this.moved(event));
@@ -52,9 +39,10 @@ class Board {
       element('squares').append(row);
     }
     element('a8').tabIndex = 0;
-    element('squares').onkeydown = event => this.key(event);
+    element('squares').onkeydown = event => this.key(/** @type {KeyboardEvent & { target: HTMLElement }} */ (event));
   }
 
+  /** @param {string} file @param {string} rank */
   builtSquare(file, rank) {
     const made = document.createElement('button');
     made.type = 'button';
@@ -82,26 +70,33 @@ class Board {
     this.choose(HAND);
   }
 
-  addTool(tool, label, sign) {
+  /** @param {string} tool @param {string} label @param {string} [sign] */
+  addTool(tool, label, sign = '') {
     const made = makeButton(label, () => this.choose(tool));
     made.dataset.tool = tool;
-    made.append(sign ?? drawn(tool));
+    made.append(sign || drawn(tool));
     if (!sign) made.onpointerdown = event => this.beginDrag({ man: tool, square: null }, event);
     element('men').append(made);
   }
 
+  /** @param {string} tool */
   choose(tool) {
     this.tool = tool;
     this.hold(null);
     for (const it of element('men').children) it.setAttribute('aria-pressed', String(it.dataset.tool === tool));
   }
 
+  /** @param {HTMLElement} square */
   focused(square) {
-    for (const it of element('squares').querySelectorAll('[tabindex="0"]')) it.tabIndex = -1;
+    for (const it of element('squares').querySelectorAll('button')) if (it.tabIndex === 0) it.tabIndex = -1;
     square.tabIndex = 0;
   }
 
-  // Shows these men, and marks the squares of TRACE.
+  /**
+   * Shows these men, and marks the squares of TRACE.
+   * @param {Men} men
+   * @param {Square[]} trace
+   */
   show(men, trace) {
     this.men = men;
     for (const it of element('squares').querySelectorAll('button')) {
@@ -115,14 +110,16 @@ class Board {
     element('ranks').replaceChildren(...[...'87654321'].map(rank => this.saidRank(rank)));
   }
 
+  /** @param {string} rank */
   saidRank(rank) {
     const said = [...FILES].filter(file => this.men.has(file + rank))
-      .map(file => say('placed', { man: sayMan(this.men.get(file + rank)), square: file + rank }));
+      .map(file => say('placed', { man: sayMan(this.men.get(file + rank) ?? ''), square: file + rank }));
     const line = document.createElement('li');
     line.textContent = say('rank', { rank, men: said.join(', ') || say('emptyRank') });
     return line;
   }
 
+  /** @param {Square} square @param {Man | null} man */
   set(square, man) {
     this.hold(null);
     this.page.change(men => {
@@ -133,22 +130,28 @@ class Board {
     });
   }
 
-  // Moves a man to a square.
+  /**
+   * Moves a man to a square.
+   * @param {Square} from
+   * @param {Square} to
+   */
   move(from, to) {
     this.hold(null);
     this.page.move(from, to);
   }
 
+  /** @param {Square | null} square */
   hold(square) {
     if (this.held) element(this.held).classList.remove('held');
     this.held = square;
     this.page.check();
     if (!square) return;
     element(square).classList.add('held');
-    const held = say('held', { man: sayMan(this.men.get(square)), square });
+    const held = say('held', { man: sayMan(this.men.get(square) ?? ''), square });
     this.page.note(held, () => this.held === square);
   }
 
+  /** @param {Square} square */
   click(square) {
     const man = this.men.get(square);
     if (this.wasDragged) this.wasDragged = false;
@@ -159,28 +162,30 @@ class Board {
     else if (man) this.hold(square);
   }
 
+  /** @param {Square} square @param {PointerEvent} event */
   pressed(square, event) {
     this.wasDragged = false;
-    if (this.men.has(square) && !this.held) this.beginDrag({ man: this.men.get(square), square }, event);
+    const man = this.men.get(square);
+    if (man && !this.held) this.beginDrag({ man, square }, event);
   }
 
-  // Starts to drag a man, from a square or from the palette.
+  /**
+   * Starts to drag a man, from a square or from the palette.
+   * @param {{ man: Man, square: Square | null }} dragged
+   * @param {PointerEvent} event
+   */
   beginDrag({ man, square }, event) {
     if (event.button !== 0) return;
-    if (event.pointerType === 'touch') event.target.releasePointerCapture?.(event.pointerId);
+    if (event.pointerType === 'touch') /** @type {HTMLElement} */ (event.target).releasePointerCapture?.(event.pointerId);
     this.drag = { man, square, x: event.clientX, y: event.clientY, ghost: null };
   }
 
+  /** @param {PointerEvent} event */
   moved(event) {
     const { drag } = this;
     if (!drag) return;
     const isFar = Math.hypot(event.clientX - drag.x, event.clientY - drag.y) > DRAG_PIXELS;
-    if (!drag.ghost && isFar) {
-      drag.ghost = document.createElement('div');
-      drag.ghost.id = 'ghost';
-      drag.ghost.append(drawn(drag.man));
-      document.body.append(drag.ghost);
-    }
+    if (!drag.ghost && isFar) drag.ghost = this.madeGhost(drag.man);
     if (!drag.ghost) return;
     drag.ghost.style.left = `${event.clientX}px`;
     drag.ghost.style.top = `${event.clientY}px`;
@@ -189,10 +194,24 @@ class Board {
     if (aim) element(aim).classList.add('aim');
   }
 
+  /**
+   * Makes the man that follows the pointer.
+   * @param {Man} man
+   */
+  madeGhost(man) {
+    const ghost = document.createElement('div');
+    ghost.id = 'ghost';
+    ghost.append(drawn(man));
+    document.body.append(ghost);
+    return ghost;
+  }
+
+  /** @param {PointerEvent} event */
   squareUnder({ clientX, clientY }) {
     return document.elementFromPoint(clientX, clientY)?.closest('#squares button')?.id ?? null;
   }
 
+  /** @param {PointerEvent} event */
   dropped(event) {
     const { drag } = this;
     if (!drag) return;
@@ -213,14 +232,17 @@ class Board {
     for (const it of element('squares').querySelectorAll('.aim')) it.classList.remove('aim');
   }
 
+  /** @param {KeyboardEvent & { target: HTMLElement }} event */
   key(event) {
     const square = event.target.id;
     if (!/^[a-h][1-8]$/.test(square) || event.ctrlKey || event.metaKey || event.altKey) return;
     const [file, rank] = placeOf(square);
+    /** @type {Record<string, [number, number]>} */
     const steps = { ArrowLeft: [-1, 0], ArrowRight: [1, 0], ArrowUp: [0, 1], ArrowDown: [0, -1] };
     const step = steps[event.key];
     const kind = event.key.toUpperCase();
     if (step) {
+      /** @param {number} number */
       const inside = number => Math.min(7, Math.max(0, number));
       element(squareOf(inside(file + step[0]), inside(rank + step[1]))).focus();
     } else if (event.key === 'Home' || event.key === 'End') element((event.key === 'Home' ? 'a' : 'h') + square[1]).focus();

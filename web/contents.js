@@ -1,13 +1,19 @@
 // @ts-check
 // The list of the text's problems, and the twins of the problem on the board.
-'use strict';
+import { element, madeWith, makeButton } from './elements.js';
+import { goToProblem } from './page/editing.js';
+import { blockNow, textNow } from './page/state.js';
+import { blocksOf, fieldsOf, menOf, sidesOf, valueOf } from './text.js';
+import { givenOf, saidOfTwin, twinChange, twinGroups } from './twins.js';
+import { say } from './words.js';
+
 const LONGEST_NAME = 60;
 
 /**
  * Returns the problems of a text with their numbers and names.
  * @param {string} text
  */
-function contentsOf(text) {
+export function contentsOf(text) {
   return blocksOf(text).map(block => {
     const fields = fieldsOf(text, block);
     const { men } = menOf(block);
@@ -17,14 +23,22 @@ function contentsOf(text) {
   });
 }
 
-/** Names a problem for the list: its number, then title and stipulation, or stipulation and men. */
+/**
+ * Names a problem for the list: its number, then title and stipulation, or stipulation and men.
+ * @param {Content} problem
+ */
 function nameOfProblem({ number, title, asked, men }) {
   const name = [title, asked, title ? '' : sidesOf(men).trim()].filter(Boolean).join(' · ');
   return `${number}. ${name.slice(0, LONGEST_NAME)}`;
 }
 
-/** Returns the group of twins that a problem belongs to, each with what changes in it; empty if it has no twins. */
-function twinsOf(text, contents, number) {
+/**
+ * Returns the group of twins that a problem belongs to, each with what changes in it; empty if it has no twins.
+ * @param {string} text
+ * @param {Content[]} contents
+ * @param {number | undefined} number
+ */
+export function twinsOf(text, contents, number) {
   const group = twinGroups(contents).find(twins => twins.some(twin => twin.number === number)) ?? [];
   if (group.length < 2) return [];
   const given = givenOf(text);
@@ -35,19 +49,8 @@ function twinsOf(text, contents, number) {
   });
 }
 
-function goToProblem(number) {
-  endTyping();
-  leave();
-  state.number = number;
-  follow();
-  const block = blockNow();
-  const area = element('text');
-  area.setSelectionRange(block.from, block.from);
-  area.scrollTop = Math.max(0, (lineOf(textNow(), block.from) - 2) * LINE_PIXELS);
-}
-
 /** Shows the list if there is more than one problem, and the twins of the one on the board. */
-function showContents() {
+export function showContents() {
   const contents = contentsOf(textNow());
   const names = contents.map(nameOfProblem);
   const list = element('problems');
@@ -60,6 +63,7 @@ function showContents() {
   showTwins(twinsOf(textNow(), contents, blockNow()?.number));
 }
 
+/** @param {ContentTwin[]} twins */
 function showTwins(twins) {
   const now = blockNow()?.number;
   element('twins').hidden = !twins.length;

@@ -1,23 +1,40 @@
+// @ts-check
 // Parallel workers. Each does one call of the engine at a time; a call waits until a worker is free.
-'use strict';
 
-class Crew {
-  // Up to SIZE workers, each made by MAKE when it is first needed. CODEC turns texts into bytes and back.
+export class Crew {
+  /**
+   * Up to SIZE workers, each made by MAKE when it is first needed. CODEC turns texts into bytes and back.
+   * @param {number} size
+   * @param {() => EngineWorker} make
+   * @param {Codec} codec
+   */
   constructor(size, make, codec) {
-    Object.assign(this, { size, make, codec, idle: [], busy: new Set(), waiting: [], isStopped: false });
+    this.size = size;
+    this.make = make;
+    this.codec = codec;
+    /** @type {EngineWorker[]} */
+    this.idle = [];
+    /** @type {Set<Task>} */
+    this.busy = new Set();
+    /** @type {((value?: unknown) => void)[]} */
+    this.waiting = [];
+    this.isStopped = false;
   }
 
-  // Resolves once a worker is free.
+  /** Resolves once a worker is free. */
   async free() {
     while (!this.idle.length && this.busy.size >= this.size) {
       await new Promise(wake => { this.waiting.push(wake); });
     }
   }
 
-  // Passes a call to a worker. Resolves to status and text.
+  /**
+   * Passes a call to a worker. Resolves to status and text.
+   * @param {Call & { text: string }} call
+   */
   ask(call) {
     const worker = this.idle.pop() ?? this.make();
-    const task = { worker };
+    const task = /** @type {Task} */ ({ worker });
     this.busy.add(task);
     task.answer = new Promise((answer, refuse) => {
       worker.onmessage = ({ data }) => {
@@ -33,19 +50,28 @@ class Crew {
     return task;
   }
 
+  /** @param {Task} task */
   release(task) {
     if (!this.busy.delete(task)) return;
     this.idle.push(task.worker);
     this.wake();
   }
 
-  // The memory of a failed worker is in an unknown state: it gets no other call.
+  /**
+   * The memory of a failed worker is in an unknown state: it gets no other call.
+   * @param {Task} task
+   * @param {string} fault
+   * @param {(fault: Error) => void} refuse
+   */
   fail(task, fault, refuse) {
     this.drop(task);
     refuse(new Error(fault));
   }
 
-  // Ends a call whose result isn't needed any more; its promise never resolves.
+  /**
+   * Ends a call whose result isn't needed any more; its promise never resolves.
+   * @param {Task} task
+   */
   drop(task) {
     if (!this.busy.delete(task)) return;
     task.worker.terminate();
@@ -57,7 +83,7 @@ class Crew {
     for (const wake of this.waiting.splice(0)) wake();
   }
 
-  // Ends all calls and all workers; pending calls never resolve.
+  /** Ends all calls and all workers; pending calls never resolve. */
   stop() {
     this.isStopped = true;
     for (const { worker } of this.busy) worker.terminate();

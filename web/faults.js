@@ -1,22 +1,28 @@
 // @ts-check
 // A fault as the page shows it: the lines at fault, with their words marked, and the explanation.
-'use strict';
+import { madeWith, makeButton } from './elements.js';
+import { characters } from './explain/characters.js';
+import { explaining } from './explain/explaining.js';
+import { lineAt } from './text.js';
+import { say } from './words.js';
+
 const LONGEST_QUOTED_LINE = 300;
 
-function madeWith(tag, text) {
-  const made = document.createElement(tag);
-  made.textContent = text;
-  return made;
-}
-
-/** Draws a line of the text with its number, in pieces, some of them marked. */
+/**
+ * Draws a line of the text with its number, in pieces, some of them marked.
+ * @param {MarkedLine} marked
+ */
 function drawnLine({ line, pieces }) {
   const drawn = madeWith('code', `${line} | `);
   drawn.append(...pieces.map(({ text, isMarked }) => madeWith(isMarked ? 'mark' : 'span', text)));
   return drawn;
 }
 
-/** Returns the line of a fault without marks, if no word of it is known. */
+/**
+ * Returns the line of a fault without marks, if no word of it is known.
+ * @param {string} text
+ * @param {number} line
+ */
 function bareLine(text, line) {
   const { from, to } = lineAt(text, line);
   const said = characters.shown(text.slice(from, Math.min(to, from + LONGEST_QUOTED_LINE)).replace(/[\t\v\f\r]/g, ' '));
@@ -30,7 +36,7 @@ function bareLine(text, line) {
  * @param {string} general what the manual says
  * @param {(line: number) => void} goToLine
  */
-function faultBox(text, item, general, goToLine) {
+export function faultBox(text, item, general, goToLine) {
   const { fault } = item;
   const explanation = explaining.explain(text, item);
   const marked = explanation?.marks.length ? explaining.markedLines(text, explanation.marks) : [bareLine(text, fault.line)];

@@ -1,8 +1,7 @@
 // @ts-check
 // The notes below the board.
-'use strict';
 
-class Notes {
+export class Notes {
   /** @param {HTMLElement} place shows the note */
   constructor(place) {
     this.place = place;

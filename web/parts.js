@@ -1,11 +1,17 @@
+// @ts-check
 // Puts a report together: heads as the engine prints them for a text that it only tests, solutions part by part, totals as
 // it prints them. At any time the result is a beginning of the report.
-'use strict';
-const SOUND_LINE = 'sound\n\n';
+import { askedOf } from './report.js';
+import { blocksOf, fieldsOf, valueOf, wordsOf } from './text.js';
 
-// Divides a text into its items, each a text of its own: the words between two closing words, with new opening and closing
-// words. The last item stays open if no word closes it.
-function itemTexts(text) {
+export const SOUND_LINE = 'sound\n\n';
+
+/**
+ * Divides a text into its items, each a text of its own: the words between two closing words, with new opening and closing
+ * words. The last item stays open if no word closes it.
+ * @param {string} text
+ */
+export function itemTexts(text) {
   const found = [];
   let opening = '';
   let from = 0;
@@ -19,15 +25,21 @@ function itemTexts(text) {
   return [...found, opening + text.slice(from)];
 }
 
-// Returns the most solutions of a phase of a text's first problem.
-function limitOf(text) {
+/**
+ * Returns the most solutions of a phase of a text's first problem.
+ * @param {string} text
+ */
+export function limitOf(text) {
   const block = blocksOf(text)[0];
   const said = block && valueOf(fieldsOf(text, block), 'MaxSolutions');
   return said ? Number(said) : Infinity;
 }
 
-// Reads the items of a report of --check: the text of a faulty item; head and number of half-moves of a sound one.
-function headsOf(report) {
+/**
+ * Reads the items of a report of --check: the text of a faulty item; head and number of half-moves of a sound one.
+ * @param {string} report
+ */
+export function headsOf(report) {
   return (report.match(/[^]+?\n\n/g) ?? []).map(text => {
     if (!text.endsWith(`\n${SOUND_LINE}`)) return { text, isSound: false, halfMoves: 0 };
     const head = text.slice(0, -SOUND_LINE.length);
@@ -36,22 +48,35 @@ function headsOf(report) {
   });
 }
 
-// Returns the lines after the line that numbers an item.
-const afterNumber = text => text.slice(text.indexOf('\n') + 1);
+/**
+ * Returns the lines after the line that numbers an item.
+ * @param {string} text
+ */
+export const afterNumber = text => text.slice(text.indexOf('\n') + 1);
 
-// Reads from the list of one sound problem the number of parts of each phase, in order; null if the phase isn't possible.
-function listOf(list) {
+/**
+ * Reads from the list of one sound problem the number of parts of each phase, in order; null if the phase isn't possible.
+ * @param {string} list
+ */
+export function listOf(list) {
   const found = /^1: (?:set (not possible|[0-9]+), )?play ([0-9]+)\n$/.exec(list);
   if (!found) throw new Error(`no list of parts: ${list.slice(0, 80)}`);
   const set = found[1] ? [{ kind: 'set', parts: found[1] === 'not possible' ? null : Number(found[1]) }] : [];
   return [...set, { kind: 'play', parts: Number(found[2]) }];
 }
 
-// Returns the solutions in a text, each with all its lines.
-const solutionsIn = text => text.match(/^[^ \n].*\n(?: .*\n)*/gm) ?? [];
+/**
+ * Returns the solutions in a text, each with all its lines.
+ * @param {string} text
+ */
+export const solutionsIn = text => text.match(/^[^ \n].*\n(?: .*\n)*/gm) ?? [];
 
-// Returns the solutions of a part. A cut text gives only complete lines; the last of its solutions may be incomplete.
-function solutionsOf(text, isCut) {
+/**
+ * Returns the solutions of a part. A cut text gives only complete lines; the last of its solutions may be incomplete.
+ * @param {string} text
+ * @param {boolean} isCut
+ */
+export function solutionsOf(text, isCut) {
   if (isCut) return { all: solutionsIn(text.slice(0, text.lastIndexOf('\n') + 1)), isCut };
   const total = /(?:^|\n)solutions: ([0-9]+)(?:, stopped)?\n$/.exec(text.slice(-60));
   const lines = text.slice(0, text.lastIndexOf('solutions: '));
@@ -60,13 +85,16 @@ function solutionsOf(text, isCut) {
   return { all, isCut: false };
 }
 
-// A piece of a report that is known at once, or once its text is set.
-class Piece {
+/** A piece of a report that is known at once, or once its text is set. */
+export class Piece {
+  /** @param {string | null} [text] */
   constructor(text = null) {
-    Object.assign(this, { text, isWhole: false, isCut: false });
+    this.text = text;
+    this.isWhole = false;
+    this.isCut = false;
   }
 
-  // Returns the text that is new since the last call.
+  /** Returns the text that is new since the last call. */
   more() {
     if (this.text === null || this.isWhole) return '';
     this.isWhole = true;
@@ -74,23 +102,37 @@ class Piece {
   }
 }
 
-// A phase whose parts come in any order; LIMIT is its most solutions.
-class PhasePiece {
+/** A phase whose parts come in any order; LIMIT is its most solutions. */
+export class PhasePiece {
+  /** @param {PhaseParts} phase @param {number} limit */
   constructor({ kind, parts }, limit) {
-    Object.assign(this, { kind, limit, parts: parts ?? 0, isWhole: false, isCut: false });
-    Object.assign(this, { solutions: new Map(), counts: new Map(), next: 1, found: 0, begun: `${kind}\n` });
-    if (parts === null) this.begun += 'not possible\n';
+    this.kind = kind;
+    this.limit = limit;
+    this.parts = parts ?? 0;
+    this.isWhole = false;
+    this.isCut = false;
+    /** @type {Map<number, PartSolutions>} the parts that aren't shown yet */
+    this.solutions = new Map();
+    /** @type {Map<number, number>} the number of complete solutions of each part */
+    this.counts = new Map();
+    this.next = 1;
+    this.found = 0;
+    this.begun = `${kind}\n${parts === null ? 'not possible\n' : ''}`;
     this.isPossible = parts !== null;
     this.last = this.parts;
   }
 
+  /** @param {number} number @param {PartSolutions} part */
   take(number, { all, isCut }) {
     this.solutions.set(number, { all, isCut });
     this.counts.set(number, all.length - (isCut ? 1 : 0));
     this.last = this.lastNeeded(isCut ? Math.min(this.last, number) : this.last);
   }
 
-  // Returns the last part that is needed: together with the finished parts before it, it reaches the limit.
+  /**
+   * Returns the last part that is needed: together with the finished parts before it, it reaches the limit.
+   * @param {number} last
+   */
   lastNeeded(last) {
     let count = 0;
     for (let number = 1; number <= last; number++) {
@@ -100,12 +142,12 @@ class PhasePiece {
     return last;
   }
 
-  // Counts the needed parts that are done.
+  /** Counts the needed parts that are done. */
   countDone() {
     return [...this.counts.keys()].filter(number => number <= this.last).length;
   }
 
-  // Returns the text that is new since the last call: complete solutions of parts in order, and at the end their number.
+  /** Returns the text that is new since the last call: complete solutions of parts in order, and at the end their number. */
   more() {
     let text = this.begun;
     this.begun = '';
@@ -117,7 +159,7 @@ class PhasePiece {
   }
 
   taken() {
-    const { all, isCut } = this.solutions.get(this.next);
+    const { all, isCut } = /** @type {PartSolutions} */ (this.solutions.get(this.next));
     const shown = all.slice(0, this.limit - this.found);
     this.solutions.delete(this.next);
     this.next += 1;
@@ -128,24 +170,30 @@ class PhasePiece {
   }
 }
 
-// The report of a text: its items, whose pieces come in any order.
-class ReportText {
+/** The report of a text: its items, whose pieces come in any order. */
+export class ReportText {
+  /** @param {Head[]} heads */
   constructor(heads) {
-    this.items = heads.map(({ text, isSound }) => ({ pieces: [new Piece(text)], isPlanned: !isSound, at: 0 }));
-    Object.assign(this, { at: 0, isCut: false });
+    this.items = heads.map(({ text, isSound }) => ({ pieces: /** @type {(Piece | PhasePiece)[]} */ ([new Piece(text)]), isPlanned: !isSound, at: 0 }));
+    this.at = 0;
+    this.isCut = false;
   }
 
   get isWhole() {
     return this.at === this.items.length && !this.isCut;
   }
 
-  // Sets the pieces of an item's text after its head.
+  /**
+   * Sets the pieces of an item's text after its head.
+   * @param {number} index
+   * @param {(Piece | PhasePiece)[]} pieces
+   */
   plan(index, pieces) {
     this.items[index].pieces.push(...pieces);
     this.items[index].isPlanned = true;
   }
 
-  // Returns the text that is new since the last call.
+  /** Returns the text that is new since the last call. */
   more() {
     let text = '';
     for (; !this.isWhole; this.at++) {

@@ -1,12 +1,19 @@
 // @ts-check
 // Moves played on the board, and problems that continue from a position. Nothing here judges a move: the engine does.
-'use strict';
-/** @typedef {{ said: string, label: string, half: number, colour: string, kind: string, from: string, to: string, captures: boolean, enPassant: boolean, castling: string | null, promotion: string | null, rebirth: { square: string, man: string } | null, mark: null }} Move */
+import { after, manAt, other, placeOf } from './position.js';
+import { labelOf } from './report.js';
+import { barredIn, fieldsOf, sidesOf, turnOf, valueOf, withFen } from './text.js';
+
 const HOME_SQUARES = ['a1', 'e1', 'h1', 'a8', 'e8', 'h8'];
 // The rebirth squares of Circe, for White and Black: queens; rooks, bishops and knights on light and on dark squares.
+/** @type {{ Q: Square[], light: Record<string, Square[]>, dark: Record<string, Square[]> }} */
 const REBIRTHS = { Q: ['d1', 'd8'], light: { R: ['h1', 'a8'], B: ['f1', 'c8'], S: ['b1', 'g8'] }, dark: { R: ['a1', 'h8'], B: ['c1', 'f8'], S: ['g1', 'b8'] } };
 
-/** Returns the square on which a man captured on a square is reborn in Circe; null for a king. (The manual, The rules in force) */
+/**
+ * Returns the square on which a man captured on a square is reborn in Circe; null for a king. (The manual, The rules in force)
+ * @param {Man} man
+ * @param {Square} square
+ */
 function rebirthSquare([colour, kind], square) {
   const isWhite = colour === 'w';
   if (kind === 'K') return null;
@@ -17,11 +24,17 @@ function rebirthSquare([colour, kind], square) {
   return squares[isWhite ? 0 : 1];
 }
 
-/** Returns whether a move takes a pawn to its last rank. */
-const promotes = (men, from, to) => men.get(from)?.[1] === 'P' && to[1] === (men.get(from)[0] === 'w' ? '8' : '1');
+/**
+ * Returns whether a move takes a pawn to its last rank.
+ * @param {Men} men
+ * @param {Square} from
+ * @param {Square} to
+ */
+export const promotes = (men, from, to) => men.get(from)?.[1] === 'P' && to[1] === (men.get(from)?.[0] === 'w' ? '8' : '1');
 
+/** @param {Men} men @param {Square} from @param {Square} to */
 function castlingOf(men, from, to) {
-  const [colour, kind] = men.get(from);
+  const [colour, kind] = manAt(men, from);
   const rank = colour === 'w' ? '1' : '8';
   const side = { [`g${rank}`]: ['0-0', 'h', 'fg'], [`c${rank}`]: ['0-0-0', 'a', 'bcd'] }[to];
   if (kind !== 'K' || from !== `e${rank}` || !side) return null;
@@ -36,31 +49,39 @@ function castlingOf(men, from, to) {
  * @param {{ from: string, to: string, promotion: string | null, half: number, isCirce: boolean }} asked
  * @returns {Move}
  */
-function moveBetween(men, { from, to, promotion, half, isCirce }) {
-  const [colour, kind] = men.get(from);
+export function moveBetween(men, { from, to, promotion, half, isCirce }) {
+  const [colour, kind] = manAt(men, from);
   const castling = castlingOf(men, from, to);
   const enPassant = kind === 'P' && from[0] !== to[0] && !men.has(to) && men.get(to[0] + from[1]) === `${other(colour)}P`;
   const place = enPassant ? to[0] + from[1] : to;
   const taken = men.get(place);
+  /** @type {Move} */
   const move = { half, colour, kind, from, to, captures: Boolean(taken), enPassant, castling, promotion, rebirth: null, mark: null, said: '', label: '' };
   if (taken && isCirce) move.rebirth = rebirthOf(after(men, move), taken, place);
   const said = saidMove(move);
   return { ...move, said, label: said };
 }
 
+/** @param {Men} men @param {Man} taken @param {Square} place */
 function rebirthOf(men, taken, place) {
   const square = rebirthSquare(taken, place);
   return square && !men.has(square) ? { square, man: taken } : null;
 }
 
+/** @param {Move} move */
 function saidMove({ kind, from, to, captures, enPassant, castling, promotion, rebirth }) {
   if (castling) return castling;
   return (kind === 'P' ? '' : kind) + from + (captures ? '*' : '-') + to + (enPassant ? ' ep.' : '')
     + (promotion ? `=${promotion}` : '') + (rebirth ? `[+${rebirth.man}${rebirth.square}]` : '');
 }
 
-/** Returns the number of a half-move of this colour after some moves: in help play Black makes the odd ones, in battle play White. */
-function halfAfter(moves, colour, { isHelp, isHalf }) {
+/**
+ * Returns the number of a half-move of this colour after some moves: in help play Black makes the odd ones, in battle play White.
+ * @param {{ half: number }[]} moves
+ * @param {Colour} colour
+ * @param {{ isHelp: boolean, isHalf: boolean }} play
+ */
+export function halfAfter(moves, colour, { isHelp, isHalf }) {
   const last = moves.at(-1)?.half ?? (isHalf ? 1 : 0);
   const isOdd = (colour === 'w') !== isHelp;
   return last + ((last + 1) % 2 === (isOdd ? 1 : 0) ? 1 : 2);
@@ -72,7 +93,7 @@ function halfAfter(moves, colour, { isHelp, isHalf }) {
  * @param {string} stipulation
  * @param {number} half
  */
-function stipulationAfter(stipulation, half) {
+export function stipulationAfter(stipulation, half) {
   const found = /^([sh]?)([#=])([0-9]+)(\.5)?$/i.exec(stipulation);
   if (!found) return null;
   const [, form, goal, number, point] = found;
@@ -84,35 +105,46 @@ function stipulationAfter(stipulation, half) {
   return half < last ? { word: `${form}${goal}${Number(number) - (half >> 1)}`, isSet: half % 2 === 1 } : null;
 }
 
-/** Returns the square that a pawn has just crossed; null if the move isn't a double step. */
+/**
+ * Returns the square that a pawn has just crossed; null if the move isn't a double step.
+ * @param {{ kind: string, from: Square, to: Square }} move
+ */
 function crossedBy({ kind, from, to }) {
   const isDouble = kind === 'P' && from[0] === to[0] && Math.abs(Number(from[1]) - Number(to[1])) === 2;
   return isDouble ? from[0] + (Number(from[1]) + Number(to[1])) / 2 : null;
 }
 
-/** Returns the squares for NoCastling after some moves: the home squares of men that have moved. A man reborn there may castle. */
-function barredAfter(men, moves, barred) {
+/**
+ * Returns the squares for NoCastling after some moves: the home squares of men that have moved. A man reborn there may castle.
+ * @param {Men} men
+ * @param {Move[]} moves
+ * @param {Square[]} barred
+ */
+export function barredAfter(men, moves, barred) {
   const touched = new Set(barred);
   for (const { from, to, castling, rebirth } of moves) {
     for (const square of [from, to]) touched.add(square);
     if (castling) for (const file of 'ah') touched.add(file + from[1]);
     if (rebirth) touched.delete(rebirth.square);
   }
+  /** @param {Square} square */
   const isHome = square => men.get(square) === `${square[1] === '1' ? 'w' : 'b'}${square[0] === 'e' ? 'K' : 'R'}`;
   return HOME_SQUARES.filter(square => touched.has(square) && isHome(square));
 }
 
+/** @param {Move[]} moves */
 const movesSaid = moves => moves.map(labelOf).join(' ');
 
 /**
  * Replaces a problem's position by the position after some moves; its stipulation stays.
  * @param {string} text
- * @param {{ from: number }} block
+ * @param {Block} block
  * @param {{ men: Men, moves: Move[] }} reached
  */
-function withReached(text, block, { men, moves }) {
+export function withReached(text, block, { men, moves }) {
   const fields = fieldsOf(text, block);
-  const [turn, last] = [turnOf(fields), moves.at(-1)];
+  const turn = turnOf(fields);
+  const last = moves[moves.length - 1];
   const crossed = turn === last.colour ? null : crossedBy(last);
   return withFen(text, block.from, { men, turn, noCastling: barredAfter(men, moves, barredIn(fields)), crossed });
 }
@@ -120,14 +152,15 @@ function withReached(text, block, { men, moves }) {
 /**
  * Adds a problem after this one: the position after some moves, with the moves left to play; returns null if none are left.
  * @param {string} text
- * @param {{ end: number }} block
+ * @param {Block} block
  * @param {{ men: Men, moves: Move[] }} reached
  */
-function withProblemAfter(text, block, { men, moves }) {
+export function withProblemAfter(text, block, { men, moves }) {
   const fields = fieldsOf(text, block);
-  const asked = stipulationAfter(valueOf(fields, 'stipulation') ?? '', moves.at(-1).half);
+  const last = moves[moves.length - 1];
+  const asked = stipulationAfter(valueOf(fields, 'stipulation') ?? '', last.half);
   if (!asked) return null;
-  const crossed = asked.isSet ? null : crossedBy(moves.at(-1));
+  const crossed = asked.isSet ? null : crossedBy(last);
   const barred = barredAfter(men, moves, barredIn(fields));
   const options = [
     ...(asked.isSet ? ['SetPlay'] : []), ...(valueOf(fields, 'Variation') === null ? [] : ['Variation']),

@@ -1,17 +1,28 @@
 // @ts-check
 // Positions are maps from squares to men, as 'e4' to 'wK'. Changes of a whole board, FEN, and positions after moves.
-'use strict';
-/** @typedef {Map<string, string>} Men */
-/** @typedef {{ men: Men, turn: string, noCastling: string[], crossed: string | null }} Fen */
-const FILES = 'abcdefgh';
+
+export const FILES = 'abcdefgh';
 // The letters of FEN for our kinds. A letter in brackets is Popeye's; so are all letters if S is the knight.
+/** @type {Record<string, string>} */
 const FEN_LETTERS = { K: 'K', Q: 'Q', R: 'R', B: 'B', S: 'N', P: 'P', G: 'G', N: '(N)' };
+/** @type {Record<string, string>} */
 const FEN_KINDS = { K: 'K', Q: 'Q', R: 'R', B: 'B', N: 'S', P: 'P', G: 'G' };
 const FEN_SQUARES = /\(([kqrbspgn])\)|[kqrbspgn]|[1-8]/gi;
+/** @type {Record<string, string>} */
 const CORNERS = { K: 'h1', Q: 'a1', k: 'h8', q: 'a8' };
-const placeOf = square => [FILES.indexOf(square[0]), Number(square[1]) - 1];
-const squareOf = (file, rank) => FILES[file] + (rank + 1);
-const other = colour => (colour === 'w' ? 'b' : 'w');
+/** @param {Square} square */
+export const placeOf = square => /** @type {[number, number]} */ ([FILES.indexOf(square[0]), Number(square[1]) - 1]);
+/** @param {number} file @param {number} rank */
+export const squareOf = (file, rank) => FILES[file] + (rank + 1);
+/**
+ * Returns the man on a square that has one.
+ * @param {Men} men
+ * @param {Square} square
+ */
+export const manAt = (men, square) => /** @type {Man} */ (men.get(square));
+/** @param {Colour} colour */
+export const other = colour => (colour === 'w' ? 'b' : 'w');
+/** @type {Record<string, (file: number, rank: number) => [number, number]>} the changes of places */
 const CHANGES = {
   left: (file, rank) => [file - 1, rank],
   right: (file, rank) => [file + 1, rank],
@@ -21,8 +32,12 @@ const CHANGES = {
   turn: (file, rank) => [rank, 7 - file],
 };
 
-// Moves all men by one change, or returns null if a man would leave the board.
-function changed(men, name) {
+/**
+ * Moves all men by one change, or returns null if a man would leave the board.
+ * @param {Men} men
+ * @param {string} name
+ */
+export function changed(men, name) {
   const result = new Map();
   for (const [square, man] of men) {
     const [file, rank] = CHANGES[name](...placeOf(square));
@@ -32,22 +47,33 @@ function changed(men, name) {
   return result;
 }
 
-// Exchanges the colours of all men, and rank 1 with rank 8.
-function exchanged(men) {
-  const turned = ([square, man]) => [square[0] + (9 - square[1]), other(man[0]) + man[1]];
+/**
+ * Exchanges the colours of all men, and rank 1 with rank 8.
+ * @param {Men} men
+ */
+export function exchanged(men) {
+  /** @param {[Square, Man]} entry */
+  const turned = ([square, man]) => /** @type {[Square, Man]} */ ([square[0] + (9 - Number(square[1])), other(man[0]) + man[1]]);
   return new Map([...men].map(turned));
 }
 
-const countOf = (men, colour) => [...men.values()].filter(man => man[0] === colour).length;
+/** @param {Men} men @param {Colour} colour */
+export const countOf = (men, colour) => [...men.values()].filter(man => man[0] === colour).length;
 
-// Writes the eight ranks of a board as a report prints them, rank 8 first.
-function ranksOf(men) {
+/**
+ * Writes the eight ranks of a board as a report prints them, rank 8 first.
+ * @param {Men} men
+ */
+export function ranksOf(men) {
+  /** @param {Man | undefined} man */
   const letter = man => (man ? (man[0] === 'w' ? man[1] : man[1].toLowerCase()) : '.');
+  /** @param {number} number */
   const rank = number => [...FILES].map(file => letter(men.get(file + number))).join('');
   return [8, 7, 6, 5, 4, 3, 2, 1].map(rank);
 }
 
-function menOfRanks(ranks) {
+/** @param {string[]} ranks */
+export function menOfRanks(ranks) {
   const men = new Map();
   ranks.forEach((row, index) => [...row].forEach((letter, file) => {
     const colour = letter === letter.toUpperCase() ? 'w' : 'b';
@@ -60,15 +86,17 @@ function menOfRanks(ranks) {
  * Returns a position as FEN: knights are N, grasshoppers G, nightriders (N). `barred` are the squares of NoCastling.
  * @param {{ men: Men, turn: string, barred: string[], crossed: string | null }} position
  */
-function fenOf({ men, turn, barred, crossed }) {
+export function fenOf({ men, turn, barred, crossed }) {
   const passed = /^[a-h][36]$/.test(crossed ?? '') ? crossed : '-';
   return `${placementOf(men)} ${turn} ${rightsOf(men, barred)} ${passed} 0 1`;
 }
 
 /** @param {Men} men */
 function placementOf(men) {
-  const letter = man => (man[0] === 'w' ? FEN_LETTERS[man[1]] : FEN_LETTERS[man[1]].toLowerCase());
-  const row = rank => [...FILES].map(file => (men.has(file + rank) ? letter(men.get(file + rank)) : '.')).join('');
+  /** @param {Man | undefined} man */
+  const letter = man => (man ? (man[0] === 'w' ? FEN_LETTERS[man[1]] : FEN_LETTERS[man[1]].toLowerCase()) : '.');
+  /** @param {string} rank */
+  const row = rank => [...FILES].map(file => letter(men.get(file + rank))).join('');
   return [...'87654321'].map(rank => row(rank).replace(/\.+/g, points => String(points.length))).join('/');
 }
 
@@ -81,6 +109,7 @@ function standAtHome(men, right) {
 
 /** @type {(men: Men, barred: string[]) => string} */
 function rightsOf(men, barred) {
+  /** @param {string} right */
   const isBarred = right => barred.includes(CORNERS[right]) || barred.includes(`e${CORNERS[right][1]}`);
   return Object.keys(CORNERS).filter(right => standAtHome(men, right) && !isBarred(right)).join('') || '-';
 }
@@ -90,7 +119,7 @@ function rightsOf(men, barred) {
  * @param {string} text
  * @returns {Fen | null}
  */
-function readFen(text) {
+export function readFen(text) {
   const [placement, turn = 'w', rights = null, crossed = '-', ...counts] = text.trim().split(/\s+/);
   const men = menOfPlacement(placement);
   if (!men || counts.length > 2 || !counts.every(field => /^\d+$/.test(field))) return null;
@@ -105,7 +134,9 @@ function readFen(text) {
  */
 function menOfPlacement(placement) {
   const isPopeyes = /s/i.test(placement.replace(/\(.\)/g, ''));
+  /** @param {string} letter @param {string | undefined} bracketed */
   const kindOf = (letter, bracketed) => (bracketed ?? (isPopeyes ? letter : FEN_KINDS[letter.toUpperCase()])).toUpperCase();
+  /** @param {string} row */
   const squaresOf = row => [...row.matchAll(FEN_SQUARES)].flatMap(([sign, bracketed]) => {
     if (/[1-8]/.test(sign)) return Array(Number(sign)).fill('');
     const letter = bracketed ?? sign;
@@ -127,8 +158,12 @@ function barredCorners(men, rights) {
   return Object.keys(CORNERS).filter(right => standAtHome(men, right) && !rights.includes(right)).map(right => CORNERS[right]);
 }
 
-// Returns the position after a move of a report: the move's text names every capture, arrival and rebirth.
-function after(men, move) {
+/**
+ * Returns the position after a move of a report: the move's text names every capture, arrival and rebirth.
+ * @param {Men} men
+ * @param {Move} move
+ */
+export function after(men, move) {
   const result = new Map(men);
   const man = result.get(move.from) ?? move.colour + move.kind;
   result.delete(move.from);

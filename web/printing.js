@@ -1,10 +1,17 @@
 // @ts-check
 // The printed sheet: the problem on the board with its solutions, twins under one diagram.
-'use strict';
+import { contentsOf, twinsOf } from './contents.js';
+import { diagramOf } from './diagrams.js';
+import { element, madeWith } from './elements.js';
+import { blockNow, state, textNow } from './page/state.js';
+import { countOf } from './position.js';
+import { blocksOf, fieldsOf, valueOf } from './text.js';
+import { say } from './words.js';
+
 const MANY_LINES = 70;
 const MOST_LINES = 300;
 
-function fillPrint() {
+export function fillPrint() {
   const contents = contentsOf(textNow());
   const own = contents.find(it => it.number === blockNow()?.number) ?? null;
   const twins = own ? twinsOf(textNow(), contents, own.number) : [];
@@ -12,12 +19,14 @@ function fillPrint() {
   element('print').replaceChildren(printedDiagram(shown[0] ?? null), printedLines(shown));
 }
 
+/** @param {string} tag @param {string} name @param {string} text */
 function printedPart(tag, name, text) {
   const made = madeWith(tag, text);
   made.className = name;
   return made;
 }
 
+/** @param {PrintedProblem | null} first */
 function printedDiagram(first) {
   const men = first?.men ?? new Map();
   const block = first && blocksOf(textNow())[first.number - 1];
@@ -34,8 +43,9 @@ function printedDiagram(first) {
   return made;
 }
 
+/** @param {PrintedProblem[]} shown */
 function printedLines(shown) {
-  const isSolved = textNow() === state.solved;
+  const isSolved = state.isSolved();
   const lines = shown.flatMap(({ number, label, change, asked }, index) => {
     const item = isSolved ? state.items.find(it => it.number === number) : null;
     const head = label.text ? [[label.text, change || (index ? asked : '')].filter(Boolean).join(' ')] : [];

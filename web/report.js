@@ -1,16 +1,28 @@
+// @ts-check
 // Reads a report or a beginning of one: items, phases, trees of moves; writes items as the companion pops2json does.
-'use strict';
-const MAN_NAMES = {
+import { menOfRanks } from './position.js';
+
+/** @type {Record<string, string>} */
+export const MAN_NAMES = {
   K: 'king', Q: 'queen', R: 'rook', B: 'bishop', S: 'knight', P: 'pawn', G: 'grasshopper', N: 'nightrider',
 };
-const COLOUR_NAMES = { w: 'white', b: 'black' };
+/** @type {Record<string, string>} */
+export const COLOUR_NAMES = { w: 'white', b: 'black' };
+/** @type {Record<string, string>} */
+const PLAYS = { '': 'direct', s: 'self', h: 'help' };
+/** @type {Record<string, string>} */
 const MARKS = { '+': 'check', '#': 'mate' };
 const MOVE = new RegExp('^(?:(0-0-0|0-0)|([KQRBSGN])?([a-h][1-8])([-*])([a-h][1-8])( ep\\.)?(?:=([QRBSGN]))?'
   + '(?:\\[\\+([wb])([QRBSPGN])([a-h][1-8])\\])?)([+#=])?$');
 const HALF = /(?:([1-9][0-9]*)(\.\.\.|\.))?((?:[^ ]+)(?: ep\.[^ ]*)?)/g;
 const ASKED = /^([sh]?)([#=])([0-9]+)(\.5)?(?: (Circe|Madrasi))?$/;
 
-// Reads a move with its number among the half-moves of a play.
+/**
+ * Reads a move with its number among the half-moves of a play.
+ * @param {string} said
+ * @param {number} half
+ * @param {boolean} isHelp
+ */
 function moveOf(said, half, isHelp) {
   const found = MOVE.exec(said);
   if (!found) return null;
@@ -25,8 +37,12 @@ function moveOf(said, half, isHelp) {
   };
 }
 
-// Reads the moves of a line of a report, each with its printed number, if any; returns null for another line.
-function movesOf(line, isHelp) {
+/**
+ * Reads the moves of a line of a report, each with its printed number, if any; returns null for another line.
+ * @param {string} line
+ * @param {boolean} isHelp
+ */
+export function movesOf(line, isHelp) {
   const moves = [];
   let half = 0;
   for (const [, number, points, said] of line.trim().matchAll(HALF)) {
@@ -39,8 +55,11 @@ function movesOf(line, isHelp) {
   return moves.length ? moves : null;
 }
 
-// Reads the stipulation from a report's line.
-function askedOf(line) {
+/**
+ * Reads the stipulation from a report's line.
+ * @param {string} line
+ */
+export function askedOf(line) {
   const found = ASKED.exec(line);
   if (!found) return null;
   const [, form, goal, number, half, condition] = found;
@@ -48,11 +67,16 @@ function askedOf(line) {
   const isHelp = form === 'h';
   const halfMoves = isHelp ? 2 * moves + (half ? 1 : 0) : form ? 2 * moves : 2 * moves - 1;
   const text = line.split(' ')[0];
-  return { line, text, isHelp, play: { '': 'direct', s: 'self', h: 'help' }[form], goal, moves, halfMoves,
+  return { line, text, isHelp, play: PLAYS[form], goal, moves, halfMoves,
     condition: condition ?? null };
 }
 
-// Reads a line of a phase.
+/**
+ * Reads a line of a phase.
+ * @param {string} line
+ * @param {Phase} phase
+ * @param {SoundItem} item
+ */
 function readSolution(line, phase, item) {
   const total = /^solutions: ([0-9]+)(, stopped)?$/.exec(line);
   if (total) Object.assign(phase, { count: Number(total[1]), isStopped: Boolean(total[2]), total: line });
@@ -66,11 +90,15 @@ function readSolution(line, phase, item) {
   return true;
 }
 
-// Reads a line of an item after its number; returns false if it doesn't belong there.
+/**
+ * Reads a line of an item after its number; returns false if it doesn't belong there.
+ * @param {string} line
+ * @param {Item} item
+ */
 function readLine(line, item) {
   const phase = item.phases.at(-1);
   const fault = /^line ([0-9]+): fault ([0-9]+): (.*)$/.exec(line);
-  if (phase && !phase.total && line !== 'play') return readSolution(line, phase, item);
+  if (phase && !phase.total && line !== 'play') return readSolution(line, phase, /** @type {SoundItem} */ (item));
   if (item.asked) {
     if (line === 'sound') item.isChecked = true;
     else if (line !== 'set' && line !== 'play') return false;
@@ -81,9 +109,14 @@ function readLine(line, item) {
   return Boolean(item.asked || item.fault || item.ranks.length);
 }
 
-// Reads the items of a report, or of a beginning of one. A line that doesn't belong there ends the reading.
-function itemsOf(report) {
+/**
+ * Reads the items of a report, or of a beginning of one. A line that doesn't belong there ends the reading.
+ * @param {string} report
+ */
+export function itemsOf(report) {
+  /** @type {Item[]} */
   const items = [];
+  /** @type {Item | null} */
   let item = null;
   for (const line of report.split('\n')) {
     const number = /^problem ([1-9][0-9]*)$/.exec(line);
@@ -101,16 +134,23 @@ function itemsOf(report) {
   return items;
 }
 
-const labelOf = move => move.label.replace(/^([0-9]+\.+)?/, (Math.floor((move.half + 1) / 2)) + (move.half % 2 ? '.' : '...'));
+/** @param {Move} move */
+export const labelOf = move => move.label.replace(/^([0-9]+\.+)?/, (Math.floor((move.half + 1) / 2)) + (move.half % 2 ? '.' : '...'));
 
-// Makes rows of a phase: each row has its moves and the rows below it. Lines of help play with the same beginning share
-// its rows.
-function rowsOf(phase, isHelp) {
+/**
+ * Makes rows of a phase: each row has its moves and the rows below it. Lines of help play with the same beginning share
+ * its rows.
+ * @param {Phase} phase
+ * @param {boolean} isHelp
+ */
+export function rowsOf(phase, isHelp) {
   return isHelp ? sharedRows(phase.solutions.map(it => it.moves), []) : nestedRows(phase.solutions);
 }
 
+/** @param {Solution[]} solutions */
 function nestedRows(solutions) {
-  const root = { below: [], path: [] };
+  /** @type {Row} */
+  const root = { moves: [], path: [], below: [] };
   const open = [root];
   for (const { moves: [move], level } of solutions) {
     const parent = open[Math.min(level, open.length - 1)];
@@ -122,14 +162,20 @@ function nestedRows(solutions) {
   return root.below;
 }
 
-// Counts the moves that all these lines share, from a place on.
+/**
+ * Counts the moves that all these lines share, from a place on.
+ * @param {Move[][]} lines
+ * @param {number} start
+ */
 function commonLength(lines, start) {
   let end = start;
   while (end < lines[0].length && lines.every(line => line[end]?.said === lines[0][end].said)) end++;
   return end;
 }
 
+/** @param {Move[][]} lines @param {Move[]} path @returns {Row[]} */
 function sharedRows(lines, path) {
+  /** @type {Row[]} */
   const rows = [];
   const start = path.length;
   for (let first = 0; first < lines.length;) {
@@ -148,21 +194,28 @@ function sharedRows(lines, path) {
 /**
  * Returns what was found in the play of a problem, as the name and the value of a text of the page: keys, or lines of help play.
  * Null while the play continues, and for a faulty problem.
+ * @param {Item} item
  */
-function foundIn(item) {
+export function foundIn(item) {
   if (item.isChecked) return { name: 'foundNone', count: 0, isStopped: false };
   const play = item.phases.find(phase => phase.kind === 'play');
   if (!play?.total || play.count === null) return null;
   const { count, isStopped } = play;
-  const one = item.asked.isHelp ? 'foundLine' : 'foundKey';
+  const one = item.asked?.isHelp ? 'foundLine' : 'foundKey';
   return { name: count > 1 ? `${one}s` : count ? one : 'found0', count, isStopped };
 }
 
-// Makes the objects that pops2json writes for a report; the problem's text adds its origin.
-function objectOf(item, given = null) {
+/**
+ * Makes the objects that pops2json writes for a report; the problem's text adds its origin.
+ * @param {Item} item
+ * @param {Given | null} [given]
+ */
+export function objectOf(item, given = null) {
+  /** @param {{ title: string | null, author: string | null }} named */
   const names = ({ title, author }) => ({ title, author, ...(given && { origin: given.origin }) });
   if (item.fault) return { number: item.number, sound: false, ...(given && names(given)), fault: item.fault };
-  const { asked } = item;
+  const { asked } = /** @type {SoundItem} */ (item);
+  /** @param {Square} square @param {Man} man */
   const placed = (square, man) => ({ square, colour: COLOUR_NAMES[man[0]], man: MAN_NAMES[man[1]] });
   const men = [...menOfRanks(item.ranks)].map(([square, man]) => placed(square, man));
   return {
@@ -175,14 +228,17 @@ function objectOf(item, given = null) {
   };
 }
 
+/** @param {Phase} phase @param {Asked} asked @param {(square: Square, man: Man) => object} placed */
 function phaseObject(phase, asked, placed) {
   if (!phase.isPossible) return { phase: phase.kind, possible: false };
+  /** @param {Move} it */
   const move = it => ({
     text: it.said, half: it.half, side: COLOUR_NAMES[it.colour], man: MAN_NAMES[it.kind], from: it.from, to: it.to,
     capture: it.captures, en_passant: it.enPassant, castling: it.castling,
     promotion: it.promotion && MAN_NAMES[it.promotion], rebirth: it.rebirth && placed(it.rebirth.square, it.rebirth.man),
     mark: it.mark && (MARKS[it.mark] ?? 'stalemate'),
   });
+  /** @type {(row: Row) => object} */
   const node = row => ({ text: labelOf(row.moves[0]), move: move(row.moves[0]), below: row.below.map(node) });
   const solutions = asked.isHelp
     ? phase.solutions.map(({ line, moves }) => ({ text: line, moves: moves.map(move) }))

@@ -1,6 +1,11 @@
+// @ts-check
 // Solves a text by several workers: problem by problem, each phase by parts, several parts at a time. A problem with few
 // half-moves is solved whole; so is a text that the page can't divide into its problems.
-'use strict';
+import {
+  afterNumber, headsOf, itemTexts, limitOf, listOf, PhasePiece, Piece, ReportText, solutionsIn, solutionsOf,
+  SOUND_LINE,
+} from './parts.js';
+
 const LEAST_HALF_MOVES = 4;
 const PARTS_A_WORKER = 16;
 const MOST_PARTS = 4096;
@@ -8,19 +13,45 @@ const MOST_DEPTH = 4;
 const MOST_REPORT = 1 << 24;
 const CUT_STATUS = 3;
 
-// The error that the text and the engine's report don't agree on the problems.
+/** The error that the text and the engine's report don't agree on the problems. */
 class CutWrong extends Error {}
 
-class Solving {
-  // CHECK and NOBOARD are the settings; a problem with LEAST half-moves or more is solved by parts. SAID receives each new
-  // part of the report, and null if the report begins again.
+export class Solving {
+  /**
+   * CHECK and NOBOARD are the settings; a problem with LEAST half-moves or more is solved by parts. SAID receives each new
+   * part of the report, and null if the report begins again.
+   * @param {string} text
+   * @param {{ check?: boolean, noBoard?: boolean, least?: number }} settings
+   * @param {Crew} crew
+   * @param {(text: string | null) => void} said
+   */
   constructor(text, { check = false, noBoard = false, least = LEAST_HALF_MOVES }, crew, said) {
-    Object.assign(this, { text, check, noBoard, least, crew, said });
-    Object.assign(this, { report: null, tasks: new Set(), phases: [], length: 0, status: 0, found: 0, whole: 0, wholeDone: 0 });
-    Object.assign(this, { isOver: false, isByOneCall: false });
+    this.text = text;
+    this.check = check;
+    this.noBoard = noBoard;
+    this.least = least;
+    this.crew = crew;
+    this.said = said;
+    /** The parts of the report; empty until the text is tested. */
+    this.report = new ReportText([]);
+    /** @type {Set<Task>} the calls whose results are needed */
+    this.tasks = new Set();
+    /** @type {PhasePiece[]} */
+    this.phases = [];
+    /** The number of letters that were shown. */
+    this.length = 0;
+    this.status = 0;
+    this.found = 0;
+    /** The number of problems that are solved whole, and how many of them are. */
+    this.whole = 0;
+    this.wholeDone = 0;
+    this.isOver = false;
+    this.isByOneCall = false;
+    /** @type {(how: Ended) => void} */
+    this.ended = () => {};
   }
 
-  // Resolves to { status }, the program's, to { failed } or, after stop(), to { isStopped }.
+  /** Resolves to { status }, the program's, to { failed } or, after stop(), to { isStopped }. */
   solve() {
     return new Promise(ended => {
       this.ended = ended;
@@ -32,6 +63,7 @@ class Solving {
     this.end({ isStopped: true });
   }
 
+  /** @param {Ended} how */
   end(how) {
     if (this.isOver) return;
     this.isOver = true;
@@ -39,13 +71,14 @@ class Solving {
     this.ended(how);
   }
 
+  /** @param {Error} fault */
   fault(fault) {
     if (this.isOver) return;
     if (!(fault instanceof CutWrong)) this.end({ failed: fault.message });
     else if (!this.isByOneCall) this.solveWhole().catch(other => this.fault(other));
   }
 
-  // Counts the finished parts and the parts known to be needed; a problem that is solved whole is one part.
+  /** Counts the finished parts and the parts known to be needed; a problem that is solved whole is one part. */
   get progress() {
     const parts = this.phases.map(it => it.last).reduce((sum, last) => sum + last, this.whole);
     const done = this.phases.map(it => it.countDone()).reduce((sum, count) => sum + count, this.wholeDone);
@@ -75,13 +108,17 @@ class Solving {
     return !this.isOver && !this.isByOneCall;
   }
 
-  // Returns the engine's result of a call.
+  /**
+   * Returns the engine's result of a call.
+   * @param {Call} call
+   * @param {string} text
+   */
   async ask(call, text) {
     await this.crew.free();
     return this.crew.ask({ ...call, text }).answer;
   }
 
-  // Solves the whole text by one call.
+  /** Solves the whole text by one call. */
   async solveWhole() {
     for (const task of this.tasks) this.crew.drop(task);
     this.tasks.clear();
@@ -93,13 +130,14 @@ class Solving {
     this.end({ status });
   }
 
+  /** @param {string} text */
   give(text) {
     if (this.isOver || !text) return;
     this.length += text.length;
     this.said(text);
   }
 
-  // Shows what is new, and resolves once the report is complete.
+  /** Shows what is new, and resolves once the report is complete. */
   show() {
     if (this.isOver || this.isByOneCall) return;
     this.give(this.report.more());
@@ -107,7 +145,12 @@ class Solving {
     else if (this.report.isCut || this.length > MOST_REPORT) this.end({ status: CUT_STATUS });
   }
 
-  // Starts a call; its result is received when it comes.
+  /**
+   * Starts a call; its result is received when it comes.
+   * @param {Call} call
+   * @param {string} text
+   * @param {(answer: Answer) => void} take
+   */
   hand(call, text, take) {
     const task = this.crew.ask({ ...call, text });
     this.tasks.add(task);
@@ -119,6 +162,7 @@ class Solving {
     return task;
   }
 
+  /** @param {number} index @param {Head} item @param {string} text */
   async beginItem(index, item, text) {
     await this.crew.free();
     const plan = item.halfMoves < this.least ? null : await this.planned(item, text);
@@ -136,8 +180,12 @@ class Solving {
     for (const phase of phases) await this.beginParts(phase, text, plan.depth);
   }
 
-  // Returns the phases of a problem with the numbers of their parts, and the number of moves that divide them, large enough
-  // for all workers; null if there is nothing to divide.
+  /**
+   * Returns the phases of a problem with the numbers of their parts, and the number of moves that divide them, large enough
+   * for all workers; null if there is nothing to divide.
+   * @param {Head} item
+   * @param {string} text
+   */
   async planned(item, text) {
     const alone = await this.ask({ call: 'report', check: true, noBoard: this.noBoard }, text);
     if (alone.text !== `problem 1\n${afterNumber(item.text)}${SOUND_LINE}`) throw new CutWrong();
@@ -150,9 +198,10 @@ class Solving {
       found = { phases, depth, most };
       if (most >= PARTS_A_WORKER * this.crew.size) break;
     }
-    return found.most > 1 ? found : null;
+    return found && found.most > 1 ? found : null;
   }
 
+  /** @param {number} index @param {Head} item @param {string} text */
   beginWhole(index, item, text) {
     const rest = new Piece();
     this.report.plan(index, [rest]);
@@ -166,7 +215,12 @@ class Solving {
     });
   }
 
-  // Starts the parts of a phase, in order, up to the last one that is needed.
+  /**
+   * Starts the parts of a phase, in order, up to the last one that is needed.
+   * @param {PhasePiece} phase
+   * @param {string} text
+   * @param {number} depth
+   */
   async beginParts(phase, text, depth) {
     const running = new Map();
     for (let number = 1; number <= phase.last && this.goesOn; number++) {
@@ -177,6 +231,7 @@ class Solving {
     }
   }
 
+  /** @param {PhasePiece} phase @param {number} number @param {Answer} answer @param {Map<number, Task>} running */
   takePart(phase, number, { status, text }, running) {
     if (status !== 0 && status !== CUT_STATUS) throw new Error(`part ${number}: status ${status}`);
     const solutions = solutionsOf(text, status === CUT_STATUS);

@@ -1,29 +1,46 @@
+// @ts-check
 // Links that contain a text, stored texts, files as texts, undo and redo.
-'use strict';
-const MOST_KEPT = 20;
+import { blockAt, fieldsOf, menOf, sidesOf, valueOf } from './text.js';
+
+export const MOST_KEPT = 20;
 const MOST_KEPT_LETTERS = 100000;
 const MOST_LINKED_LETTERS = 30000;
 const MOST_STEPS = 200;
-const MOST_FILE_BYTES = 1 << 23;
+export const MOST_FILE_BYTES = 1 << 23;
 
-// Returns the fragment of a link with this text, or null if it would be too long.
-function fragmentOf(text) {
+/**
+ * Returns the fragment of a link with this text, or null if it would be too long.
+ * @param {string} text
+ */
+export function fragmentOf(text) {
   const fragment = `#${new URLSearchParams({ text })}`;
   return fragment.length > MOST_LINKED_LETTERS ? null : fragment;
 }
 
-// Returns the text in a link's fragment, or null.
-const textOfFragment = fragment => new URLSearchParams(fragment.slice(1)).get('text');
+/**
+ * Returns the text in a link's fragment, or null.
+ * @param {string} fragment
+ */
+export const textOfFragment = fragment => new URLSearchParams(fragment.slice(1)).get('text');
 
-// Returns the list of stored texts with this one first, and no text twice.
-function withKept(kept, text, time) {
+/**
+ * Returns the list of stored texts with this one first, and no text twice.
+ * @param {KeptText[]} kept
+ * @param {string} text
+ * @param {number} time
+ */
+export function withKept(kept, text, time) {
   if (text.length > MOST_KEPT_LETTERS || !text.trim()) return kept;
   return [{ text, time }, ...kept.filter(it => it.text !== text)].slice(0, MOST_KEPT);
 }
 
-// Reads a stored list; what isn't a list of texts is dropped.
-function keptOf(written) {
+/**
+ * Reads a stored list; what isn't a list of texts is dropped.
+ * @param {string} written
+ */
+export function keptOf(written) {
   try {
+    /** @type {KeptText[]} */
     const list = JSON.parse(written);
     return list.filter(it => typeof it.text === 'string' && Number.isFinite(it.time)).slice(0, MOST_KEPT);
   } catch {
@@ -31,8 +48,11 @@ function keptOf(written) {
   }
 }
 
-// Returns a name of a text for a list: its title, else its stipulation.
-function nameOfText(text) {
+/**
+ * Returns a name of a text for a list: its title, else its stipulation.
+ * @param {string} text
+ */
+export function nameOfText(text) {
   const block = blockAt(text, 0);
   if (!block) return text.trim().slice(0, 40);
   const fields = fieldsOf(text, block);
@@ -40,8 +60,11 @@ function nameOfText(text) {
   return said.trim().slice(0, 60);
 }
 
-// Decodes a file's bytes, and says whether they were UTF-8; others are read as Windows-1252.
-function textOfBytes(bytes) {
+/**
+ * Decodes a file's bytes, and says whether they were UTF-8; others are read as Windows-1252.
+ * @param {Uint8Array} bytes
+ */
+export function textOfBytes(bytes) {
   try {
     return { text: new TextDecoder('utf-8', { fatal: true }).decode(bytes), isUtf8: true };
   } catch {
@@ -49,13 +72,15 @@ function textOfBytes(bytes) {
   }
 }
 
-// Undo and redo of texts.
-class Steps {
+/** Undo and redo of texts. */
+export class Steps {
+  /** @param {string} text */
   constructor(text) {
     this.texts = [text];
     this.place = 0;
   }
 
+  /** @param {string} text */
   add(text) {
     if (text === this.texts[this.place]) return;
     this.texts.splice(this.place + 1, this.texts.length, text);
@@ -63,7 +88,10 @@ class Steps {
     this.place = this.texts.length - 1;
   }
 
-  // Returns the text one step further, or null at the end.
+  /**
+   * Returns the text one step further, or null at the end.
+   * @param {number} step
+   */
   go(step) {
     const text = this.texts[this.place + step];
     if (text === undefined) return null;
@@ -71,6 +99,7 @@ class Steps {
     return text;
   }
 
+  /** @param {number} step */
   has(step) {
     return this.texts[this.place + step] !== undefined;
   }

@@ -1,21 +1,34 @@
+// @ts-check
 // A text of problems: reads and replaces the men and fields of one problem. The rest of the text stays byte for byte.
 // Nothing here judges a problem: the engine does.
-'use strict';
+import { fenOf } from './position.js';
+
 // Text lines that are fields of the page.
 const TEXT_FIELDS = ['title', 'author', 'origin'];
 const TEXT_LINES = ['title', 'author', 'origin', 'remark'];
 const COMMANDS = ['beginproblem', 'pieces', 'stipulation', 'condition', 'option', 'nextproblem', 'endproblem',
   ...TEXT_LINES];
-const KINDS = 'KQRBSPGN';
-const FLAGS = ['SetPlay', 'Variation', 'NoBoard'];
-const VALUES = ['MaxSolutions', 'EnPassant', 'NoCastling'];
-const CONDITIONS = ['Circe', 'Madrasi'];
-const NEW_PROBLEM = 'BeginProblem\nStipulation #2\nEndProblem\n';
-const isShort = (word, full) => word.length >= 3 && full.toLowerCase().startsWith(word.toLowerCase());
+export const KINDS = 'KQRBSPGN';
+export const FLAGS = ['SetPlay', 'Variation', 'NoBoard'];
+export const VALUES = ['MaxSolutions', 'EnPassant', 'NoCastling'];
+export const CONDITIONS = ['Circe', 'Madrasi'];
+export const NEW_PROBLEM = 'BeginProblem\nStipulation #2\nEndProblem\n';
+/** @param {string} word @param {string} full */
+export const isShort = (word, full) => word.length >= 3 && full.toLowerCase().startsWith(word.toLowerCase());
+/** @param {string} word */
 const commandOf = word => COMMANDS.find(command => isShort(word, command));
 
-// Makes a function that keeps its last result: the page reads one text many times.
+/** @param {string | undefined} command */
+const isTextCommand = command => command !== undefined && TEXT_LINES.includes(command);
+
+/**
+ * Makes a function that keeps its last result: the page reads one text many times.
+ * @template T
+ * @param {(text: string) => T} make
+ * @returns {(text: string) => T}
+ */
 function remembered(make) {
+  /** @type {{ text: string, made: T } | null} */
   let last = null;
   return text => {
     if (last?.text !== text) last = { text, made: make(text) };
@@ -23,25 +36,30 @@ function remembered(make) {
   };
 }
 
-// Reads the words of a text with their places; the rest of a text command's line is no word.
-const wordsOf = remembered(text => {
+/** Reads the words of a text with their places; the rest of a text command's line is no word. */
+export const wordsOf = remembered(text => {
+  /** @type {Token[]} */
   const words = [];
   const pattern = /[^ \t\n\v\f\r]+/g;
   for (let found; (found = pattern.exec(text));) {
     const command = commandOf(found[0]);
-    words.push({ word: found[0], from: found.index, to: pattern.lastIndex, command });
-    if (TEXT_LINES.includes(command)) {
+    /** @type {Token} */
+    const token = { word: found[0], from: found.index, to: pattern.lastIndex, command };
+    words.push(token);
+    if (isTextCommand(command)) {
       const end = text.indexOf('\n', pattern.lastIndex);
       pattern.lastIndex = end < 0 ? text.length : end;
-      words.at(-1).end = pattern.lastIndex;
+      token.end = pattern.lastIndex;
     }
   }
   return words;
 });
 
-// Returns the problems of a text: the words of each, between its opening and its closing word.
-const blocksOf = remembered(text => {
+/** Returns the problems of a text: the words of each, between its opening and its closing word. */
+export const blocksOf = remembered(text => {
+  /** @type {Block[]} */
   const blocks = [];
+  /** @type {Block | null} */
   let open = null;
   for (const word of wordsOf(text)) {
     const closes = word.command === 'nextproblem' || word.command === 'endproblem';
@@ -56,26 +74,48 @@ const blocksOf = remembered(text => {
   return blocks;
 });
 
-// Returns the problem at a place of the text, or the last one before it.
-function blockAt(text, place) {
+/**
+ * Returns the problem at a place of the text, or the last one before it; null if the text has none.
+ * @param {string} text
+ * @param {number} place
+ * @returns {Block | null}
+ */
+export function blockAt(text, place) {
   const blocks = blocksOf(text);
   return blocks.findLast(block => block.from <= place) ?? blocks[0] ?? null;
 }
 
-// Reads the men of a problem by square, as 'wK' or 'bS', the parts of the text with men, and the words that a board can't
-// show.
-function menOf(block) {
+/**
+ * Returns the problem at a place of a text that has one.
+ * @param {string} text
+ * @param {number} place
+ */
+function problemAt(text, place) {
+  const block = blockAt(text, place);
+  if (!block) throw new Error('a text without problems');
+  return block;
+}
+
+/**
+ * Reads the men of a problem by square, as 'wK' or 'bS', the parts of the text with men, and the words that a board can't
+ * show.
+ * @param {Block} block
+ */
+export function menOf(block) {
+  /** @type {MenRead} */
   const found = { men: new Map(), parts: [], unknown: [] };
+  /** @type {Colour | null} */
   let colour = null;
   let isOpen = false;
+  /** @type {Span | null} */
   let part = null;
   for (const { word, from, to, command } of block.words) {
-    if (TEXT_LINES.includes(command)) part = null;
+    if (isTextCommand(command)) part = null;
     else if (command) {
       isOpen = command === 'pieces';
       colour = null;
       part = isOpen ? { from, to } : null;
-      if (isOpen) found.parts.push(part);
+      if (part) found.parts.push(part);
     } else if (isOpen) {
       if (!part) found.parts.push(part = { from, to });
       part.to = to;
@@ -85,22 +125,32 @@ function menOf(block) {
   return found;
 }
 
-// Reads one word after Pieces, and returns the colour of the men that follow.
+/**
+ * Reads one word after Pieces, and returns the colour of the men that follow.
+ * @param {string} word
+ * @param {Colour | null} colour
+ * @param {MenRead} found
+ */
 function readMen(word, colour, found) {
   const letters = word.toLowerCase();
   if ('white'.startsWith(letters)) return 'w';
   if ('black'.startsWith(letters)) return 'b';
-  const squares = /^[kqrbspgn]([a-h][1-8])+$/.test(letters) ? letters.slice(1).match(/../g) : [];
+  const squares = /^[kqrbspgn]([a-h][1-8])+$/.test(letters) ? letters.slice(1).match(/../g) ?? [] : [];
   const isTwice = squares.some((square, index) => found.men.has(square) || squares.indexOf(square) < index);
   if (!colour || !squares.length || isTwice) found.unknown.push(word);
   else for (const square of squares) found.men.set(square, colour + letters[0].toUpperCase());
   return colour;
 }
 
-const byRank = (one, next) => (one[1] + one[0] < next[1] + next[0] ? -1 : 1);
+/** @param {Square} one @param {Square} next */
+export const byRank = (one, next) => (one[1] + one[0] < next[1] + next[0] ? -1 : 1);
 
-// Writes the men as after Pieces.
-function sidesOf(men) {
+/**
+ * Writes the men as after Pieces.
+ * @param {Men} men
+ */
+export function sidesOf(men) {
+  /** @param {Colour} colour @param {string} name */
   const side = (colour, name) => {
     const words = [];
     for (const kind of KINDS) {
@@ -112,7 +162,11 @@ function sidesOf(men) {
   return side('w', 'White') + side('b', 'Black');
 }
 
-// Replaces some parts of a text: places and their new contents, in any order, without overlaps.
+/**
+ * Replaces some parts of a text: places and their new contents, in any order, without overlaps.
+ * @param {string} text
+ * @param {Replacement[]} parts
+ */
 function replaced(text, parts) {
   let result = text;
   for (const { from, to, said } of [...parts].sort((one, other) => other.from - one.from)) {
@@ -121,7 +175,11 @@ function replaced(text, parts) {
   return result;
 }
 
-// Extends a part of a text over the blanks around it, and over its line if nothing else is in it.
+/**
+ * Extends a part of a text over the blanks around it, and over its line if nothing else is in it.
+ * @param {string} text
+ * @param {Span} part
+ */
 function withBlanks(text, { from, to }) {
   let first = from;
   let last = to;
@@ -132,15 +190,25 @@ function withBlanks(text, { from, to }) {
   return { from: first, to, said: '' };
 }
 
-// Adds a line at the end of a problem.
-function withLine(text, block, line) {
+/**
+ * Adds a line at the end of a problem.
+ * @param {string} text
+ * @param {Block} block
+ * @param {string} line
+ */
+export function withLine(text, block, line) {
   const at = block.end;
   const start = at === 0 || text[at - 1] === '\n' ? '' : '\n';
   return text.slice(0, at) + start + line + '\n' + text.slice(at);
 }
 
-// Removes some parts of a text; parts with only blanks between them are removed as one.
+/**
+ * Removes some parts of a text; parts with only blanks between them are removed as one.
+ * @param {string} text
+ * @param {Span[]} parts
+ */
 function without(text, parts) {
+  /** @type {Span[]} */
   const joined = [];
   for (const part of [...parts].sort((one, next) => one.from - next.from)) {
     const last = joined.at(-1);
@@ -150,9 +218,14 @@ function without(text, parts) {
   return replaced(text, joined.map(part => withBlanks(text, part)));
 }
 
-// Replaces the men of a problem.
-function withMen(text, place, men) {
-  const block = blockAt(text, place);
+/**
+ * Replaces the men of a problem.
+ * @param {string} text
+ * @param {number} place
+ * @param {Men} men
+ */
+export function withMen(text, place, men) {
+  const block = problemAt(text, place);
   const { parts } = menOf(block);
   const sides = sidesOf(men);
   const said = `Pieces${sides}`;
@@ -162,24 +235,37 @@ function withMen(text, place, men) {
   return replaced(others, [{ ...parts[0], said }]);
 }
 
-// Reads the fields of a problem, each with its parts of the text, its own name first.
-function fieldsOf(text, block) {
+/**
+ * Reads the fields of a problem, each with its parts of the text, its own name first.
+ * @param {string} text
+ * @param {Block} block
+ */
+export function fieldsOf(text, block) {
+  /** @type {Fields} */
   const fields = {};
+  /** @type {FieldState} */
   const state = { section: null, awaited: null, last: null };
   for (const word of block.words) {
-    if (TEXT_FIELDS.includes(word.command)) {
-      const said = text.slice(word.to, word.end).trim();
-      fields[word.command] = { parts: [{ from: word.from, to: word.end }], said, earlier: fields[word.command] };
-    } else if (word.command && !TEXT_LINES.includes(word.command)) {
+    if (word.command && TEXT_FIELDS.includes(word.command)) {
+      const end = word.end ?? word.to;
+      const said = text.slice(word.to, end).trim();
+      fields[word.command] = { parts: [{ from: word.from, to: end }], said, section: null, earlier: fields[word.command] };
+    } else if (word.command && !isTextCommand(word.command)) {
       Object.assign(state, { section: word, awaited: null, last: null });
-    } else if (!word.command && state.section) readField(word, fields, state);
+    } else if (!word.command && state.section) readField(word, state.section, fields, state);
   }
   return fields;
 }
 
-// Reads one word after a command.
-function readField(word, fields, state) {
-  const { section, awaited, last } = state;
+/**
+ * Reads one word after a command.
+ * @param {Token} word
+ * @param {Token} section the command
+ * @param {Fields} fields
+ * @param {FieldState} state
+ */
+function readField(word, section, fields, state) {
+  const { awaited, last } = state;
   const part = { from: word.from, to: word.to };
   if (awaited) {
     awaited.parts.push(part);
@@ -199,19 +285,31 @@ function readField(word, fields, state) {
   }
 }
 
-// Returns the value of a field, or null: the last word counts, and squares of NoCastling add up.
-function valueOf(fields, name) {
+/**
+ * Returns the value of a field, or null: the last word counts, and squares of NoCastling add up.
+ * @param {Fields} fields
+ * @param {string} name
+ */
+export function valueOf(fields, name) {
   const found = fields[name];
   if (!found) return null;
   const said = [];
-  for (let field = found; field; field = name === 'NoCastling' ? field.earlier : null) said.unshift(field.said);
+  for (let field = /** @type {Field | undefined} */ (found); field; field = name === 'NoCastling' ? field.earlier : undefined) said.unshift(field.said);
   return said.join(' ').trim();
 }
 
+/** @param {string} value */
 const oneLine = value => value.replace(/[\r\n]+/g, ' ').trim();
+/** @param {string} text @param {Block} block @param {string} line */
 const afterOpening = (text, block, line) => `${text.slice(0, block.start)}\n${line}${text.slice(block.start)}`;
 
-// Sets a title or an author; the last one counts.
+/**
+ * Sets a title or an author; the last one counts.
+ * @param {string} text
+ * @param {Block} block
+ * @param {string} name
+ * @param {string} value
+ */
 function withTextLine(text, block, name, value) {
   const field = fieldsOf(text, block)[name.toLowerCase()];
   const said = oneLine(value);
@@ -220,32 +318,50 @@ function withTextLine(text, block, name, value) {
   return said ? afterOpening(text, block, `${name} ${said}`) : text;
 }
 
-// Sets another word after a command: the stipulation or the condition.
+/**
+ * Sets another word after a command: the stipulation or the condition.
+ * @param {string} text
+ * @param {Block} block
+ * @param {string} name
+ * @param {string} value
+ */
 function withWord(text, block, name, value) {
   const field = fieldsOf(text, block)[name.toLowerCase()];
   const said = oneLine(value);
   if (field && said) return replaced(text, [{ ...field.parts[0], said }]);
-  if (field) return without(text, [...(isAlone(block, field) ? [field.section] : []), ...field.parts]);
+  if (field) return without(text, [...commandAlone(block, field), ...field.parts]);
   const bare = block.words.find(word => word.command === name.toLowerCase());
   if (bare && said) return replaced(text, [{ from: bare.to, to: bare.to, said: ` ${said}` }]);
   return said ? withLine(text, block, `${name} ${said}`) : text;
 }
 
-// Returns whether a field's command has no other words.
-function isAlone(block, { section, parts }) {
+/**
+ * Lists the field's command if it has no other words.
+ * @param {Block} block
+ * @param {Field} field
+ */
+function commandAlone(block, { section, parts }) {
+  if (!section) return [];
   const following = block.words.slice(block.words.indexOf(section) + 1);
-  const next = following.findIndex(word => word.command && !TEXT_LINES.includes(word.command));
+  const next = following.findIndex(word => word.command && !isTextCommand(word.command));
   const own = next < 0 ? following : following.slice(0, next);
-  return own.every(word => word.command || parts.some(part => part.from === word.from));
+  return own.every(word => word.command || parts.some(part => part.from === word.from)) ? [section] : [];
 }
 
-// Sets an option and its value; removes it if the value is null.
+/**
+ * Sets an option and its value; removes it if the value is null.
+ * @param {string} text
+ * @param {Block} block
+ * @param {string} name
+ * @param {string | null} value
+ */
 function withOption(text, block, name, value) {
   const found = fieldsOf(text, block)[name];
   if (!found) return value === null ? text : withNewOption(text, block, `${name} ${oneLine(value)}`.trim());
+  /** @type {Span[]} */
   const gone = [];
-  for (let field = value === null ? found : found.earlier; field; field = field.earlier) {
-    gone.push(...field.parts, ...(isAlone(block, field) ? [field.section] : []));
+  for (let field = /** @type {Field | undefined} */ (value === null ? found : found.earlier); field; field = field.earlier) {
+    gone.push(...field.parts, ...commandAlone(block, field));
   }
   if (value === null) return without(text, gone);
   const [own, first, ...more] = found.parts;
@@ -255,18 +371,30 @@ function withOption(text, block, name, value) {
   return without(replaced(rest, [option]), gone.filter(part => part.from < own.from));
 }
 
-// Adds an option, after the problem's other options unless their line ends in a value.
+/**
+ * Adds an option, after the problem's other options unless their line ends in a value.
+ * @param {string} text
+ * @param {Block} block
+ * @param {string} said
+ */
 function withNewOption(text, block, said) {
   const section = block.words.findLast(word => word.command === 'option');
   const following = section ? block.words.slice(block.words.indexOf(section) + 1) : [];
-  const isFull = !following.length || following.some(word => word.command) || text.slice(section.to, following.at(-1).to).includes('\n');
-  const at = isFull ? 0 : following.at(-1).to;
+  const last = following.at(-1);
+  const isFull = !section || !last || following.some(word => word.command) || text.slice(section.to, last.to).includes('\n');
+  const at = isFull ? 0 : last.to;
   return isFull ? withLine(text, block, `Option ${said}`) : replaced(text, [{ from: at, to: at, said: ` ${said}` }]);
 }
 
-// Sets the value of the field with this name.
-function withField(text, place, name, value) {
-  const block = blockAt(text, place);
+/**
+ * Sets the value of the field with this name.
+ * @param {string} text
+ * @param {number} place
+ * @param {string} name
+ * @param {string | null} value
+ */
+export function withField(text, place, name, value) {
+  const block = problemAt(text, place);
   if (TEXT_FIELDS.includes(name.toLowerCase())) return withTextLine(text, block, name, value ?? '');
   if (name === 'Stipulation' || name === 'Condition') return withWord(text, block, name, value ?? '');
   return withOption(text, block, name, value);
@@ -278,18 +406,28 @@ function withField(text, place, name, value) {
  * @param {number} place a place in the problem
  * @param {Fen} fen
  */
-function withFen(text, place, fen) {
+export function withFen(text, place, fen) {
   const placed = withField(withMen(text, place, fen.men), place, 'EnPassant', fen.crossed);
   return withField(placed, place, 'NoCastling', fen.noCastling.join('') || null);
 }
 
-/** Returns the side that moves first in a problem: Black in help play, unless it begins with White's half-move. */
-const turnOf = fields => (/^h[#=]\d+$/i.test(valueOf(fields, 'stipulation') ?? '') ? 'b' : 'w');
-/** Returns the squares that NoCastling names. */
-const barredIn = fields => (valueOf(fields, 'NoCastling') ?? '').toLowerCase().match(/[a-h][1-8]/g) ?? [];
+/**
+ * Returns the side that moves first in a problem: Black in help play, unless it begins with White's half-move.
+ * @param {Fields} fields
+ */
+export const turnOf = fields => (/^h[#=]\d+$/i.test(valueOf(fields, 'stipulation') ?? '') ? 'b' : 'w');
+/**
+ * Returns the squares that NoCastling names.
+ * @param {Fields} fields
+ */
+export const barredIn = fields => (valueOf(fields, 'NoCastling') ?? '').toLowerCase().match(/[a-h][1-8]/g) ?? [];
 
-/** Returns the position of a problem as FEN: its men, the side that moves first, NoCastling, EnPassant. */
-function fenOfBlock(text, block) {
+/**
+ * Returns the position of a problem as FEN: its men, the side that moves first, NoCastling, EnPassant.
+ * @param {string} text
+ * @param {Block} block
+ */
+export function fenOfBlock(text, block) {
   const fields = fieldsOf(text, block);
   return fenOf({ men: menOf(block).men, turn: turnOf(fields), barred: barredIn(fields), crossed: valueOf(fields, 'EnPassant')?.toLowerCase() ?? null });
 }
@@ -299,29 +437,41 @@ function fenOfBlock(text, block) {
  * BeginProblem that may follow; null if nothing follows.
  * @param {string} text
  */
-function tailOf(text) {
+export function tailOf(text) {
   const words = wordsOf(text);
   const at = words.findIndex(word => word.command === 'endproblem');
   if (at < 0 || at === words.length - 1) return null;
   const [end, next] = words.slice(at, at + 2);
-  const opening = words.slice(at + 1).find(word => !TEXT_LINES.includes(word.command));
+  const opening = words.slice(at + 1).find(word => !isTextCommand(word.command));
   return {
     end, endLine: lineOf(text, end.from), line: lineOf(text, next.from),
     opening: opening?.command === 'beginproblem' ? opening : null,
   };
 }
 
-/** Joins a second text after EndProblem by NextProblem. */
-function withTail(text) {
-  const { end, opening } = tailOf(text);
+/**
+ * Joins a second text after EndProblem by NextProblem.
+ * @param {string} text
+ */
+export function withTail(text) {
+  const { end, opening } = tailOf(text) ?? {};
+  if (!end || !opening) return text;
   return replaced(text, [{ from: end.from, to: end.to, said: 'NextProblem' }, withBlanks(text, opening)]);
 }
 
-/** Returns the line of a place, counted from 1. */
-const lineOf = (text, place) => text.slice(0, place).split('\n').length;
+/**
+ * Returns the line of a place, counted from 1.
+ * @param {string} text
+ * @param {number} place
+ */
+export const lineOf = (text, place) => text.slice(0, place).split('\n').length;
 
-// Returns where a line of a text, counted from 1, begins and ends.
-function lineAt(text, line) {
+/**
+ * Returns where a line of a text, counted from 1, begins and ends.
+ * @param {string} text
+ * @param {number} line
+ */
+export function lineAt(text, line) {
   let from = 0;
   for (let number = 1; number < line; number++) {
     const end = text.indexOf('\n', from);

@@ -1,47 +1,93 @@
+// @ts-check
 // The solutions as rows that fold, and the walk through their moves. Rows are drawn when they are unfolded, a number at
 // a time. While a report grows, only its last rows change.
-'use strict';
+import { element, makeButton } from './elements.js';
+import { foundIn, labelOf, rowsOf } from './report.js';
+import { say } from './words.js';
+
 const ROWS_AT_ONCE = 200;
 const MOST_UNFOLDED = 2000;
 
+/** @param {Row} row */
 const pathOf = row => [...row.path, ...row.moves].map(move => move.said).join(' ');
+/** @param {TreeRow} row */
 const isOpenRow = row => Boolean(row.list && !row.list.hidden);
-// Lists the paths of unfolded rows, from a row on.
+/**
+ * Lists the paths of unfolded rows, from a row on.
+ * @param {TreeRow} row
+ * @returns {string[]}
+ */
 const openPaths = row => (isOpenRow(row) ? [pathOf(row), ...row.below.flatMap(openPaths)] : []);
+/** @param {TreeRow} row @returns {TreeRow} */
 const topOf = row => (row.parent ? topOf(row.parent) : row);
+/** @param {RowPlace} place */
 const movesTo = ({ row, index }) => [...row.path, ...row.moves.slice(0, index + 1)];
-// Writes the text of a row and of the rows below it.
+/**
+ * Writes the text of a row and of the rows below it.
+ * @param {Row} row
+ * @returns {string}
+ */
 const saidIn = row => `${pathOf(row)}\n${row.below.map(saidIn).join('')}`;
 
-// Marks the rows on the way to rows that were unfolded; these are drawn unfolded.
+/**
+ * Marks the rows on the way to rows that were unfolded; these are drawn unfolded.
+ * @param {TreeRow} row
+ * @param {string[]} paths
+ */
 function keepOpen(row, paths) {
   const own = pathOf(row);
   row.wasOpen = paths.some(path => path === own || path.startsWith(`${own} `));
   for (const below of row.below) keepOpen(below, paths);
 }
 
-// Finds the place to which moves lead, in a row or below it.
+/**
+ * Finds the place to which moves lead, in a row or below it.
+ * @param {TreeRow} row
+ * @param {Move[]} moves
+ * @returns {RowPlace}
+ */
 function placeIn(row, moves) {
   const index = moves.length - row.path.length - 1;
   if (index < row.moves.length) return { row, index };
   const next = moves[row.path.length + row.moves.length];
-  return placeIn(row.below.find(it => it.moves[0].said === next.said), moves);
+  return placeIn(/** @type {TreeRow} */ (row.below.find(it => it.moves[0].said === next.said)), moves);
 }
 
-// Says how many keys or lines were found; empty if that isn't known.
-function sayFound(item) {
+/**
+ * Says how many keys or lines were found; empty if that isn't known.
+ * @param {Item} item
+ */
+export function sayFound(item) {
   const found = foundIn(item);
   if (!found) return '';
   const said = say(found.name, found);
   return found.isStopped ? say('foundLeast', { found: said }) : said;
 }
 
-class Tree {
-  // SHOW receives the chosen place or null: the men of the diagram, the moves from there, and the item.
+/**
+ * Makes an element for a list that is drawn a number at a time.
+ * @param {string} tag
+ * @returns {ListBox}
+ */
+function madeList(tag) {
+  const filling = { things: [], draw: () => document.createElement('p'), drawn: 0, most: ROWS_AT_ONCE, more: null };
+  return Object.assign(document.createElement(tag), { filling, drawMore: null });
+}
+
+export class Tree {
+  /**
+   * SHOW receives the chosen place or null: the men of the diagram, the moves from there, and the item.
+   * @param {(place: Place | null) => void} show
+   */
   constructor(show) {
     this.showPlace = show;
+    /** @type {Group[]} */
     this.groups = [];
+    /** @type {RowPlace | null} */
     this.current = null;
+    /** @type {(item: Item) => Men} */
+    this.start = () => new Map();
+    this.list = madeList('div');
     element('tree').onkeydown = event => this.key(event);
   }
 
@@ -51,16 +97,24 @@ class Tree {
     element('tree').replaceChildren();
   }
 
-  // Draws the items of a report; START returns the men of an item's diagram, FAULT draws a faulty item.
+  /**
+   * Draws the items of a report; START returns the men of an item's diagram, FAULT draws a faulty item.
+   * @param {Item[]} items
+   * @param {(item: Item) => Men} start
+   * @param {(item: FaultyItem) => Element} fault
+   */
   draw(items, start, fault) {
     this.clear();
     this.start = start;
-    this.list = document.createElement('div');
+    this.list = madeList('div');
     element('tree').append(this.list);
     this.fill(this.list, [...items], item => this.drawnItem(item, fault));
   }
 
-  // Draws the new part of a report: the last item continues, others follow it.
+  /**
+   * Draws the new part of a report: the last item continues, others follow it.
+   * @param {Item[]} items
+   */
   grow(items) {
     const { things, drawn } = this.list.filling;
     const last = things.length - 1;
@@ -70,13 +124,21 @@ class Tree {
     this.refill(this.list);
   }
 
-  // Puts a number of a list's elements into a box, and a button for the others.
+  /**
+   * Puts a number of a list's elements into a box, and a button for the others.
+   * @param {any} box
+   * @param {any[]} things
+   * @param {(thing: any) => Element} draw
+   */
   fill(box, things, draw) {
     box.filling = { things, draw, drawn: 0, most: ROWS_AT_ONCE, more: null };
     this.refill(box);
   }
 
-  // Draws the elements that aren't drawn yet, up to the requested number.
+  /**
+   * Draws the elements that aren't drawn yet, up to the requested number.
+   * @param {any} box
+   */
   refill(box) {
     const { filling } = box;
     const { things, drawn, draw } = filling;
@@ -98,38 +160,45 @@ class Tree {
     box.append(filling.more);
   }
 
+  /** @param {Item} item @param {(item: FaultyItem) => Element} fault */
   drawnItem(item, fault) {
-    const box = document.createElement('section');
+    const box = /** @type {ItemBox} */ (document.createElement('section'));
     box.groups = [];
     box.head = document.createElement('h2');
     box.append(box.head);
-    if (item.fault) box.append(fault(item));
+    if (item.fault) box.append(fault(/** @type {FaultyItem} */ (item)));
     else if (item.isChecked) box.append(this.line(say('sound')));
     this.growItem(box, item);
     return box;
   }
 
-  // Draws the phases of an item as they are now.
+  /**
+   * Draws the phases of an item as they are now.
+   * @param {any} box
+   * @param {Item} item
+   */
   growItem(box, item) {
     box.head.textContent = [say('item', item), item.title, item.author, item.asked?.line, sayFound(item)].filter(Boolean).join(' · ');
     item.phases.forEach((phase, index) => {
-      if (index < box.groups.length) this.growPhase(box.groups[index], phase, item);
-      else box.append(...this.drawnPhase(phase, item, box));
+      if (index < box.groups.length) this.growPhase(box.groups[index], phase, /** @type {SoundItem} */ (item));
+      else box.append(...this.drawnPhase(phase, /** @type {SoundItem} */ (item), box));
     });
   }
 
+  /** @param {string} text */
   line(text) {
     const line = document.createElement('p');
     line.textContent = text;
     return line;
   }
 
+  /** @param {Phase} phase @param {SoundItem} item @param {any} box */
   drawnPhase(phase, item, box) {
     const head = document.createElement('h3');
     head.textContent = say(phase.kind);
-    const list = document.createElement('ul');
+    const list = madeList('ul');
     list.className = 'top';
-    const rows = rowsOf(phase, item.asked.isHelp);
+    const rows = /** @type {TreeRow[]} */ (rowsOf(phase, item.asked.isHelp));
     const group = { item, men: this.start(item), rows, list, lines: phase.lines.length, total: this.line(this.totalOf(phase)) };
     this.groups.push(group);
     box.groups.push(group);
@@ -138,19 +207,25 @@ class Tree {
     return [head, list, group.total];
   }
 
+  /** @param {Phase} phase */
   totalOf(phase) {
     if (!phase.isPossible) return say('impossible');
     if (phase.total) return say(phase.isStopped ? 'totalStopped' : 'total', phase);
     return say('unfinished', { count: phase.solutions.filter(it => it.level === 0).length });
   }
 
-  // Draws the new part of a phase: the last row may continue, others follow it.
+  /**
+   * Draws the new part of a phase: the last row may continue, others follow it.
+   * @param {Group} group
+   * @param {Phase} phase
+   * @param {SoundItem} item
+   */
   growPhase(group, phase, item) {
     group.item = item;
     group.total.textContent = this.totalOf(phase);
     if (phase.lines.length === group.lines) return;
     group.lines = phase.lines.length;
-    const rows = rowsOf(phase, item.asked.isHelp);
+    const rows = /** @type {TreeRow[]} */ (rowsOf(phase, item.asked.isHelp));
     const last = group.rows.length - 1;
     this.prepare(rows, null, group);
     if (last >= 0 && saidIn(rows[last]) !== saidIn(group.rows[last])) this.replaceRow(group, last, rows[last]);
@@ -159,11 +234,17 @@ class Tree {
     this.refill(group.list);
   }
 
-  // Replaces a row that continues; unfolded rows and the chosen place stay.
+  /**
+   * Replaces a row that continues; unfolded rows and the chosen place stay.
+   * @param {Group} group
+   * @param {number} index
+   * @param {TreeRow} row
+   */
   replaceRow(group, index, row) {
     const old = group.rows[index];
-    const isWalked = this.current && topOf(this.current.row) === old;
-    const moves = isWalked ? movesTo(this.current) : [];
+    const { current } = this;
+    const isWalked = current !== null && topOf(current.row) === old;
+    const moves = isWalked ? movesTo(current) : [];
     const hasFocus = old.line?.contains(document.activeElement);
     group.rows[index] = row;
     keepOpen(row, openPaths(old));
@@ -176,6 +257,7 @@ class Tree {
     if (hasFocus) button.focus({ preventScroll: true });
   }
 
+  /** @param {TreeRow[]} rows @param {TreeRow | null} parent @param {Group} group */
   prepare(rows, parent, group) {
     rows.forEach((row, index) => {
       Object.assign(row, { parent, group, index, siblings: rows });
@@ -183,6 +265,7 @@ class Tree {
     });
   }
 
+  /** @param {TreeRow} row */
   drawnRow(row) {
     const line = document.createElement('li');
     const turn = makeButton(say('openRow'), () => this.fold(row, !row.list || row.list.hidden));
@@ -205,12 +288,16 @@ class Tree {
     return line;
   }
 
-  // Unfolds a row, or folds it.
+  /**
+   * Unfolds a row, or folds it.
+   * @param {TreeRow} row
+   * @param {boolean} isOpen
+   */
   fold(row, isOpen) {
     if (!row.below.length) return;
     if (isOpen && !row.list) {
-      row.list = document.createElement('ul');
-      row.line.append(row.list);
+      row.list = madeList('ul');
+      row.line?.append(row.list);
       this.fill(row.list, row.below, it => this.drawnRow(it));
     }
     if (row.list) row.list.hidden = !isOpen;
@@ -220,7 +307,10 @@ class Tree {
     row.turn.title = say(isOpen ? 'closeRow' : 'openRow');
   }
 
-  // Unfolds or folds all drawn rows and the rows below, up to a number that a page can show.
+  /**
+   * Unfolds or folds all drawn rows and the rows below, up to a number that a page can show.
+   * @param {boolean} isOpen
+   */
   foldAll(isOpen) {
     const waiting = this.groups.flatMap(group => group.rows);
     for (let done = 0; done < waiting.length && done < MOST_UNFOLDED; done++) {
@@ -230,17 +320,24 @@ class Tree {
     }
   }
 
-  // Draws a row that isn't drawn yet, and unfolds the rows above it.
+  /**
+   * Draws a row that isn't drawn yet, and unfolds the rows above it.
+   * @param {TreeRow} row
+   */
   reveal(row) {
     if (row.parent) {
       this.reveal(row.parent);
       this.fold(row.parent, true);
     }
     const list = row.parent ? row.parent.list : row.group.list;
-    while (!row.line && list.drawMore) list.drawMore();
+    while (!row.line && list?.drawMore) list.drawMore();
   }
 
-  // Chooses a move of a row.
+  /**
+   * Chooses a move of a row.
+   * @param {TreeRow} row
+   * @param {number} index
+   */
   go(row, index) {
     this.reveal(row);
     this.unmark();
@@ -252,7 +349,10 @@ class Tree {
     this.showPlace({ start: row.group.men, moves, item: row.group.item });
   }
 
-  // (a move scrolls only the tree; a click in the tree also scrolls the page to the board)
+  /**
+   * (a move scrolls only the tree; a click in the tree also scrolls the page to the board)
+   * @param {HTMLElement} button
+   */
   bringToSight(button) {
     const box = element('tree');
     const lower = button.getBoundingClientRect().top - box.getBoundingClientRect().top;
@@ -268,7 +368,7 @@ class Tree {
     this.current = null;
   }
 
-  // Returns to the diagram.
+  /** Returns to the diagram. */
   leave() {
     if (!this.current) return;
     const { row, index } = this.current;
@@ -278,26 +378,32 @@ class Tree {
   }
 
   onward() {
-    const { row, index } = this.current ?? {};
-    if (!row) {
+    if (!this.current) {
       const first = this.groups.find(group => group.rows.length);
       if (first) this.go(first.rows[0], 0);
-    } else if (index + 1 < row.moves.length) this.go(row, index + 1);
+      return;
+    }
+    const { row, index } = this.current;
+    if (index + 1 < row.moves.length) this.go(row, index + 1);
     else if (row.below.length) this.go(row.below[0], 0);
   }
 
   backward() {
-    const { row, index } = this.current ?? {};
-    if (!row) return;
+    if (!this.current) return;
+    const { row, index } = this.current;
     if (index > 0) this.go(row, index - 1);
     else if (row.parent) this.go(row.parent, row.parent.moves.length - 1);
     else this.leave();
   }
 
-  // Returns the next shown row below or above, also of another phase or problem.
+  /**
+   * Returns the next shown row below or above, also of another phase or problem.
+   * @param {TreeRow} row
+   * @param {number} step
+   */
   neighbour(row, step) {
     if (step > 0 && row.list && !row.list.hidden) return row.below[0];
-    for (let it = row; it; it = it.parent) {
+    for (let it = /** @type {TreeRow | null} */ (row); it; it = it.parent) {
       const next = it.siblings[it.index + step];
       if (next) return step > 0 ? next : this.lastShown(next);
       if (step < 0) return it.parent ?? this.beside(it.group, step);
@@ -305,23 +411,27 @@ class Tree {
     return this.beside(row.group, step);
   }
 
+  /** @param {TreeRow} row */
   lastShown(row) {
     let last = row;
-    while (last.list && !last.list.hidden) last = last.below.at(-1);
+    while (last.list && !last.list.hidden) last = last.below[last.below.length - 1];
     return last;
   }
 
+  /** @param {Group} group @param {number} step */
   beside(group, step) {
     for (let at = this.groups.indexOf(group) + step; this.groups[at]; at += step) {
       const { rows } = this.groups[at];
-      if (rows.length) return step > 0 ? rows[0] : this.lastShown(rows.at(-1));
+      if (rows.length) return step > 0 ? rows[0] : this.lastShown(rows[rows.length - 1]);
     }
     return null;
   }
 
+  /** @param {KeyboardEvent} event */
   key(event) {
     if (event.ctrlKey || event.metaKey || event.altKey) return;
     const row = this.current?.row;
+    /** @type {Record<string, () => void>} */
     const acts = {
       ArrowRight: () => this.onward(), ArrowLeft: () => this.backward(), Escape: () => this.leave(),
       ArrowDown: () => this.step(row, 1), ArrowUp: () => this.step(row, -1),
@@ -332,6 +442,7 @@ class Tree {
     acts[event.key]();
   }
 
+  /** @param {TreeRow | undefined} row @param {number} step */
   step(row, step) {
     if (!row) {
       this.onward();

@@ -1,9 +1,9 @@
 // @ts-check
 // Twins as one problem, as pops-page shows them: consecutive problems whose titles differ only in their labels.
 // A label is `a)`, `b)` .. or a number, with or without `duplex`, at the end of the title.
-'use strict';
-/** @typedef {{ title: string | null, author: string | null, origin: string | null, remarks: string[] }} Given */
-/** @typedef {{ text: string, number: number, isDuplex: boolean }} Label */
+import { reading } from './explain/reading.js';
+import { COLOUR_NAMES } from './report.js';
+
 const LABEL = /^(?:([^]*) )??(?:([a-z]|[0-9]{2,3})\)( duplex)?|(duplex))$/;
 // A twin with more changed squares has its own diagram.
 const MOST_CHANGES = 4;
@@ -13,11 +13,13 @@ const MOST_CHANGES = 4;
  * @param {string} text
  * @returns {Given[]}
  */
-function givenOf(text) {
+export function givenOf(text) {
   return reading.problemsOf(text).map(({ tokens, isFirst }) => {
     // Text lines before BeginProblem have no effect.
     const first = isFirst ? tokens.findIndex(token => !reading.isTextLine(token)) : 0;
+    /** @param {string} name */
     const lines = name => tokens.slice(Math.max(first, 0)).filter(token => token.command === name).map(token => text.slice(token.to, token.end).trim()).filter(Boolean);
+    /** @param {string} name */
     const last = name => lines(name).at(-1) ?? null;
     return { title: last('title'), author: last('author'), origin: lines('origin').join('; ') || null, remarks: lines('remark') };
   });
@@ -37,7 +39,11 @@ function labelled(title) {
   return { title: own, label: { text: `${letter})${duplex}`, number, isDuplex: Boolean(duplex) } };
 }
 
-/** Returns whether a problem is the next twin of another. */
+/**
+ * Returns whether a problem is the next twin of another.
+ * @param {Named} one
+ * @param {Named} before
+ */
 function continues(one, before) {
   const [{ label }, { label: last }] = [one, before];
   const isLater = label.number > last.number || (label.number === last.number && label.isDuplex && !last.isDuplex);
@@ -49,23 +55,29 @@ function continues(one, before) {
 
 /**
  * Divides numbered problems into groups of twins.
- * @template T
- * @param {T[]} problems each with { number, title, author }
- * @returns {(T & { label: Label })[][]}
+ * @template {{ number: number, title: string | null, author: string | null }} T
+ * @param {T[]} problems
+ * @returns {(T & { label: Label, whole: string | null })[][]}
  */
-function twinGroups(problems) {
+export function twinGroups(problems) {
+  /** @type {(T & { label: Label, whole: string | null })[][]} */
   const groups = [];
   for (const problem of problems) {
     const one = { ...problem, ...labelled(problem.title), whole: problem.title };
-    const last = groups.at(-1)?.at(-1);
-    if (last && continues(one, last)) groups.at(-1).push(one);
+    const group = groups.at(-1);
+    const last = group?.at(-1);
+    if (group && last && continues(one, last)) group.push(one);
     else groups.push([one]);
   }
   return groups;
 }
 
-/** Returns what a twin's Remark says about it, as `Move a1 b2`; empty without a Remark. */
-function saidOfTwin(label, remarks) {
+/**
+ * Returns what a twin's Remark says about it, as `Move a1 b2`; empty without a Remark.
+ * @param {Label} label
+ * @param {string[]} remarks
+ */
+export function saidOfTwin(label, remarks) {
   const letter = label.text.split(' ')[0];
   const remark = letter.endsWith(')') ? remarks.find(it => it.startsWith(`${letter} `)) : undefined;
   return remark ? remark.slice(letter.length + 1) : '';
@@ -76,9 +88,11 @@ function saidOfTwin(label, remarks) {
  * @type {(men: Men, first: Men) => string[]}
  */
 function changesOfMen(men, first) {
+  /** @param {[Square, Man]} entry */
   const named = ([square, man]) => `${COLOUR_NAMES[man[0]]} ${man[1]}${square}`;
   const gone = [...first].filter(([square, man]) => men.get(square) !== man);
   const added = [...men].filter(([square, man]) => first.get(square) !== man);
+  /** @type {string[]} */
   const said = [];
   const left = gone.filter(one => {
     const at = added.findIndex(([, man]) => man === one[1]);
@@ -95,7 +109,7 @@ function changesOfMen(men, first) {
  * @param {{ men: Men | null, asked: string | null, label: Label, remarks: string[] }} twin
  * @param {{ men: Men | null, asked: string | null }} first
  */
-function twinChange(twin, first) {
+export function twinChange(twin, first) {
   const men = twin.men && first.men ? changesOfMen(twin.men, first.men) : [];
   const isLarge = men.length > MOST_CHANGES || twin.label.isDuplex;
   const computed = [...men, ...(twin.asked && first.asked && twin.asked !== first.asked ? [twin.asked] : [])].join(', ');

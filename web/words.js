@@ -1,5 +1,7 @@
+// @ts-check
 // All texts of the page, in one table; for another language add a table. {name} is replaced by a value.
-'use strict';
+
+/** @type {Record<string, Record<string, string>>} */
 const WORDS = {
   en: {
     subtitle: 'chess problems, solved',
@@ -68,12 +70,17 @@ const WORDS = {
       + 'Everywhere: Ctrl+Z and Ctrl+Y undo and redo, Ctrl+Enter solves.',
   },
 };
-let language = 'en';
+export let language = 'en';
 
-// Returns the text with this name, with these values.
-function say(name, values = {}) {
+/**
+ * Returns the text with this name, with these values.
+ * @param {string} name
+ * @param {Record<string, any>} [values]
+ */
+export function say(name, values = {}) {
   const said = WORDS[language][name] ?? WORDS.en[name];
-  return said.replace(/\{(\w+)\}/g, (whole, key) => (key in values ? String(values[key]) : whole));
+  return said.replace(/\{(\w+)\}/g, (/** @type {string} */ whole, /** @type {string} */ key) => (key in values ? String(values[key]) : whole));
 }
 
-const sayMan = man => say('man', { colour: say(man[0] === 'w' ? 'white' : 'black'), kind: say(man[1]) });
+/** @param {Man} man */
+export const sayMan = man => say('man', { colour: say(man[0] === 'w' ? 'white' : 'black'), kind: say(man[1]) });

@@ -1,18 +1,24 @@
+// @ts-check
 // Runs calls of the engine, one by one. The first message has the engine, each later one a call. Each call gets one reply:
 // its status and its bytes, or that it failed.
 'use strict';
 // The room for the engine's result, in bytes.
 const ROOM = 1 << 22;
 const MEMORY_PAGE = 65536;
-// The arguments of each call before the addresses of text, room and length.
+/** @type {Record<string, (call: Call) => [string, ...unknown[]]>} the arguments of each call before the addresses of text, room and length */
 const CALLS = {
   report: ({ check, noBoard }) => ['pops_report', check ? 1 : 0, noBoard ? 1 : 0],
-  list: ({ depth }) => ['pops_list', BigInt(depth)],
-  part: ({ isSet, depth, number }) => ['pops_part', isSet ? 1 : 0, BigInt(depth), BigInt(number)],
+  list: ({ depth }) => ['pops_list', BigInt(depth ?? 0)],
+  part: ({ isSet, depth, number }) => ['pops_part', isSet ? 1 : 0, BigInt(depth ?? 0), BigInt(number ?? 0)],
 };
+/** @type {Promise<WebAssembly.Instance> | null} */
 let engine = null;
 
-// Browsers take the pages of a 64-bit memory as a BigInt, older browsers as a number.
+/**
+ * Grows the engine's memory. Browsers take the pages of a 64-bit memory as a BigInt, older browsers as a number.
+ * @param {any} memory
+ * @param {number} pages
+ */
 function grow(memory, pages) {
   try {
     memory.grow(BigInt(pages));
@@ -22,7 +28,12 @@ function grow(memory, pages) {
   }
 }
 
-// After the engine's own memory come the length of its result (8 bytes of 16), the text and the room.
+/**
+ * Makes a call. After the engine's own memory come the length of its result (8 bytes of 16), the text and the room.
+ * @param {any} exports what the engine exports
+ * @param {CallMessage} given
+ * @returns {Reply}
+ */
 function answer(exports, given) {
   const { memory } = exports;
   const { text } = given;
@@ -39,10 +50,10 @@ function answer(exports, given) {
   return { status, bytes: new Uint8Array(memory.buffer, output, written).slice() };
 }
 
-onmessage = async ({ data }) => {
+onmessage = async (/** @type {MessageEvent<CallMessage>} */ { data }) => {
   try {
     if (data.engine) engine = WebAssembly.instantiate(data.engine);
-    const { exports } = await engine;
+    const { exports } = await /** @type {Promise<WebAssembly.Instance>} */ (engine);
     if (data.call) postMessage(answer(exports, data));
   } catch (fault) {
     postMessage({ failed: String(fault) });

@@ -1,8 +1,16 @@
 // @ts-check
 // Explains the faults of a report by its input, as pops-explain does.
-'use strict';
+import { lineAt, lineOf } from '../text.js';
+import { FaultCase, firstOf } from './case.js';
+import { characters } from './characters.js';
+import { endingCauses } from './endings.js';
+import { menCauses } from './men.js';
+import { misplacedCauses } from './misplaced.js';
+import { optionCauses } from './options.js';
+import { reading } from './reading.js';
+import { stipulationCauses } from './stipulations.js';
 
-const explaining = (() => {
+export const explaining = (() => {
   const { FAULT } = reading;
   const LONGEST_LINE = 160;
   const ROOM_BEFORE = 60;
@@ -19,7 +27,10 @@ const explaining = (() => {
     [FAULT.noCastlingSquare]: optionCauses.noCastlingSquare, [FAULT.kingMissing]: menCauses.kingMissing, [FAULT.inCheck]: menCauses.inCheck,
   };
 
-  /** Returns the faults of a text as read here: problem, line, number, and the problem as far as it was read. */
+  /**
+   * Returns the faults of a text as read here: problem, line, number, and the problem as far as it was read.
+   * @param {string} text
+   */
   function faultsOf(text) {
     return reading.problemsOf(text).flatMap((problem, index) => {
       const read = reading.readProblem(problem);
@@ -27,13 +38,15 @@ const explaining = (() => {
     });
   }
 
+  /** @param {string} text @param {Read} read */
   function explanationOf(text, read) {
-    if (!read.at && read.fault === FAULT.endMissing) return firstOf(endingCauses.endMissing(text, read));
-    if (!read.at) return misplacedCauses.noProblem(text, read.tokens.length > 0);
-    const it = new FaultCase(text, read);
-    if (read.fault in SINGLE) return SINGLE[read.fault](it);
-    const isMan = read.fault === FAULT.squareMissing && read.section === 'Pieces';
-    return firstOf((isMan ? menCauses.squareMissing : CAUSES[read.fault])(it));
+    const { at, fault } = read;
+    if (!at && fault === FAULT.endMissing) return firstOf(endingCauses.endMissing(text, read));
+    if (!at || !fault) return misplacedCauses.noProblem(text, read.tokens.length > 0);
+    const it = new FaultCase(text, { ...read, at });
+    if (fault in SINGLE) return SINGLE[fault](it);
+    const isMan = fault === FAULT.squareMissing && read.section === 'Pieces';
+    return firstOf((isMan ? menCauses.squareMissing : CAUSES[fault])(it));
   }
 
   /**
@@ -49,7 +62,11 @@ const explaining = (() => {
     return explanationOf(text, read);
   }
 
-  /** Returns the lines of a text with marks, each in pieces: { text, isMarked }. Invisible characters are made visible. */
+  /**
+   * Returns the lines of a text with marks, each in pieces: { text, isMarked }. Invisible characters are made visible.
+   * @param {string} text
+   * @param {Span[]} marks
+   */
   function markedLines(text, marks) {
     const lines = new Map();
     for (const mark of marks) {
@@ -59,12 +76,18 @@ const explaining = (() => {
     return [...lines].map(([line, own]) => ({ line, pieces: piecesOf(text, lineAt(text, line), own) }));
   }
 
-  /** Divides a line into pieces, a long line only around its first mark. */
+  /**
+   * Divides a line into pieces, a long line only around its first mark.
+   * @param {string} text
+   * @param {Span} line
+   * @param {Span[]} marks
+   */
   function piecesOf(text, { from, to }, marks) {
     const start = to - from > LONGEST_LINE ? Math.max(from, marks[0].from - ROOM_BEFORE) : from;
     const stop = Math.min(to, start + LONGEST_LINE);
     const pieces = [{ text: start > from ? '..' : '', isMarked: false }];
     let place = start;
+    /** @param {number} end @param {boolean} isMarked */
     const add = (end, isMarked) => {
       pieces.push({ text: characters.shown(text.slice(place, end).replace(/[\t\v\f\r]/g, ' ')), isMarked });
       place = end;

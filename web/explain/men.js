@@ -1,14 +1,24 @@
 // @ts-check
 // Faults of men, their colours and squares, and of the kings.
-'use strict';
+import { other } from '../position.js';
+import { MAN_NAMES } from '../report.js';
+import { colourWord, explained, partOf, quoted, sideName, textNameOf, wholeOf } from './case.js';
+import { EXPLANATIONS } from './explanations.js';
+import { reading } from './reading.js';
+import { listed, sentence } from './sentences.js';
+import { vocabulary } from './vocabulary.js';
+import { wordings } from './wordings.js';
 
-const menCauses = (() => {
+export const menCauses = (() => {
   const { COLOURS, COMMAND_NAMES, TEXT_NAMES, named, squaresIn, kindOf, isMan } = reading;
   const NAMES = Object.entries(MAN_NAMES).sort(([, one], [, next]) => next.length - one.length);
   const CYRILLIC = EXPLANATIONS.characters.cyrillicMen;
+  /** @param {PlacedMan} placed */
   const squareSpan = ({ word, place }) => partOf(word, place, place + 2);
+  /** @param {FaultCase} it */
   const faultSpan = it => partOf(it.word, it.read.squarePlace, it.read.squarePlace + 2);
 
+  /** @param {FaultCase} it */
   function* colourMissing(it) {
     const { opener } = it.read;
     yield* wordings.charactersIn(it);
@@ -22,17 +32,20 @@ const menCauses = (() => {
     yield it.says(sentence('no_colour', { word: it.quoted, opener: quoted(opener) }), opener);
   }
 
+  /** @param {FaultCase} it */
   function colourBeforeMan(it) {
     if (!/^b/i.test(it.plain) || !isMan(it.plain.slice(1))) return null;
     return it.says(sentence('black_apart', { rest: it.plain.slice(1), word: it.quoted }));
   }
 
+  /** @param {FaultCase} it */
   function shortCommand(it) {
     const name = [...COMMAND_NAMES, ...TEXT_NAMES].find(one => one.toLowerCase().startsWith(it.plain.toLowerCase()));
     if (it.plain.length !== 2 || !name) return null;
     return it.says(sentence('too_short', { word: it.quoted, short: name.slice(0, 3), name }));
   }
 
+  /** @param {FaultCase} it */
   function squareTaken(it) {
     const { square } = it.read;
     const before = it.read.men.get(square);
@@ -40,11 +53,12 @@ const menCauses = (() => {
     if (before.word === it.word) return explained(sentence('square_twice_in_word', { word: it.quoted, square }), first, placed);
     const [colour, kind] = [it.read.colour, kindOf(it.plain)];
     const values = { square, before: quoted(before.word), what: `${colourWord(before.man[0])} ${MAN_NAMES[before.man[1]]}` };
-    if (before.man === colour + kind) return explained(sentence('man_given_twice', values), first, placed);
-    const others = { colour: colourWord(colour), kind: MAN_NAMES[kind], word: it.quoted };
+    if (before.man === `${colour}${kind}`) return explained(sentence('man_given_twice', values), first, placed);
+    const others = { colour: colourWord(colour), kind: MAN_NAMES[kind ?? ''], word: it.quoted };
     return explained(sentence('square_taken', { ...values, ...others }), first, placed);
   }
 
+  /** @param {FaultCase} it */
   function pawnOutside(it) {
     const { square, colour } = it.read;
     const text = sentence('pawn_outside', { square, rank: square[1] });
@@ -52,15 +66,17 @@ const menCauses = (() => {
     return explained(isPromoted ? sentence('pawn_promoted', { text, square }) : text, faultSpan(it));
   }
 
+  /** @param {FaultCase} it */
   function secondKing(it) {
     const { colour, men, colours } = it.read;
-    const before = men.get(reading.kingOf(it.read, colour));
+    const before = men.get(reading.kingOf(it.read, colour) ?? '');
     const values = { word: it.quoted, colour: sideName(colour), before: quoted(before.word), other: sideName(other(colour)) };
     const hasOther = colours.some(one => one.colour === other(colour));
     const name = before.word === it.word ? 'two_kings_in_word' : hasOther ? 'second_king' : 'second_king_colour';
     return explained(sentence(name, values), squareSpan(before), faultSpan(it));
   }
 
+  /** @param {FaultCase} it */
   function* squareMissing(it) {
     yield* wordings.charactersIn(it);
     yield colourBeforeMan(it);
@@ -75,6 +91,7 @@ const menCauses = (() => {
     yield badSquare(it);
   }
 
+  /** @param {FaultCase} it */
   function letterAlone(it) {
     if (it.plain.length > 2) return null;
     const whole = it.plain + (it.next?.word ?? '');
@@ -82,18 +99,21 @@ const menCauses = (() => {
     return it.plain.length > 1 ? null : it.says(sentence('no_square', { word: it.quoted, plain: it.plain }));
   }
 
+  /** @param {FaultCase} it */
   function rankFirst(it) {
     const found = /^([KQRBSPGN])((?:[1-8][a-h])+)$/i.exec(it.plain);
     return found && it.says(sentence('rank_first', { mended: found[1] + found[2].replace(/(.)(.)/g, '$2$1') }));
   }
 
+  /** @param {FaultCase} it */
   function lineOfSquares(it) {
     if (!/^[A-Za-z](?:[a-h][1-8])+(?:-|\.\.+|–)[a-h][1-8]/.test(it.plain)) return null;
     return it.says(sentence('range_of_squares', { letter: it.plain[0].toUpperCase() }));
   }
 
+  /** @param {FaultCase} it */
   function badSquare(it) {
-    const good = /^(?:[a-h][1-8])*/i.exec(it.plain.slice(1))[0].length;
+    const good = (/^(?:[a-h][1-8])*/i.exec(it.plain.slice(1))?.[0] ?? '').length;
     const bad = it.plain.slice(1 + good);
     let part = [...bad].slice(0, 2).join('');
     let name = 'bad_square';
@@ -104,6 +124,7 @@ const menCauses = (() => {
     return explained(sentence(name, { word: it.quoted, sign: bad[0], part }), mark);
   }
 
+  /** @param {FaultCase} it */
   function kingMissing(it) {
     const { stipulation: { mated, play }, stipulationWord, men, colours } = it.read;
     const values = { name: sideName(mated), other: sideName(other(mated)) };
@@ -123,6 +144,7 @@ const menCauses = (() => {
     return it.says(isFrench ? sentence('french_king', { text }) : text, opener);
   }
 
+  /** @param {FaultCase} it @param {string} head */
   function kingInText(it, head) {
     for (const line of it.textLines) {
       const king = it.text.slice(line.to, line.end).split(/\s+/).filter(word => isMan(word) && kindOf(word) === 'K').at(-1);
@@ -131,6 +153,7 @@ const menCauses = (() => {
     return null;
   }
 
+  /** @param {FaultCase} it */
   function inCheck(it) {
     const { read } = it;
     const { starter } = read.stipulation;
@@ -142,10 +165,13 @@ const menCauses = (() => {
     });
     if (starter === 'b') text = sentence('in_check_help', { text });
     if (read.condition === 'Circe') text = sentence('in_check_circe', { text });
-    return it.says(text, ...[king, ...squares].map(square => squareSpan(read.men.get(square))));
+    return it.says(text, ...[king ?? '', ...squares].map(square => squareSpan(read.men.get(square))));
   }
 
-  /** Explains a letter that isn't English, with squares. */
+  /**
+   * Explains a letter that isn't English, with squares.
+   * @param {FaultCase} it
+   */
   function foreignLetter(it) {
     const found = /^(\p{L}{1,2})((?:[a-h][1-8])+)$/iu.exec(it.plain);
     if (!found) return null;
@@ -155,12 +181,14 @@ const menCauses = (() => {
     return possible.length ? letterOf(it, letter, squares, possible) : null;
   }
 
+  /** @param {FaultCase} it @param {string} letter @param {string} squares @param {Alphabet[]} possible */
   function letterOf(it, letter, squares, possible) {
     const men = menWords(it);
     const fitting = vocabulary.alphabetsOf(lettersOf(men).join('')).filter(one => possible.includes(one));
     const alphabets = fitting.length === 1 ? fitting : possible;
     const head = sentence('no_letter', { letter });
-    const kindIn = alphabet => vocabulary.kindIn(alphabet, letter);
+    /** @param {Alphabet} alphabet */
+    const kindIn = alphabet => vocabulary.kindIn(alphabet, letter) ?? '';
     if (new Set(alphabets.map(kindIn)).size > 1) {
       const ways = alphabets.map(one => sentence('kind_in', { kind: MAN_NAMES[kindIn(one)], languages: listed(one.languages) }));
       return it.says(sentence('letter_of_several', { text: head, ways: listed(ways, 'or') }));
@@ -172,7 +200,10 @@ const menCauses = (() => {
     return it.says(others.length ? sentence('other_letters', { text, others: listed(others) }) : text);
   }
 
-  /** Returns the words of the problem's Pieces sections that have the form of a man, before and after the fault. */
+  /**
+   * Returns the words of the problem's Pieces sections that have the form of a man, before and after the fault.
+   * @param {FaultCase} it
+   */
   function menWords(it) {
     const words = [];
     let isInside = false;
@@ -184,9 +215,15 @@ const menCauses = (() => {
     return words;
   }
 
+  /** @param {string[]} men */
   const lettersOf = men => [...new Set(men.map(word => word[0].toUpperCase()))];
 
-  /** Returns what the letters of the other men mean, if they mean something else in English. */
+  /**
+   * Returns what the letters of the other men mean, if they mean something else in English.
+   * @param {string[]} men
+   * @param {FaultCase} it
+   * @param {Alphabet} alphabet
+   */
   function otherLetters(men, it, alphabet) {
     return lettersOf(men).flatMap(letter => {
       const man = vocabulary.kindIn(alphabet, letter);
@@ -195,15 +232,22 @@ const menCauses = (() => {
     });
   }
 
-  /** Explains a man by its English name. */
+  /**
+   * Explains a man by its English name.
+   * @param {FaultCase} it
+   */
   function manByName(it) {
     const word = it.plain.toLowerCase();
+    /** @param {[string, string]} entry */
     const isNamed = ([letter, name]) => word.startsWith(name) && (['', 's'].includes(word.slice(name.length)) || it.fits(letter + word.slice(name.length)));
     const found = NAMES.find(isNamed);
     return found ? it.says(sentence('man_by_name', { letter: found[0], name: found[1] })) : null;
   }
 
-  /** Explains a man of two letters, as Popeye has them. */
+  /**
+   * Explains a man of two letters, as Popeye has them.
+   * @param {FaultCase} it
+   */
   function twoLetters(it) {
     const word = it.plain;
     if (!/^[a-z]{2}(?:[a-h][1-8])+$/i.test(word)) return null;

@@ -1,11 +1,20 @@
 // @ts-check
 // Faults of words: the text doesn't begin with BeginProblem, a word is unknown or misplaced, a word is too long.
-'use strict';
+import { CONDITIONS } from '../text.js';
+import { explained, quoted } from './case.js';
+import { EXPLANATIONS } from './explanations.js';
+import { menCauses } from './men.js';
+import { reading } from './reading.js';
+import { listed, sentence } from './sentences.js';
+import { stipulationCauses } from './stipulations.js';
+import { vocabulary } from './vocabulary.js';
+import { wordings } from './wordings.js';
 
-const misplacedCauses = (() => {
+export const misplacedCauses = (() => {
   const { SECTIONS, COMMAND_NAMES, OPTIONS, COLOURS, LONGEST_WORD, named, squaresIn, isMan, isNumber } = reading;
   const { looksLikeStipulation } = stipulationCauses;
 
+  /** @param {FaultCase} it */
   function* beginMissing(it) {
     yield* wordings.charactersIn(it);
     yield otherFile(it);
@@ -20,24 +29,31 @@ const misplacedCauses = (() => {
     yield it.says(sentence('first_word', { word: it.quoted }));
   }
 
-  /** Explains a text without words, or with text lines only. */
+  /**
+   * Explains a text without words, or with text lines only.
+   * @param {string} text
+   * @param {boolean} hasTextLines
+   */
   function noProblem(text, hasTextLines) {
     if (!hasTextLines) return explained(sentence('empty_text'));
     if (wordings.isOldMac(text)) return explained(sentence('old_mac'), { from: 0, to: text.length });
     return explained(sentence('only_text_lines'));
   }
 
+  /** @param {FaultCase} it */
   function otherFile(it) {
-    const found = EXPLANATIONS.files.find(([head]) => it.text.startsWith(head));
+    const found = EXPLANATIONS.files.find((/** @type {string[]} */ [head]) => it.text.startsWith(head));
     return found ? it.says(sentence('other_file', { what: found[1] })) : null;
   }
 
+  /** @param {FaultCase} it */
   function commandFirst(it) {
     const isInside = named(it.plain, [...CONDITIONS, ...OPTIONS, ...COLOURS]) || isMan(it.plain) || looksLikeStipulation(it.plain);
     if (!named(it.plain, COMMAND_NAMES) && !vocabulary.unread(it.plain) && !isInside) return null;
     return it.says(sentence('begin_missing', { word: it.quoted }));
   }
 
+  /** @param {FaultCase} it */
   function* misplaced(it) {
     yield secondBegin(it);
     yield* wordings.charactersIn(it);
@@ -56,12 +72,16 @@ const misplacedCauses = (() => {
     yield unknown(it);
   }
 
+  /** @param {FaultCase} it */
   function secondBegin(it) {
     if (!named(it.plain, ['BeginProblem'])) return null;
     return it.says(sentence(it.before ? 'begin_once' : 'begin_again'));
   }
 
-  /** Explains a word of pops that belongs to another section. */
+  /**
+   * Explains a word of pops that belongs to another section.
+   * @param {FaultCase} it
+   */
   function wrongSection(it) {
     const { plain, read: { section } } = it;
     if (section !== 'Option' && named(plain, OPTIONS)) return belongs(it, 'an_option', 'Option');
@@ -71,8 +91,10 @@ const misplacedCauses = (() => {
     return looksLikeStipulation(plain) ? belongs(it, 'a_stipulation', 'Stipulation') : null;
   }
 
+  /** @param {FaultCase} it @param {string} what @param {string} section */
   const belongs = (it, what, section) => it.says(sentence('belongs', { word: it.quoted, what: sentence(what), section }));
 
+  /** @param {FaultCase} it */
   function* amongMen(it) {
     yield bishopOrBlack(it);
     yield colourLetter(it);
@@ -83,22 +105,26 @@ const misplacedCauses = (() => {
     yield menCauses.twoLetters(it);
   }
 
+  /** @param {FaultCase} it */
   function bishopOrBlack(it) {
     const { before, plain } = it;
-    if (!/^b$/i.test(before?.word ?? '') || !squaresIn(plain).length) return null;
+    if (!before || !/^b$/i.test(before.word) || !squaresIn(plain).length) return null;
     return it.says(sentence('bishop_or_black', { before: before.word, word: it.quoted, plain }), before);
   }
 
+  /** @param {FaultCase} it */
   function colourLetter(it) {
     if (!/^w/i.test(it.plain) || !isMan(it.plain.slice(1))) return null;
     return it.says(sentence('white_apart', { rest: it.plain.slice(1), word: it.quoted }));
   }
 
+  /** @param {FaultCase} it */
   function letterForDigit(it) {
     const mended = it.plain.replace(/(?<=[a-hA-H])[lI|]/g, '1');
     return mended === it.plain || !it.fits(mended) ? null : it.says(sentence('letter_for_digit', { word: it.quoted, mended }));
   }
 
+  /** @param {FaultCase} it */
   function pawnWithoutLetter(it) {
     const { before, plain } = it;
     if (!squaresIn(plain).length) return null;
@@ -106,15 +132,18 @@ const misplacedCauses = (() => {
     return it.says(sentence('pawn_or_square', { word: it.quoted, plain, whole: before.word + plain }), before);
   }
 
+  /** @param {FaultCase} it */
   function valueWithoutOption(it) {
     if (it.read.section !== 'Option') return null;
     if (isNumber(it.plain)) return it.says(sentence('number_alone', { word: it.quoted }));
     return squaresIn(it.plain).length ? it.says(sentence('square_alone', { word: it.quoted })) : null;
   }
 
+  /** @param {FaultCase} it */
   function unknown(it) {
     const { section, stipulationWord } = it.read;
     const word = it.quoted;
+    /** @type {Record<string, () => string>} */
     const said = {
       Pieces: () => sentence('unknown_among_men', { word }),
       Stipulation: () => sentence('unknown_after_stipulation', { given: quoted(stipulationWord), word }),
@@ -124,6 +153,7 @@ const misplacedCauses = (() => {
     return it.says(section ? said[section]() : sentence('before_sections', { word, sections: listed(SECTIONS) }));
   }
 
+  /** @param {FaultCase} it */
   function* tooLong(it) {
     const head = sentence('long_word', { bytes: reading.bytesOf(it.plain), most: LONGEST_WORD });
     yield wordings.utf16(it);

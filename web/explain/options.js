@@ -1,17 +1,25 @@
 // @ts-check
 // Faults of conditions, and of the numbers and squares of options.
-'use strict';
+import { other } from '../position.js';
+import { colourWord, explained, partOf, quoted, sideName } from './case.js';
+import { menCauses } from './men.js';
+import { reading } from './reading.js';
+import { listed, sentence } from './sentences.js';
+import { vocabulary } from './vocabulary.js';
+import { wordings } from './wordings.js';
 
-const optionCauses = (() => {
+export const optionCauses = (() => {
   const { COMMAND_NAMES, OPTIONS, CASTLING_SQUARES, MOST_SOLUTIONS, named, squaresIn, isMan, isNumber } = reading;
   const SIDES = /^(?:white|black|w|b|[kq]{1,4}|0-0(-0)?|o-o(-o)?|-|both|yes|no)$/i;
 
+  /** @param {FaultCase} it */
   function secondCondition(it) {
     const { condition, conditionWord: given } = it.read;
     const isSame = named(it.plain, [condition]);
     return it.says(sentence(isSame ? 'condition_twice' : 'second_condition', { given: quoted(given) }), given);
   }
 
+  /** @param {FaultCase} it */
   function* badNumber(it) {
     const { option } = it.read;
     yield wordings.invisible(it);
@@ -27,7 +35,12 @@ const optionCauses = (() => {
     yield it.says(sentence('number_wanted', { word: it.quoted }), option);
   }
 
-  /** Explains no value at all: the next word is another command or option. */
+  /**
+   * Explains no value at all: the next word is another command or option.
+   * @param {FaultCase} it
+   * @param {string} what
+   * @param {string} example
+   */
   function missing(it, what, example) {
     const there = vocabulary.unread(it.plain);
     if (!there && !named(it.plain, [...COMMAND_NAMES, ...OPTIONS])) return null;
@@ -36,6 +49,7 @@ const optionCauses = (() => {
     return it.says(there ? sentence('and_unread', { text, instead: there.instead }) : text, option);
   }
 
+  /** @param {FaultCase} it */
   function* squareMissing(it) {
     const isOne = it.read.awaited === 'square';
     const name = isOne ? 'EnPassant' : 'NoCastling';
@@ -52,6 +66,7 @@ const optionCauses = (() => {
     yield it.says(sentence('square_wanted', values));
   }
 
+  /** @param {FaultCase} it */
   function enPassantImpossible(it) {
     const { stipulation: { starter }, stipulationWord, crossed: square, crossedWord, men } = it.read;
     const { rank, pawn: pawnSquare, home, isRightRank, hasPawn, occupied } = reading.enPassantWants(it.read);
@@ -63,6 +78,7 @@ const optionCauses = (() => {
     return it.says(text, crossedWord, ...occupied.map(one => menCauses.squareSpan(men.get(one))));
   }
 
+  /** @param {FaultCase} it @param {string} text @param {string} rank @param {Colour} starter */
   function wrongRank(it, text, rank, starter) {
     const { crossed: square, crossedWord } = it.read;
     const isWherePawnIs = square[1] === (starter === 'w' ? '5' : '4');
@@ -71,6 +87,7 @@ const optionCauses = (() => {
     return it.says(said, crossedWord);
   }
 
+  /** @param {FaultCase} it */
   function noCastlingSquare(it) {
     const { square, squarePlace } = it.read;
     return explained(sentence('no_castling_square', { squares: listed(CASTLING_SQUARES), square }), partOf(it.word, squarePlace, squarePlace + 2));

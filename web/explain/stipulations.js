@@ -1,8 +1,13 @@
 // @ts-check
 // Faults of stipulations: a bad one, or a second one.
-'use strict';
+import { CONDITIONS } from '../text.js';
+import { quoted } from './case.js';
+import { EXPLANATIONS } from './explanations.js';
+import { reading } from './reading.js';
+import { sentence } from './sentences.js';
+import { wordings } from './wordings.js';
 
-const stipulationCauses = (() => {
+export const stipulationCauses = (() => {
   const KNOWN = EXPLANATIONS.stipulations;
   const { MOST_MOVES, OPTIONS, COLOURS, named, isMan, isNumber } = reading;
   const LIKE = /^(?:[a-z]{0,5}-)?[a-z]{0,2}(?:#|==?)[0-9]+(?:\.5)?$/i;
@@ -11,15 +16,22 @@ const stipulationCauses = (() => {
   const OTHER_GOALS = new RegExp(`^(?:${KNOWN.goals})$`, 'i');
   const forms = sentence('forms');
 
-  /** Returns whether a word would be a stipulation in Popeye, or nearly so. */
+  /**
+   * Returns whether a word would be a stipulation in Popeye, or nearly so.
+   * @param {string} word
+   */
   const looksLikeStipulation = word => LIKE.test(word);
 
-  /** Explains a wanted number of solutions after a stipulation, as `2.1.1.1`. */
+  /**
+   * Explains a wanted number of solutions after a stipulation, as `2.1.1.1`.
+   * @param {FaultCase} it
+   */
   function solutionNumbers(it) {
     if (it.read.section !== 'Stipulation' || !COUNTS.test(it.plain)) return null;
     return it.says(sentence('count_of_solutions', { word: it.quoted }));
   }
 
+  /** @param {FaultCase} it */
   function* bad(it) {
     yield wordings.utf16(it);
     yield wordings.invisible(it);
@@ -44,17 +56,20 @@ const stipulationCauses = (() => {
     yield it.says(sentence('no_stipulation', { word: it.quoted, forms }));
   }
 
+  /** @param {FaultCase} it */
   function half(it) {
     if (!it.plain.includes('½') && !it.plain.endsWith('1/2')) return null;
     const mended = it.plain.replace(/½|[- ]?1\/2$/g, '.5');
     return it.says(it.fits(mended) ? sentence('half', { mended }) : sentence('half_only_help'));
   }
 
+  /** @param {FaultCase} it */
   function signOfMate(it) {
     const mended = it.plain.replace(new RegExp(`[${KNOWN.mates}]|\\+\\+`, 'gu'), '#');
     return mended === it.plain || !it.fits(mended) ? null : it.says(sentence('sign_of_mate', { mended, word: it.quoted }));
   }
 
+  /** @param {FaultCase} it */
   function sectionEmpty(it) {
     const { plain, read: { opener } } = it;
     const kinds = [
@@ -64,10 +79,11 @@ const stipulationCauses = (() => {
     const found = opener && kinds.find(([, holds]) => holds);
     if (!found) return null;
     const [what, , section] = found;
-    const values = { word: it.quoted, what: sentence(what), opener: quoted(opener), section };
+    const values = { word: it.quoted, what: sentence(String(what)), opener: quoted(opener), section };
     return it.says(sentence('stipulation_missing_after', values), opener);
   }
 
+  /** @param {FaultCase} it */
   function withoutNumber(it) {
     if (!/^[sh]?[#=]$/i.test(it.plain)) return null;
     const whole = it.plain + (it.next?.word ?? '');
@@ -75,6 +91,7 @@ const stipulationCauses = (() => {
     return it.says(sentence('number_missing_in_word', { plain: it.plain }));
   }
 
+  /** @param {FaultCase} it */
   function numberOf(it) {
     const found = GOOD.exec(it.plain);
     if (!found) return null;
@@ -87,39 +104,46 @@ const stipulationCauses = (() => {
     return it.says(sentence('number_out_of_range', { form, least, most, number: BigInt(number) }));
   }
 
+  /** @param {FaultCase} it */
   function star(it) {
     const found = /^(.*?)\*+(.*)$/.exec(it.plain);
     if (!found || !it.fits(found[1] + found[2])) return null;
     return it.says(sentence('star', { first: found[1], second: found[2] }));
   }
 
+  /** @param {FaultCase} it */
   function counted(it) {
     const found = /^(.+?)[;:,([/]+([0-9]+(?:[.,][0-9]+)*)\.*[)\]]?$/.exec(it.plain);
     if (!found || !it.fits(found[1]) || /^h[#=]\d+,5$/.test(it.plain)) return null;
     return it.says(sentence('counted', { first: found[1], second: found[2] }));
   }
 
+  /** @param {FaultCase} it */
   function otherPlay(it) {
-    const found = KNOWN.plays.find(([plays]) => new RegExp(`^(?:${plays})`, 'i').test(it.plain));
+    const found = KNOWN.plays.find((/** @type {string[]} */ [plays]) => new RegExp(`^(?:${plays})`, 'i').test(it.plain));
     return found ? it.says(sentence('other_play', { what: found[1], forms })) : null;
   }
 
+  /** @param {FaultCase} it */
   function exact(it) {
     const found = /^exact-(.+)$/i.exec(it.plain);
     return found && it.says(sentence(/^h/i.test(found[1]) ? 'exact_help' : 'exact', { first: found[1] }));
   }
 
+  /** @param {FaultCase} it */
   function otherGoal(it) {
     const found = OTHER_GOALS.exec(it.plain);
     if (!found || (found[1].toLowerCase() === 'k' && isMan(it.plain))) return null;
     return it.says(sentence('other_goal', { first: found[1], forms }));
   }
 
+  /** @param {FaultCase} it */
   function comma(it) {
     const mended = it.plain.replace(/,5$/, '.5');
     return mended === it.plain || !it.fits(mended) ? null : it.says(sentence('half_point', { mended }));
   }
 
+  /** @param {FaultCase} it */
   function backwards(it) {
     const found = /^(?:([0-9]+)(\.5)?([sh]?[#=])|([sh])([0-9]+)(\.5)?([#=]))$/.exec(it.plain);
     if (!found) return null;
@@ -127,6 +151,7 @@ const stipulationCauses = (() => {
     return it.fits(mended) ? it.says(sentence('sign_first', { mended })) : null;
   }
 
+  /** @param {FaultCase} it */
   function inWords(it) {
     if (isNumber(it.plain)) return it.says(sentence('only_number', { word: it.quoted, plain: it.plain }));
     const found = /^([a-z]+?)[-#=]*(?:in)?-*([0-9]*)$/.exec(it.plain.toLowerCase().replace(/^-+|-+$/g, ''));
@@ -136,6 +161,7 @@ const stipulationCauses = (() => {
     return it.says(sentence('in_words', { sign, number: found[2] || (later?.word ?? '2') }));
   }
 
+  /** @param {FaultCase} it */
   function* second(it) {
     const given = it.read.stipulationWord;
     yield wordings.invisible(it);

@@ -1,22 +1,25 @@
 // @ts-check
 // Problems of other programs, with their twins, and their text for pops. What pops can't read is left out, with the
 // reason.
-'use strict';
-/** @typedef {{ men: Men, stipulation: string, conditions: string[] }} Setting */
-/** @typedef {{ text: string, make: (setting: Setting) => Setting }} Change */
-/** @typedef {{ label: string, isContinued: boolean, changes: Change[] }} DraftTwin */
-/** @typedef {{ texts: [string, string][], setting: Setting, options: string[], notes: string[], twins: DraftTwin[], isZero: boolean }} Draft */
+import { explaining } from '../explain/explaining.js';
+import { sidesOf } from '../text.js';
+import { say } from '../words.js';
+
 
 /** Why a problem can't be read or posed. */
-class Unposed extends Error {}
+export class Unposed extends Error {}
 
-const drafts = (() => {
+export const drafts = (() => {
+  /** @param {number} index */
   const letterOf = index => `${String.fromCharCode(97 + index)})`;
 
   /** @returns {Draft} */
   const empty = () => ({ texts: [], setting: { men: new Map(), stipulation: '', conditions: [] }, options: [], notes: [], twins: [], isZero: false });
 
-  /** Returns the diagram and its twins: the label of each, the words of its changes, and a function that makes its setting. */
+  /**
+   * Returns the diagram and its twins: the label of each, the words of its changes, and a function that makes its setting.
+   * @param {Draft} draft
+   */
   function settingsOf({ setting, twins, isZero }) {
     const found = isZero ? [] : [{ label: twins.length ? letterOf(0) : '', said: '', make: () => setting }];
     let last = () => setting;
@@ -29,9 +32,15 @@ const drafts = (() => {
     return found;
   }
 
+  /** @param {[string, string][]} texts @param {string} name */
   const linesOf = (texts, name) => texts.filter(([one]) => one === name).map(([, text]) => text);
 
-  /** Returns the lines of one problem, between its opening and closing words. */
+  /**
+   * Returns the lines of one problem, between its opening and closing words.
+   * @param {Draft} draft
+   * @param {{ label: string, said: string, make: () => Setting }} twin
+   * @param {boolean} isFirst
+   */
   function problemLines({ texts, options, notes }, { label, said, make }, isFirst) {
     const setting = make();
     const title = [linesOf(texts, 'Title').join('; '), label].filter(Boolean).join(' ');
@@ -46,7 +55,10 @@ const drafts = (() => {
     ];
   }
 
-  /** Refuses a problem in which pops would find a fault. */
+  /**
+   * Refuses a problem in which pops would find a fault.
+   * @param {string[]} lines
+   */
   function checked(lines) {
     const text = ['BeginProblem', ...lines, 'EndProblem', ''].join('\n');
     const [fault] = explaining.faultsOf(text);
@@ -59,8 +71,11 @@ const drafts = (() => {
    * @param {(() => Draft)[]} readers each reads a problem, or throws Unposed
    */
   function textOf(readers) {
+    /** @type {string[][]} */
     const problems = [];
+    /** @type {string[]} */
     const lost = [];
+    /** @param {string} number @param {() => void} act */
     const attempt = (number, act) => {
       try {
         act();

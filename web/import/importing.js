@@ -1,8 +1,16 @@
 // @ts-check
 // Turns texts of other programs into problems of pops: inputs of Popeye, collections in YAML.
-'use strict';
+import { reading } from '../explain/reading.js';
+import { vocabulary } from '../explain/vocabulary.js';
+import { wordsOf } from '../text.js';
+import { drafts } from './drafts.js';
+import { popeye } from './popeye.js';
+import { yaml } from './yaml.js';
 
-/** Returns whether a text that begins as ours has words that only Popeye reads, or is in another language. */
+/**
+ * Returns whether a text that begins as ours has words that only Popeye reads, or is in another language.
+ * @param {string} text
+ */
 function isOfPopeye(text) {
   const words = wordsOf(text).filter(token => !reading.isTextLine(token));
   const [first] = words;
@@ -17,7 +25,7 @@ function isOfPopeye(text) {
  * @param {string} text
  * @returns {{ text: string | null, lost: string[] } | null}
  */
-function imported(text) {
+export function imported(text) {
   const readers = yaml.readersOf(text) ?? (isOfPopeye(text) ? popeye.readersOf(text) : null);
   return readers && drafts.textOf(readers);
 }

@@ -1,23 +1,39 @@
 // @ts-check
 // Reads inputs of Popeye in English, German or French, by Popeye's manual: the words that problems of pops can use.
-'use strict';
+import { characters } from '../explain/characters.js';
+import { EXPLANATIONS } from '../explain/explanations.js';
+import { reading } from '../explain/reading.js';
+import { vocabulary } from '../explain/vocabulary.js';
+import { manAt, other, placeOf, squareOf } from '../position.js';
+import { CONDITIONS, KINDS, sidesOf } from '../text.js';
+import { say } from '../words.js';
+import { drafts, Unposed } from './drafts.js';
 
-const popeye = (() => {
+export const popeye = (() => {
   const TEXTS = ['Title', 'Author', 'Origin', 'Remark', 'Award'];
   const NAMES = [...reading.COMMAND_NAMES, 'Twin', 'ZeroPosition', 'Forsyth', ...TEXTS];
   const CHANGES = ['Move', 'Exchange', 'Remove', 'Add', 'Substitute', 'Stipulation', 'Condition', 'Rotate', 'Mirror', 'Shift', 'PolishType', 'Continued'];
   const MATTERING = ['Duplex', 'HalfDuplex', 'WhiteToPlay', 'Quodlibet', 'PostKeyPlay'];
+  /** @type {Record<string, { letters: string }>} */
   const ALPHABETS = { English: { letters: KINDS }, German: EXPLANATIONS.alphabets[0], French: EXPLANATIONS.alphabets[1] };
+  /** @type {Record<string, (place: number[]) => number[]>} */
   const TURNS = { 90: ([file, rank]) => [rank, 7 - file], 180: ([file, rank]) => [7 - file, 7 - rank], 270: ([file, rank]) => [7 - rank, file] };
+  /** @type {Record<string, (place: number[]) => number[]>} */
   const MIRRORS = {
     a1h1: ([file, rank]) => [7 - file, rank], a1a8: ([file, rank]) => [file, 7 - rank], a1h8: ([file, rank]) => [7 - rank, 7 - file],
     a8h1: ([file, rank]) => [rank, file],
   };
+  /** @type {Record<string, string[]>} */
   const COLOURS = { English: ['White', 'Black'], German: ['Weiss', 'Schwarz'], French: ['Blancs', 'Noirs'] };
+  /** @param {string} word @param {string[]} names */
   const englishOf = (word, names) => reading.named(characters.withoutAccents(word), names)
     ?? names.find(name => name === vocabulary.foreign(word)?.english);
 
-  /** Returns the change of a twin that a word means; undefined if it means none. */
+  /**
+   * Returns the change of a twin that a word means; undefined if it means none.
+   * @param {string} word
+   * @param {string} language
+   */
   function changeOf(word, language) {
     const table = Object.entries(EXPLANATIONS.twinnings[language] ?? {});
     const found = table.find(([name]) => name.toLowerCase() === vocabulary.folded(word));
@@ -26,8 +42,11 @@ const popeye = (() => {
 
   /** The words of an input, one by one; a text line's word includes the rest of its line. */
   class Words {
+    /** @param {string} text */
     constructor(text) {
-      Object.assign(this, { text, place: 0, language: 'English' });
+      this.text = text;
+      this.place = 0;
+      this.language = 'English';
     }
 
     peek() {
@@ -62,14 +81,20 @@ const popeye = (() => {
     }
   }
 
+  /** @param {string} word @param {string} language */
   function colourOf(word, language) {
     const place = COLOURS[language].findIndex(name => name.toLowerCase().startsWith(vocabulary.folded(word)));
     return place < 0 ? null : 'wb'[place];
   }
 
-  /** Reads men with their colours up to another word. */
+  /**
+   * Reads men with their colours up to another word.
+   * @param {Words} words
+   */
   function takeMen(words) {
+    /** @type {[Square, Man][]} */
     const men = [];
+    /** @type {Colour | null} */
     let colour = null;
     for (let word = words.peek(); word !== null && !words.command(); word = words.peek()) {
       const next = colourOf(word, words.language);
@@ -78,12 +103,13 @@ const popeye = (() => {
       if (!next && changeOf(word, words.language) && !squares.length) break;
       if (next) colour = next;
       else if (!colour || !kind || !squares.length) throw new Unposed(say('importMan', { word }));
-      else men.push(...squares.map(square => [square, colour + kind]));
+      else for (const square of squares) men.push([square, colour + kind]);
       words.take();
     }
     return men;
   }
 
+  /** @param {Men} men @param {[Square, Man][]} added */
   function withMenOf(men, added) {
     const placed = new Map(men);
     for (const [square, man] of added) {
@@ -93,6 +119,7 @@ const popeye = (() => {
     return placed;
   }
 
+  /** @param {Words} words @returns {[Square, Man][]} */
   function takeForsyth(words) {
     const rows = words.value().split('/');
     const alphabet = ALPHABETS[words.language];
@@ -102,11 +129,16 @@ const popeye = (() => {
       if (letter === '.') return [];
       const kind = vocabulary.kindIn(alphabet, letter);
       if (!kind) throw new Unposed(say('importMan', { word: letter }));
-      return [[squareOf(file, 7 - index), (letter === letter.toUpperCase() ? 'w' : 'b') + kind]];
+      const man = (letter === letter.toUpperCase() ? 'w' : 'b') + kind;
+      return [/** @type {[Square, Man]} */ ([squareOf(file, 7 - index), man])];
     }));
   }
 
-  /** Reads a stipulation, and after it the wanted number of solutions, as 2.1.1.1. */
+  /**
+   * Reads a stipulation, and after it the wanted number of solutions, as 2.1.1.1.
+   * @param {Words} words
+   * @param {Draft} draft
+   */
   function takeStipulation(words, draft) {
     const word = words.value();
     const counts = words.command() ? null : words.peek();
@@ -117,34 +149,39 @@ const popeye = (() => {
     return word;
   }
 
+  /** @param {Words} words */
   function takeConditionWords(words) {
     const given = [];
-    while (words.peek() !== null && !words.command() && !changeOf(words.peek(), words.language)) given.push(words.take());
+    while (words.peek() !== null && !words.command() && !changeOf(words.peek() ?? '', words.language)) given.push(words.take());
     return given;
   }
 
+  /** @param {string[]} given */
   function conditionsOf(given) {
     const names = given.map(word => reading.named(word, CONDITIONS));
     if (names.some(name => !name)) throw new Unposed(say('importCondition', { word: given.join(' ') }));
-    return names;
+    return /** @type {string[]} */ (names);
   }
 
+  /** @param {Words} words @param {Draft} draft */
   function takeOptions(words, draft) {
     while (words.peek() !== null && !words.command()) takeOption(words, draft);
   }
 
+  /** @param {Words} words @param {Draft} draft */
   function takeOption(words, draft) {
     const word = words.take();
     const name = englishOf(word, reading.OPTIONS);
     if (name === 'MaxSolutions' || name === 'EnPassant') draft.options.push(`${name} ${words.value()}`);
     else if (name === 'NoCastling') {
       const squares = [];
-      while (words.peek() !== null && reading.squaresIn(words.peek()).length) squares.push(words.take());
+      while (words.peek() !== null && reading.squaresIn(words.peek() ?? '').length) squares.push(words.take());
       draft.options.push(`${name} ${squares.join(' ')}`);
     } else if (name) draft.options.push(name);
     else leaveOut(word, words, draft);
   }
 
+  /** @param {string} word @param {Words} words @param {Draft} draft */
   function leaveOut(word, words, draft) {
     const known = vocabulary.unread(word) ?? vocabulary.unread(vocabulary.foreign(word)?.english ?? '');
     if (!known || MATTERING.includes(known.name)) throw new Unposed(say('importOption', { word }));
@@ -152,9 +189,11 @@ const popeye = (() => {
     if (reading.isNumber(words.peek() ?? '')) words.take();
   }
 
+  /** @param {Words} words @param {Draft} draft */
   function takeTwin(words, draft) {
+    /** @type {DraftTwin} */
     const twin = { label: '', isContinued: false, changes: [] };
-    while (words.peek() !== null && changeOf(words.peek(), words.language)) {
+    while (words.peek() !== null && changeOf(words.peek() ?? '', words.language)) {
       const name = changeOf(words.take(), words.language);
       if (name === 'Continued') twin.isContinued = true;
       else if (!MAKERS[name]) throw new Unposed(say('importTwin', { word: name }));
@@ -164,17 +203,21 @@ const popeye = (() => {
     draft.twins.push(twin);
   }
 
+  /** @param {Words} words */
   const takeSquares = words => {
     const squares = reading.squaresIn(words.value());
     if (!squares.length) throw new Unposed(say('importSquare'));
     return squares;
   };
+  /** @param {Words} words */
   const takePair = words => {
     const squares = takeSquares(words);
     return squares.length > 1 ? squares : [...squares, ...takeSquares(words)];
   };
+  /** @param {string} text @param {(men: Men) => Men} change @returns {Change} */
   const ofMen = (text, change) => ({ text, make: setting => ({ ...setting, men: change(setting.men) }) });
 
+  /** @param {Words} words @param {string} name @param {(men: Men, one: Square, next: Square) => Men} change */
   function changeOfPair(words, name, change) {
     const [one, next] = takePair(words);
     return ofMen(`${name} ${one} ${next}`, men => {
@@ -183,30 +226,35 @@ const popeye = (() => {
     });
   }
 
+  /** @param {Men} men @param {(place: number[]) => number[]} place */
   const movedAll = (men, place) => new Map([...men].map(([square, man]) => {
     const [file, rank] = place(placeOf(square));
     if (![file, rank].every(number => number >= 0 && number <= 7)) throw new Unposed(say('leaves'));
-    return [squareOf(file, rank), man];
+    return /** @type {[Square, Man]} */ ([squareOf(file, rank), man]);
   }));
 
+  /** @param {Men} men @param {Square} one @param {Square} next */
   function exchangedMen(men, one, next) {
-    const [man, second] = [men.get(one), men.get(next)];
+    const [man, second] = [manAt(men, one), men.get(next)];
     if (!second) throw new Unposed(say('importNoMan', { square: next }));
     return men.set(one, second).set(next, man);
   }
 
+  /** @param {Men} men @param {Square} one @param {Square} next */
   function movedTo(men, one, next) {
-    const man = men.get(one);
+    const man = manAt(men, one);
     men.delete(one);
     return men.set(next, man);
   }
 
+  /** @param {Words} words */
   function addition(words) {
     const added = takeMen(words);
     const said = sidesOf(new Map(added)).replace(/ (White|Black)/g, side => side.toLowerCase());
     return ofMen(`Add${said}`, men => withMenOf(men, added));
   }
 
+  /** @param {Words} words */
   function removal(words) {
     const squares = takeSquares(words);
     return ofMen(`Remove ${squares.join('')}`, men => {
@@ -216,6 +264,7 @@ const popeye = (() => {
     });
   }
 
+  /** @param {Words} words */
   function substitution(words) {
     const letters = [words.value(), words.value()];
     const kinds = letters.map(letter => (letter.length === 1 ? vocabulary.kindIn(ALPHABETS[words.language], letter) : undefined));
@@ -225,12 +274,14 @@ const popeye = (() => {
     return ofMen(`Substitute ${from} ${to}`, men => new Map([...men].map(([square, man]) => [square, man[1] === from ? man[0] + to : man])));
   }
 
+  /** @param {Words} words */
   function turning(words) {
     const angle = words.value();
     if (!TURNS[angle]) throw new Unposed(say('importTwin', { word: `Rotate ${angle}` }));
     return ofMen(`Rotate ${angle}`, men => movedAll(men, TURNS[angle]));
   }
 
+  /** @param {Words} words */
   function mirroring(words) {
     const axis = words.value();
     const corners = axis.replace(/[^a-h1-8]/g, '');
@@ -239,12 +290,14 @@ const popeye = (() => {
     return ofMen(`Mirror ${corners.slice(0, 2)}<-->${corners.slice(2)}`, men => movedAll(men, place));
   }
 
+  /** @param {Words} words */
   function shifting(words) {
     const [one, next] = takePair(words);
     const [[file, rank], [toFile, toRank]] = [placeOf(one), placeOf(next)];
     return ofMen(`Shift ${one} ${next}`, men => movedAll(men, ([x, y]) => [x + toFile - file, y + toRank - rank]));
   }
 
+  /** @type {Record<string, (words: Words, draft: Draft) => Change>} */
   const MAKERS = {
     Move: words => changeOfPair(words, 'Move', movedTo),
     Exchange: words => changeOfPair(words, 'Exchange', exchangedMen),
@@ -265,6 +318,7 @@ const popeye = (() => {
     },
   };
 
+  /** @type {Record<string, (words: Words, draft: Draft) => void>} */
   const READERS = {
     Pieces: (words, draft) => { draft.setting.men = withMenOf(draft.setting.men, takeMen(words)); },
     Forsyth: (words, draft) => { draft.setting.men = new Map(takeForsyth(words)); },
@@ -274,11 +328,15 @@ const popeye = (() => {
     Twin: takeTwin,
     ZeroPosition: (words, draft) => {
       draft.isZero = true;
-      if (words.peek() !== null && changeOf(words.peek(), words.language)) takeTwin(words, draft);
+      if (words.peek() !== null && changeOf(words.peek() ?? '', words.language)) takeTwin(words, draft);
     },
   };
 
-  /** Reads one problem. */
+  /**
+   * Reads one problem.
+   * @param {string} text
+   * @param {string} language
+   */
   function draftOf(text, language) {
     const words = Object.assign(new Words(text), { language });
     const draft = drafts.empty();
@@ -294,7 +352,10 @@ const popeye = (() => {
     return draft;
   }
 
-  /** Returns the texts of the problems of an input, and its language; null if it doesn't begin as an input of Popeye. */
+  /**
+   * Returns the texts of the problems of an input, and its language; null if it doesn't begin as an input of Popeye.
+   * @param {string} text
+   */
   function problemsOf(text) {
     const words = new Words(text);
     const first = words.peek();
@@ -306,7 +367,7 @@ const popeye = (() => {
       const [before, name] = [words.place, words.command()];
       if (name === undefined && words.peek() === null) return { texts: [...texts, text.slice(from)], language: foreign?.language ?? 'English' };
       words.take();
-      if (TEXTS.includes(name)) words.restOfLine();
+      if (name && TEXTS.includes(name)) words.restOfLine();
       if (name !== 'NextProblem' && name !== 'EndProblem') continue;
       texts.push(text.slice(from, before));
       if (name === 'EndProblem') return { texts, language: foreign?.language ?? 'English' };
@@ -314,7 +375,10 @@ const popeye = (() => {
     }
   }
 
-  /** Returns the problems of an input as drafts; null if it isn't an input of Popeye. */
+  /**
+   * Returns the problems of an input as drafts; null if it isn't an input of Popeye.
+   * @param {string} text
+   */
   function readersOf(text) {
     const found = problemsOf(text);
     return found && found.texts.map(one => () => draftOf(one, found.language));

@@ -1,17 +1,24 @@
 // @ts-check
 // Reads collections in YAML in the form of Olive and YACPDB, written from memory: the keys that make a problem.
-'use strict';
+import { say } from '../words.js';
+import { Unposed } from './drafts.js';
+import { popeye } from './popeye.js';
 
-const yaml = (() => {
+export const yaml = (() => {
   const KEY = /^("[^"]*"|'[^']*'|[^\s"'[\]{},:#][^:#]*?)\s*:(?:\s+(.*))?$/;
 
+  /** @param {string} line */
   const withoutComment = line => line.replace(/(^|\s)#(?=[^"']*$).*/, '$1').trimEnd();
 
-  /** Returns the lines of a document with content: { indent, text }. */
+  /**
+   * Returns the lines of a document with content: { indent, text }.
+   * @param {string} document
+   */
   function linesOf(document) {
     return document.split('\n').filter(line => !line.startsWith('%')).map(line => ({ indent: line.length - line.trimStart().length, text: withoutComment(line).trim(), raw: line }));
   }
 
+  /** @param {string} text */
   function scalar(text) {
     if (/^".*"$/.test(text)) return text.slice(1, -1).replace(/\\(["\\])/g, '$1');
     if (/^'.*'$/.test(text)) return text.slice(1, -1).replaceAll("''", "'");
@@ -19,22 +26,29 @@ const yaml = (() => {
     return text;
   }
 
-  /** Reads `[a, b]` or `{a: b}`, also nested. */
+  /**
+   * Reads `[a, b]` or `{a: b}`, also nested.
+   * @param {string} text
+   */
   function flow(text) {
-    const parts = text.match(/"(?:[^"\\]|\\.)*"|'(?:[^']|'')*'|[[\]{},]|:(?=\s|$)|(?:[^[\]{},:]|:(?!\s|$))+/g).map(it => it.trim()).filter(Boolean);
+    const parts = text.match(/"(?:[^"\\]|\\.)*"|'(?:[^']|'')*'|[[\]{},]|:(?=\s|$)|(?:[^[\]{},:]|:(?!\s|$))+/g)?.map(it => it.trim()).filter(Boolean) ?? [];
     const value = flowValue(parts);
     if (parts.length) throw new Unposed(say('importYaml', { line: text }));
     return value;
   }
 
+  /** @param {string[]} parts @returns {YamlValue} */
   function flowValue(parts) {
     const first = parts.shift();
     if (first === undefined) throw new Unposed(say('importEnds'));
     if (first !== '[' && first !== '{') return scalar(first);
     const isList = first === '[';
-    const found = isList ? [] : {};
+    /** @type {YamlValue[]} */
+    const list = [];
+    /** @type {YamlObject} */
+    const found = {};
     while (parts[0] !== (isList ? ']' : '}')) {
-      if (isList) found.push(flowValue(parts));
+      if (isList) list.push(flowValue(parts));
       else {
         const key = scalar(parts.shift() ?? '');
         if (parts.shift() !== ':') throw new Unposed(say('importYaml', { line: key }));
@@ -44,12 +58,14 @@ const yaml = (() => {
       if (!parts.length) throw new Unposed(say('importEnds'));
     }
     parts.shift();
-    return found;
+    return isList ? list : found;
   }
 
   class Reader {
+    /** @param {YamlLine[]} lines */
     constructor(lines) {
-      Object.assign(this, { lines, at: 0 });
+      this.lines = lines;
+      this.at = 0;
     }
 
     get line() {
@@ -57,7 +73,12 @@ const yaml = (() => {
       return this.lines[this.at];
     }
 
-    /** Returns the value after a key: on its line, or in the lines below that are indented more. */
+    /**
+     * Returns the value after a key: on its line, or in the lines below that are indented more.
+     * @param {string} text
+     * @param {number} indent
+     * @returns {YamlValue}
+     */
     value(text, indent) {
       if (/^[|>]/.test(text)) return this.block(indent);
       if (/^[[{]/.test(text)) return flow(this.toEnd(text, text[0] === '[' ? ']' : '}'));
@@ -67,6 +88,7 @@ const yaml = (() => {
       return next.text.startsWith('-') ? this.list(next.indent) : this.mapping(next.indent);
     }
 
+    /** @param {string} text @param {string} sign */
     toEnd(text, sign) {
       let whole = text;
       while (!whole.endsWith(sign)) {
@@ -77,6 +99,7 @@ const yaml = (() => {
       return whole;
     }
 
+    /** @param {number} indent */
     block(indent) {
       const texts = [];
       for (; this.lines[this.at] && (!this.lines[this.at].raw.trim() || this.lines[this.at].indent > indent); this.at++) {
@@ -85,6 +108,7 @@ const yaml = (() => {
       return texts.join('\n').trim();
     }
 
+    /** @param {number} indent @returns {YamlValue[]} */
     list(indent) {
       const items = [];
       for (let next = this.line; next && next.indent === indent && next.text.startsWith('-'); next = this.line) {
@@ -94,7 +118,9 @@ const yaml = (() => {
       return items;
     }
 
+    /** @param {number} indent */
     mapping(indent) {
+      /** @type {YamlObject} */
       const found = {};
       for (let next = this.line; next && next.indent === indent; next = this.line) {
         const key = KEY.exec(next.text);
@@ -108,6 +134,7 @@ const yaml = (() => {
     }
   }
 
+  /** @param {string} document */
   function objectOf(document) {
     const reader = new Reader(linesOf(document));
     const found = reader.line ? reader.mapping(reader.line.indent) : {};
@@ -115,19 +142,24 @@ const yaml = (() => {
     return found;
   }
 
+  /** @param {YamlValue | undefined} value @returns {string[]} */
   const textsOf = value => (Array.isArray(value) ? value.flatMap(textsOf) : value && typeof value === 'object' ? Object.values(value).flatMap(textsOf)
     : String(value ?? '').split('\n').map(text => text.trim()).filter(Boolean));
 
-  /** Turns a problem into an equivalent input of Popeye, and reads that. */
+  /**
+   * Turns a problem into an equivalent input of Popeye, and reads that.
+   * @param {string} document
+   */
   function draftOf(document) {
     const found = objectOf(document);
-    const sides = ['white', 'black'].map(side => [side, textsOf(found.algebraic?.[side])]).filter(([, men]) => men.length);
-    const unknown = Object.keys(found.algebraic ?? {}).find(side => side !== 'white' && side !== 'black');
+    const algebraic = /** @type {YamlObject} */ (found.algebraic ?? {});
+    const sides = ['white', 'black'].map(side => ({ side, men: textsOf(algebraic[side]) })).filter(({ men }) => men.length);
+    const unknown = Object.keys(algebraic).find(side => side !== 'white' && side !== 'black');
     if (unknown !== undefined) throw new Unposed(say('importMan', { word: unknown }));
     const twins = Object.entries(found.twins ?? {}).filter(([label]) => label !== 'a');
     const counts = textsOf(found['intended-solutions']).join('');
     const lines = [
-      `Pieces ${sides.map(([side, men]) => `${side} ${men.join(' ')}`).join(' ')}`,
+      `Pieces ${sides.map(({ side, men }) => `${side} ${men.join(' ')}`).join(' ')}`,
       `Stipulation ${textsOf(found.stipulation).join(' ')} ${counts.includes('.') ? counts : ''}`,
       ...textsOf(found.conditions).map(text => `Condition ${text}`), ...textsOf(found.options).map(text => `Option ${text}`),
       ...twins.map(([, text]) => `Twin ${textsOf(text).join(' ')}`),
@@ -138,6 +170,7 @@ const yaml = (() => {
     return draft;
   }
 
+  /** @param {YamlObject} found */
   function namesOf(found) {
     const origin = [...textsOf(found.source), ...textsOf(found.date)].join(', ');
     const others = ['distinction', 'keywords', 'comments'].flatMap(key => textsOf(found[key]).map(text => ['Remark', text]));
@@ -147,7 +180,10 @@ const yaml = (() => {
     ]);
   }
 
-  /** Returns the problems of a collection as drafts; null if it isn't a collection. */
+  /**
+   * Returns the problems of a collection as drafts; null if it isn't a collection.
+   * @param {string} text
+   */
   function readersOf(text) {
     if (!/^\s*algebraic\s*:/m.test(text)) return null;
     const documents = text.replaceAll('\r\n', '\n').split(/^---.*$|^\.\.\.\s*$/m).filter(document => document.replace(/^%.*$/gm, '').trim());

@@ -1,11 +1,6 @@
-// Uses the page in Node, with a stand-in for a browser's document: what the page does with gestures,
-// pasted texts and reports. Standard input: the modules, the parts of the template, and cases, each a text, a report of it
-// and steps, which are scripts. Standard output: for each case the values of its steps.
-'use strict';
-const { readFileSync } = require('fs');
-
+// A stand-in for a browser's document, and the gestures of a user.
 // An element: a box of children with text, attributes and listeners.
-class Thing {
+export class Thing {
   constructor(tag) {
     Object.assign(this, { tagName: tag.toUpperCase(), children: [], style: {}, dataset: {}, attributes: {}, value: '' });
     Object.assign(this, { hidden: false, disabled: false, scrollTop: 0, own: '', parent: null, selectionStart: 0, options: [] });
@@ -60,13 +55,12 @@ class Thing {
 }
 
 const known = new Map();
-const given = JSON.parse(readFileSync(0, 'utf8'));
-const kept = new Map();
+export const kept = new Map();
 const listeners = new Map();
 // Names the element under the pointer.
 let under = '';
 
-function made(name) {
+export function made(name) {
   const thing = new Thing('div');
   thing.id = name;
   return thing;
@@ -87,39 +81,18 @@ Object.assign(globalThis, {
 });
 Object.defineProperty(globalThis, 'navigator', { value: { hardwareConcurrency: 1 }, configurable: true });
 
-// The actions of cases: an event of the whole page, a drag from an element to a square, a report that has come.
-const send = (name, event) => (listeners.get(name) ?? []).forEach(act => act({ button: 0, target: new Thing('div'), preventDefault() {}, ...event }));
-globalThis.paste = text => send('paste', { clipboardData: { getData: () => text } });
-globalThis.drag = (thing, square) => {
+// Gestures: an event of the whole page, a pasted text, a drag from an element to a square.
+export const send = (name, event) => (listeners.get(name) ?? []).forEach(act => act({ button: 0, target: new Thing('div'), preventDefault() {}, ...event }));
+export const paste = text => send('paste', { clipboardData: { getData: () => text } });
+export const drag = (thing, square) => {
   under = square;
   thing.onpointerdown({ button: 0, clientX: 0, clientY: 0, target: thing });
   send('pointermove', { clientX: 100, clientY: 100 });
   send('pointerup', { clientX: 100, clientY: 100 });
 };
-globalThis.report = text => {
-  Object.assign(state, { solved: textNow(), report: text, isBeginning: false });
-  drawReport();
-};
 
-for (const [name, text] of Object.entries(given.parts)) made(name).own = text;
-made('tail').append(new Thing('span'));
-require('vm').runInThisContext(`const EXPLANATIONS = ${readFileSync('companions/pops_companions/explain/explanations.json', 'utf8')};`);
-require('vm').runInThisContext(given.modules.map(name => readFileSync(`web/${name}.js`, 'utf8')).join('\n'));
-require('vm').runInThisContext('begin()');
-
-function answered(script) {
-  try {
-    return require('vm').runInThisContext(script) ?? null;
-  } catch (fault) {
-    return { thrown: String(fault.stack) };
-  }
+/** Gives elements the texts that the page contains: the sentences of explanations, the shapes of men. */
+export function fill(parts) {
+  for (const [name, text] of Object.entries(parts)) made(name).own = text;
+  made('tail').append(new Thing('span'));
 }
-
-console.log(JSON.stringify(given.cases.map(({ text, report, steps }) => {
-  setText(text);
-  state.number = 1;
-  follow();
-  if (report) globalThis.report(report);
-  return steps.map(answered);
-})));
-process.exit(0);

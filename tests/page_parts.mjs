@@ -5,15 +5,17 @@
 // Standard input: a line with { worker, engine } in base64 or { program, parts }, then a line for each text with { text } in
 // base64 and { check, noBoard, least, workers, stopAfter, seconds }, for the made engine also { breaks, room }: how it breaks, and
 // for how many bytes it has room. Standard output: a line for each text, how solving ended and { report }.
-'use strict';
-const { spawnSync } = require('child_process');
-const { readFileSync } = require('fs');
-const threads = require('worker_threads');
+import { spawnSync } from 'node:child_process';
+import { readFileSync } from 'node:fs';
+import * as threads from 'node:worker_threads';
+import { Crew } from '../web/crew.js';
+import { limitOf } from '../web/parts.js';
+import { Solving } from '../web/solving.js';
+import { withField } from '../web/text.js';
+
 const CUT_STATUS = 3;
 const SECONDS_A_TEXT = 60;
 const SECONDS_OF_THE_PROGRAM = 3;
-const MODULES = ['words', 'text', 'position', 'report', 'parts', 'crew', 'solving'];
-const NAMES = ['Crew', 'Solving', 'withField', 'limitOf'];
 // Turns bytes into letters and back, so that any bytes are a text.
 const CODEC = {
   encode: text => new Uint8Array(Buffer.from(text, 'latin1')),
@@ -26,8 +28,6 @@ globalThis.onmessage = null;
 require('vm').runInThisContext(workerData);
 parentPort.on('message', data => globalThis.onmessage({ data }));
 `;
-const page = new Function(`${MODULES.map(name => readFileSync(`${__dirname}/../web/${name}.js`, 'utf8')).join('')}
-return { ${NAMES.join(', ')} };`)();
 
 // A worker of the page in a thread. A worker that is ended while idle is used again for the next text.
 class ThreadWorker {
@@ -103,7 +103,7 @@ class MadeEngine {
     if (parts === undefined) return { status: 6, text: '' };
     const part = parts?.[number - 1];
     if (!part) return { status: 7, text: '' };
-    const limit = page.limitOf(text);
+    const limit = limitOf(text);
     const shown = part.slice(0, limit);
     return { status: 0, text: `${shown.join('')}solutions: ${shown.length}${shown.length === limit ? ', stopped' : ''}\n` };
   }
@@ -111,7 +111,7 @@ class MadeEngine {
   // Returns the report of a text without its limit of solutions, unless that takes too long.
   withoutLimit(text) {
     try {
-      return this.program.run(['--no-board'], page.withField(text, 0, 'MaxSolutions', null));
+      return this.program.run(['--no-board'], withField(text, 0, 'MaxSolutions', null));
     } catch {
       return this.program.run(['--no-board'], text);
     }
@@ -206,10 +206,10 @@ function drawn(seed) {
 
 // Solves one text, and stops it after `stopAfter` pieces of its report.
 async function solved(make, given) {
-  const crew = new page.Crew(given.workers ?? 4, make, CODEC);
+  const crew = new Crew(given.workers ?? 4, make, CODEC);
   let report = '';
   let pieces = 0;
-  const solving = new page.Solving(CODEC.decode(Buffer.from(given.text, 'base64')), given, crew, text => {
+  const solving = new Solving(CODEC.decode(Buffer.from(given.text, 'base64')), given, crew, text => {
     report = text === null ? '' : report + text;
     pieces += 1;
     if (pieces === given.stopAfter) solving.stop();

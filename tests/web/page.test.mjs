@@ -1,0 +1,212 @@
+// The modules that show the page, with a stand-in for a browser's document.
+import assert from 'node:assert/strict';
+import { test } from 'node:test';
+import { fill, kept, made, paste, send } from '../page_document.mjs';
+import { EXPLANATIONS } from '../page_imports.mjs';
+
+const TEXT = 'BeginProblem\nPieces White Kg6 Ra1 Black Kg8\nStipulation #1\nEndProblem\n';
+const REPORT = 'problem 1\n#1\nplay\n1.Ra1-a8#\nsolutions: 1\n\n';
+fill({ explanations: EXPLANATIONS, example: TEXT, 'fault-words': '{"8": "what the manual says"}', 'men-shapes': '<svg><defs></defs></svg>', engine: 'AGFzbQEAAAA=' });
+const { Board } = await import('../../web/board.js');
+const { element, makeButton, madeWith, partText } = await import('../../web/elements.js');
+const { faultBox } = await import('../../web/faults.js');
+const { makeProblem, move, solveFromHere } = await import('../../web/line.js');
+const { Notes } = await import('../../web/notes.js');
+const { changeBoard, endTyping, goSteps, goToProblem, setText, takeFen, takeText } = await import('../../web/page/editing.js');
+const { markFaults, unmarkFaults } = await import('../../web/page/faults.js');
+const { fieldChanged } = await import('../../web/page/fields.js');
+const { listenToFiles } = await import('../../web/page/files.js');
+const { forgetAll, keepProblem } = await import('../../web/page/kept.js');
+const { OUTS } = await import('../../web/page/outs.js');
+const { beginReport, drawGrowth, drawReport, reportGrew } = await import('../../web/page/reporting.js');
+const { sayDone, solve } = await import('../../web/page/solving.js');
+const { blockNow, state, textNow } = await import('../../web/page/state.js');
+const { keep, kept: keptValue } = await import('../../web/page/storage.js');
+const views = await import('../../web/page/views.js');
+const { leave, showPlace } = await import('../../web/page/walk.js');
+const { fillPrint } = await import('../../web/printing.js');
+const { sayFound } = await import('../../web/tree.js');
+const { say } = await import('../../web/words.js');
+await import('../../web/page.js');
+send('DOMContentLoaded', {});
+
+/** Begins with a text and its report. */
+function begin(text, report = '') {
+  setText(text);
+  goToProblem(1);
+  beginReport(text);
+  state.addReport(report);
+  drawReport();
+}
+
+const noteNow = () => element('note').textContent;
+
+test('page: it begins with the example, and its buttons have their words', () => {
+  assert.equal(textNow(), TEXT);
+  assert.equal(element('outText').textContent, 'Text');
+  assert.equal(element('count').textContent, 'problem 1 of 1: 2 + 1 men');
+});
+
+test('elements: made with label and text', () => {
+  assert.equal(makeButton('label', () => {}).getAttribute('aria-label'), 'label');
+  assert.equal(madeWith('p', 'text').textContent, 'text');
+  assert.equal(partText('engine'), 'AGFzbQEAAAA=');
+});
+
+test('notes: one stays while its cause lasts', () => {
+  const notes = new Notes(made('a-note'));
+  let holds = true;
+  notes.show('text', () => holds);
+  notes.check();
+  assert.equal(element('a-note').textContent, 'text');
+  holds = false;
+  notes.check();
+  assert.equal(element('a-note').textContent, '');
+});
+
+test('state: a report that grows, and its end', () => {
+  state.beginReport('a');
+  state.addReport('b');
+  state.addReport('c');
+  assert.deepEqual([state.solved, state.report], ['a', 'bc']);
+  state.endReport(false);
+  assert.equal(state.isBeginning, true);
+  state.addReport(null);
+  state.endReport(false);
+  assert.deepEqual([state.report, state.isBeginning], ['', false]);
+  assert.equal(state.isSolved(), false);
+});
+
+test('storage: kept, removed, and refused by the browser', () => {
+  assert.equal(keep('a', 'b'), true);
+  assert.equal(keptValue('a'), 'b');
+  keep('a', null);
+  assert.equal(keptValue('a'), null);
+  const { localStorage } = globalThis;
+  globalThis.localStorage = undefined;
+  assert.deepEqual([keep('a', 'b'), keptValue('a')], [false, null]);
+  globalThis.localStorage = localStorage;
+});
+
+test('editing: board, FEN, undo and redo', () => {
+  begin(TEXT);
+  changeBoard('mirror');
+  assert.equal(textNow(), TEXT.replace('White Kg6 Ra1 Black Kg8', 'White Kb6 Rh1 Black Kb8'));
+  goSteps(-1);
+  assert.equal(textNow(), TEXT);
+  assert.equal(takeFen('no FEN'), false);
+  assert.equal(takeFen('8/8/8/8/8/8/8/K7 w'), true);
+  assert.equal(textNow(), TEXT.replace('White Kg6 Ra1 Black Kg8', 'White Ka1'));
+  endTyping();
+  assert.equal(blockNow().number, 1);
+});
+
+test('editing: a text without problems gets one', () => {
+  setText('');
+  takeFen('8/8/8/8/8/8/8/K7 w');
+  assert.equal(textNow(), 'BeginProblem\nPieces White Ka1\nStipulation #2\nEndProblem\n');
+});
+
+test('fields: a value goes into the text', () => {
+  begin(TEXT);
+  element('field-Title').value = 'A';
+  fieldChanged('Title');
+  assert.equal(textNow(), TEXT.replace('BeginProblem\n', 'BeginProblem\nTitle A\n'));
+});
+
+test('files: a dropped text is taken', () => {
+  assert.equal(typeof listenToFiles, 'function');
+  begin(TEXT);
+  send('drop', { dataTransfer: { types: ['text/plain'], files: [], getData: () => 'BeginProblem\nEndProblem\n' } });
+  assert.equal(textNow(), 'BeginProblem\nEndProblem\n');
+  paste(TEXT);
+  assert.equal(textNow(), TEXT);
+});
+
+test('faults: marks at their lines, until the text changes', () => {
+  const text = TEXT.replace('#1', '#0');
+  begin(text, 'problem 1\nline 3: fault 8: bad stipulation\n\n');
+  assert.deepEqual(element('gutter').children.map(it => it.dataset.line), ['3']);
+  unmarkFaults();
+  assert.equal(element('gutter').children.length, 0);
+  markFaults();
+  assert.equal(element('gutter').children.length, 1);
+  setText(TEXT);
+  markFaults();
+  assert.equal(element('gutter').children.length, 0);
+});
+
+test('faults: the manual speaks where nothing else is known', () => {
+  const box = faultBox('a\n', { number: 1, fault: { line: 1, number: 20, text: 'x' } }, 'general', () => {});
+  assert.equal(box.textContent.includes('general'), true);
+});
+
+test('reporting: the new part of a report is drawn', () => {
+  begin(TEXT);
+  reportGrew(REPORT.slice(0, 17));
+  drawGrowth();
+  reportGrew(REPORT.slice(17));
+  drawGrowth();
+  assert.equal(element('report').textContent, REPORT);
+  assert.equal(element('tree').textContent.includes('1.Ra1-a8#'), true);
+});
+
+test('solving: what was found; nothing without an engine', () => {
+  begin(TEXT, REPORT);
+  assert.equal(sayFound(state.items[0]), '1 key');
+  assert.equal(sayDone(say('status0'), 7), 'no faults in the text: 1 key; 7 ms');
+  solve();
+  assert.equal(state.report, REPORT);
+});
+
+test('walk and tree: on, back, and to the diagram', () => {
+  begin(TEXT, REPORT);
+  views.tree.onward();
+  assert.equal(state.walked.get('a8'), 'wR');
+  assert.equal(element('reached').textContent, '1.Ra1-a8#');
+  leave();
+  assert.equal(state.walked, null);
+  showPlace(null);
+  assert.equal(element('line').hidden, true);
+});
+
+test('board: a click picks a man up and puts it down', () => {
+  begin(TEXT);
+  assert.ok(views.board instanceof Board);
+  views.board.click('a1');
+  assert.equal(noteNow(), 'white rook a1: where to? Escape cancels');
+  views.board.click('a2');
+  assert.equal(textNow(), TEXT.replace('Ra1', 'Ra2'));
+});
+
+test('line: a move played, made the problem, solved from there', () => {
+  begin(TEXT.replace('#1', '#2'));
+  state.play(true);
+  move('a1', 'a7');
+  makeProblem();
+  assert.equal(textNow(), TEXT.replace('#1', '#2').replace('Ra1', 'Ra7'));
+  move('a7', 'a1');
+  solveFromHere();
+  assert.equal(textNow().includes('Title after 1.Ra7-a1'), true);
+  state.play(false);
+});
+
+test('kept: texts that were solved', () => {
+  forgetAll();
+  keepProblem(TEXT);
+  assert.equal(JSON.parse(kept.get('pops.kept'))[0].text, TEXT);
+  takeText('');
+  element('kept-list').children[0].children[0].onclick();
+  assert.equal(textNow(), TEXT);
+  forgetAll();
+  assert.equal(kept.has('pops.kept'), false);
+});
+
+test('outs and printing: nothing without a report, the sheet with one', () => {
+  begin(TEXT);
+  OUTS.outJson();
+  assert.equal(noteNow(), 'solve first: there is no report yet');
+  begin(TEXT, REPORT);
+  fillPrint();
+  assert.equal(element('print').textContent.includes('1.Ra1-a8#'), true);
+});

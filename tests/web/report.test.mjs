@@ -1,0 +1,92 @@
+// Reports: read, drawn, put together from parts, and solved by workers.
+import assert from 'node:assert/strict';
+import { test } from 'node:test';
+import { Crew } from '../../web/crew.js';
+import { diagramFile, sheetOf, titleOf } from '../../web/diagrams.js';
+import { headsOf, itemTexts, limitOf, listOf, PhasePiece, ReportText, solutionsOf } from '../../web/parts.js';
+import { askedOf, foundIn, itemsOf, labelOf, movesOf, objectOf, rowsOf } from '../../web/report.js';
+import { Solving } from '../../web/solving.js';
+
+const REPORT = 'problem 1\ntitle: A\n#2\nplay\n1.Qh8-b2\n  1...Ke1-d1\n    2.Rc7-c1#\nsolutions: 1\n\n';
+const [ITEM] = itemsOf(REPORT);
+const CODEC = { encode: text => new TextEncoder().encode(text), decode: bytes => new TextDecoder().decode(bytes) };
+
+test('report: items and moves', () => {
+  assert.deepEqual([ITEM.title, ITEM.asked.moves, ITEM.phases[0].count, ITEM.isWhole], ['A', 2, 1, true]);
+  assert.equal(askedOf('h#1.5 Circe').halfMoves, 3);
+  assert.equal(askedOf('nothing'), null);
+  const [move] = movesOf('1.e7*d8=S+', false);
+  assert.deepEqual([move.from, move.to, move.promotion, move.captures, move.mark, move.colour], ['e7', 'd8', 'S', true, '+', 'w']);
+  assert.equal(labelOf(movesOf('1...Ke1-d1', false)[0]), '1...Ke1-d1');
+});
+
+test('report: a line that does not belong there ends the reading', () => {
+  assert.equal(itemsOf('problem 1\n#1\nplay\n<b>\nsolutions: 0\n\nproblem 2\n').length, 1);
+});
+
+test('report: rows, what was found, objects', () => {
+  const [row] = rowsOf(ITEM.phases[0], false);
+  assert.equal(row.below[0].below[0].moves[0].said, 'Rc7-c1#');
+  assert.deepEqual(foundIn(ITEM), { name: 'foundKey', count: 1, isStopped: false });
+  assert.deepEqual(objectOf(ITEM).stipulation, { text: '#2', play: 'direct', goal: 'mate', moves: 2, half_moves: 3 });
+});
+
+test('diagrams: titles are escaped', () => {
+  assert.equal(titleOf(ITEM), 'A, #2');
+  assert.equal(diagramFile(new Map(), '<b>', '<svg><defs></defs></svg>').includes('<b>'), false);
+  assert.equal(sheetOf(itemsOf(REPORT.replace('A', '<b>')), 'all', '', '').includes('<b>'), false);
+});
+
+test('parts: texts, heads and lists', () => {
+  assert.deepEqual(itemTexts('beg a\nnex b end'), ['beg a\nEndProblem\n', 'BeginProblem b EndProblem\n']);
+  assert.equal(limitOf('beg opt max 7 end'), 7);
+  assert.deepEqual(headsOf('problem 1\n#2\nsound\n\n'), [{ text: 'problem 1\n#2\n', isSound: true, halfMoves: 3 }]);
+  assert.deepEqual(listOf('1: set not possible, play 3\n'), [{ kind: 'set', parts: null }, { kind: 'play', parts: 3 }]);
+  assert.throws(() => listOf('1: faulty\n'));
+});
+
+test('parts: pieces in any order make a beginning of the report', () => {
+  const report = new ReportText([{ text: 'problem 1\n#1\n', isSound: true, halfMoves: 1 }]);
+  const phase = new PhasePiece({ kind: 'play', parts: 2 }, Infinity);
+  report.plan(0, [phase]);
+  phase.take(2, solutionsOf('1.Rb1-b8#\nsolutions: 1\n', false));
+  assert.equal(report.more(), 'problem 1\n#1\nplay\n');
+  phase.take(1, solutionsOf('solutions: 0\n', false));
+  assert.equal(report.more(), '1.Rb1-b8#\nsolutions: 1\n');
+  assert.equal(report.isWhole, true);
+});
+
+/** A worker that answers with what `act` makes of a call; it never does if that is null. */
+function workerOf(act) {
+  return { isEnded: false, postMessage(call) { const data = act(call); if (data) queueMicrotask(() => this.onmessage({ data })); }, terminate() { this.isEnded = true; } };
+}
+
+test('crew: no more workers than allowed, and a failed one gets no other call', async () => {
+  const made = [];
+  const crew = new Crew(1, () => {
+    made.push(workerOf(({ call }) => (call === 'bad' ? { failed: 'broken' } : { status: 0, bytes: CODEC.encode(call) })));
+    return made.at(-1);
+  }, CODEC);
+  assert.deepEqual(await crew.ask({ call: 'one', text: '' }).answer, { status: 0, text: 'one' });
+  await assert.rejects(crew.ask({ call: 'bad', text: '' }).answer, /broken/);
+  assert.deepEqual([made.length, made[0].isEnded], [1, true]);
+  await crew.free();
+  assert.equal((await crew.ask({ call: 'two', text: '' }).answer).text, 'two');
+  assert.equal(made.length, 2);
+});
+
+test('solving: a problem of few half-moves by one call after the test', async () => {
+  const said = [];
+  const replies = { true: 'problem 1\n#1\nsound\n\n', false: 'problem 1\n#1\nplay\nsolutions: 0\n\n' };
+  const crew = new Crew(1, () => workerOf(({ check }) => ({ status: 0, bytes: CODEC.encode(replies[check]) })), CODEC);
+  const solving = new Solving('beg sti #1 end', {}, crew, text => said.push(text));
+  assert.deepEqual(await solving.solve(), { status: 0 });
+  assert.equal(said.join(''), replies.false);
+});
+
+test('solving: stopped', async () => {
+  const solving = new Solving('beg sti #1 end', {}, new Crew(1, () => workerOf(() => null), CODEC), () => {});
+  const ended = solving.solve();
+  solving.stop();
+  assert.deepEqual(await ended, { isStopped: true });
+});

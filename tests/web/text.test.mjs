@@ -1,0 +1,98 @@
+// Texts, positions, and what the page keeps: modules that need no browser.
+import assert from 'node:assert/strict';
+import { test } from 'node:test';
+import { barredAfter, halfAfter, moveBetween, promotes, stipulationAfter, withProblemAfter } from '../../web/play.js';
+import { after, changed, exchanged, fenOf, menOfRanks, placeOf, ranksOf, readFen, squareOf } from '../../web/position.js';
+import { fragmentOf, keptOf, nameOfText, Steps, textOfBytes, textOfFragment, withKept } from '../../web/store.js';
+import { blockAt, blocksOf, fieldsOf, lineAt, menOf, sidesOf, tailOf, valueOf, withField, withMen, withTail, wordsOf } from '../../web/text.js';
+import { language, say, sayMan } from '../../web/words.js';
+
+const TEXT = 'BeginProblem\nTitle A b\nPieces White Kg6 Ra1 Black Kg8\nStipulation #1\nOption MaxSolutions 3\nEndProblem\n';
+const men = (...placed) => new Map(placed.map(it => [it.slice(2), it.slice(0, 2)]));
+
+test('words: values replace names in braces', () => {
+  assert.equal(say('fault', { line: 3, number: 8, text: 'bad stipulation' }), 'line 3: fault 8: bad stipulation');
+  assert.equal(say('count', { number: 1 }).includes('{all}'), true);
+  assert.equal(sayMan('bN'), 'black nightrider');
+  assert.equal(language, 'en');
+});
+
+test('text: words have places, and the rest of a text line is no word', () => {
+  assert.deepEqual(wordsOf('tit A b\npie x').map(it => [it.word, it.from, it.command]), [['tit', 0, 'title'], ['pie', 8, 'pieces'], ['x', 12, undefined]]);
+  assert.equal(wordsOf('tit A b\npie x')[0].end, 7);
+});
+
+test('text: men and fields of a problem', () => {
+  const [block] = blocksOf(TEXT);
+  assert.equal(sidesOf(menOf(block).men), ' White Kg6 Ra1 Black Kg8');
+  assert.equal(valueOf(fieldsOf(TEXT, block), 'title'), 'A b');
+  assert.equal(valueOf(fieldsOf(TEXT, block), 'MaxSolutions'), '3');
+  assert.equal(valueOf(fieldsOf(TEXT, block), 'SetPlay'), null);
+  assert.equal(blockAt(TEXT, 20).number, 1);
+});
+
+test('text: a change leaves the rest as it is', () => {
+  assert.equal(withMen(TEXT, 0, men('wKa1')), TEXT.replace('White Kg6 Ra1 Black Kg8', 'White Ka1'));
+  assert.equal(withField(TEXT, 0, 'Stipulation', 'h#2'), TEXT.replace('#1', 'h#2'));
+  assert.equal(withField(TEXT, 0, 'MaxSolutions', null), TEXT.replace('Option MaxSolutions 3\n', ''));
+});
+
+test('text: lines, and a text after EndProblem', () => {
+  assert.deepEqual(lineAt('a\nbc\nd', 2), { from: 2, to: 4 });
+  assert.equal(tailOf(TEXT), null);
+  assert.equal(tailOf(`${TEXT}BeginProblem\nEndProblem\n`).line, 7);
+  assert.equal(withTail('BeginProblem\nEndProblem\nBeginProblem\nPieces\n'), 'BeginProblem\nNextProblem\nPieces\n');
+});
+
+test('position: squares, ranks and changes', () => {
+  assert.deepEqual(placeOf('b3'), [1, 2]);
+  assert.equal(squareOf(7, 7), 'h8');
+  assert.deepEqual(menOfRanks(ranksOf(men('wKe1', 'bNh8'))), men('bNh8', 'wKe1'));
+  assert.deepEqual(changed(men('wKa1'), 'turn'), men('wKa8'));
+  assert.equal(changed(men('wKa1'), 'down'), null);
+  assert.deepEqual(exchanged(men('wKa1')), men('bKa8'));
+});
+
+test('position: FEN, read and written', () => {
+  assert.deepEqual(readFen('4k2r/8/8/8/8/8/8/4K2R w K - 0 1').noCastling, ['h8']);
+  assert.equal(readFen('8/8 w'), null);
+  assert.equal(fenOf({ men: men('wKe1', 'wRh1'), turn: 'w', barred: ['h1'], crossed: 'e6' }), '8/8/8/8/8/8/8/4K2R w - e6 0 1');
+});
+
+test('position: a move takes its captures along', () => {
+  const move = { colour: 'w', kind: 'P', from: 'e5', to: 'd6', enPassant: true, promotion: null, castling: null, rebirth: null };
+  assert.deepEqual(after(men('wPe5', 'bPd5'), move), men('wPd6'));
+});
+
+test('play: moves as a report writes them', () => {
+  const asked = { promotion: null, half: 1, isCirce: false };
+  assert.equal(moveBetween(men('wKe1', 'wRh1'), { from: 'e1', to: 'g1', ...asked }).said, '0-0');
+  assert.equal(moveBetween(men('wRa1', 'bSa4'), { from: 'a1', to: 'a4', ...asked, isCirce: true }).said, 'Ra1*a4[+bSg8]');
+  assert.equal(promotes(men('wPa7'), 'a7', 'a8'), true);
+});
+
+test('play: what is left to play', () => {
+  assert.equal(halfAfter([], 'b', { isHelp: false, isHalf: false }), 2);
+  assert.deepEqual(stipulationAfter('#3', 2), { word: '#2', isSet: false });
+  assert.deepEqual(barredAfter(men('wKe1', 'wRh1'), [{ from: 'h1', to: 'h2' }, { from: 'h2', to: 'h1' }], []), ['h1']);
+  const move = { ...moveBetween(men('wRa1'), { from: 'a1', to: 'a2', promotion: null, half: 1, isCirce: false }) };
+  assert.equal(withProblemAfter(TEXT, blocksOf(TEXT)[0], { men: men('wRa2'), moves: [move] }), null);
+});
+
+test('store: links, kept texts, files', () => {
+  assert.equal(textOfFragment(fragmentOf('a & b = #')), 'a & b = #');
+  assert.equal(fragmentOf('a'.repeat(40000)), null);
+  assert.deepEqual(withKept([{ text: 'a', time: 1 }], 'b', 2), [{ text: 'b', time: 2 }, { text: 'a', time: 1 }]);
+  assert.deepEqual(keptOf('{"text": 1}'), []);
+  assert.equal(nameOfText(TEXT), 'A b');
+  assert.deepEqual(textOfBytes(Uint8Array.of(0xe9)), { text: 'é', isUtf8: false });
+});
+
+test('store: undo and redo', () => {
+  const steps = new Steps('a');
+  steps.add('b');
+  assert.equal(steps.go(-1), 'a');
+  assert.equal(steps.has(-1), false);
+  assert.equal(steps.go(1), 'b');
+  assert.equal(steps.go(1), null);
+});

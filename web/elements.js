@@ -1,0 +1,52 @@
+// @ts-check
+// Elements of the page: found by their names, and made.
+import { MAN_NAMES } from './report.js';
+
+const SHAPE = 'http://www.w3.org/2000/svg';
+
+/**
+ * Returns the element with this name. The types of those that aren't plain elements are in types.d.ts.
+ * @template {string} Id
+ * @param {Id} id
+ * @returns {Id extends keyof PageElements ? PageElements[Id] : HTMLElement}
+ */
+export function element(id) {
+  return /** @type {any} */ (document.getElementById(id));
+}
+
+/**
+ * Returns the text of an element that holds a part of the page: the engine, the worker, the shapes of men.
+ * @param {string} id
+ */
+export function partText(id) {
+  return element(id).textContent ?? '';
+}
+
+/** @param {Man} man */
+export function drawn(man) {
+  const drawing = document.createElementNS(SHAPE, 'svg');
+  const use = document.createElementNS(SHAPE, 'use');
+  drawing.setAttribute('viewBox', '0 0 45 45');
+  drawing.setAttribute('class', `man ${man[0]}`);
+  drawing.setAttribute('aria-hidden', 'true');
+  use.setAttribute('href', `#${MAN_NAMES[man[1]]}`);
+  drawing.append(use);
+  return drawing;
+}
+
+/** @param {string} label @param {() => void} act */
+export function makeButton(label, act) {
+  const made = document.createElement('button');
+  made.type = 'button';
+  made.setAttribute('aria-label', label);
+  made.title = label;
+  made.onclick = act;
+  return made;
+}
+
+/** @param {string} tag @param {string} text */
+export function madeWith(tag, text) {
+  const made = document.createElement(tag);
+  made.textContent = text;
+  return made;
+}

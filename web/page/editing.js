@@ -1,0 +1,200 @@
+// @ts-check
+// Changes of the text: by typing, by the board, by a FEN, by undo and redo. All else on the page follows the text.
+import { element } from '../elements.js';
+import { imported } from '../import/importing.js';
+import { changed, countOf, exchanged, readFen } from '../position.js';
+import {
+  blockAt, blocksOf, fenOfBlock, lineOf, menOf, NEW_PROBLEM, tailOf, withFen, withLine, withMen, withTail,
+} from '../text.js';
+import { say } from '../words.js';
+import { scrollToLine, unmarkFaults } from './faults.js';
+import { blockNow, state, textNow } from './state.js';
+import { keep } from './storage.js';
+import { board, note, unchanged } from './views.js';
+import { leave } from './walk.js';
+
+const TYPING_PAUSE = 500;
+export const LONG_TEXT = 100000;
+/** @type {ReturnType<typeof setTimeout> | undefined} runs out when a pause in typing is long enough for a step of undo */
+let typing;
+
+/**
+ * Sets the text and shows everything again.
+ * @param {string} text
+ */
+export function setText(text) {
+  leave();
+  element('text').value = text;
+  state.steps.add(textNow());
+  state.follow();
+}
+
+/** Makes what was typed so far a step of undo. */
+export function endTyping() {
+  clearTimeout(typing);
+  state.steps.add(textNow());
+}
+
+/** Receives that the user typed in the text. */
+export function typed() {
+  leave();
+  clearTimeout(typing);
+  typing = setTimeout(() => {
+    endTyping();
+    state.follow();
+  }, TYPING_PAUSE);
+  if (textNow().length < LONG_TEXT) state.follow();
+  unmarkFaults();
+}
+
+/** Shows the problem at the cursor on the board. */
+export function placed() {
+  const number = blockAt(textNow(), element('text').selectionStart)?.number ?? 1;
+  if (number === state.number) return;
+  state.choose(number);
+  state.follow();
+}
+
+/**
+ * Shows a problem on the board and in the text.
+ * @param {number} number
+ */
+export function goToProblem(number) {
+  endTyping();
+  leave();
+  state.choose(number);
+  state.follow();
+  const block = blockNow();
+  if (!block) return;
+  element('text').setSelectionRange(block.from, block.from);
+  scrollToLine(lineOf(textNow(), block.from), 2);
+}
+
+/**
+ * Returns the problem on the board, after a new one was added to a text without problems.
+ * @returns {Block}
+ */
+function blockMade() {
+  if (!blockNow()) element('text').value += NEW_PROBLEM;
+  return /** @type {Block} */ (blockNow());
+}
+
+/**
+ * Changes the men of the problem on the board, after leaving a solution that is stepped through.
+ * @param {(men: Men) => Men | null} changer
+ */
+export function change(changer) {
+  endTyping();
+  leave();
+  const block = blockMade();
+  const { men, unknown } = menOf(block);
+  const changed = changer(men);
+  if (unknown.length) noteUnknown(unknown[0]);
+  else if (changed) setText(withMen(textNow(), block.from, changed));
+  else note(say('leaves'));
+}
+
+/** @param {string} word */
+function noteUnknown(word) {
+  const isThere = () => {
+    const block = blockNow();
+    return block !== null && menOf(block).unknown.includes(word);
+  };
+  note(say('unknownWord', { word: word.slice(0, 40) }), isThere);
+}
+
+/** @param {string} name */
+export function changeBoard(name) {
+  /** @type {Record<string, (men: Men) => Men>} */
+  const changers = { clear: () => new Map(), exchange: exchanged };
+  change(changers[name] ?? (men => changed(men, name)));
+}
+
+/**
+ * Undoes, or redoes, some steps.
+ * @param {number} step
+ */
+export function goSteps(step) {
+  endTyping();
+  const text = state.steps.go(step);
+  if (text === null) return;
+  leave();
+  element('text').value = text;
+  state.follow();
+}
+
+/**
+ * Replaces the position on the board by a position in FEN; returns false if the text isn't FEN.
+ * @param {string} text
+ */
+export function takeFen(text) {
+  const fen = readFen(text);
+  if (!fen) return false;
+  endTyping();
+  leave();
+  const block = blockMade();
+  setText(withFen(textNow(), block.from, fen));
+  note(say('fenTaken') + (fen.turn === 'b' ? say('fenBlack') : ''));
+  return true;
+}
+
+/**
+ * Takes over a whole text, a text of another program, or a position in FEN.
+ * @param {string} text
+ */
+export function takeText(text) {
+  if (takeFen(text)) return;
+  const made = text.length < LONG_TEXT ? imported(text) : null;
+  state.choose(1);
+  setText(made?.text ?? text);
+  element('text').setSelectionRange(0, 0);
+  if (made) note([say(made.text ? 'imported' : 'importedNone'), ...made.lost].join('. '));
+}
+
+export function addProblem() {
+  endTyping();
+  const blocks = blocksOf(textNow());
+  const text = blocks.length ? withLine(textNow(), blocks[blocks.length - 1], 'NextProblem\nStipulation #2') : textNow() + NEW_PROBLEM;
+  state.choose(blocks.length + 1);
+  setText(text);
+}
+
+/** Shows the problem's position on the board, its men and its FEN, and the steps that can be undone. */
+export function showProblem() {
+  const block = blockNow();
+  const men = block ? menOf(block).men : new Map();
+  if (!state.walked) board.show(men, []);
+  const all = blocksOf(textNow()).length;
+  element('count').textContent = block
+    ? say('count', { number: block.number, all, white: countOf(men, 'w'), black: countOf(men, 'b') }) : say('none');
+  if (document.activeElement !== element('fen')) element('fen').value = block ? fenOfBlock(textNow(), block) : '';
+  element('undo').disabled = !state.steps.has(-1);
+  element('redo').disabled = !state.steps.has(1);
+}
+
+/** Says that the text continues after its EndProblem. */
+export function showTail() {
+  const tail = tailOf(textNow());
+  element('tail').hidden = !tail;
+  if (!tail) return;
+  element('tail').children[0].textContent = say(tail.opening ? 'tail' : 'tailLoose', tail);
+  element('join').hidden = !tail.opening;
+}
+
+/** Joins the text after EndProblem to the problems before it. */
+export function joinTail() {
+  endTyping();
+  setText(withTail(textNow()));
+}
+
+/** Stores the text for the next visit. */
+export function keepText() {
+  if (textNow().length < LONG_TEXT) keep('pops', textNow());
+}
+
+/** Takes the FEN that was written in its field. */
+export function fenWritten() {
+  const text = element('fen').value;
+  const isSame = unchanged();
+  if (text.trim() && !takeFen(text)) note(say('badFen'), () => element('fen').value === text && isSame());
+}

@@ -1,0 +1,62 @@
+// @ts-check
+// Texts from elsewhere: files that are opened or dropped, and pasted texts.
+import { element } from '../elements.js';
+import { imported } from '../import/importing.js';
+import { readFen } from '../position.js';
+import { MOST_FILE_BYTES, textOfBytes } from '../store.js';
+import { blocksOf } from '../text.js';
+import { say } from '../words.js';
+import { LONG_TEXT, takeFen, takeText } from './editing.js';
+import { note } from './views.js';
+
+/** @param {File | undefined} file */
+async function takeFile(file) {
+  if (!file) return;
+  if (file.size > MOST_FILE_BYTES) {
+    note(say('fileLong', { name: file.name }));
+    return;
+  }
+  const { text, isUtf8 } = textOfBytes(new Uint8Array(await file.arrayBuffer()));
+  note('');
+  takeText(text);
+  const said = element('note').textContent;
+  note([say(isUtf8 ? 'fileTaken' : 'fileLatin', { name: file.name }), said].filter(Boolean).join('. '));
+}
+
+/** @param {ClipboardEvent} event */
+function pasted(event) {
+  const text = event.clipboardData?.getData('text/plain') ?? '';
+  const isField = /** @type {Element} */ (event.target).closest?.('input, select');
+  const isText = event.target === element('text');
+  if (isField || !text) return;
+  if (readFen(text)) takeFen(text);
+  else if ((!isText && blocksOf(text).length) || (text.length < LONG_TEXT && imported(text)?.text)) takeText(text);
+  else return;
+  event.preventDefault();
+}
+
+/** @param {DragEvent} event */
+function dropped(event) {
+  document.body.classList.remove('dropping');
+  if (!isDroppable(event)) return;
+  event.preventDefault();
+  const { dataTransfer } = event;
+  if (dataTransfer?.files.length) takeFile(dataTransfer.files[0]);
+  else takeText(dataTransfer?.getData('text/plain') ?? '');
+}
+
+/** @param {DragEvent} event */
+const isDroppable = event => [...event.dataTransfer?.types ?? []].some(type => type === 'Files' || type === 'text/plain');
+
+export function listenToFiles() {
+  element('open').onclick = () => element('file').click();
+  element('file').onchange = () => takeFile(element('file').files?.[0]).then(() => { element('file').value = ''; });
+  addEventListener('dragover', event => {
+    if (!isDroppable(event)) return;
+    event.preventDefault();
+    document.body.classList.add('dropping');
+  });
+  addEventListener('dragleave', () => document.body.classList.remove('dropping'));
+  addEventListener('drop', dropped);
+  addEventListener('paste', event => pasted(/** @type {ClipboardEvent} */ (event)));
+}

@@ -1,0 +1,72 @@
+// @ts-check
+// Draws the report: its text, its solutions and its faults. A growing report is drawn after pauses.
+import { element } from '../elements.js';
+import { menOfRanks } from '../position.js';
+import { blocksOf, menOf } from '../text.js';
+import { drawnFault, markFaults } from './faults.js';
+import { state } from './state.js';
+import { tree } from './views.js';
+
+// A growing report is drawn again after this many times the duration of the last drawing.
+const DRAWING_SHARE = 10;
+const LEAST_PAUSE = 200;
+/** @type {{ timer: ReturnType<typeof setTimeout> | null, pause: number }} the next drawing, and the pause before it */
+const drawing = { timer: null, pause: LEAST_PAUSE };
+
+/**
+ * Returns the men of an item's diagram: from the report, or from the text if the report shows no board.
+ * @param {Item} item
+ */
+function diagramMen(item) {
+  if (item.ranks.length) return menOfRanks(item.ranks);
+  const block = blocksOf(state.solved)[item.number - 1];
+  return block ? menOf(block).men : new Map();
+}
+
+/** Draws the whole report. */
+export function drawReport() {
+  endDrawing();
+  state.readReport();
+  element('report').textContent = state.report;
+  element('beginning').hidden = !state.isBeginning;
+  tree.draw(state.items, diagramMen, drawnFault);
+  markFaults();
+}
+
+function endDrawing() {
+  clearTimeout(drawing.timer ?? undefined);
+  drawing.timer = null;
+}
+
+/**
+ * Begins to draw the report of a text.
+ * @param {string} text
+ */
+export function beginReport(text) {
+  state.beginReport(text);
+  drawing.pause = LEAST_PAUSE;
+  drawReport();
+}
+
+/**
+ * Receives a new part of the report, or null if the report begins again; draws it after a pause.
+ * @param {string | null} text
+ */
+export function reportGrew(text) {
+  state.addReport(text);
+  if (text === null) drawReport();
+  drawing.timer ??= setTimeout(drawGrowth, drawing.pause);
+}
+
+/** Draws the new part of the report. */
+export function drawGrowth() {
+  endDrawing();
+  const begun = performance.now();
+  state.readReport();
+  const shown = (element('report').textContent ?? '').length;
+  if (shown < state.report.length) element('report').append(state.report.slice(shown));
+  element('beginning').hidden = !state.isBeginning;
+  tree.grow(state.items);
+  if (state.items.some(item => item.fault)) markFaults();
+  drawing.pause = Math.max(LEAST_PAUSE, DRAWING_SHARE * (performance.now() - begun));
+}

@@ -1,0 +1,99 @@
+// @ts-check
+// Solves the text on the page: starts and stops the workers, and says how far they are.
+import { Crew } from '../crew.js';
+import { element, partText } from '../elements.js';
+import { Solving } from '../solving.js';
+import { sayFound } from '../tree.js';
+import { say } from '../words.js';
+import { endTyping } from './editing.js';
+import { keepProblem } from './kept.js';
+import { beginReport, drawGrowth, reportGrew } from './reporting.js';
+import { state, textNow } from './state.js';
+import { notes } from './views.js';
+import { leave } from './walk.js';
+
+// The greatest status of a whole report.
+const WHOLE_STATUS = 1;
+/** @type {{ engine: WebAssembly.Module | null, solving: Solving | null, clock: ReturnType<typeof setInterval> | undefined, begun: number }} */
+const run = { engine: null, solving: null, clock: undefined, begun: 0 };
+
+const secondsPassed = () => Math.round((performance.now() - run.begun) / 1000);
+
+/** @param {string} said */
+function endSolving(said) {
+  run.solving = null;
+  clearInterval(run.clock);
+  element('solve').disabled = !run.engine;
+  element('stop').disabled = true;
+  element('state').textContent = said;
+}
+
+/**
+ * Receives how solving ended; the report so far is kept.
+ * @param {Ended} ended
+ */
+function solvingEnded({ status, failed, isStopped }) {
+  const seconds = secondsPassed();
+  const milliseconds = Math.round(performance.now() - run.begun);
+  state.endReport(!failed && !isStopped && (status ?? 0) <= WHOLE_STATUS);
+  drawGrowth();
+  if (failed) endSolving(say('failed', { fault: failed }));
+  else if (isStopped) endSolving(say(state.report ? 'stopped' : 'stoppedEmpty', { seconds }));
+  else endSolving(sayDone(say(`status${status}`), milliseconds));
+  notes.check();
+  if (!failed && !isStopped) keepProblem(state.solved);
+}
+
+/**
+ * Describes how solving ended; for a text of one problem also what was found.
+ * @param {string} answer
+ * @param {number} milliseconds
+ */
+export function sayDone(answer, milliseconds) {
+  const found = state.items.length === 1 && !state.isBeginning ? sayFound(state.items[0]) : '';
+  return say(found && !state.items[0].isChecked ? 'doneOne' : 'done', { answer, found, milliseconds });
+}
+
+function makeWorker() {
+  const source = URL.createObjectURL(new Blob([partText('worker')], { type: 'text/javascript' }));
+  const worker = new Worker(source);
+  URL.revokeObjectURL(source);
+  worker.postMessage({ engine: run.engine });
+  return worker;
+}
+
+function tellProgress() {
+  element('state').textContent = say('solving', { seconds: secondsPassed(), ...run.solving?.progress });
+}
+
+export function solve() {
+  if (!run.engine || run.solving) return;
+  endTyping();
+  leave();
+  run.begun = performance.now();
+  beginReport(textNow());
+  element('solve').disabled = true;
+  element('stop').disabled = false;
+  /** @type {Codec} */
+  const codec = { encode: text => new TextEncoder().encode(text), decode: bytes => new TextDecoder().decode(bytes) };
+  const crew = new Crew(navigator.hardwareConcurrency || 1, makeWorker, codec);
+  run.solving = new Solving(state.solved, { check: element('check').checked }, crew, reportGrew);
+  tellProgress();
+  run.clock = setInterval(tellProgress, 1000);
+  run.solving.solve().then(solvingEnded);
+}
+
+export function stopSolving() {
+  run.solving?.stop();
+}
+
+export async function loadEngine() {
+  element('state').textContent = say('loading');
+  try {
+    const bytes = Uint8Array.from(atob(partText('engine').trim()), letter => letter.charCodeAt(0));
+    run.engine = await WebAssembly.compile(bytes);
+    endSolving(say('ready'));
+  } catch (fault) {
+    endSolving(say('noMemory', { fault }));
+  }
+}

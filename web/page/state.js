@@ -1,0 +1,127 @@
+// @ts-check
+// What the page shows: the problem on the board, the moves after it, and the report. Only its operations change it.
+import { element } from '../elements.js';
+import { after } from '../position.js';
+import { itemsOf } from '../report.js';
+import { Steps } from '../store.js';
+import { blocksOf } from '../text.js';
+
+
+class PageState {
+  constructor() {
+    /** The number of the problem on the board. */
+    this.number = 1;
+    /** The texts for undo and redo. */
+    this.steps = new Steps('');
+    /** @type {Place | null} the moves after which the board is shown; null for the diagram */
+    this.place = null;
+    /** @type {Men | null} the men after these moves */
+    this.walked = null;
+    /** Whether moving a man on the board plays a move. */
+    this.isPlaying = false;
+    /** The text that was solved last. */
+    this.solved = '';
+    /** The report of that text, or its beginning. */
+    this.report = '';
+    /** Whether solving ended before the end of the report. */
+    this.isBeginning = false;
+    /** @type {Item[]} the items of the report when it was drawn last */
+    this.items = [];
+    /** @type {(() => void)[]} */
+    this.followers = [];
+  }
+
+  /**
+   * Puts a problem on the board.
+   * @param {number} number
+   */
+  choose(number) {
+    this.number = number;
+  }
+
+  /**
+   * Begins undo and redo with a text.
+   * @param {string} text
+   */
+  beginSteps(text) {
+    this.steps = new Steps(text);
+  }
+
+  /**
+   * Goes to the position after some moves; or, for null, to the diagram.
+   * @param {Place | null} place
+   */
+  walk(place) {
+    this.place = place;
+    this.walked = place && place.moves.reduce(after, place.start);
+  }
+
+  /** @param {boolean} isPlaying whether moving a man on the board plays a move */
+  play(isPlaying) {
+    this.isPlaying = isPlaying;
+  }
+
+  /**
+   * Begins the report of a text.
+   * @param {string} text
+   */
+  beginReport(text) {
+    this.solved = text;
+    this.report = '';
+    this.isBeginning = false;
+  }
+
+  /**
+   * Adds a part to the report; null begins it again.
+   * @param {string | null} text
+   */
+  addReport(text) {
+    this.report = text === null ? '' : this.report + text;
+  }
+
+  /**
+   * Ends the report.
+   * @param {boolean} isWhole whether nothing more would follow
+   */
+  endReport(isWhole) {
+    this.isBeginning = !isWhole && this.report !== '';
+  }
+
+  /** Reads the items of the report as it is now. */
+  readReport() {
+    this.items = itemsOf(this.report);
+  }
+
+  /** Returns whether the text on the page is the one that was solved. */
+  isSolved() {
+    return textNow() === this.solved;
+  }
+
+  /**
+   * Adds what is to be shown again after every change of text, problem or position.
+   * @param {...(() => void)} acts
+   */
+  addFollowers(...acts) {
+    this.followers.push(...acts);
+  }
+
+  /** Shows everything again after a change of text, problem or position. */
+  follow() {
+    for (const act of this.followers) act();
+  }
+}
+
+export const state = new PageState();
+
+export function textNow() {
+  return element('text').value;
+}
+
+/**
+ * Returns the problem on the board; null if the text has none.
+ * @returns {Block | null}
+ */
+export function blockNow() {
+  const blocks = blocksOf(textNow());
+  return blocks[Math.min(state.number, blocks.length) - 1] ?? null;
+}

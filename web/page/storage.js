@@ -1,0 +1,29 @@
+// @ts-check
+// The browser's own storage, which some browsers refuse.
+
+/**
+ * Returns a stored value; null if there is none.
+ * @param {string} key
+ */
+export function kept(key) {
+  try {
+    return localStorage.getItem(key);
+  } catch {
+    return null;
+  }
+}
+
+/**
+ * Stores a value, or removes it if it is null; returns false if the browser stores nothing.
+ * @param {string} key
+ * @param {string | null} value
+ */
+export function keep(key, value) {
+  try {
+    if (value === null) localStorage.removeItem(key);
+    else localStorage.setItem(key, value);
+    return true;
+  } catch {
+    return false;
+  }
+}

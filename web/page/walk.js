@@ -1,0 +1,40 @@
+// @ts-check
+// The position that the board shows: the diagram, or the position after moves that were chosen in the solutions or played.
+import { element } from '../elements.js';
+import { labelOf } from '../report.js';
+import { say } from '../words.js';
+import { state } from './state.js';
+import { board, note, tree } from './views.js';
+
+/**
+ * Shows the position after some moves; or, for null, the diagram again.
+ * @param {Place | null} place
+ */
+export function showPlace(place) {
+  state.walk(place);
+  const last = place?.moves.at(-1);
+  element('squares').classList.toggle('walking', Boolean(place));
+  element('line').hidden = !place;
+  element('promotion').hidden = true;
+  element('reached').textContent = last ? labelOf(last) : '';
+  if (state.walked && last) board.show(state.walked, [last.from, last.to]);
+  // (the report of another text doesn't belong to these problems)
+  const item = place?.item;
+  const isOther = item && state.isSolved() && state.number !== item.number;
+  if (isOther) state.choose(item.number);
+  if (isOther || !place) state.follow();
+  if (last) note(say('shown', { move: labelOf(last) }));
+}
+
+/** Shows the diagram again. */
+export function leave() {
+  if (tree.current) tree.leave();
+  else if (state.place) showPlace(null);
+}
+
+/** Goes one move back: in the solutions, or before the last played move. */
+export function goBack() {
+  if (tree.current || !state.place) tree.backward();
+  else if (state.place.moves.length > 1) showPlace({ ...state.place, moves: state.place.moves.slice(0, -1) });
+  else leave();
+}

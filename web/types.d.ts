@@ -1,0 +1,208 @@
+// The page's data, for the type checker: every module knows these names.
+
+/** A square, as `e4`. */
+type Square = string;
+/** A colour: `w` or `b`. */
+type Colour = string;
+/** A man: its colour and its kind, as `wK` or `bS`. */
+type Man = string;
+/** A position. */
+type Men = Map<Square, Man>;
+/** A part of a text. */
+interface Span { from: number; to: number }
+/** A part of a text, and what replaces it. */
+interface Replacement extends Span { said: string }
+
+/** A position in FEN: the squares that NoCastling would name, and the square that a pawn has just crossed. */
+interface Fen { men: Men; turn: Colour; noCastling: Square[]; crossed: Square | null }
+
+// The text.
+
+/** A word of a text, the command that it means, and for a text line its end. */
+interface Token extends Span { word: string; command?: string; end?: number }
+/** A problem of a text: from its opening word to the end of its last word; its words come after `start`. */
+interface Block { words: Token[]; from: number; start: number; end: number; number: number }
+/** The men of a problem, the parts of the text that name them, and the words that a board can't show. */
+interface MenRead { men: Men; parts: Span[]; unknown: string[] }
+/** A field of a problem: where it stands, its value, the command that it follows, and the same field before it. */
+interface Field { name?: string; parts: Span[]; said: string; section: Token | null; earlier?: Field }
+type Fields = Record<string, Field>;
+/** Where a reading of fields is: the last command, the field that awaits its value, the last option. */
+interface FieldState { section: Token | null; awaited: Field | null; last: Field | null }
+
+// The report.
+
+/** A man reborn, and where. */
+interface Rebirth { square: Square; man: Man }
+/** A move of a report, and its number among the half-moves. */
+interface Move {
+  said: string; label: string; half: number; colour: Colour; kind: string; from: Square; to: Square; captures: boolean; enPassant: boolean;
+  castling: string | null; promotion: string | null; rebirth: Rebirth | null; mark: string | null;
+}
+/** A stipulation with its condition. */
+interface Asked {
+  line: string; text: string; isHelp: boolean; play: string; goal: string; moves: number; halfMoves: number; condition: string | null;
+}
+/** A line of a phase; `level` counts the lines that it continues. */
+interface Solution { line: string; moves: Move[]; level: number }
+/** Set play or play; its total is null while it isn't complete. */
+interface Phase {
+  kind: string; isPossible: boolean; lines: string[]; solutions: Solution[]; count: number | null; total: string | null; isStopped?: boolean;
+}
+/** A fault of a problem: its line, its number and its text. */
+interface ReportFault { line: number; number: number; text: string }
+/** A problem of a report. `asked` is null only for a faulty problem and for a beginning of a report. */
+interface Item {
+  number: number; title: string | null; author: string | null; ranks: string[]; asked: Asked | null; phases: Phase[];
+  fault: ReportFault | null; isChecked: boolean; isWhole: boolean;
+}
+/** A problem of a report that isn't faulty. */
+interface SoundItem extends Item { asked: Asked }
+/** A faulty problem of a report. */
+interface FaultyItem extends Item { fault: ReportFault }
+/** Moves of a tree, the moves before them, and the rows after them. */
+interface Row { moves: Move[]; path: Move[]; below: Row[] }
+
+// Names, twins, and what the text says of a problem.
+
+interface Given { title: string | null; author: string | null; origin: string | null; remarks: string[] }
+interface Label { text: string; number: number; isDuplex: boolean }
+/** A problem of the text, as the list of problems names it. */
+interface Content { number: number; title: string | null; author: string | null; asked: string | null; men: Men }
+/** A problem among its twins: its label, the title with it, and what changes in it. */
+interface ContentTwin extends Content { label: Label; whole: string | null; change: string }
+/** What tells twins from other problems. */
+interface Named { number: number; title: string | null; author: string | null; label: Label }
+/** A problem of the printed sheet. */
+interface PrintedProblem { number: number; title: string | null; author: string | null; asked: string | null; men: Men; label: { text: string }; change: string }
+/** An item among its twins, with its names. */
+interface ItemTwin extends Given { item: Item; number: number; label: Label; whole: string | null }
+
+// The store.
+
+/** A text that was solved, and when. */
+interface KeptText { text: string; time: number }
+
+// The engine and its workers.
+
+/** A call of the engine. */
+interface Call { call: string; check?: boolean; noBoard?: boolean; depth?: number; isSet?: boolean; number?: number }
+/** A call as a worker receives it; the first message has only the engine. */
+interface CallMessage extends Call { text: Uint8Array; engine?: WebAssembly.Module }
+/** A worker's reply: status and bytes of the result, or how the call failed. */
+interface Reply { status: number; bytes: Uint8Array; failed?: string }
+/** The result of a call. */
+interface Answer { status: number; text: string }
+/** What the page needs of a worker. */
+interface EngineWorker {
+  onmessage: ((event: MessageEvent<Reply>) => unknown) | null;
+  onerror: ((fault: ErrorEvent) => unknown) | null;
+  postMessage(message: unknown): void;
+  terminate(): void;
+}
+/** A call under way. */
+interface Task { worker: EngineWorker; answer: Promise<Answer> }
+/** Turns texts into bytes and back. */
+interface Codec { encode(text: string): Uint8Array; decode(bytes: Uint8Array): string }
+/** A phase and the number of its parts; null if it isn't possible. */
+interface PhaseParts { kind: string; parts: number | null }
+/** The solutions of a part; if they are cut, the last one may be incomplete. */
+interface PartSolutions { all: string[]; isCut: boolean }
+/** The text of an item as `--check` reports it: the head of a sound one. */
+interface Head { text: string; isSound: boolean; halfMoves: number }
+/** How solving ended. */
+interface Ended { status?: number; failed?: string; isStopped?: boolean }
+
+// Explanations of faults.
+
+/** What is wrong and what to do, with the places to look at. */
+interface Explanation { text: string; marks: Span[] }
+/** The words of a problem, and whether a word ends it. */
+interface ProblemWords { tokens: Token[]; isFirst: boolean; isClosed: boolean }
+/** A man where the text names it. */
+interface PlacedMan { man: Man; word: Token; place: number }
+/** The men that the text names; `get` is called for squares that have one. */
+interface PlacedMen extends Map<Square, PlacedMan> { get(square: Square): PlacedMan }
+/** A stipulation: the sides that start and that are to be mated. */
+interface ReadStipulation { play: string; goal: string; starter: Colour; mated: Colour }
+/** A problem read up to its fault. What is read before a fault of a kind can occur is typed as known. */
+interface Read {
+  tokens: Token[]; isFirst: boolean; fault: number | null; at: Token | null; section: string | null; opener: Token; awaited: string | null;
+  option: Token; colour: Colour; colours: { colour: Colour; word: Token }[]; men: PlacedMen; square: Square;
+  squarePlace: number; stipulation: ReadStipulation; stipulationWord: Token;
+  condition: string; conditionWord: Token; crossed: Square; crossedWord: Token; openers: Token[];
+}
+/** A line of the text, in pieces. */
+interface MarkedLine { line: number; pieces: { text: string; isMarked: boolean }[] }
+/** The fault of one problem. */
+interface TextFault { line: number; fault: number; read: Read }
+
+/** A step on the board, in files and ranks. */
+type Step = [number, number];
+
+// Texts of other programs.
+
+/** What twins change: the men, the stipulation, the conditions. */
+interface Setting { men: Men; stipulation: string; conditions: string[] }
+interface Change { text: string; make: (setting: Setting) => Setting }
+interface DraftTwin { label: string; isContinued: boolean; changes: Change[] }
+/** The letters of the men in a language. */
+interface Alphabet { letters: string; languages: string[] }
+/** A problem of another program. */
+interface Draft {
+  texts: [string, string][]; setting: Setting; options: string[]; notes: string[]; twins: DraftTwin[]; isZero: boolean;
+}
+
+/** A line of YAML with content. */
+interface YamlLine { indent: number; text: string; raw: string }
+type YamlValue = string | YamlValue[] | YamlObject;
+interface YamlObject { [key: string]: YamlValue }
+
+// What the page shows.
+
+/** An element whose children are all HTML elements. */
+interface ButtonParent extends HTMLElement { children: HTMLCollectionOf<HTMLElement>; firstElementChild: HTMLElement }
+/** The elements of the page with their own types. */
+interface PageElements {
+  text: HTMLTextAreaElement; fen: HTMLInputElement; check: HTMLInputElement; file: HTMLInputElement; problems: HTMLSelectElement;
+  solve: HTMLButtonElement; stop: HTMLButtonElement; undo: HTMLButtonElement; redo: HTMLButtonElement; men: ButtonParent; squares: ButtonParent;
+  gutter: ButtonParent; promotion: ButtonParent; twins: ButtonParent;
+}
+
+/** The moves from a position, and the item of the report that is walked through. */
+interface Place { start: Men; moves: Move[]; item: { number: number } | null }
+/** What the board's gestures do. */
+interface BoardPage {
+  change(changer: (men: Men) => Men | null): void;
+  move(from: Square, to: Square): void;
+  note(text: string, holds?: () => boolean): void;
+  check(): void;
+}
+/** A list of elements that are drawn a number at a time. */
+interface ListBox extends HTMLElement {
+  filling: { things: any[]; draw: (thing: any) => Element; drawn: number; most: number; more: HTMLElement | null };
+  drawMore: (() => void) | null;
+}
+/** The element of an item. */
+interface ItemBox extends HTMLElement { groups: Group[]; head: HTMLElement }
+/** A phase as it is drawn. */
+interface Group { item: SoundItem; men: Men; rows: TreeRow[]; list: ListBox; lines: number; total: HTMLElement }
+/** A row with its place in the tree, and its elements once they are drawn. */
+interface TreeRow extends Row {
+  below: TreeRow[]; parent: TreeRow | null; group: Group; index: number; siblings: TreeRow[]; wasOpen?: boolean;
+  line?: HTMLElement; list?: ListBox; turn: HTMLElement; buttons: HTMLElement[];
+}
+/** A move of a row. */
+interface RowPlace { row: TreeRow; index: number }
+
+// Classes of modules, by name.
+
+type Crew = import('./crew.js').Crew;
+type FaultCase = import('./explain/case.js').FaultCase;
+
+// What browsers have and the checker's library lacks.
+
+interface Array<T> {
+  findLast(holds: (value: T, index: number, all: T[]) => boolean): T | undefined;
+}
+
