@@ -67,7 +67,7 @@ const LINES: [Row<'static>; 3] = [
 ];
 
 // En passant captures and promotions.
-const PAWNS: [Row<'static>; 5] = [
+const PAWNS: [Row<'static>; 2] = [
     (
         "en passant",
         &EACH,
@@ -100,41 +100,6 @@ const PAWNS: [Row<'static>; 5] = [
             Motif::PromotionParries,
             Motif::Exposes(Kind::Pawn),
             Motif::Mates,
-        ],
-        3,
-    ),
-    (
-        "promotions on opened lines",
-        &[Rule::Orthodox, Rule::Circe],
-        Family::OpenedLines,
-        200,
-        &[
-            Motif::PromotionChecks(Kind::Queen),
-            Motif::PromotionChecks(Kind::Rook),
-            Motif::PromotionMates(Kind::Queen),
-            Motif::PromotionMates(Kind::Rook),
-        ],
-        3,
-    ),
-    (
-        "underpromotions",
-        &[Rule::Orthodox, Rule::Circe],
-        Family::Underpromotions,
-        200,
-        &[
-            Motif::PromotionChecks(Kind::Knight),
-            Motif::PromotionMates(Kind::Knight),
-        ],
-        3,
-    ),
-    (
-        "promotions to fairy men",
-        &[Rule::Orthodox],
-        Family::FairyPromotions,
-        200,
-        &[
-            Motif::PromotionChecks(Kind::Grasshopper),
-            Motif::PromotionChecks(Kind::Nightrider),
         ],
         3,
     ),
