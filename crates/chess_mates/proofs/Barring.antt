@@ -1,4 +1,4 @@
--- A king's step to an empty square that an attacker reaches over the hurdles is illegal.
+-- A king's step to an empty square is illegal if an attacker reaches the square over the hurdles.
 use Rattle.chess_mates.proofs.Chess.{Colour, IsAttackedOver, IsAttacker, IsBarred, IsMade, IsMereMove, IsPlainMove, IsKingAttack, IsKingAttackOf, IsWellFormed, IsWhole, King, List, Man, Move, None, Option, Position, RuleSet, KingAttack, Some, StandAlike, and_from, and_left, ap, arith, arrived, arriving_colour, bit_and, bit_at, bit_not, bit_or, capture_square, captures_do_more, cases_eq, cases_lt, cond-true, like_men_paralyse, false, false_by, false≢true, gone_to, in_check, inl, inr, is_attacked, is_attacker, is_legal, is_of_colour, is_paralysed, is_pseudo_legal, is_some, king_is_after, king_square, length, length-set, made, man_on, men_on, no_reach_there, not, off_left, off_right, off_second, on_board, other, position_after, reached_over, reaches, reaches_alike, reaches_as, refl, rules, same_Bool, same_colour, same_colour-refl, same_kind, side_of, simple_after, some_square_true, sym, true, w64, word_has, ℕ, ◌<◌, ◌==◌, ◌^◌, ◌∙◌, ◌≡◌, ◌≢◌}
 use Rattle.chess_mates.proofs.HomeSquares.{some_of}
 use Rattle.chess_attacks.proofs.rays.OnSquares.{one_on, size_on}

@@ -1,4 +1,4 @@
--- Flights of the enemy king as the men are, and the moves that leave them.
+-- The flights that the enemy king has now, and the moves that leave them.
 use Rattle.chess_mates.proofs.Chess.{AreAttackers, AreCheckTargets, AreOpen, AreReached, Attackers, IsLeft, IsNear, IsWellFormed, List, Man, Move, Option, Position, RuleSet, Some, and_left, ap, arith, bit_and, bit_at, bit_not, bit_or, cases_Bool, eq-eqb, eqb-true, false, false_from_ne_true, false≢true, inl, inr, is_leaper, is_legal, is_reached, is_rider, is_some, is_square, king_square, man_on, mates, men_on, not, occupied_squares, off_second, off_zero, on_first, or_lt, other, other_twice, reached_over, reaches, reaches_as, refl, rules, some_square_false, sym, true, w64, word, word_has, ℕ, ◌<◌, ◌==◌, ◌^◌, ◌*◌, ◌||◌, ◌∙◌, ◌≡◌, ◌≢◌, ◌≤◌}
 use Rattle.chess_mates.proofs.FarMen.{off_denied}
 use Rattle.chess_mates.proofs.Fleeing.{no_mate_with_flight}

@@ -1,4 +1,4 @@
--- A property of attackers of each kind is one of all attackers.
+-- A property of the attackers of each kind is a property of all attackers.
 use Rattle.chess_mates.proofs.Chess.{Attackers, Bishop, Colour, Grasshopper, IsAttacker, Kind, King, Knight, Man, Nightrider, Pawn, Queen, Rook, ap, bit_at, refl, squares_for, subst, sym, true, ℕ, ◌<◌, ◌==◌, ◌∙◌, ◌≡◌}
 
 -- a man by its colour and its kind

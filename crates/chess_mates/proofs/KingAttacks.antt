@@ -1,4 +1,4 @@
--- The men around a king, castling squares and the king zone.
+-- King attacks, castling squares and the king zone.
 use Rattle.chess_mates.proofs.Chess.{AreAdjacent, AreAttackers, AreCaptureSquares, AreCastlingSquares, AreClosed, AreFree, AreHurdles, AreReached, AreSpringboards, AreHopTargets, AreThreats, AreWeak, Attackers, Bishop, Colour, KingZone, Grasshopper, IsAttacker, IsCastlingHarmless, IsField, IsHurdle, IsReached, IsRiskAt, IsShut, IsKingAttack, IsKingAttackOf, IsUnhopped, IsWellFormed, IsWhole, Kind, King, Knight, List, Man, MayRide, Nightrider, None, Option, Pawn, Position, Queen, Risk, Rook, RuleSet, KingAttack, Some, White, and_parts, arith, bit_and, bit_at, bit_not, bit_or, corner, eq-eqb, eqb-true, every_square_on, false, false_by, false≢true, find_no, has_unmoved, inl, inr, is_fairy, is_man, is_on_some, is_rider, is_square, king_square, king_there, leaps, list_any, list_any-append, man_on, men_on, ne_eqb, occupied_squares, off_left, off_right, on_first, on_left, on_right, or_cases, other, queen_steps, reached_over, reaches_as, refl, rules, side_of, square_is, squares, squares_for, squares_of, straight_steps, true, w64, word, word_has, ℕ, KeepsOne, ◌&&◌, ◌+◌, ◌-◌, ◌<◌, ◌==◌, ◌^◌, ◌||◌, ◌∙◌, ◌≡◌, ◌≢◌, ◌⊎◌}
 use Rattle.chess_core.specs.Position.{may_promote}
 use Rattle.chess_mates.specs.ties.Attackers.{is_promotion}

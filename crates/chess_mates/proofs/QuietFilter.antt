@@ -1,4 +1,5 @@
--- Quiet steps of the enemy king for all moves of a man: the other men reach no more than with both lifted.
+-- Quiet steps of the enemy king for all moves of one man: the other men reach no more than with both
+-- lifted from the board.
 use Rattle.chess_mates.proofs.Chess.{AreApproached, AreOpen, DescribesMen, Black, Colour, Grasshopper, IsSeenFrom, IsWellFormed, Kind, King, List, Man, Move, None, Option, Position, RuleSet, Some, StandAlike, White, after_well_formed, and_from, and_right, ap, arith, arrived, arriving_man, attacked_plainly, bit_and, bit_at, bit_not, bit_or, capture_square, captures_do_more, cases_Bool, cases_eq, cases_lt, cond-false, cond-true, eq-eqb, eqb-true, every_square_on, false, false_from_ne_true, false≢true, gait_of, in_check, inl, inr, is_hopper, is_legal, is_man, is_of_colour, is_open, is_promoting, is_reached, is_simple, is_some, is_square, kept_now, king_after, king_is_after, king_is_no_pawn, king_square, leaps, left_now, legal_moves_are_triples, length, list_any, man_on, man_on-without_other, man_on-without_same, men_on, no_pawn_arrives, no_reach_there, not, not_attacked, occupied_now, occupied_squares, off_left, off_right, off_zero, on_first, or_cases, or_parts, other, other_twice, position_after, queen_steps, reaches, reaches_alike, reaches_as, refl, rules, same_colour, same_kind, side_of, some_square_false, some_square_true, squares_both, squares_either, squares_not, squares_of, sym, there_now, true, w64, ways, without_man, word, word_has, ℕ, ◌&&◌, ◌<◌, ◌==◌, ◌^◌, ◌||◌, ◌∙◌, ◌≡◌, ◌≢◌, ◌⊎◌, IsLeft, has_flight, is_flight}
 use Rattle.chess_mates.proofs.Barring.{beyond}
 use Rattle.chess_mates.proofs.CalmSteps.{apart, calm, seen_from}

@@ -1,4 +1,4 @@
--- A check stays if nobody interposes.
+-- A check remains if nobody interposes.
 use Rattle.chess_mates.proofs.Chess.{Bishop, Black, Colour, IsShift, Kind, King, Knight, List, Man, Move, Option, Pawn, Position, Queen, Rook, White, and_from, and_parts, arith, bit_at, bit_or, diagonal_steps, eq-eqb, false, false≢true, forward, goes_on, is_advance, is_fairy, is_on_some, is_square, is_vacant_at, list_any, list_any-append, off_left, off_right, or_cases, or_left, or_right, other, reaches_as, refl, return_square, rides, rules, straight_steps, subst, sym, true, word, word_has, ℕ, Step, ◌&&◌, ◌<◌, ◌==◌, ◌∙◌, ◌≡◌}
 use Rattle.chess_mates.specs.ties.Parries.{AreBetween}
 use Rattle.chess_rules.specs.Legal.{is_pawn_step}

@@ -1,4 +1,5 @@
--- How a defender comes to a square that isn't risky: its king goes, or another man, which may leave a line.
+-- How a defender arrives on a square that isn't risky: its king steps there, or another man goes there
+-- and perhaps leaves a line.
 use Rattle.chess_mates.proofs.Chess.{AreAdjacent, AreMere, ArePlain, AreRisky, AreThreatsOf, IsLike, IsMereMove, IsPlainMove, IsSafeMove, IsSafeStep, IsDecidedStep, IsKingAttackOf, IsSparedStep, IsWellFormed, KeepsFlight, KeepsFlightBeside, KeepsOne, King, Man, Move, Position, RuleSet, KingAttack, Some, ThreatsSeen, [], agree_below_at, along, and_from, and_parts, ap, arith, arrival_needed, bit_and, bit_at, bit_at_above, bit_not, bit_or, captures_do_more, cases_Bool, cases_lt, cond-false, cond-true, eqb-true, false, false_by, false≢true, inl, inr, is_castling, is_legal, is_man, is_pseudo_legal, is_pseudo_legal-from_legal, king_after, king_is, leaps, list_any, made, maker, man_on, mates_after, may_go_aimed, off_left, off_right, off_second, position_after, queen_steps, refl, rules, same_colour-refl, same_kind, some_is, sym, true, w64, word, ℕ, ◌<◌, ◌==◌, ◌^◌, ◌∙◌, ◌≡◌, ◌≢◌}
 use Rattle.chess_mates.specs.ties.KingAttack.{AreNeeded}
 use Rattle.chess_mates.proofs.Risks.{denied_on}

@@ -1,4 +1,4 @@
-//! Moves that give check or attack next to the enemy king.
+//! Moves whose man arrives where it would attack the enemy king.
 ghost use Rattle.std.specs.Prelude.{◌≡◌, ◌<◌, ◌∷◌, [], filter, IfSome, MatchOption, true};
 ghost use Rattle.chess_core.specs.Position.{man_on};
 ghost use Rattle.chess_core.specs.WellFormed.{IsWellFormed};
@@ -31,7 +31,7 @@ fn aimed_squares(board: &Board, from: Square) -> Squares
 }
 
 /// Returns whether the moving man arrives where it would attack the enemy king on the board as it was
-/// before the move. A search uses this to order moves only.
+/// before the move. A search uses this only to order moves.
 #[tactic(auto, using(chess_attacks::proofs::Bits::word_has), unfolding(crate::specs::ties::Aims::aims_at_king))]
 pub fn aims_at_king(board: &Board, m: &Move) -> bool
     ensures { result ≡ aims_at_king board.now m.now }
@@ -41,7 +41,7 @@ pub fn aims_at_king(board: &Board, m: &Move) -> bool
     contains(aimed_squares(board, m.from), m.to)
 }
 
-// What the search for aimed moves knows of a position.
+// What the search for aimed moves, for which `aims_at_king` holds, knows of a position.
 #[derive(Clone, Copy)]
 struct Aimed {
     known: LegalityMasks,
@@ -80,9 +80,9 @@ impl MoveFilter for Aimed {
     ghost idle = { λ rule p m h. is_unfiltered-idle rule p (aims_at_king p) m h };
 }
 
-/// Returns the next aimed legal move after the cursor, and moves the cursor to
-/// it. After the last it returns `None` and moves the cursor to the end. The cursor must be of the board's
-/// position. The board is unchanged.
+/// Returns the next legal move after the cursor for which `aims_at_king` holds, and moves the cursor to
+/// it. After the last one it returns `None` and moves the cursor to the end. The cursor must belong to
+/// the board's position. The board is unchanged.
 #[tactic(auto, using(crate::proofs::Aiming::next_aimed))]
 pub fn next_aimed<R: Rules>(moves: &mut LegalCursor<R>, board: &mut Board) -> Option<Move>
     requires well_formed { IsWellFormed board.old }

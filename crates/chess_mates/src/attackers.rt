@@ -10,8 +10,8 @@ use chess_core::board::Board;
 use chess_core::man::{Colour, Kind};
 use chess_core::square::Squares;
 
-// Against more attackers a king seldom keeps a flight, and steps seldom save it: the search for both isn't
-// worth its time.
+// The most attackers against which flights and risky steps are looked for. Against more, a king seldom
+// keeps a flight, and its steps seldom save it.
 pub(crate) const MOST_ATTACKERS: u32 = 7;
 
 // The squares of a side's men, kind by kind, and whether its pawns may promote to fairy men.
@@ -36,7 +36,7 @@ pub(crate) fn has_fairy_promotions(board: &Board) -> bool
     board.may_promote(Kind::Grasshopper) || board.may_promote(Kind::Nightrider)
 }
 
-// Returns the men of the colour.
+// Returns the colour's men, kind by kind.
 #[tactic(auto, using(crate::proofs::KingAttacks::attackers_are))]
 pub(crate) fn attackers_on(board: &Board, colour: Colour) -> Attackers
     ensures colour { result.colour ≡ colour }

@@ -30,10 +30,11 @@ use chess_rules::blockers::{cannot_expose, fairy_lines, safety_from};
 use chess_rules::evasions::rebirth_captures;
 use chess_rules::targets::unblocked_targets;
 
-/// The squares from which a move may give check in a position: by exposing the king, or by a man of the
-/// kind that arrives there. A king gives no check itself: next to the other king it would be in check.
-/// Besides: the lines to the king with a fairy man on them, and the squares on which a pawn may promote
-/// to a man other than a fairy man that checks the king on any board.
+/// What decides whether a move in a position may give check: the squares from which a move may expose
+/// the king (`blocker_squares`); the lines to the king that carry a fairy man; for each kind, the
+/// squares from which a man of this kind may give check (a queen from `straight` and `diagonal`); and
+/// the squares on which a pawn may promote to an orthodox man that checks the king on some board
+/// (`promotions`). A king itself gives no check: next to the other king it would be in check.
 #[derive(Clone, Copy)]
 pub(crate) struct CheckSquares {
     blocker_squares: Squares,
@@ -55,8 +56,8 @@ fn is_absent(board: &Board, colour: Colour, kind: Kind) -> bool
     kind.is_fairy() && board.squares(colour, kind) == 0
 }
 
-// Returns the squares from which an enemy of this kind may give check to the colour's king; all squares for
-// a fairy kind that is absent from the board.
+// Returns the squares from which an enemy of this kind may give check to the colour's king; all squares
+// for a fairy kind of which the enemy has no man.
 #[tactic(auto, using(chess_attacks::proofs::Bits::word_empty, chess_attacks::proofs::Bits::every_square, std::proofs::lemmas::Bool::or_left, chess_core::proofs::Words::squares_same), unfolding(crate::specs::ties::CheckSquares::may_check_from))]
 pub(crate) fn check_squares_of(board: &Board, colour: Colour, kind: Kind) -> Squares
     ensures { result ≡ word (may_check_from board.now.men colour (enemy colour kind)) }
@@ -94,8 +95,8 @@ fn blockers_from(
     safety_from(board, colour, king, straight, diagonal, lines).blockers
 }
 
-// Returns the squares on which a pawn may promote to a man other than a fairy man that checks the
-// colour's king on any board.
+// Returns the squares on which a pawn may promote to an orthodox man that checks the colour's king on
+// some board.
 #[inline(always)]
 fn promotions_seen(board: &Board, colour: Colour) -> Squares
     ensures { (k : ℕ) → king_square board.now.men colour ≡ Some k
@@ -107,7 +108,7 @@ fn promotions_seen(board: &Board, colour: Colour) -> Squares
     promotion_squares(colour.other(), false, king)
 }
 
-// Returns the squares from which a move may give check to the colour's king.
+// Returns what decides whether a move may give check to the colour's king.
 #[inline(always)]
 pub(crate) fn check_squares(board: &Board, colour: Colour) -> CheckSquares
     ensures { AreCheckSquares board.now.men colour result }
@@ -182,8 +183,8 @@ fn castling_targets(squares: &CheckSquares, from: Square) -> Squares
     squares_aside(from) & (checked_from << 1 | checked_from >> 1)
 }
 
-// Returns the squares on which a pawn may promote to a man that checks the king: all of the last ranks
-// where captures do more, or if it may promote to a fairy man.
+// Returns the squares on which a pawn may promote to a man that checks the king: all squares of the
+// first and the last rank in Circe, or if pawns may promote to a fairy man.
 #[inline(always)]
 #[tactic(auto, using(crate::proofs::Promotions::any_target, crate::proofs::Promotions::target_known))]
 fn promotion_targets<R: Rules>(board: &Board, squares: &CheckSquares) -> Squares
@@ -216,8 +217,8 @@ fn special_targets<R: Rules>(
     }
 }
 
-// Returns a superset of the squares to which a man of this kind must go to give check by a legal move, from
-// any square that isn't a blocker's; for a king from its own square, `king`.
+// Returns a superset of the squares where a legal move of a man of this kind, from a square that isn't a
+// blocker's, may give check. A king's move starts on `king`.
 #[inline(always)]
 #[tactic(auto, using(crate::proofs::CheckTargets::check_targets_some))]
 pub(crate) fn targets_off_blockers<R: Rules>(
@@ -241,7 +242,7 @@ pub(crate) fn targets_off_blockers<R: Rules>(
         | squares.fairy_lines
 }
 
-// Returns a superset of the squares to which this man must go from `from` to give check by a legal move.
+// Returns a superset of the squares where a legal move of this man from `from` may give check.
 #[tactic(auto, using(chess_rules::proofs::listing_moves::Targeting::every_square_on))]
 fn check_targets<R: Rules>(board: &Board, squares: &CheckSquares, man: Man, from: Square) -> Squares
     requires well_formed { IsWellFormed board.now }
@@ -257,7 +258,8 @@ fn check_targets<R: Rules>(board: &Board, squares: &CheckSquares, man: Man, from
     targets_off_blockers::<R>(board, squares, man.kind, Some(from))
 }
 
-// Returns the check targets of the man on the square, if there is one, that it could reach on some board.
+// Returns the check targets of the man on `from` that it could reach on some board; none if no man is
+// there.
 #[tactic(auto, using(chess_rules::proofs::listing_moves::Targeting::nobody_moves, crate::proofs::CheckTargets::targets_lack, chess_rules::proofs::listing_moves::Walks::off_second), unfolding(chess_rules::specs::Legal::is_legal))]
 pub(crate) fn near_check_targets<R: Rules>(
     board: &Board,
@@ -274,8 +276,8 @@ pub(crate) fn near_check_targets<R: Rules>(
     unblocked_targets(man, from) & check_targets::<R>(board, squares, man, from)
 }
 
-// Returns whether the move may expose the enemy king, by the man that leaves its square or by one that is
-// captured, castled or reborn.
+// Returns whether the move may expose the enemy king: a man leaves its origin, or is captured, castled
+// or reborn.
 fn may_discover<R: Rules>(board: &Board, squares: &CheckSquares, m: &Move) -> bool
     requires { AreCheckSquares board.now.men (other board.now.turn) squares.now }
     ensures { result ≡ not (cannot_expose (rule_of_checks R.rule board.now.men board.now.turn)
@@ -294,8 +296,8 @@ fn keeps_its_kind(m: &Move) -> bool
     m.promo.is_none()
 }
 
-// Returns whether this man's move may give check: from its arrival, as what it then is, through the square
-// that it left, or by exposing the king.
+// Returns whether this man's promotion may give check: by the promoted man, perhaps through the square
+// that the pawn left, or by exposing the king.
 #[inline(never)]
 fn may_check_promoted<R: Rules>(board: &Board, squares: &CheckSquares, man: Man, m: &Move) -> bool
     requires well_formed { IsWellFormed board.now }

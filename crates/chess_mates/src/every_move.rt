@@ -27,8 +27,8 @@ use chess_rules::making_moves::undoing::unplay;
 use chess_rules::moves::is_mate;
 use chess_rules::targets::arrivals;
 
-/// Returns whether the side to move has a legal move and each of its legal moves mates. A move that can't
-/// give check decides it without being played. The board is unchanged.
+/// Returns whether the side to move has a legal move and each of its legal moves mates. A move that
+/// can't give check decides this without being played. The board is unchanged.
 #[tactic(auto, using(crate::proofs::Mating::quietly))]
 pub fn every_move_mates<R: Rules>(board: &mut Board) -> bool
     requires { IsWellFormed board.old }
@@ -93,8 +93,8 @@ fn first_unreached(board: &Board, king: Man, from: Square, squares: Squares) -> 
     None
 }
 
-// Returns whether the king surely has a legal step that gives no check; `false` says nothing. No move is
-// played.
+// Returns whether the king certainly has a legal step that gives no check; `false` says nothing. No move
+// is played.
 #[tactic(auto, using(crate::proofs::QuietSteps::step_legal))]
 fn steps_quietly<R: Rules>(board: &Board, squares: &CheckSquares) -> bool
     requires well_formed { IsWellFormed board.now }
@@ -123,7 +123,7 @@ fn steps_quietly<R: Rules>(board: &Board, squares: &CheckSquares) -> bool
     is_quiet::<R>(board, squares, &step)
 }
 
-// Returns whether some legal move after the cursor can't give check.
+// Returns whether some legal move after the cursor certainly gives no check.
 fn has_quiet_move<R: Rules>(
     board: &mut Board,
     squares: &CheckSquares,
@@ -145,7 +145,7 @@ fn has_quiet_move<R: Rules>(
     false
 }
 
-// Returns whether the legal move can't give check, so that it doesn't mate.
+// Returns whether the legal move certainly gives no check, so that it doesn't mate.
 #[tactic(auto, using(crate::proofs::Mating::quietly))]
 fn is_quiet<R: Rules>(board: &Board, squares: &CheckSquares, m: &Move) -> bool
     requires well_formed { IsWellFormed board.now }

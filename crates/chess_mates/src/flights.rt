@@ -41,8 +41,8 @@ pub(crate) enum Flights {
     Unknown,
 }
 
-// Returns the sight after a man has gone from `from` to `to`, the man on `captured` has left the board, and
-// the king on `king` is lifted. The man that moved isn't among the standing men.
+// Returns the occupancy after a man has gone from `from` to `to`, the man on `captured` has left the
+// board, and the king on `king` is lifted. The man that moved isn't among the standing men.
 pub(crate) fn sight_lifted(
     board: &Board,
     from: Square,
@@ -59,7 +59,7 @@ pub(crate) fn sight_lifted(
     }
 }
 
-// Returns the sight after the lifted king is put on `to`, whoever was there.
+// Returns the occupancy after the lifted king is put on `to`, whoever was there.
 pub(crate) fn sight_with(occupancy: Occupancy, to: Square) -> Occupancy
     ensures { result ≡ sight_with occupancy to }
 {
@@ -70,8 +70,8 @@ pub(crate) fn sight_with(occupancy: Occupancy, to: Square) -> Occupancy
     }
 }
 
-// Returns the squares where a king of the side that isn't to move may not step: the squares of its own men that
-// are still there, and that of the mover's king.
+// Returns the squares to which the king of the side that isn't to move may not step: the squares of its
+// own men that are still standing, and the square of the mover's king.
 pub(crate) fn held_squares(board: &Board, standing: Squares) -> Squares
     ensures { result ≡ bit_or (bit_and (side_of board.now.men (other board.now.turn)) standing)
         (squares_of board.now.men board.now.turn King) }
@@ -80,7 +80,7 @@ pub(crate) fn held_squares(board: &Board, standing: Squares) -> Squares
     board.side(mover.other()) & standing | board.squares(mover, Kind::King)
 }
 
-// Returns the squares that the man attacks from its arrival, as what it then is.
+// Returns the squares that the man attacks from its arrival `to`, as a `promo` if it promotes.
 pub(crate) fn covered_squares(
     occupied: Squares,
     man: Man,
@@ -95,9 +95,9 @@ pub(crate) fn covered_squares(
     reach_over(occupied, arrived.colour, arrived.kind, to)
 }
 
-// Returns the squares to which the enemy king on `king` may step after a simple move, attacked or not: no
-// man of its own and no king is there, and in Circe nobody. `occupancy` is the sight after the move with the
-// king lifted.
+// Returns the squares to which the enemy king on `king` may step after a simple move, attacked or not:
+// no man of its own and no king is there, and in Circe nobody. `occupancy` is the occupancy after the
+// move with the king lifted.
 #[tactic(auto, using(crate::proofs::Fleeing::open_squares_in_circe, crate::proofs::Fleeing::open_squares))]
 pub(crate) fn open_squares<R: Rules>(board: &Board, occupancy: Occupancy, king: Square) -> Squares
     ensures { (m : Move) (x : Man) → IsSeenFrom R.rule board.now m x king → m.to < 64
@@ -134,15 +134,16 @@ pub(crate) fn first_safe(
     None
 }
 
-// Returns whether all flights are seen: no capture is passed over, and no attacker may be paralysed.
+// Returns whether all flights are found under these rules: no capture is skipped, and no attacker may be
+// paralysed.
 fn are_all_seen<R: Rules>() -> bool
     ensures { result ≡ (not (captures_do_more R.rule) && not (like_men_paralyse R.rule)) }
 {
     !R::captures_do_more() && !R::like_men_paralyse()
 }
 
-// Returns what is known of the flights of the enemy king on `king` after this man's simple move; the man is
-// no king.
+// Returns what is known of the flights of the enemy king on `king` after this man's simple move; the man
+// isn't a king.
 fn flights_from<R: Rules>(
     board: &Board,
     man: Man,
@@ -169,8 +170,8 @@ fn flights_from<R: Rules>(
     Flights::Unknown
 }
 
-// Returns whether to look for flights after the man's move: nobody castles or is reborn, and the man is no
-// king.
+// Returns whether to look for flights after the man's move: nobody castles or is reborn, and the man
+// isn't a king.
 fn is_looked_at<R: Rules>(man: Man, m: &Move, captures: bool) -> bool
     ensures { result ≡ (not (same_kind man.kind King) && is_simple R.rule man m.now captures) }
 {

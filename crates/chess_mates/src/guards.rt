@@ -13,7 +13,7 @@ use chess_attacks::words::{only, pop_first};
 use chess_core::man::{Colour, Kind, Man};
 use chess_core::square::{Square, Squares};
 
-// The squares that attackers reach, and those that riders among them reach.
+// The squares that attackers reach (`guarded`), and the squares that riders among them reach (`ridden`).
 #[derive(Clone, Copy)]
 pub(crate) struct Guards {
     pub(crate) ridden: Squares,
@@ -30,7 +30,7 @@ pub(crate) fn reach_from(hurdles: Squares, man: Man, from: Square) -> Squares
     reach_over(hurdles, man.colour, man.kind, from)
 }
 
-// Returns the squares that the man on `from` reaches over the hurdles; nothing if it could reach no square
+// Returns the squares that the man on `from` reaches over the hurdles; none if it could reach no square
 // of the region on any board.
 #[tactic(auto, using(crate::proofs::Risks::none_at, crate::proofs::Risks::not_near))]
 fn reach_towards(hurdles: Squares, man: Man, from: Square, region: Squares) -> Squares
@@ -44,8 +44,8 @@ fn reach_towards(hurdles: Squares, man: Man, from: Square, region: Squares) -> S
     reach_from(hurdles, man, from)
 }
 
-// Returns the squares that men like this on these squares reach over the hurdles, as far as they could
-// reach the region.
+// Returns the squares that men of this colour and kind on `squares` reach over the hurdles. Leaves out
+// men that could reach no square of the region on any board.
 #[tactic(auto, using(chess_attacks::proofs::HoldTaken::taken_all, chess_attacks::proofs::HoldTaken::taken_none, chess_attacks::proofs::HoldTaken::rest_falls, chess_attacks::proofs::Bits::off_zero))]
 fn reach_together(hurdles: Squares, man: Man, squares: Squares, region: Squares) -> Squares
     ensures all { (s : ℕ) → s < 64 → (bit_at squares s == 1) ≡ true
@@ -62,8 +62,8 @@ fn reach_together(hurdles: Squares, man: Man, squares: Squares, region: Squares)
     reached
 }
 
-// Returns the squares that attackers of one kind reach over the hurdles, as far as they could reach the
-// region.
+// Returns the squares that attackers of one kind reach over the hurdles. Leaves out attackers that could
+// reach no square of the region on any board.
 #[tactic(auto, using(crate::proofs::Risks::none_at))]
 pub(crate) fn reach_of(
     hurdles: Squares,
@@ -84,7 +84,7 @@ pub(crate) fn reach_of(
     reach_together(hurdles, Man { colour, kind }, squares, region)
 }
 
-// Returns the squares that riders reach over the hurdles.
+// Returns the squares that riders near the region reach over the hurdles.
 #[tactic(auto, using(crate::proofs::Hurdles::riders_reach))]
 #[inline(always)]
 pub(crate) fn rider_reach(hurdles: Squares, men: &Attackers, region: Squares) -> Squares
@@ -105,7 +105,7 @@ pub(crate) fn rider_reach(hurdles: Squares, men: &Attackers, region: Squares) ->
     queens | rooks | bishops | nightriders
 }
 
-// Returns the squares that knights, pawns and kings reach.
+// Returns the squares that knights, pawns and kings near the region reach.
 #[tactic(auto, using(crate::proofs::Hurdles::leapers_reach))]
 pub(crate) fn leapt_squares(hurdles: Squares, men: &Attackers, region: Squares) -> Squares
     ensures all { AreReached hurdles men.now region is_leaper result }
@@ -118,7 +118,7 @@ pub(crate) fn leapt_squares(hurdles: Squares, men: &Attackers, region: Squares) 
     knights | pawns | kings
 }
 
-// Returns the attackers without the one on the square.
+// Returns the attackers without the one on `gone`.
 fn without(men: &Attackers, gone: Square) -> Attackers
     ensures { (s : ℕ) (x : Man) → IsAttacker men.now x s → gone ≢ s → IsAttacker result x s }
 {

@@ -1,5 +1,5 @@
-//! Closed squares: squares to which a king isn't assumed to flee. They hold its own men, and in Circe also
-//! all other men and the home squares of its men.
+//! Closed squares: the squares to which a king isn't assumed to flee. They are the squares of its side's
+//! men, and in Circe also the squares of all other men and the home squares of its side's men.
 ghost use Rattle.std.specs.Prelude.{◌≡◌, ◌<◌, ◌==◌, ℕ, Some, true, false};
 ghost use Rattle.std.specs.Int.{bit_at};
 ghost use Rattle.chess_core.specs.Position.{same_kind};
@@ -14,7 +14,7 @@ use chess_core::board::Board;
 use chess_core::man::{Colour, Kind};
 use chess_core::square::{Square, Squares};
 
-// Returns the home squares of a kind other than pawn.
+// Returns all home squares of the colour's men of a kind other than pawn (Popeye manual, Circe).
 #[tactic(auto, using(crate::proofs::HomeSquares::home_on))]
 fn homes_of(colour: Colour, kind: Kind) -> Squares
     ensures { same_kind kind Pawn ≡ false → (t r : ℕ) → rebirth colour kind t ≡ Some r
@@ -91,8 +91,8 @@ fn home_squares(board: &Board, colour: Colour) -> Squares
         | homes_on(board, colour, Kind::Nightrider)
 }
 
-// Returns the squares to which the king of the side to move isn't assumed to flee: the squares of its men; in
-// Circe also the squares of all men, and the home squares of its own.
+// Returns the squares to which the king of the side to move isn't assumed to flee: the squares of its
+// side's men; in Circe also the squares of all other men, and the home squares of its side's men.
 #[tactic(auto, using(crate::proofs::HomeSquares::all_closed, crate::proofs::HomeSquares::own_closed))]
 pub(crate) fn closed_squares<R: Rules>(board: &Board) -> Squares
     ensures { AreClosed R.rule board.now result }

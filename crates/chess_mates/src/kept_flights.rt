@@ -22,7 +22,7 @@ pub struct KeptFlights {
     king_attack: KingAttack,
     // Where the attackers could go on an otherwise empty board.
     targets: OpenTargets,
-    // The squares where another man must not arrive, so that the king, if it stays, keeps a flight.
+    // The squares that other men must not occupy if the king, which stays, is to keep a flight.
     needed: Squares,
 }
 
@@ -41,7 +41,7 @@ impl Model for KeptFlights {
 }
 
 impl KeptFlights {
-    /// Computes the flights of the king of the side to move, which is on this square.
+    /// Computes the flights of the king of the side to move, which is on `king`.
     pub fn of<R: Rules>(board: &Board, king: Square) -> KeptFlights
         ensures { IsWellFormed board.now → IsKnown R.rule
             → king_square board.now.men board.now.turn ≡ Some king
@@ -57,13 +57,13 @@ impl KeptFlights {
         }
     }
 
-    /// Returns whether the filter may pass moves of men other than the king.
+    /// Returns whether the filter may take moves of men other than the king.
     pub fn takes_others(&self) -> bool {
         self.needed != !0
     }
 
-    // Returns which of `squares` are risky: where the arrival of the man on `from` might leave the king without a
-    // flight.
+    // Returns which of `squares` are risky: squares where the arrival of the man on `from` might leave
+    // the king without a flight.
     fn unkept_squares<R: Rules>(&self, _board: &Board, from: Square, squares: Squares) -> Squares
         requires well_formed { IsWellFormed _board.now }
         requires flights { AreThreatsOf R.rule _board.now self.now }

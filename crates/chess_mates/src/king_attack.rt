@@ -1,6 +1,6 @@
-//! The men around a king before its side's move. All men but the king are hurdles: a square with a man
-//! counts as occupied even if the man is captured, except for the squares that the defender and the
-//! attacker leave.
+//! A king attack: the men on the board as they concern the king of the defender, who is to move. All men
+//! but this king are hurdles: a square with a man counts as occupied even if the man is captured, except
+//! for the squares that the defender and the attacker leave.
 ghost use Rattle.std.specs.Prelude.{◌≡◌, ◌≢◌, ◌<◌, ◌==◌, ◌⊎◌, ℕ, Some, true, false};
 ghost use Rattle.std.specs.Int.{bit_at};
 ghost use Rattle.chess_core.specs.Castling.{has_unmoved};
@@ -16,9 +16,10 @@ use chess_core::board::Board;
 use chess_core::man::{Colour, Kind};
 use chess_core::square::{Square, Squares};
 
-// The men around the defender's king on `king`: the squares of the defender's men, of the attackers and of
-// the hurdles, those to which an attacking rook may castle, and the closed ones, to which the king isn't
-// assumed to flee.
+// The men around the defender's king, which is on `king`: the squares of the defender's men (`own`), of
+// the attackers (`enemies`) and of the hurdles; the attackers by kind (`men`); the squares to which an
+// attacking rook may castle (`castled`); and the squares to which the king isn't assumed to flee
+// (`closed`).
 #[derive(Clone, Copy)]
 pub(crate) struct KingAttack {
     pub(crate) king: Square,
@@ -30,8 +31,8 @@ pub(crate) struct KingAttack {
     pub(crate) closed: Squares,
 }
 
-// Returns the square `next` beside the king if the side may castle with the rook in the corner: the rook
-// has the right to, and no man of its own is on that square.
+// Returns `next`, the square beside the king, if the side may castle with the rook in `corner`: the rook
+// has the right to, and no man of its side is on `next`. Otherwise returns no square.
 #[tactic(auto, using(chess_attacks::proofs::Bits::word_has))]
 fn castling_square(board: &Board, own: Squares, corner: Square, next: Square) -> Squares
     ensures { (has_unmoved board.now.unmoved corner ≡ false)
@@ -48,8 +49,8 @@ fn castling_square(board: &Board, own: Squares, corner: Square, next: Square) ->
     only(Some(next))
 }
 
-// Returns a superset of the squares to which a rook of the colour may castle, whatever the other side plays
-// before.
+// Returns a superset of the squares to which a rook of the colour may castle after any move of the other
+// side.
 #[tactic(auto, using(crate::proofs::KingAttacks::moved_king_castles, crate::proofs::KingAttacks::no_king_castles))]
 fn castling_squares(board: &Board, colour: Colour) -> Squares
     ensures { IsWellFormed board.now → AreCastlingSquares board.now colour result }
@@ -80,7 +81,7 @@ fn castling_squares(board: &Board, colour: Colour) -> Squares
     long | short
 }
 
-// Returns the squares of all men but the king, and without `lifted`.
+// Returns the squares of all men except the king and the man on `lifted`.
 #[tactic(auto, using(crate::proofs::KingAttacks::hurdles_are, crate::proofs::KingAttacks::lifted_off))]
 fn hurdles_of(own: Squares, enemies: Squares, king: Square, lifted: Option<Square>) -> Squares
     ensures are { AreHurdles own enemies king result }
@@ -90,7 +91,7 @@ fn hurdles_of(own: Squares, enemies: Squares, king: Square, lifted: Option<Squar
     (own | enemies) & !only(Some(king)) & !only(lifted)
 }
 
-// Returns the men around the king of the side to move, which is on this square.
+// Returns the king attack against the side to move, whose king is on `king`.
 #[inline(always)]
 pub(crate) fn king_attack_of<R: Rules>(board: &Board, king: Square) -> KingAttack
     ensures king_attack { IsKingAttack result }
@@ -113,7 +114,7 @@ pub(crate) fn king_attack_of<R: Rules>(board: &Board, king: Square) -> KingAttac
     }
 }
 
-// Returns the same men, without the hurdle on the square.
+// Returns this king attack without the hurdle on `from`.
 pub(crate) fn lifted_from(king_attack: &KingAttack, from: Square) -> KingAttack
     ensures { IsLifted king_attack.now from result }
 {
@@ -130,7 +131,7 @@ pub(crate) fn lifted_from(king_attack: &KingAttack, from: Square) -> KingAttack
     }
 }
 
-// Returns whether these are the men on the board, with the defender to move.
+// Returns whether `king_attack` describes the board, with the defender to move.
 pub(crate) fn is_of<R: Rules>(king_attack: &KingAttack, board: &Board) -> bool
     requires { IsWellFormed board.now }
     ensures { result ≡ true → IsKingAttackOf R.rule board.now king_attack.now }

@@ -1,5 +1,5 @@
-//! The king zone: where a king might go, and from where it might be checked. A hopper needs a man next to
-//! the square that it reaches, on a springboard.
+//! The king zone: the squares where a king might go, and the squares from which it might be checked. A
+//! hopper reaches a square only over a man on a springboard, a square next to it.
 ghost use Rattle.std.specs.Prelude.{◌≡◌, ◌≢◌, ◌<◌, ◌==◌, ℕ, true};
 ghost use Rattle.std.specs.Int.{bit_at};
 ghost use Rattle.chess_core.specs.declared.man.Kind.TheVariants.{Nightrider};
@@ -22,10 +22,11 @@ use chess_attacks::words::{highest, next_bit, only, pop_first};
 use chess_core::man::{Colour, Kind, Man};
 use chess_core::square::{Square, Squares};
 
-// A king zone: the king's square; the squares next to it where it might go, attacked or not, and where it
-// might capture an arriving man; the lines from the king's square, straight, diagonal and all; the
-// springboards of its square, and of the squares next to it too; and the squares where a pawn may promote
-// with check.
+// A king zone: the king's square (`king`); the squares next to it to which it might go, attacked or not
+// (`near`), and on which it might capture an arriving man (`captures`); the squares that a rook and a
+// bishop on the king's square would reach (`straight`, `diagonal`), and with them a nightrider's
+// (`lines`); the springboards of the king's square (`springboards`), and with them the springboards of
+// `near` (`hops`); and the squares where a pawn may promote with check (`promotions`).
 #[derive(Clone, Copy)]
 pub(crate) struct KingZone {
     pub(crate) king: Square,
@@ -46,8 +47,8 @@ pub(crate) struct Landings {
     springboards: Squares,
 }
 
-// Squares next to a king that hoppers reach only over an arriving man; the springboards of the king's own
-// square; and all springboards.
+// Squares next to a king that hoppers reach only over an arriving man (`near`); the springboards of the
+// king's own square (`own`); and the springboards of all these squares (`all`).
 #[derive(Clone, Copy)]
 pub(crate) struct HopTargets {
     near: Squares,
@@ -55,7 +56,7 @@ pub(crate) struct HopTargets {
     all: Squares,
 }
 
-// Returns the squares next to a defender's king on this square where it might go, attacked or not.
+// Returns the squares to which a defender's king on `king` might step, attacked or not.
 #[tactic(auto, using(crate::proofs::FarMen::off_denied, chess_rules::proofs::listing_moves::Walks::on_first, chess_attacks::proofs::Bits::word_has))]
 pub(crate) fn adjacent_squares(king_attack: &KingAttack, king: Square) -> Squares
     ensures { AreAdjacent king_attack.now king result }
@@ -63,8 +64,8 @@ pub(crate) fn adjacent_squares(king_attack: &KingAttack, king: Square) -> Square
     king_leaps(king) & !king_attack.closed & !king_attack.men.kings
 }
 
-// Returns the squares next to the king where it may capture, attacked or not; none in Circe, where
-// attackers are on closed squares, and none if there are hoppers.
+// Returns the squares next to the king where it may capture, attacked or not. Returns none in Circe,
+// where the attackers are on closed squares, and none if the attackers have a grasshopper.
 #[tactic(auto, using(crate::proofs::KingAttacks::captures_are, crate::proofs::Risks::none_at))]
 fn capture_squares(king_attack: &KingAttack, king: Square) -> Squares
     ensures { AreCaptureSquares king_attack.now king result }
@@ -75,7 +76,8 @@ fn capture_squares(king_attack: &KingAttack, king: Square) -> Squares
     king_leaps(king)
 }
 
-// Returns the nightrider's lines from a king on this square, if the attackers have a nightrider.
+// Returns the squares that a nightrider on `king` would reach over the hurdles; none if the attackers
+// have no nightrider.
 #[tactic(auto, using(crate::proofs::Hurdles::reached_is), unfolding(crate::specs::ties::KingAttack::reached_over, chess_attacks::specs::Reaches::reaches_as))]
 pub(crate) fn nightrider_lines(king_attack: &KingAttack, king: Square) -> Squares
     ensures { king_attack.now.men.nightriders ≢ 0 → (c : Colour)
@@ -87,7 +89,7 @@ pub(crate) fn nightrider_lines(king_attack: &KingAttack, king: Square) -> Square
     reach_over(king_attack.hurdles, Colour::White, Kind::Nightrider, king)
 }
 
-// Returns the springboards of a square: the squares next to it on lines from grasshoppers farther away.
+// Returns the springboards of `to`: the squares next to it on lines from grasshoppers farther away.
 #[tactic(auto, using(crate::proofs::Springboards::none_sprung, crate::proofs::Springboards::springboards_are))]
 #[inline(always)]
 fn springboards_of(men: &Attackers, to: Square) -> Squares
@@ -109,8 +111,7 @@ fn springboards_of(men: &Attackers, to: Square) -> Squares
     (before | aslant) & near
 }
 
-// Returns whether no man, except perhaps the king on `king`, is on one of the squares, and none of them is
-// closed.
+// Returns whether none of `squares` holds a man or is closed; the king's square `king` doesn't count.
 #[tactic(auto, using(crate::proofs::Springboards::free_are))]
 pub(crate) fn are_free(king_attack: &KingAttack, king: Square, squares: Squares) -> bool
     ensures { result ≡ true → AreFree king_attack.now king squares }
@@ -118,7 +119,7 @@ pub(crate) fn are_free(king_attack: &KingAttack, king: Square, squares: Squares)
     squares & (king_attack.own | king_attack.enemies | king_attack.closed) & !only(Some(king)) == 0
 }
 
-// Returns the square with its springboards, unless a grasshopper may reach it as the men are.
+// Returns `to` with its springboards, or no square if a grasshopper may reach `to` already.
 #[tactic(auto, using(crate::proofs::Risks::none_at, crate::proofs::Springboards::landing_is))]
 fn landing_on(king_attack: &KingAttack, king: Square, to: Square) -> Landings
     ensures { (f : ℕ) → f < 64 → (bit_at result.squares f == 1) ≡ true
@@ -137,7 +138,7 @@ fn landing_on(king_attack: &KingAttack, king: Square, to: Square) -> Landings
     }
 }
 
-// Returns the squares among `squares` that no grasshopper reaches as the men are, with their springboards.
+// Returns which of `squares` no grasshopper reaches yet, with their springboards.
 #[tactic(auto, using(chess_attacks::proofs::HoldTaken::rest_falls, crate::proofs::Risks::none_at, crate::proofs::Springboards::landing_anywhere))]
 fn landings_among(king_attack: &KingAttack, king: Square, squares: Squares) -> Landings
     ensures { (f : ℕ) → f < 64 → (bit_at result.squares f == 1) ≡ true
@@ -163,7 +164,7 @@ fn landings_among(king_attack: &KingAttack, king: Square, squares: Squares) -> L
     }
 }
 
-// Returns the springboards around a king on this square.
+// Returns the hop targets of a king on `king`.
 pub(crate) fn hop_targets_of(king_attack: &KingAttack, king: Square) -> HopTargets
     ensures { AreHopTargets king_attack.now king result }
 {
@@ -177,7 +178,8 @@ pub(crate) fn hop_targets_of(king_attack: &KingAttack, king: Square) -> HopTarge
     }
 }
 
-// Returns the springboards around a king on this square, against attackers without a grasshopper: none.
+// Returns the hop targets of a king on `king` against attackers without a grasshopper: there are no
+// springboards.
 #[tactic(auto, using(crate::proofs::Springboards::landing_anywhere, crate::proofs::Springboards::none_sprung))]
 pub(crate) fn no_hop_targets(king_attack: &KingAttack, king: Square) -> HopTargets
     requires { king_attack.now.men.grasshoppers ≡ 0 }
@@ -190,8 +192,8 @@ pub(crate) fn no_hop_targets(king_attack: &KingAttack, king: Square) -> HopTarge
     }
 }
 
-// Returns the squares on which a pawn of the colour may promote to a man that checks the king, on any
-// board.
+// Returns a superset of the squares on which a pawn of the colour may promote to a man that checks a
+// king on `king`, on any board.
 #[tactic(auto, using(crate::proofs::Promotions::any_rank, crate::proofs::Promotions::queen_or_knight))]
 pub(crate) fn promotion_squares(colour: Colour, fairy_promotions: bool, king: Square) -> Squares
     ensures { ArePromotions colour fairy_promotions king result }
@@ -206,8 +208,8 @@ pub(crate) fn promotion_squares(colour: Colour, fairy_promotions: bool, king: Sq
     LAST_RANKS & (queens | knights)
 }
 
-// Returns the king zone of a defender's king on this square. If the attackers have nightriders, `riders`
-// are the nightrider's lines from there.
+// Returns the king zone of a defender's king on `king`. `riders` are the squares that a nightrider there
+// would reach, if the attackers have one.
 #[inline(always)]
 pub(crate) fn field_of(
     king_attack: &KingAttack,
@@ -240,8 +242,8 @@ pub(crate) fn field_of(
     }
 }
 
-// Returns whether no castling by the attackers gives check: neither the rook on its new square, nor another
-// man once the king has left. It says no if they have fairy men.
+// Returns whether no castling by the attackers gives check: neither by the rook on its new square, nor
+// by another man once the king has left. Returns `false` if they may castle and have fairy men.
 #[tactic(auto, using(crate::proofs::KingAttacks::harmless_castling))]
 pub(crate) fn castling_is_harmless(king_attack: &KingAttack, king_zone: &KingZone) -> bool
     ensures { result ≡ true → IsCastlingHarmless king_attack.now king_zone.now }
@@ -252,8 +254,8 @@ pub(crate) fn castling_is_harmless(king_attack: &KingAttack, king_zone: &KingZon
     (king_attack.castled == 0) | ((rooks == 0) & (kings == 0) & (fairies == 0))
 }
 
-// Computes the attackers' targets on an otherwise empty board. Computes nothing, so that each square
-// counts, in Circe or against many attackers.
+// Computes the attackers' targets, as if each attacker were alone on the board. In Circe and against
+// many attackers, all squares count as targets instead.
 #[inline(always)]
 pub(crate) fn compute_targets<R: Rules>(king_attack: &KingAttack, targets: &mut OpenTargets)
     ensures { AreOpenTargets king_attack.now.men targets.new }
@@ -265,8 +267,8 @@ pub(crate) fn compute_targets<R: Rules>(king_attack: &KingAttack, targets: &mut 
     *targets = all_open_targets(&king_attack.men);
 }
 
-// Returns the first and the last of the squares next to a king; nothing if there are none. Which two they
-// are affects speed only.
+// Returns the first and the last of `squares`; no square if there are none. The choice of these two
+// affects speed only.
 #[tactic(auto, using(crate::proofs::KingAttacks::fewer_adjacent))]
 fn ends_of(squares: Squares) -> Squares
     ensures { (v : KingAttack) (k : ℕ) → AreAdjacent v k squares → AreAdjacent v k result }
@@ -277,9 +279,10 @@ fn ends_of(squares: Squares) -> Squares
     squares & (only(next_bit(squares, 0)) | only(Some(highest(squares))))
 }
 
-// Returns the squares whose occupation might leave the king without a flight, if it stays: squares next to
-// it that no attacker reaches on an otherwise empty board. They are flights that one move can't all take:
-// two of them if that is enough, otherwise all; if one move can take all, every square is returned.
+// Returns the squares that other men must not occupy if the king, which stays, is to keep a flight. They
+// are next to the king, no attacker would reach them if it were alone on the board, and no single move
+// takes all of them. If two of them are enough, only these two are returned. If one move can take them
+// all, every square is returned.
 #[tactic(auto, using(chess_rules::proofs::listing_moves::Targeting::every_square_on))]
 #[inline(always)]
 pub(crate) fn needed_squares(king_attack: &KingAttack, targets: &OpenTargets) -> Squares

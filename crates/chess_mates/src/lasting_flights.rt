@@ -34,7 +34,7 @@ pub(crate) struct OpenTargets {
 }
 
 impl OpenTargets {
-    // Returns all squares, when nothing is computed.
+    // Returns all squares for each kind: nothing is known.
     #[inline(always)]
     pub(crate) fn unknown() -> OpenTargets
         ensures { (a : Attackers) → AreOpenTargets a result }
@@ -53,7 +53,7 @@ impl OpenTargets {
     }
 }
 
-// Returns the squares that men of this kind on these squares reach on otherwise empty boards.
+// Returns the squares that men of this kind on `squares` reach, each alone on the board.
 #[tactic(auto, using(chess_attacks::proofs::HoldTaken::taken_all, chess_attacks::proofs::HoldTaken::taken_none, chess_attacks::proofs::HoldTaken::rest_falls, crate::proofs::Risks::none_on))]
 #[inline(always)]
 fn open_reach_of(colour: Colour, kind: Kind, squares: Squares) -> Squares
@@ -73,8 +73,8 @@ fn open_reach_of(colour: Colour, kind: Kind, squares: Squares) -> Squares
     reached
 }
 
-// Returns the squares to which men of this kind on these squares could go, including steps and castling, on
-// otherwise empty boards.
+// Returns the squares to which men of this kind on `squares` could go, including pawn advances and
+// castling, each alone on the board.
 #[tactic(auto, using(chess_attacks::proofs::HoldTaken::taken_all, chess_attacks::proofs::HoldTaken::taken_none, chess_attacks::proofs::HoldTaken::rest_falls, crate::proofs::Risks::none_on))]
 #[inline(always)]
 fn open_targets_of(colour: Colour, kind: Kind, squares: Squares) -> Squares
@@ -94,7 +94,7 @@ fn open_targets_of(colour: Colour, kind: Kind, squares: Squares) -> Squares
     targets
 }
 
-// Returns the squares where pawns promote to fairy men, if they may.
+// Returns `promoted`, the squares where pawns promote, if they may promote to fairy men; otherwise none.
 #[tactic(auto)]
 fn fairy_targets(men: &Attackers, promoted: Squares) -> Squares
     ensures { men.now.fairy_promotions ≡ true → result ≡ promoted }
@@ -103,7 +103,7 @@ fn fairy_targets(men: &Attackers, promoted: Squares) -> Squares
 }
 
 // Returns the targets of the men. For pieces other than kings these are the squares that they reach and
-// those where a pawn promotes to their kind.
+// the squares where a pawn promotes to their kind.
 #[inline(always)]
 pub(crate) fn all_open_targets(men: &Attackers) -> OpenTargets
     ensures { AreOpenTargets men.now result }
@@ -173,8 +173,8 @@ pub(crate) fn open_approaches(man: Man, to: Square) -> Squares
     unblocked_reach(Man { colour, kind }, to)
 }
 
-// Returns the squares where the man takes this flight: the flight itself, and those from which it could
-// reach the flight on some board.
+// Returns the squares where the man takes this flight: the flight itself, and the squares from which it
+// could reach the flight on some board.
 #[tactic(auto, using(crate::proofs::LastingFlights::untaken_left))]
 fn taking_squares(man: Man, flight: Square) -> Squares
     ensures { (w t : ℕ) → (bit_at w flight == 1) ≡ true → t < 64 → (bit_at result t == 1) ≡ false
@@ -218,7 +218,8 @@ fn leaves_one_among(squares: Squares, man: Man, targets: Squares) -> bool
     leaves_one_each(squares, man, taken & taking_squares(man, last))
 }
 
-// Returns whether one of the squares remains wherever a man of this kind arrives; there may be none.
+// Returns whether one of `squares` remains wherever among `targets` a man of this kind arrives; `true`
+// without targets.
 #[tactic(auto, using(crate::proofs::Risks::none_on))]
 #[inline(always)]
 fn kind_leaves_one(squares: Squares, colour: Colour, kind: Kind, targets: Squares) -> bool
@@ -274,8 +275,8 @@ pub(crate) fn king_after(board: &Board, man: Man, m: &Move) -> Option<Square>
     board.king_of(board.turn())
 }
 
-// Returns whether one move can't take all those squares that the men don't reach now, as if each were alone
-// on the board.
+// Returns whether one move of the men can't take all squares of `near` that they don't reach now. Each
+// man counts as if it were alone on the board.
 #[tactic(auto, using(crate::proofs::LastingFlights::keeps_one))]
 #[inline(always)]
 pub(crate) fn keeps_one(men: &Attackers, targets: &OpenTargets, near: Squares) -> bool

@@ -1,9 +1,9 @@
-//! Mating moves and replies that can't mate, found mostly without playing moves. All of it is for speed:
-//! `chess_rules` alone could say the same.
+//! Finds mating moves, and moves after which no reply can mate, mostly without playing them. The crate
+//! exists for speed only: `chess_rules` alone would find the same moves.
 //!
 //! ```rust
 //! use chess_core::{Board, Colour, Diagram, Kind, Man, Square};
-//! use chess_mates::MatingMoves;
+//! use chess_mates::MateCursor;
 //! use chess_rules::Orthodox;
 //!
 //! // White Kg6 Ra1, Black Kg8, White to move.
@@ -17,15 +17,15 @@
 //! }
 //! if diagram.is_well_formed() {
 //!     let mut board = Board::of(&diagram);
-//!     let mut mates = MatingMoves::<Orthodox>::of(&board);
+//!     let mut mates = MateCursor::<Orthodox>::of(&board);
 //!     while let Some(m) = mates.next(&mut board) {
 //!         // Once: Ra1-a8.
 //!     }
 //! }
 //! ```
 //!
-//! The interface is what is re-exported at the root, and `threats`, `quiet_steps` and `kept_flights`. No
-//! call allocates or builds a list of moves, and each leaves the board unchanged.
+//! The interface is what the root re-exports, and the modules `threats`, `quiet_steps` and `kept_flights`.
+//! No call allocates, none builds a list of moves, and each leaves the board unchanged.
 #![tactic(auto)]
 
 pub mod aims;

@@ -1,4 +1,4 @@
-//! The mating moves of one position; most other moves are passed over without being played.
+//! The mating moves of one position. Most other moves are skipped without being played.
 ghost use Rattle.std.specs.Prelude.{◌≡◌, ⊤, ℕ, ◌≤◌, ◌<◌, ◌∷◌, [], ◌&&◌, IfSome, MatchOption, None, Some, ◌==◌, false, not, true};
 ghost use Rattle.chess_core.specs.Position.{other};
 ghost use Rattle.chess_core.specs.WellFormed.{IsWellFormed};
@@ -33,8 +33,8 @@ use chess_rules::targets::{TRIPLES, TargetCache, arrivals};
 use std::alloc::AllocError;
 use std::marker::{Model, PhantomData};
 
-/// What rules out that a move mates: the squares from which a move may give check, and the flights of the
-/// enemy king.
+/// What shows that a move doesn't mate: the squares from which a move may give check, and the flights of
+/// the enemy king.
 #[derive(Clone, Copy)]
 pub(crate) struct MateClues {
     checks: CheckSquares,
@@ -102,23 +102,23 @@ impl<R: Rules> MateCursor<R> {
         }
     }
 
-    /// Returns the cursor as `Moves`, without what is kept for this position.
+    /// Returns the cursor's place, without what the cursor keeps for its position.
     pub fn place(&self) -> Moves<R>
         ensures { result ≡ self.now.place }
     {
         Moves::at(self.number)
     }
 
-    /// Moves the cursor to another place in the list of the same position.
+    /// Moves the cursor to another place in the order of moves of its position.
     pub fn go_to(&mut self, place: Moves<R>)
         ensures { self.new ≡ record self.old { place = place } }
     {
         self.number = place.number();
     }
 
-    /// Returns the next legal move after the cursor that mates, and moves the cursor to it. After the last
-    /// it returns `None` and moves the cursor to the end. The cursor must be of the board's position. The
-    /// board is unchanged.
+    /// Returns the next legal move after the cursor that mates, and moves the cursor to it. After the
+    /// last one it returns `None` and moves the cursor to the end. The cursor must belong to the board's
+    /// position. The board is unchanged.
     #[tactic(auto, using(crate::proofs::MatesBetween::next_mates), unfolding(crate::specs::ties::Mates::mates, chess_rules::specs::ties::Places::place_of))]
     pub fn next(&mut self, board: &mut Board) -> Option<Move>
         requires well_formed { IsWellFormed board.old }
@@ -147,8 +147,8 @@ impl<R: Rules> MateCursor<R> {
         None
     }
 
-    /// Returns the next legal move after the cursor and not after `end` that mates, and moves the cursor to
-    /// it. If there is none it returns `None` and the cursor stays. The cursor must be of the board's
+    /// Returns the next legal move between the cursor and `end` that mates, and moves the cursor to it.
+    /// If there is none it returns `None` and the cursor stays. The cursor must belong to the board's
     /// position. The board is unchanged.
     #[tactic(auto, using(crate::proofs::MatesBetween::until_mates), unfolding(crate::specs::ties::Mates::mates))]
     pub fn next_until(&mut self, end: Moves<R>, board: &mut Board) -> Option<Move>
@@ -179,8 +179,8 @@ impl<R: Rules> MateCursor<R> {
     }
 }
 
-/// Returns the next legal move after `place` that mates, and moves `place` to it. After the last it returns
-/// `None` and moves `place` to the end. The board is unchanged.
+/// Returns the next legal move after `place` that mates, and moves `place` to it. After the last one it
+/// returns `None` and moves `place` to the end. The board is unchanged.
 pub fn next_mate<R: Rules>(place: &mut Moves<R>, board: &mut Board) -> Option<Move>
     requires { IsWellFormed board.old }
     ensures place { place.new ≡ place_of result }
@@ -360,7 +360,8 @@ fn is_checked<R: Rules>(board: &Board, parries: Parries) -> bool
 }
 
 // Returns whether the side to move, which is in check, has a legal move. Skips the king's moves if it is
-// known to have none, and then the others' too if they are known to have none. The board is unchanged.
+// known to have none, and in that case the other men's moves too if they are known to have none. The
+// board is unchanged.
 #[tactic(auto, using(crate::proofs::Flightless::others_are_all, crate::proofs::Flightless::none_are_left))]
 fn has_move_in_check<R: Rules>(board: &mut Board, flights: Flights, parries: Parries) -> bool
     requires well_formed { IsWellFormed board.old }

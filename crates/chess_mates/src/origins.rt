@@ -40,7 +40,7 @@ fn far_pawns<R: Rules>(board: &Board, squares: &CheckSquares) -> Squares
     men_off_blockers(board, squares, Kind::Pawn) & !pawns_before(board.turn(), targets)
 }
 
-// Returns whether the man could reach none of its targets from here on an empty board.
+// Returns whether the man could reach none of `targets` from `from` on an empty board.
 #[inline(always)]
 #[tactic(auto, using(crate::proofs::FarMen::far_by))]
 fn is_far<R: Rules>(board: &Board, man: Man, from: Square, targets: Squares) -> bool
@@ -51,8 +51,8 @@ fn is_far<R: Rules>(board: &Board, man: Man, from: Square, targets: Squares) -> 
     unblocked_targets(man, from) & targets == 0
 }
 
-// Returns the squares of the mover's men of this kind, not kings, that could reach no check square on an
-// empty board.
+// Returns the squares of the mover's men of this kind, other than king, that could reach no check square
+// on an empty board.
 #[inline(always)]
 #[tactic(auto, using(chess_attacks::proofs::HoldTaken::rest_falls, crate::proofs::Hurdles::rest_on, crate::proofs::FarMen::far_either, chess_attacks::proofs::Bits::off_zero, crate::proofs::FarMen::far_one))]
 fn far_men<R: Rules>(board: &Board, squares: &CheckSquares, kind: Kind) -> Squares

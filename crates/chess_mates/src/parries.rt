@@ -1,5 +1,5 @@
-//! Parries by men other than the king, found before the check is given: a man captures the checker or
-//! interposes. Also checks that no other man can parry.
+//! Parries of a check by men other than the king, known before the check is given: some man can capture
+//! the checker or interpose, or no man can.
 ghost use Rattle.std.specs.Prelude.{◌≡◌, ◌&&◌, ◌<◌, ◌==◌, ℕ, List, Option, true, false};
 ghost use Rattle.chess_core.specs.Position.{Position, is_of_colour, man_on, other};
 ghost use Rattle.chess_core.specs.Squares.{is_square, some_square};
@@ -36,16 +36,16 @@ use chess_rules::making_moves::play::capture_square;
 /// What is known of parries of a check by legal moves of men other than the king.
 #[derive(Clone, Copy)]
 pub(crate) enum Parries {
-    /// There is one.
+    /// Some man can parry.
     Possible,
-    /// There is none.
+    /// No man can parry.
     Impossible,
     /// Nothing is known.
     Unknown,
 }
 
-// Returns whether parries of the man's move are computed: it is no king and doesn't promote, no line to the
-// enemy king opens, nobody is reborn, and no man is paralysed.
+// Returns whether the parries of the man's move can be computed: the man is no king and doesn't promote,
+// no line to the enemy king opens, nobody is reborn, and no man is paralysed.
 fn are_parries_known<R: Rules>(board: &Board, squares: &CheckSquares, man: Man, m: &Move) -> bool
     requires { AreCheckSquares board.now.men (other board.now.turn) squares.now }
     ensures { result ≡ true → AreParriesKnown R.rule board.now man m.now }
@@ -74,8 +74,8 @@ fn unpinned_squares(board: &Board, squares: &CheckSquares, m: &Move, king: Squar
     !blockers
 }
 
-// Returns the squares that a man of this kind reaches from both `to` and `king`, if `to` is on one of the
-// lines: the squares between.
+// Returns the squares between `to` and `king`, if `to` is on one of `lines`: the squares that a man of
+// this kind reaches from both. Otherwise returns none.
 #[inline(always)]
 fn seen_from_both(
     occupied: Squares,
@@ -94,7 +94,7 @@ fn seen_from_both(
     reach_over(occupied, Colour::White, kind, to) & reach_over(occupied, Colour::White, kind, king)
 }
 
-// Returns the squares between the arrival and the king, if they are on one line.
+// Returns the squares between `to` and `king`, if both are on one line.
 #[inline(always)]
 fn squares_between(occupied: Squares, to: Square, king: Square) -> Squares
     ensures { (men : List (Option Man)) → occupied ≡ occupied_squares men
@@ -107,8 +107,8 @@ fn squares_between(occupied: Squares, to: Square, king: Square) -> Squares
     straight | diagonal
 }
 
-// Returns whether the man on `to` no longer reaches the king after the first of `comers` has gone to the
-// square.
+// Returns whether the man on `to` no longer reaches the king after the first of `comers` has gone to
+// `square`; `false` without comers.
 fn shuts(
     occupied: Squares,
     man: Man,
@@ -139,8 +139,8 @@ fn pawn_origins(colour: Colour, square: Square) -> Squares
     pawn_advances(colour.other(), square) & king_leaps(square)
 }
 
-// Returns whether a man of the colour other than the king can go to the empty square. `reaching` are the
-// squares of men that reach it, `pawns` the squares of the pawns.
+// Returns whether a man of the colour, except the king, can go to the empty `square`. `reaching` are the
+// squares of the men that reach it, `pawns` the squares of the pawns.
 fn is_approached(
     reaching: Squares,
     pawns: Squares,
@@ -157,7 +157,8 @@ fn is_approached(
     (pieces | pawns & pawn_advances(colour.other(), square)) != 0
 }
 
-// Returns what is known of men that interpose between the arrived man and the king on `king`.
+// Returns what is known of parries by interposing between the man that arrives on `m.to` and the king on
+// `king`.
 #[tactic(auto, using(chess_attacks::proofs::HoldTaken::rest_falls, crate::proofs::Hurdles::rest_on))]
 #[inline(always)]
 fn parries_between(
@@ -195,8 +196,9 @@ fn parries_between(
     }
 }
 
-// Returns whether nobody but the king can take the checker on `to`, which is no pawn (it might be captured
-// en passant) and no fairy man. `takers` are the men that reach it.
+// Returns whether nobody but the king can take the checker on `to`. Returns `false` for a pawn, which
+// might be captured en passant, and for a fairy man. `takers` are the squares of the men that reach the
+// checker.
 fn is_untaken(occupied: Squares, takers: Squares, man: Man, to: Square, king: Square) -> bool
     ensures { result ≡ true → IsUntaken occupied takers man to king }
 {
@@ -208,8 +210,9 @@ fn is_untaken(occupied: Squares, takers: Squares, man: Man, to: Square, king: Sq
         && contains(reach_over(occupied, man.colour, man.kind, to), king)
 }
 
-// Returns what is known of the parries of the move: an unpinned man can capture the checker or interpose,
-// so that the move doesn't mate; or no man can, pinned or not.
+// Returns what is known of the parries of the move, if it gives check: `Possible` if an unpinned man can
+// capture the checker or interpose, so that the move doesn't mate; `Impossible` if no man can, pinned or
+// not.
 pub(crate) fn parries_after<R: Rules>(board: &Board, squares: &CheckSquares, m: &Move) -> Parries
     requires well_formed { IsWellFormed board.now }
     requires pseudo { is_pseudo_legal R.rule board.now m.now ≡ true }

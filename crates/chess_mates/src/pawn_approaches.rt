@@ -6,8 +6,8 @@ ghost use Rattle.chess_mates.specs.ties.Threats.{AreCapturers};
 use chess_core::man::Colour;
 use chess_core::square::Squares;
 
-// Returns a superset of the squares from which a pawn of this colour could go to one of the targets; it
-// also holds squares beyond the edge of a file.
+// Returns a superset of the squares from which a pawn of this colour could go to one of the targets: the
+// shifts wrap around the edges of the board.
 #[inline(always)]
 #[tactic(auto, using(crate::proofs::Approaches::pawns_come_from))]
 pub(crate) fn pawns_before(colour: Colour, targets: Squares) -> Squares
@@ -19,8 +19,8 @@ pub(crate) fn pawns_before(colour: Colour, targets: Squares) -> Squares
     }
 }
 
-// Returns a superset of the squares from which a pawn of this colour could capture on one of the targets;
-// it also holds squares beyond the edge of a file.
+// Returns a superset of the squares from which a pawn of this colour could capture on one of the
+// targets: the shifts wrap around the edges of the board.
 #[tactic(auto, using(crate::proofs::Approaches::pawns_capture_from))]
 pub(crate) fn capturers_before(colour: Colour, targets: Squares) -> Squares
     ensures { AreCapturers colour targets result }

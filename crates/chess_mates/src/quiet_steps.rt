@@ -1,5 +1,5 @@
-//! Steps of the enemy king after a move, found without playing it. If one gives no check, not every reply
-//! mates.
+//! Quiet steps: steps of the enemy king after a move that give no check, found without playing the move.
+//! If there is one, not every reply mates.
 ghost use Rattle.std.specs.Prelude.{◌≡◌, ◌<◌, ◌==◌, ℕ, IfSome, Option, Some, false, true};
 ghost use Rattle.std.specs.Int.{bit_at};
 ghost use Rattle.std.specs.List.{list_all};
@@ -37,8 +37,8 @@ use chess_rules::exposure::is_simple;
 use chess_rules::filter_moves::FilteredMoves;
 use chess_rules::making_moves::play::capture_square;
 
-// Returns the sight after the enemy king, lifted from `king`, is put on `to`; the king isn't among the
-// standing men.
+// Returns the occupancy after the enemy king, lifted from `king`, is put on `to`; the king isn't among
+// the standing men.
 fn sight_stepped(occupancy: Occupancy, king: Square, to: Square) -> Occupancy
     ensures { result ≡ sight_stepped occupancy king to }
 {
@@ -59,8 +59,8 @@ fn is_quiet_to(board: &Board, occupancy: Occupancy, king: Square, to: Square, ow
     !has_attacker_in(board, seen, own, board.turn().other())
 }
 
-// Returns whether the enemy king on `king` has a legal step to one of the squares after this man's simple
-// move, and the first one gives no check.
+// Returns whether the enemy king on `king` has a legal step to one of `squares` after this man's simple
+// move, and the first of these steps gives no check.
 #[tactic(auto, using(crate::proofs::CalmSteps::not_all_mate))]
 fn steps_quietly<R: Rules>(
     board: &Board,
@@ -90,8 +90,8 @@ fn steps_quietly<R: Rules>(
     }
 }
 
-// Returns the squares to which the enemy king on `king` could step if it were to move, and perhaps others
-// if there are grasshoppers. Where to look for steps affects speed only.
+// Returns the squares to which the enemy king on `king` could step if it were to move, and perhaps
+// others if there are grasshoppers. The choice of squares affects speed only.
 fn steps_now(board: &Board, king: Square) -> Squares {
     let near = king_leaps(king) & !held_squares(board, !0);
     let hurdles = occupied(board) & !only(Some(king));
@@ -109,7 +109,7 @@ pub(crate) fn none_hops(board: &Board) -> bool
         == 0
 }
 
-// Returns the sight without the men on two squares.
+// Returns the occupancy without the men on `from` and `king`.
 fn sight_without(board: &Board, from: Square, king: Square) -> Occupancy
     ensures { result ≡ sight_without board.now.men from king }
 {
@@ -120,8 +120,8 @@ fn sight_without(board: &Board, from: Square, king: Square) -> Occupancy
     }
 }
 
-// Returns the squares to which the enemy king on `king` may step, attacked or not: those next to it without
-// a man of its own and without a king, and in Circe without any man.
+// Returns the squares to which the enemy king on `king` may step, attacked or not: the squares next to
+// it without a man of its side and without a king, and in Circe without any man.
 #[tactic(auto, using(crate::proofs::QuietFilter::open_in_circe, crate::proofs::QuietFilter::open_elsewhere))]
 pub(crate) fn free_steps<R: Rules>(board: &Board, king: Square) -> Squares
     ensures { AreOpen R.rule board.now.men (other board.now.turn) king result }
@@ -164,9 +164,9 @@ pub(crate) fn unsimple_squares<R: Rules>(board: &Board, man: Man, from: Square) 
     only(board.crossed()) | special_arrivals(man, from) | captures
 }
 
-// Returns whether no step of the enemy king from `king` is seen to uncover a check after this man has left:
-// none of the standing men reaches the mover's king, or, if that king moves, the square that the enemy king
-// leaves.
+// Returns whether no step of the enemy king from `king` uncovers a check after this man has left: no
+// standing man of the enemy reaches the mover's king, or, if that king is the man that moves, the square
+// that the enemy king leaves. `false` says nothing.
 fn are_quiet<R: Rules>(board: &Board, occupancy: Occupancy, man: Man, king: Square) -> bool
     ensures { result ≡ true → AreQuiet R.rule board.now occupancy man king }
 {
@@ -222,7 +222,7 @@ fn holding_squares(board: &Board, occupancy: Occupancy, man: Man, steps: Squares
 }
 
 // Returns which of `squares` the mover's king on `king` may legally step to, if that is known. Out of
-// line: other men are asked for more often.
+// line: most calls concern other men.
 #[inline(never)]
 #[tactic(auto, using(crate::proofs::ExactSteps::known_exactly))]
 fn king_steps<R: Rules>(board: &Board, king: Square, squares: Squares) -> Option<Squares>
@@ -235,7 +235,8 @@ fn king_steps<R: Rules>(board: &Board, king: Square, squares: Squares) -> Option
     exact_steps::<R>(&king_attack, squares)
 }
 
-/// Steps of the enemy king that give no check, for all moves of one position.
+/// Steps of the enemy king that give no check, for all moves of one position. As a filter it takes moves
+/// after which a quiet step remains, so that not every reply mates.
 #[derive(Clone, Copy)]
 pub struct QuietSteps {
     // The squares to which the enemy king could step if it were to move; other steps aren't looked for.
@@ -243,7 +244,7 @@ pub struct QuietSteps {
 }
 
 impl QuietSteps {
-    /// Returns the quiet steps of this position.
+    /// Computes the quiet steps for the board's position.
     pub fn of(board: &Board) -> QuietSteps {
         let squares = match board.king_of(board.turn().other()) {
             Some(king) => steps_now(board, king),
@@ -252,8 +253,8 @@ impl QuietSteps {
         QuietSteps { squares }
     }
 
-    /// Returns whether a quiet step is surely legal after the move, so that not every reply mates. `false`
-    /// says nothing, as after castling and rebirth.
+    /// Returns whether a quiet step is certainly legal after the move, so that not every reply mates.
+    /// `false` says nothing; castling and captures with rebirth always return it.
     pub fn follow<R: Rules>(&self, board: &Board, m: &Move) -> bool
         requires well_formed { IsWellFormed board.now }
         requires legal { is_legal R.rule board.now m.now ≡ true }
@@ -278,8 +279,8 @@ impl QuietSteps {
         }
     }
 
-    /// Returns whether quiet steps are known for all moves of a man at once: not without any step, and not
-    /// if there are grasshoppers.
+    /// Returns whether quiet steps are known for all moves of a man at once: the enemy king has a step,
+    /// and no grasshopper is on the board.
     pub fn are_known(&self, board: &Board) -> bool
         ensures { result ≡ true → NoneHops board.now.men }
     {

@@ -1,5 +1,5 @@
-//! The risk of a king: the squares where the arrival of one of its men might allow mate, found before that
-//! side's move.
+//! The risk of a king: the squares where the arrival of a man of its side might allow mate, computed
+//! before that side moves.
 ghost use Rattle.std.specs.Prelude.{◌≡◌, ◌≢◌, ◌<◌, ◌==◌, ℕ, IfSome, true, false};
 ghost use Rattle.std.specs.Int.{bit_at};
 ghost use Rattle.chess_core.specs.Steps.{gait_of, is_hopper};
@@ -28,15 +28,15 @@ use chess_core::man::{Colour, Kind, Man};
 use chess_core::square::{Square, Squares};
 use chess_rules::targets::unblocked_targets;
 
-// The squares where a defender's arrival might allow mate, and the squares of all lines on which hurdles
-// matter.
+// The squares where a defender's arrival might allow mate (`critical`), and the squares of all lines on
+// which a hurdle matters (`lines`).
 #[derive(Clone, Copy)]
 pub(crate) struct Risk {
     pub(crate) critical: Squares,
     pub(crate) lines: Squares,
 }
 
-// The risk after a defender has left a line on which it is a hurdle.
+// The risk after the defender on `from` has left a line on which it is a hurdle.
 #[derive(Clone, Copy)]
 pub(crate) struct RiskAfterLeaving {
     from: Square,
@@ -50,8 +50,8 @@ fn left_squares(near: Squares, man: Man, to: Square) -> Squares
     near & !(unblocked_reach(man, to) | only(Some(to)))
 }
 
-// Returns the squares whose occupation by a defender leaves none of `near`, once the man is on `to`. If
-// another attacker is on `to`, the man arrives there only as a recapture.
+// Returns the squares whose occupation by a defender leaves none of `near` to the king, once the man is
+// on `to`. If another attacker is on `to`, the man arrives there only by recapturing.
 #[tactic(auto, using(chess_rules::proofs::listing_moves::Targeting::every_square_on))]
 fn critical_with(near: Squares, enemies: Squares, man: Man, to: Square) -> Squares
     ensures { LeavesOne near enemies result man to }
@@ -70,8 +70,8 @@ fn critical_with(near: Squares, enemies: Squares, man: Man, to: Square) -> Squar
     0
 }
 
-// Returns the squares whose occupation by a defender might leave none of `near`, wherever the man arrives
-// on a target.
+// Returns the squares whose occupation by a defender might leave none of `near` to the king, wherever
+// among `targets` the man arrives.
 #[tactic(auto, using(chess_attacks::proofs::HoldTaken::rest_falls, chess_attacks::proofs::HoldTaken::taken_all, chess_attacks::proofs::HoldTaken::taken_none))]
 #[inline(always)]
 fn critical_after(near: Squares, enemies: Squares, man: Man, targets: Squares) -> Squares
@@ -87,8 +87,9 @@ fn critical_after(near: Squares, enemies: Squares, man: Man, targets: Squares) -
     critical
 }
 
-// Returns the squares whose occupation by a defender might leave none of `near` after a pawn arrives on a
-// target, whatever it promotes to: a promoted rook or bishop takes no more than a queen.
+// Returns the squares whose occupation by a defender might leave none of `near` to the king after a pawn
+// arrives on one of `targets`, whatever it promotes to: a rook or bishop takes no square that a queen
+// doesn't take.
 #[tactic(auto, using(crate::proofs::Promotions::pawn_leaves, crate::proofs::Promotions::unpromoted_leaves))]
 #[inline(never)]
 fn critical_of_pawn(near: Squares, enemies: Squares, man: Man, targets: Squares) -> Squares
@@ -108,8 +109,8 @@ fn critical_of_pawn(near: Squares, enemies: Squares, man: Man, targets: Squares)
     critical | queens | knights
 }
 
-// Returns the squares whose occupation by a defender might leave none of `near` after the man goes from
-// `from` to a target. For a grasshopper it uses the hurdles that are there then.
+// Returns the squares whose occupation by a defender might leave none of `near` to the king after the
+// man goes from `from` to one of `targets`. For a grasshopper it counts the hurdles that remain then.
 #[inline(always)]
 fn critical_of_going(
     king_attack: &KingAttack,
@@ -145,8 +146,8 @@ fn may_become_fairy(men: &Attackers, man: Man, targets: Squares) -> bool
     targets & LAST_RANKS != 0
 }
 
-// Returns the squares to which the man on `from` may go: for a pawn or grasshopper on some board, for
-// others over the hurdles.
+// Returns the squares to which the man on `from` may go: a pawn or grasshopper on some board, another
+// man over the hurdles.
 #[tactic(auto, using(crate::proofs::Standing::no_hopper))]
 fn arrivals(hurdles: Squares, man: Man, from: Square) -> Squares
     ensures { AreArrivals hurdles man from result }
@@ -157,8 +158,8 @@ fn arrivals(hurdles: Squares, man: Man, from: Square) -> Squares
     }
 }
 
-// Returns the reached squares from which the man gives check, lets a hopper give check, or may
-// give check after promotion. A king itself gives no check.
+// Returns the reached squares from which the man gives check, lets a hopper give check, or may give
+// check after promotion. A king itself gives no check.
 #[tactic(auto, using(chess_rules::proofs::listing_moves::Walks::off_second, crate::proofs::Risks::king_targets))]
 fn checking_targets(man: Man, reached: Squares, king_zone: &KingZone, checks: Squares) -> Squares
     ensures { (t : ℕ) → t < 64 → (bit_at reached t == 1) ≡ true
@@ -173,8 +174,7 @@ fn checking_targets(man: Man, reached: Squares, king_zone: &KingZone, checks: Sq
     reached & (checks | king_zone.springboards)
 }
 
-// Returns all squares that the man reaches if another attacker gives check once it has left, otherwise the
-// targets.
+// Returns all of `reached` if another attacker gives check once the man has left, otherwise `targets`.
 #[tactic(auto)]
 fn watched_squares(guards: &Guards, king: Square, reached: Squares, targets: Squares) -> Squares
     ensures all { (bit_at guards.now.guarded king == 1) ≡ true → result ≡ reached }
@@ -197,7 +197,8 @@ fn uncaptured_squares(king_zone: &KingZone, guards: &Guards, squares: Squares) -
     squares & (!king_zone.captures | guards.guarded)
 }
 
-// Returns whether the man, leaving `from`, may arrive on a springboard of another hopper.
+// Returns whether one of `squares`, where the man from `from` may arrive, is a springboard of another
+// hopper.
 #[tactic(auto, using(crate::proofs::Risks::none_checks))]
 fn may_spring(
     king_attack: &KingAttack,
@@ -213,8 +214,8 @@ fn may_spring(
     others != 0 && king_zone.hops & squares != 0
 }
 
-// Returns the risk of the man's move from `from` to one of the squares that it reaches: to a target, or to
-// any square if another attacker then gives check. There is no risk where the king captures it.
+// Returns the risk of the man's move from `from` to one of the squares that it reaches: to a target, or
+// to any square if another attacker then gives check. There is no risk where the king captures the man.
 #[inline(always)]
 fn risk_of_going(
     king_attack: &KingAttack,
@@ -254,8 +255,8 @@ fn risk_of_going(
     }
 }
 
-// Returns the risk of the man on `from`, which gives check from the squares `checks`. Mostly it couldn't
-// get there even on an empty board.
+// Returns the risk of the man on `from`, which gives check from the squares `checks`. Usually it
+// couldn't get there even on an empty board: that test comes first.
 #[inline(always)]
 fn risk_from(
     king_attack: &KingAttack,
@@ -285,7 +286,7 @@ fn risk_from(
     risk_of_going(king_attack, king_zone, man, from, reached, targets)
 }
 
-// Returns the risk of men like this on these squares.
+// Returns the risk of the men on `squares`, all of this colour and kind.
 #[tactic(auto, using(chess_attacks::proofs::HoldTaken::rest_falls, chess_attacks::proofs::HoldTaken::taken_all, chess_attacks::proofs::HoldTaken::taken_none))]
 #[inline(always)]
 fn risk_together(
@@ -336,8 +337,9 @@ fn check_squares_over(king_attack: &KingAttack, king_zone: &KingZone, man: Man) 
     )
 }
 
-// Returns a superset of the squares from which the man may give check with its next move, promoted or not,
-// on an empty board, or uncover a check. For pawns and kings these are few, unless hoppers attack the king.
+// Returns a superset of the squares from which the man may give check with its next move, promoted or
+// not, on an empty board, or uncover a check. All squares, unless the man is a pawn or a king and the
+// king's square has no springboard.
 #[tactic(auto, using(chess_rules::proofs::listing_moves::Targeting::every_square_on, chess_rules::proofs::listing_moves::Targeting::false_by, crate::proofs::Risks::king_targets, crate::proofs::Risks::none_at, crate::proofs::Risks::pawn_idly))]
 #[inline(always)]
 fn suspect_squares(king_zone: &KingZone, man: Man, checks: Squares) -> Squares
@@ -356,8 +358,8 @@ fn suspect_squares(king_zone: &KingZone, man: Man, checks: Squares) -> Squares
     !0
 }
 
-// Returns whether a man like this on one of the squares gives check now; for grasshoppers the springboards
-// say so.
+// Returns whether a man of this kind on one of `squares` gives check now. Returns `false` for
+// grasshoppers: their springboards decide.
 #[tactic(auto, using(crate::proofs::Risks::none_checks))]
 fn check_now(man: Man, checks: Squares, squares: Squares) -> bool
     ensures { result ≡ false → is_hopper (gait_of man.kind) ≡ false → (s : ℕ)
@@ -369,8 +371,8 @@ fn check_now(man: Man, checks: Squares, squares: Squares) -> bool
     checks & squares != 0
 }
 
-// Returns the risk of the men of this kind on these squares. If one gives check now, every square is
-// critical.
+// Returns the risk of the attackers of this kind, which are on `squares`. If one gives check now, every
+// square is critical.
 #[tactic(auto, using(chess_rules::proofs::listing_moves::Targeting::every_square_on, crate::proofs::Risks::none_at))]
 #[inline(always)]
 fn risk_of(king_attack: &KingAttack, king_zone: &KingZone, kind: Kind, squares: Squares) -> Risk
@@ -436,8 +438,8 @@ fn risk_of_all(king_attack: &KingAttack, king_zone: &KingZone) -> Risk
     }
 }
 
-// Returns the risk of a defender whose king is on this square, with its nightrider lines and springboards.
-// If a hopper checks it or a castling may, every square is critical.
+// Returns the risk of a defender whose king is on `king`. `riders` are its nightrider lines,
+// `hop_targets` its springboards. If a hopper or castling may give check, every square is critical.
 #[tactic(auto, using(crate::proofs::KingAttacks::risk_is, chess_rules::proofs::listing_moves::Targeting::every_square_on))]
 #[inline(always)]
 fn risk_with(
@@ -467,7 +469,7 @@ fn risk_with(
     }
 }
 
-// Returns the risk of a defender whose king is on this square, for any attackers.
+// Returns the risk of a defender whose king is on `king`, whatever men the attackers have.
 #[inline(never)]
 fn risk_beside_fairies(king_attack: &KingAttack, king: Square) -> Risk
     ensures { IsRiskAt king_attack.now king result }
@@ -481,8 +483,7 @@ fn risk_beside_fairies(king_attack: &KingAttack, king: Square) -> Risk
     )
 }
 
-// Returns the risk of a defender whose king is on this square; faster without fairy men among the
-// attackers.
+// Returns the risk of a defender whose king is on `king`. Faster if the attackers have no fairy men.
 pub(crate) fn risk_at(king_attack: &KingAttack, king: Square) -> Risk
     ensures { IsRiskAt king_attack.now king result }
 {
@@ -493,7 +494,7 @@ pub(crate) fn risk_at(king_attack: &KingAttack, king: Square) -> Risk
     risk_beside_fairies(king_attack, king)
 }
 
-// Returns the risk of the attacked king itself. Hurdles on the lines of all riders count too.
+// Returns the risk of the king on its own square. Its `lines` include the lines of all riders.
 fn risk_of_king_attack(king_attack: &KingAttack) -> Risk
     requires king_attack { IsKingAttack king_attack.now }
     requires whole { IsWhole king_attack.now }
@@ -506,7 +507,8 @@ fn risk_of_king_attack(king_attack: &KingAttack) -> Risk
     }
 }
 
-// Returns the risk of the attacked king, from `kept` if it is there.
+// Returns the risk of the king on its own square. Takes it from `kept`, or computes it and keeps it
+// there.
 #[inline(always)]
 pub(crate) fn cached_risk(king_attack: &KingAttack, kept: &mut Option<Risk>) -> Risk
     requires king_attack { IsKingAttack king_attack.now }
@@ -523,7 +525,7 @@ pub(crate) fn cached_risk(king_attack: &KingAttack, kept: &mut Option<Risk>) -> 
     risk
 }
 
-// Returns the risk of a defender that leaves a line on which it is a hurdle.
+// Returns the risk after the defender on `from` has left a line on which it is a hurdle.
 fn risk_after(king_attack: &KingAttack, from: Square) -> Risk
     ensures { IsRiskAfterLeaving king_attack.now from result }
 {
@@ -531,8 +533,8 @@ fn risk_after(king_attack: &KingAttack, from: Square) -> Risk
     risk_at(&lifted, king_attack.king)
 }
 
-// Returns the risk of a defender that leaves `from`, from `kept` if it is for this square, and keeps it for
-// the defender's other moves.
+// Returns the risk after the defender on `from` has left a line on which it is a hurdle. Takes it from
+// `kept` if that is for `from`; otherwise computes it and keeps it there for the defender's other moves.
 fn cached_risk_after(
     king_attack: &KingAttack,
     kept: &mut Option<RiskAfterLeaving>,
@@ -552,9 +554,9 @@ fn cached_risk_after(
     risk
 }
 
-// Returns the critical squares among `squares`, and perhaps others: where the arrival of the man on `from`, not the king, might
-// allow mate. It uses the king's own risk, unless the man leaves a line on which it is a hurdle; leaving
-// never makes it smaller.
+// Returns the critical squares among `squares`, and perhaps others: squares where the arrival of the man
+// on `from`, which isn't the king, might allow mate. It uses the risk of the men as they are, unless the
+// man leaves a line on which it is a hurdle; that never makes the risk smaller.
 #[tactic(auto, using(chess_rules::proofs::listing_moves::Targeting::false_by))]
 pub(crate) fn critical_from(
     king_attack: &KingAttack,

@@ -1,4 +1,4 @@
-//! Flights of the enemy king as the men are. Most of them remain after any single move.
+//! The flights that the enemy king has now. Most of them remain after any single move.
 ghost use Rattle.std.specs.Prelude.{◌≡◌, ◌<◌, ◌==◌, ℕ, Some, false, true};
 ghost use Rattle.std.specs.Int.{bit_at};
 ghost use Rattle.chess_core.specs.Position.{king_square, other};
@@ -18,11 +18,12 @@ use chess_core::board::Board;
 use chess_core::man::Man;
 use chess_core::square::{Square, Squares};
 
-// Against more men a king seldom has flights that remain: the search for them isn't worth its time.
+// The most men of the mover against which flights are looked for. Against more, a king seldom has
+// flights that remain.
 const MOST_MEN: u32 = 12;
 
-/// The flights, and the squares that the mover's riders reach: a man that leaves any other square opens no
-/// line.
+/// The flights, and the squares that the mover's riders reach (`ridden`). A man that leaves any other
+/// square opens no line.
 #[derive(Clone, Copy)]
 pub(crate) struct StandingFlights {
     flights: Squares,
@@ -52,7 +53,7 @@ fn are_sought(board: &Board) -> bool
     board.side(board.turn()).count_ones() <= MOST_MEN && none_hops(board)
 }
 
-/// Returns the flights of this position; none if it isn't worth looking for them.
+/// Returns the flights of the enemy king in the board's position; none if they aren't looked for.
 #[tactic(auto, using(crate::proofs::KeptFlights::no_flights))]
 pub(crate) fn standing_flights<R: Rules>(board: &Board) -> StandingFlights
     ensures { AreStandingFlights R.rule board.now result }

@@ -17,8 +17,9 @@ use chess_attacks::rules::Rules;
 use chess_attacks::words::{contains, only, pop_first};
 use chess_core::square::{Square, Squares};
 
-// Steps of the king, the risky steps among them, after which a reply might mate, and the rules for which this was
-// computed.
+// Steps of the king (`steps`), the steps among them after which a reply might mate (`risky`), and the
+// rules for which this was computed: whether men of one kind paralyse each other (`stand_still`), and
+// whether captures do more than remove a man (`do_more`).
 #[derive(Clone, Copy)]
 pub(crate) struct StepCache {
     steps: Squares,
@@ -28,7 +29,7 @@ pub(crate) struct StepCache {
 }
 
 impl StepCache {
-    // Returns the value before any step has been computed.
+    // Returns the empty cache.
     pub(crate) fn none() -> StepCache
         ensures { (v : KingAttack) → IsStepCacheOf v result }
     {
@@ -41,7 +42,7 @@ impl StepCache {
     }
 }
 
-// Returns whether the king keeps a flight after the step, whatever is played.
+// Returns whether the king certainly keeps a flight after its step to `to`, whatever is played next.
 #[inline(always)]
 fn keeps_flight_at<R: Rules>(king_attack: &KingAttack, targets: &OpenTargets, to: Square) -> bool
     requires { AreOpenTargets king_attack.now.men targets.now }
@@ -51,8 +52,8 @@ fn keeps_flight_at<R: Rules>(king_attack: &KingAttack, targets: &OpenTargets, to
         && keeps_one(&king_attack.men, targets, adjacent_squares(king_attack, to))
 }
 
-// Returns the square if the king's step there might allow mate: a reply may mate there or a man is on it,
-// and no flight is sure.
+// Returns `to` if the king's step there might allow mate, otherwise no square. It might if the king may
+// keep no flight, and a man is on `to` or `to` is critical.
 #[tactic(auto, using(crate::proofs::Sparing::one_square))]
 fn risky_step<R: Rules>(king_attack: &KingAttack, targets: &OpenTargets, to: Square) -> Squares
     requires { AreOpenTargets king_attack.now.men targets.now }
@@ -86,10 +87,11 @@ fn risky_among<R: Rules>(king_attack: &KingAttack, targets: &OpenTargets, steps:
     risky
 }
 
-// For fewer steps it isn't worth finding out which are legal.
+// The fewest steps for which it is worth finding out which are legal.
 const FEW_STEPS: u32 = 3;
 
-// Returns the squares that attackers near the region reach, without grasshoppers.
+// Returns the squares that attackers other than grasshoppers reach. Leaves out attackers that could
+// reach no square of the region on any board.
 #[tactic(auto, using(crate::proofs::Hurdles::all_reach))]
 #[inline(always)]
 fn reached_squares(king_attack: &KingAttack, region: Squares) -> Squares
@@ -102,8 +104,8 @@ fn reached_squares(king_attack: &KingAttack, region: Squares) -> Squares
     ridden | leapt_squares(king_attack.hurdles, &king_attack.men, region)
 }
 
-// Returns whether the attackers' reach decides which steps are legal: they are few, with no grasshopper
-// among them.
+// Returns whether the attackers' reach decides which steps are legal: the attackers are few, with no
+// grasshopper among them.
 #[tactic(auto, using(crate::proofs::ExactSteps::none_hops))]
 fn reports_steps(king_attack: &KingAttack) -> bool
     ensures { result ≡ true → AreUnhopping king_attack.now.men }
@@ -123,8 +125,9 @@ fn plain_squares<R: Rules>(king_attack: &KingAttack) -> Squares
     near
 }
 
-// Returns exactly which of the squares the king may legally step to, if they can be computed: not in
-// Madrasi, not for few squares, and not if the king may castle or, in Circe, capture on one of them.
+// Returns exactly which of the squares the king may legally step to. Returns `None` if this isn't
+// computed: in Madrasi, for few squares, against many attackers or grasshoppers, and if the king may
+// castle or, in Circe, capture on one of the squares.
 #[tactic(auto, using(crate::proofs::ExactSteps::unreached_are))]
 pub(crate) fn exact_steps<R: Rules>(king_attack: &KingAttack, squares: Squares) -> Option<Squares>
     ensures { IfSome result (λ w. AreExactSteps R.rule king_attack.now squares w) }
@@ -139,7 +142,8 @@ pub(crate) fn exact_steps<R: Rules>(king_attack: &KingAttack, squares: Squares) 
 }
 
 // Returns the steps without those to an empty attacked square, which are illegal unless attackers may be
-// paralysed. If `exact_steps` has already selected the legal steps, they are returned unchanged.
+// paralysed. If there are few steps, or `exact_steps` has already selected the legal ones, returns them
+// unchanged.
 #[tactic(auto, using(crate::proofs::Barring::barred_is))]
 fn unbarred_steps<R: Rules>(king_attack: &KingAttack, steps: Squares) -> Squares
     ensures { (t : ℕ) → t < 64 → (bit_at steps t == 1) ≡ true
@@ -165,8 +169,8 @@ fn risky_steps<R: Rules>(king_attack: &KingAttack, targets: &OpenTargets, steps:
     risky_among::<R>(king_attack, targets, unbarred)
 }
 
-// Returns which of the steps might allow mate, from `kept` if it is for these steps, and keeps them
-// for the next call.
+// Returns which of the steps might allow mate. Takes them from `kept` if that is for these steps and
+// rules; otherwise computes them and keeps them there.
 pub(crate) fn cached_risky_steps<R: Rules>(
     king_attack: &KingAttack,
     targets: &OpenTargets,
@@ -194,7 +198,7 @@ pub(crate) fn cached_risky_steps<R: Rules>(
     risky
 }
 
-// Returns the square if the king may keep no flight after its step there.
+// Returns `to` if the king might keep no flight after its step there, otherwise no square.
 #[tactic(auto, using(crate::proofs::Sparing::one_square))]
 fn flightless_step<R: Rules>(king_attack: &KingAttack, targets: &OpenTargets, to: Square) -> Squares
     requires { AreOpenTargets king_attack.now.men targets.now }
@@ -208,7 +212,7 @@ fn flightless_step<R: Rules>(king_attack: &KingAttack, targets: &OpenTargets, to
     only(Some(to))
 }
 
-// Returns the steps after which the king may keep no flight.
+// Returns the steps after which the king might keep no flight.
 #[tactic(auto, using(chess_attacks::proofs::HoldTaken::taken_all, chess_attacks::proofs::HoldTaken::taken_none, chess_attacks::proofs::HoldTaken::rest_falls))]
 pub(crate) fn flightless_steps<R: Rules>(
     king_attack: &KingAttack,

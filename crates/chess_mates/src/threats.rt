@@ -1,4 +1,4 @@
-//! Threats of mate, computed before the defender's move: the squares where a man's arrival might allow
+//! Threats of mate, computed before the defender moves: the squares where a man's arrival might allow
 //! mate.
 ghost use Rattle.std.specs.Prelude.{◌≡◌, ◌<◌, ◌==◌, [], ℕ, IfSome, Some, true, false};
 ghost use Rattle.std.specs.Int.{bit_at};
@@ -29,8 +29,8 @@ use chess_core::square::{Square, Squares};
 use chess_rules::filter_moves::FilteredMoves;
 use std::marker::Model;
 
-// Returns the squares more than a step away, if an enemy pawn could capture on the square right ahead of a
-// pawn on `from`; otherwise nothing.
+// Returns all squares more than a step from `from`, if an enemy pawn could capture on the square ahead
+// of a pawn on `from`; otherwise none.
 fn contested_squares(board: &Board, man: Man, from: Square) -> Squares
     ensures { (m : Move) → m.from ≡ from → m.to < 64 → may_arrive board.now man from m.to ≡ true
         → (bit_at result m.to == 1) ≡ false → IsPassing board.now man m }
@@ -62,7 +62,7 @@ fn special_squares(board: &Board, man: Man, from: Square) -> Squares
     0
 }
 
-// Returns the squares that the man reaches only by a capture or promotion.
+// Returns the squares that the man on `from` reaches only by a capture or promotion.
 #[tactic(auto, using(crate::proofs::Passing::piece_mere))]
 fn altering_squares(board: &Board, man: Man, from: Square) -> Squares
     ensures { AreMere board.now man from result }
@@ -77,8 +77,8 @@ fn altering_squares(board: &Board, man: Man, from: Square) -> Squares
     }
 }
 
-// Returns the squares about which threats say nothing for the man on `from`: special moves, and in Circe
-// captures and promotions too.
+// Returns the squares about which the threats say nothing: arrivals of the man on `from` by special
+// moves, and in Circe by captures and promotions too.
 #[tactic(auto, using(chess_attacks::proofs::Bits::off_left, chess_attacks::proofs::Bits::off_right))]
 fn unplain_squares<R: Rules>(board: &Board, man: Man, from: Square) -> Squares
     ensures plain { ArePlain board.now man from result }
@@ -103,8 +103,8 @@ fn unkept_squares<R: Rules>(needed: Squares, squares: Squares) -> Squares
     squares & needed
 }
 
-// Returns the critical squares among `squares`, and perhaps others: where the arrival of the man on `from`, not the king, might
-// allow mate. It computes the risk only if there are squares.
+// Returns the critical squares among `squares`, and perhaps others: squares where the arrival of the man
+// on `from`, which isn't the king, might allow mate. It computes the risk only if there are squares.
 #[inline(always)]
 fn critical_of(
     king_attack: &KingAttack,
@@ -129,21 +129,21 @@ fn critical_of(
     critical_from(king_attack, &reported, following, from, squares)
 }
 
-/// The threats of the side that isn't to move, computed once for a position: for each man of the other
-/// side, the squares where its arrival might allow mate.
+/// The mate threats of the side that isn't to move, computed for one position: for each man of the side
+/// to move, the squares where its arrival might allow mate.
 #[derive(Drop)]
 pub struct Threats {
     king_attack: KingAttack,
     // The attackers' targets on an otherwise empty board.
     targets: OpenTargets,
-    // The squares where another man's arrival might leave the king without a flight; they serve all rules
-    // but Circe.
+    // The squares where the arrival of a man other than the king might leave the king without a flight.
+    // Unused in Circe.
     needed: Squares,
     // The king's risk, computed when it is first needed.
     risk: Option<Risk>,
-    // The risk for the last man that left a line.
+    // The risk for the man that was last found to leave a line.
     following: Option<RiskAfterLeaving>,
-    // The last steps of the king that were computed.
+    // The king's steps that were computed last.
     steps: StepCache,
 }
 
@@ -166,7 +166,7 @@ impl Model for Threats {
 }
 
 impl Threats {
-    /// Computes the threats to the king of the side to move, which is on this square.
+    /// Computes the threats to the king of the side to move, which is on `king`.
     pub fn of<R: Rules>(board: &Board, king: Square) -> Threats
         ensures { IsWellFormed board.now → IsKnown R.rule
             → king_square board.now.men board.now.turn ≡ Some king
@@ -185,8 +185,7 @@ impl Threats {
         }
     }
 
-    /// Computes the threats to the king of the side to move, which is on this square, in place of the old
-    /// ones.
+    /// Replaces these threats with the threats to the king of the side to move, which is on `king`.
     pub fn recompute<R: Rules>(&mut self, board: &Board, king: Square)
         ensures { IsWellFormed board.now → IsKnown R.rule
             → king_square board.now.men board.now.turn ≡ Some king
@@ -200,16 +199,16 @@ impl Threats {
         self.steps = StepCache::none();
     }
 
-    /// Returns whether threats can be computed under these rules: captures only remove men, which may be
-    /// reborn.
+    /// Returns whether threats can be computed under these rules: a capture does no more than remove a
+    /// man, which may be reborn.
     pub fn are_known<R: Rules>() -> bool
         ensures { result ≡ true → IsKnown R.rule }
     {
         !R::captures_do_more() || R::captures_are_reborn()
     }
 
-    /// Returns whether these are the threats in the board's position. They hold in each position with the
-    /// same men, castling squares and side to move.
+    /// Returns whether these are the threats of the board's position. Positions with the same men,
+    /// castling squares and side to move have the same threats.
     pub fn are_of<R: Rules>(&self, board: &Board) -> bool
         requires { IsWellFormed board.now }
         ensures { result ≡ true → AreThreatsOf R.rule board.now self.now }
@@ -217,11 +216,11 @@ impl Threats {
         Threats::are_known::<R>() && is_of::<R>(&self.king_attack, board)
     }
 
-    /// Returns the risky squares among `squares`: where the arrival of the man on `from` by a legal move might allow
-    /// mate. They include all squares reached by castling, by the king's captures, by en passant or a
-    /// double step that it might capture, and in Circe by any capture or promotion; but, except in Circe,
-    /// no square where the king keeps a flight whatever is played. What is computed is kept for later
-    /// calls.
+    /// Returns the risky squares among `squares`: squares where the arrival of the man on `from` by a
+    /// legal move might allow mate. Castling is always risky, and in Circe any capture or promotion.
+    /// Except in Circe, another move isn't risky if the king keeps a flight whatever is played next. If
+    /// it might not, the king's captures, en passant and double steps that en passant might capture are
+    /// always risky. What is computed is kept for later calls.
     pub fn risky_squares<R: Rules>(
         &mut self,
         board: &Board,
@@ -261,8 +260,8 @@ impl Threats {
         left & (unplain | critical)
     }
 
-    // Returns whether the man on `from`, not the king, may go to each of the squares since the king keeps a
-    // flight whatever is played; `false` says nothing.
+    // Returns whether the king certainly keeps a flight, whatever is played next, when the man on
+    // `from`, which isn't the king, goes to one of `squares`. `false` says nothing.
     #[inline(always)]
     fn keep_flights<R: Rules>(&self, from: Square, squares: Squares) -> bool
         ensures { result ≡ true → (p : Position) → IsWellFormed p → AreThreatsOf R.rule p self.now
@@ -276,7 +275,7 @@ impl Threats {
         !R::captures_do_more() && squares & self.needed == 0
     }
 
-    /// Returns whether no reply to the move mates, by these threats; `false` says nothing.
+    /// Returns whether these threats show that no reply to the move mates. `false` says nothing.
     #[tactic(auto, using(crate::proofs::Sparing::one_square))]
     pub fn rule_out_mate<R: Rules>(&mut self, board: &Board, m: &Move) -> bool
         requires well_formed { IsWellFormed board.now }

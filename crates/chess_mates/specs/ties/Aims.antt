@@ -1,11 +1,12 @@
--- Moves that give check or attack next to the enemy king (own).
+-- Moves whose man arrives where it would attack the enemy king (own).
 use Rattle.std.specs.Prelude.{ℕ, Bool, false, Option, Some, None}
 use Rattle.chess_core.specs.Position.{Position, man_on, other}
 use Rattle.chess_core.specs.declared.man.Man.{Man}
 use Rattle.chess_core.specs.declared.man.Move.{Move}
 use Rattle.chess_mates.specs.ties.CheckSquares.{enemy, may_check_from}
 
--- a man of this kind, of the side to move, would attack the enemy king from t, on the board as it is
+-- this man, if there is one, would attack the enemy king from t as a man of the side to move, on the
+-- board as it is
 abbrev pub aims_with : Position → Option Man → ℕ → Bool
 aims_with p None t = false
 aims_with p (Some x) t = may_check_from p.men (other p.turn) (enemy (other p.turn) x.kind) t

@@ -18,7 +18,7 @@ squares_for a Pawn = a.pawns
 squares_for a Grasshopper = a.grasshoppers
 squares_for a Nightrider = a.nightriders
 
--- x may be one of these men, on s
+-- x on s is one of these men, by their squares
 pub record IsAttacker (a : Attackers) (x : Man) (s : ℕ) : Type 0 where
   pub small : s < 64
   pub mine : x.colour ≡ a.colour

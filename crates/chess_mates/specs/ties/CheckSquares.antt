@@ -80,26 +80,26 @@ check_squares_for s Pawn = s.pawn
 check_squares_for s Grasshopper = s.grasshopper
 check_squares_for s Nightrider = s.nightrider
 
--- no pawn may promote to a fairy man, captures do no more, and t isn't one of the squares on which a
--- promoted pawn may give check
+-- no pawn may promote to a fairy man, captures only remove men, and t isn't one of the squares on which
+-- a promoted pawn may give check
 pub record PromotesQuietly (rule : RuleSet) (p : Position) (v : CheckSquares) (t : ℕ) : Type 0 where
   pub kinds : (k : Kind) → may_promote p k ≡ true → is_promotion false k ≡ true
   pub plain : captures_do_more rule ≡ false
   pub off : (bit_at v.promotions t == 1) ≡ false
 
--- on each square off the word to which a pawn promotes, it promotes without check
+-- a pawn that promotes on a square not in w gives no check
 pub record ArePromotionTargets (rule : RuleSet) (p : Position) (v : CheckSquares) (w : ℕ) : Type
     0 where
   pub elsewhere : (x : Man) (t : ℕ) → t < 64 → is_promoting x t ≡ true
       → (bit_at w t == 1) ≡ false → PromotesQuietly rule p v t
 
--- a legal move from s gives no check, if it goes to a square not in the word
+-- a legal move from s gives no check if it goes to a square not in w
 pub record AreCheckTargets (rule : RuleSet) (p : Position) (s w : ℕ) : Type 0 where
   pub elsewhere : (m : Move) → m.from ≡ s → m.to < 64 → is_legal rule p m ≡ true
       → (bit_at w m.to == 1) ≡ false → in_check rule (position_after rule p m).men (other p.turn)
       ≡ false
 
--- from halfway to a square two files to either side of s, unless that square is in w, a rook gives no check
+-- a rook gives no check from halfway between s and a square two files to either side that isn't in w
 pub record AreCastlingTargets (v : CheckSquares) (s w : ℕ) : Type 0 where
   pub elsewhere : (t : ℕ) → t < 64 → is_two_files_aside s t ≡ true → (bit_at w t == 1) ≡ false
       → (bit_at v.straight ((s + t) / 2) == 1) ≡ false

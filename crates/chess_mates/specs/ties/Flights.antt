@@ -64,29 +64,29 @@ pub record IsSeenFrom (rule : RuleSet) (p : Position) (m : Move) (x : Man) (k : 
   pub simple : is_simple rule x m (is_some (capture_square p x m)) ≡ true
   pub king : king_square p.men (other p.turn) ≡ Some k
 
--- the sight after a man has gone from a to b, the man on o has left the board, and the enemy king is lifted
--- from k; the moved man isn't among the standing men
+-- the occupancy after a man has gone from a to b, the man on o has left the board, and the enemy king is
+-- lifted from k; the moved man isn't among the standing men
 abbrev pub sight_lifted : List (Option Man) → ℕ → Option ℕ → ℕ → ℕ → Occupancy
 sight_lifted men a o b k = record {
   occupied = bit_and (sight_after men a o b).occupied (bit_not w64 (word (is_square (Some k))));
   standing = bit_and (sight_after men a o b).standing (bit_not w64 (word (is_square (Some a))));
 }
 
--- the sight after the lifted king is put on t, whoever was there
+-- the occupancy after the lifted king is put on t, whoever was there
 abbrev pub sight_with : Occupancy → ℕ → Occupancy
 sight_with v t = record {
   occupied = bit_or v.occupied (word (is_square (Some t)));
   standing = bit_and v.standing (bit_not w64 (word (is_square (Some t))));
 }
 
--- t is a square of w, and no man of colour c but the moved one reaches the king there
+-- t is a square of w, and no man of colour c other than the moved one reaches the king there
 pub record IsSafe (before : List (Option Man)) (c : Colour) (v : Occupancy) (w t : ℕ) : Type 0 where
   pub small : t < 64
   pub here : (bit_at w t == 1) ≡ true
   pub unreached : (men : List (Option Man)) → DescribesMen before men c (sight_with v t)
       → is_reached men t c ≡ false
 
--- the sight after the lifted king of k is put on t; the king isn't among the standing men
+-- the occupancy after the king lifted from k is put on t; the king isn't among the standing men
 abbrev pub sight_stepped : Occupancy → ℕ → ℕ → Occupancy
 sight_stepped v k t = record {
   occupied = (sight_with v t).occupied;
@@ -116,7 +116,7 @@ IsKnown rule p Left = has_flight rule p ≡ true
 IsKnown rule p NoneLeft = IsFlightless rule p
 IsKnown rule p Unknown = ⊤
 
--- no enemy of the side to move reaches its king x after the step from k to t
+-- no enemy of the side to move reaches its king x on t after x has stepped there from k
 pub record IsUnreached (p : Position) (x : Man) (k t : ℕ) : Type 0 where
   pub none : (men : List (Option Man))
       → DescribesMen p.men men (other p.turn) (sight_after p.men k

@@ -1,5 +1,5 @@
--- The men around an attacked king, and where they reach over hurdles: the squares of all men but the king
--- (own).
+-- King attacks: the men around a king, and what they reach over hurdles, the squares of all men but the
+-- king (own).
 use Rattle.std.specs.Prelude.{◌≡◌, ◌≢◌, ◌<◌, ◌==◌, ◌⊎◌, ◌+◌, ◌-◌, ℕ, Bool, true, false, List, Option, Some, is_some}
 use Rattle.std.specs.Int.{bit_at}
 use Rattle.std.specs.Int.Bits.{bit_and}
@@ -36,7 +36,7 @@ reached_over d x s t = reaches_as (men_on d) x.colour x.kind s t
 pub record IsReached (d : ℕ) (x : Man) (s w : ℕ) : Type 0 where
   pub inside : (t : ℕ) → t < 64 → reached_over d x s t ≡ true → (bit_at w t == 1) ≡ true
 
--- moves along lines
+-- men of this kind move along lines
 abbrev pub is_rider : Kind → Bool
 is_rider Nightrider = true
 is_rider Queen = true
@@ -44,7 +44,7 @@ is_rider Rook = true
 is_rider Bishop = true
 is_rider _ = false
 
--- moves by one step or leap
+-- men of this kind move by one step or leap
 abbrev pub is_leaper : Kind → Bool
 is_leaper King = true
 is_leaper Knight = true
@@ -59,8 +59,8 @@ pub record IsNear (x : Man) (s region : ℕ) : Type 0 where
   pub men : List (Option Man)
   pub reaches : reaches_as men x.colour x.kind s square ≡ true
 
--- w holds each square that attackers of these kinds, as far as they could reach the region, reach over the
--- hurdles
+-- w holds each square that attackers of these kinds reach over the hurdles, if they could reach the
+-- region on some board
 pub record AreReached (d : ℕ) (a : Attackers) (region : ℕ) (kinds : Kind → Bool) (w : ℕ) : Type
     0 where
   pub reach : (s : ℕ) (x : Man) → IsAttacker a x s → kinds x.kind ≡ true → IsNear x s region
@@ -236,8 +236,8 @@ pub record IsArrival (d : ℕ) (x : Man) (s t : ℕ) : Type 0 where
 pub record AreArrivals (d : ℕ) (x : Man) (s w : ℕ) : Type 0 where
   pub inside : (t : ℕ) → IsArrival d x s t → (bit_at w t == 1) ≡ true
 
--- x doesn't check from t, unless it is a king, nor after promotion there, and lets no hopper check from a
--- springboard
+-- x on t gives no check, promoted or not, and is no springboard for a hopper's check; a king itself
+-- never gives check
 pub record IsNoCheck (g : KingZone) (checks : ℕ) (x : Man) (t : ℕ) : Type 0 where
   pub off : same_kind x.kind King ≡ false → (bit_at checks t == 1) ≡ false
   pub unsprung : (bit_at g.springboards t == 1) ≡ false
@@ -297,8 +297,8 @@ LeavesFlight v g x s a b t =
     IsCaptured v g s a t
     ⊎ ((z : Man) → MayBecome v.men.fairy_promotions x t z → IsFlight v g z s a b t)
 
--- if t is none of the targets no other attacker checks then; otherwise a flight remains or the king
--- captures x
+-- x's arrival on t doesn't mate: t isn't one of the targets and no other attacker checks, or a flight
+-- remains, or the king captures x
 abbrev pub IsMet : KingAttack → KingZone → Man → ℕ → ℕ → ℕ → ℕ → ℕ → Type 0
 IsMet v g x s targets a b t =
     ((bit_at v.enemies t == 1) ≡ true → b ≡ t)
@@ -327,10 +327,11 @@ pub record IsWeakAt (v : KingAttack) (g : KingZone) (x : Man) (s a b : ℕ) : Ty
   pub off : is_hopper (gait_of x.kind) ≡ false → (bit_at checks s == 1) ≡ false
   pub mild : IsMild v g checks x s a b
 
+-- x on s is weak after each move of the defender outside this risk
 pub record IsWeak (v : KingAttack) (g : KingZone) (r : Risk) (x : Man) (s : ℕ) : Type 0 where
   pub weak : (a b : ℕ) → a < 64 → b < 64 → IsOff v.hurdles r a b → IsWeakAt v g x s a b
 
--- each attacker is weak in this sense
+-- each attacker is weak for this risk
 pub record AreWeak (v : KingAttack) (g : KingZone) (r : Risk) : Type 0 where
   pub weak : (s : ℕ) (x : Man) → IsAttacker v.men x s → IsWeak v g r x s
 
@@ -348,14 +349,14 @@ pub record AreCaptureSquares (v : KingAttack) (k w : ℕ) : Type 0 where
   pub plain : (f s : ℕ) (z : Man) → (bit_at w f == 1) ≡ true → IsAttacker v.men z s
       → is_hopper (gait_of z.kind) ≡ false
 
--- the word has each square on which a pawn of colour c may promote to a man that reaches k, on any board; to
+-- w holds each square on which a pawn of colour c may promote to a man that reaches k on some board; to
 -- a fairy man only if b
 pub record ArePromotions (c : Colour) (b : Bool) (k w : ℕ) : Type 0 where
   pub inside : (x z : Man) (t : ℕ) (men : List (Option Man)) → x.colour ≡ c → t < 64
       → is_promoting x t ≡ true → MayBecome b x t z
       → reaches_as men z.colour z.kind t k ≡ true → (bit_at w t == 1) ≡ true
 
--- a rider; a nightrider only if the attackers have one
+-- men of this kind are riders; nightriders only if the attackers have one
 abbrev pub MayRide : KingAttack → Kind → Type 0
 MayRide v k = (is_rider k ≡ true) × (same_kind k Nightrider ≡ true → v.men.nightriders ≢ 0)
 
@@ -440,7 +441,8 @@ pub record IsShutAt (v : KingAttack) (a : ℕ) : Type 0 where
   pub shut : (s : ℕ) (x : Man) → IsAttacker v.men x s → is_rider x.kind ≡ true
       → (bit_at v.hurdles a == 1) ≡ true → reached_over v.hurdles x s a ≡ false
 
--- another man than the king may go from s to t: it is outside a risk of the same men
+-- a man other than the king may go from s to t without allowing mate: the move is outside a risk of the
+-- same men
 pub record IsSafeMove (v : KingAttack) (s t : ℕ) : Type 0 where
   pub king_attack : KingAttack
   pub like : IsLike v king_attack
@@ -450,7 +452,7 @@ pub record IsSafeMove (v : KingAttack) (s t : ℕ) : Type 0 where
   pub off : IsOff king_attack.hurdles risk s t
   pub shut : IsShutAt king_attack s
 
--- the king may step to t: nobody is there, and it is outside the risk there
+-- the king may step to t without allowing mate: nobody is there, and the step is outside the risk there
 pub record IsSafeStep (v : KingAttack) (t : ℕ) : Type 0 where
   pub free : (bit_at v.hurdles t == 1) ≡ false
   pub risk : Risk
@@ -463,14 +465,15 @@ pub record IsBarred (rule : RuleSet) (v : KingAttack) (t : ℕ) : Type 0 where
   pub free : (bit_at v.hurdles t == 1) ≡ false
   pub attacked : IsAttackedOver v.hurdles v.men t
 
--- the king may step to t, not in Circe, and keeps a flight there, whatever is played next
+-- except in Circe, the king keeps a flight after its step to t, whatever is played next
 pub record KeepsFlight (rule : RuleSet) (v : KingAttack) (t : ℕ) : Type 0 where
   pub captures : captures_do_more rule ≡ false
   pub near : ℕ
   pub adjacent : AreAdjacent v t near
   pub keeps : KeepsOne v.men near
 
--- another man may go to t, not in Circe: the king keeps a flight, whatever is played next
+-- the king keeps a flight when another man goes to t, whatever is played next; this doesn't hold in
+-- Circe
 pub record KeepsFlightBeside (v : KingAttack) (t : ℕ) : Type 0 where
   pub near : ℕ
   pub adjacent : AreAdjacent v v.king near
@@ -489,8 +492,8 @@ IsSparedStep rule v t = IsSafeStep v t ⊎ KeepsFlight rule v t
 abbrev pub IsDecidedStep : RuleSet → KingAttack → ℕ → Type 0
 IsDecidedStep rule v t = IsSparedStep rule v t ⊎ IsBarred rule v t
 
--- none of these steps that isn't risky can be followed by mate, under all rules that agree on paralysis and
--- rebirth
+-- a kept step that isn't risky is illegal or allows no mate, under all rules that agree with the kept
+-- ones on paralysis and captures
 pub record IsStepCacheOf (v : KingAttack) (k : StepCache) : Type 0 where
   pub reported : (rule : RuleSet) → like_men_paralyse rule ≡ k.stand_still
       → captures_do_more rule ≡ k.do_more → (t : ℕ) → t < 64

@@ -1,5 +1,5 @@
--- Flights that the other side can't take with one move: none of its men would reach them on any board (a
--- composers' word; own).
+-- Flights (a composers' word) that the other side can't take with one move, whoever else is on the board
+-- (own).
 use Rattle.std.specs.Prelude.{◌≡◌, ◌≢◌, ◌<◌, ◌==◌, ℕ, Bool, true, false, List, Option}
 use Rattle.std.specs.Int.{bit_at}
 use Rattle.std.specs.List.{list_any}
@@ -43,8 +43,8 @@ targets_for o Pawn = o.pawns
 targets_for o Grasshopper = o.grasshoppers
 targets_for o Nightrider = o.nightriders
 
--- x may be z after arriving on t: itself, or on its last rank what a pawn may promote to; a fairy man only
--- with b
+-- x may be z after arriving on t: itself, or on its last rank what a pawn may promote to; a fairy man
+-- only if b
 pub record MayBecome (b : Bool) (x : Man) (t : ℕ) (z : Man) : Type 0 where
   pub mine : z.colour ≡ x.colour
   pub same : is_promoting x t ≡ false → z.kind ≡ x.kind

@@ -28,7 +28,7 @@ mates_between rule p place end = filter (is_mating rule p) (moves_between rule p
 abbrev pub allows_mate : RuleSet → Position → Move → Bool
 allows_mate rule p m = not (is_nil (mates_after rule (position_after rule p m) 0))
 
--- from one cursor to the next are the moves `over`, none of which mates, and then m, which mates
+-- between the cursors old and new are the moves `over`, none of which mates, and then m, which mates
 pub record IsNextMate (rule : RuleSet) (p : Position) (old new : ℕ) (m : Move) : Type 0 where
   pub over : List Move
   pub passed : moves_after rule p old ≡ over ++ moves_after rule p (new - 1)
@@ -45,7 +45,8 @@ pub record AreMateClues (rule : RuleSet) (p : Position) (v : MateClues) : Type 0
   pub checks : AreCheckSquares p.men (other p.turn) v.checks
   pub flights : AreStandingFlights rule p v.flights
 
--- a cursor in a position: its number, what rules out that a move mates, and the candidates of one origin
+-- a cursor in a position: its number, the clues that a move doesn't mate, and the candidates of one
+-- origin
 pub record MatingPlace : Type 0 where
   pub place : ℕ
   pub clues : MateClues

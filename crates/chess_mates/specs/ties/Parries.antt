@@ -22,8 +22,8 @@ use Rattle.chess_attacks.specs.ties.Lines.{is_advance, is_on_some, occupied_squa
 use Rattle.chess_rules.specs.ties.Blockers.{cannot_expose, is_fairy, may_expose, may_be_hurdle}
 use Rattle.chess_rules.specs.ties.Filtering.{is_of_others}
 
--- parries of the move m of x are computed: x is no king and doesn't promote, the move opens no line to the
--- enemy king, nobody is reborn, and no man is paralysed
+-- the parries of the move m of x can be computed: x is no king and doesn't promote, the move opens no
+-- line to the enemy king, nobody is reborn, and no man is paralysed
 pub record AreParriesKnown (rule : RuleSet) (p : Position) (x : Man) (m : Move) : Type 0 where
   pub mortal : same_kind x.kind King ≡ false
   pub unpromoted : m.promo ≡ None
@@ -93,7 +93,7 @@ pub record AreBetween (men : List (Option Man)) (b k w : ℕ) : Type 0 where
       → (bit_at w t == 1) ≡ false
       → (reaches_as men White Bishop b t && reaches_as men White Bishop k t) ≡ false
 
--- another man of colour c than the king on k goes from s to the empty square t: a piece reaches it, or a
+-- a man of colour c other than the king on k goes from s to the empty square t: a piece reaches it, or a
 -- pawn goes there by one step or two
 abbrev pub comes : List (Option Man) → Colour → ℕ → ℕ → ℕ → Bool
 comes men c k t s =

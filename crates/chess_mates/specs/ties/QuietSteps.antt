@@ -25,7 +25,7 @@ abbrev pub must_reply_with_mate : RuleSet → Position → Move → Bool
 must_reply_with_mate rule p m =
     list_all (is_mating rule (position_after rule p m)) (moves rule (position_after rule p m))
 
--- the sight without the men on two squares
+-- the occupancy without the men on two squares
 abbrev pub sight_without : List (Option Man) → ℕ → ℕ → Occupancy
 sight_without men a k =
     let gone = bit_or (word (is_square (Some a))) (word (is_square (Some k))) in
@@ -34,7 +34,7 @@ sight_without men a k =
       standing = bit_not w64 gone;
     }
 
--- x captures only on its arrival, and nobody in Circe, and neither castles nor promotes
+-- x neither castles nor promotes, and captures only on its arrival, in Circe not at all
 pub record GoesSimply (rule : RuleSet) (p : Position) (x : Man) (m : Move) : Type 0 where
   pub castling : is_castling x m ≡ false
   pub captures : (s : ℕ) → capture_square p x m ≡ Some s → s ≡ m.to
@@ -48,8 +48,8 @@ pub record IsStepLeft (p : Position) (v : Occupancy) (w : ℕ) (x : Man) (t f : 
   pub others : (men : List (Option Man)) → DescribesMen p.men men p.turn v
       → is_reached men f p.turn ≡ false
 
--- after x has left and the enemy king has stepped from k, none of its side's standing men reaches the
--- mover's king; if x is that king, none reaches k, and no man is paralysed
+-- after x has left and the enemy king has stepped from k, no standing man of the enemy reaches the
+-- mover's king; if x is the mover's king, none reaches k, and the rules paralyse no man
 pub record AreQuiet (rule : RuleSet) (p : Position) (v : Occupancy) (x : Man) (k : ℕ) : Type 0 where
   pub stands : same_kind x.kind King ≡ false → (s : ℕ) × (king_square p.men p.turn ≡ Some s)
       × ((men : List (Option Man)) → DescribesMen p.men men (other p.turn) v

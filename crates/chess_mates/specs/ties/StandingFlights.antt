@@ -1,4 +1,4 @@
--- Flights of the enemy king as the men are, and the moves that leave them (own).
+-- The flights that the enemy king has now, and the moves that leave them (own).
 use Rattle.std.specs.Prelude.{◌≡◌, ◌<◌, ◌==◌, ℕ, true, false, List, Option, Some}
 use Rattle.std.specs.Int.{bit_at}
 use Rattle.chess_core.specs.Position.{Position, king_square, man_on, other, without_man}

@@ -18,11 +18,11 @@ use Rattle.chess_rules.specs.Play.{capture_square, halfway, is_castling, is_doub
 use Rattle.chess_attacks.specs.RuleSet.{RuleSet, captures_are_reborn, captures_do_more}
 use Rattle.chess_rules.specs.ties.Targets.{is_promoting, may_arrive}
 
--- threats can be computed: captures only remove men, which may be reborn
+-- threats can be computed: a capture does no more than remove a man, which may be reborn
 pub record IsKnown (rule : RuleSet) : Type 0 where
   pub captures : captures_do_more rule ≡ true → captures_are_reborn rule ≡ true
 
--- what contracts see of threats: the men around the king
+-- what contracts see of threats: the king attack
 pub record ThreatsSeen : Type 0 where
   pub king_attack : KingAttack
 
@@ -66,7 +66,7 @@ pub record AreMere (p : Position) (x : Man) (s w : ℕ) : Type 0 where
   pub mere : (m : Move) → m.from ≡ s → m.to < 64 → may_arrive p x s m.to ≡ true
       → (bit_at w m.to == 1) ≡ false → IsMereMove p x m
 
--- no reply mates after a legal move from s to one of the squares that isn't risky
+-- no reply mates after a legal move from s to a square of `squares` that isn't risky
 pub record AreRisky (rule : RuleSet) (p : Position) (s squares risky : ℕ) : Type 0 where
   pub is_decided : (m : Move) → is_legal rule p m ≡ true → m.from ≡ s
       → (bit_at squares m.to == 1) ≡ true → (bit_at risky m.to == 1) ≡ false
