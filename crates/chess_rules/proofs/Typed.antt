@@ -1,4 +1,4 @@
--- What the examples compute with; their positions and moves.
+-- The positions and moves of the examples, and what the examples compute with.
 use Rattle.chess_rules.proofs.Chess.{can_castle, capture_square, has_unmoved, is_legal, is_mate, is_pseudo_legal, mark_unmoved, may_castle, moved_men, moves, none_unmoved, position_after, position_after_by, rebirth, reborn_square, triples, unmoved_after}
 pub use Rattle.chess_attacks.proofs.Typed.{go, man, on, position, promoting, set_up, a1, b1, c1, d1, e1, f1, g1, h1, a2, b2, c2, d2, e2, f2, g2, h2, a3, b3, c3, d3, f3, h3, a4, b4, e4, a5, d5, e5, a6, b6, d6, e6, f6, g6, a7, b7, c7, d7, e7, f7, g7, h7, a8, b8, c8, d8, e8, f8, g8, h8}
 unfoldable pub use Rattle.chess_attacks.proofs.Typed.{check}

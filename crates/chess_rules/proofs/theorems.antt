@@ -1,2 +1,2 @@
--- What the definitions mean, for readers: theorems for all sets of rules.
+-- What the definitions mean: theorems for readers, for all sets of rules.
 pub mod Moves

@@ -1,4 +1,4 @@
-//! Tests one move without computing the bitboards that serve all moves of a position.
+//! Tests a single move, without computing the bitboards that serve all moves of a position.
 ghost use Rattle.std.specs.Prelude.{◌≡◌, false, true};
 ghost use Rattle.chess_core.specs.WellFormed.{IsWellFormed};
 ghost use Rattle.chess_rules.specs.Legal.{is_legal, is_pseudo_legal};

@@ -43,8 +43,8 @@ pub(crate) fn has_fairy(board: &Board, colour: Colour) -> bool
 }
 
 /// Returns the squares of the lines from the colour's king that carry an enemy fairy man: queen's lines
-/// with a grasshopper, nightrider's lines with a nightrider. Mostly the enemy has no fairy man: that test
-/// comes first.
+/// with a grasshopper, nightrider's lines with a nightrider. Usually the enemy has no fairy man: that
+/// test comes first.
 #[inline(always)]
 #[tactic(auto, using(crate::proofs::attacks::FairyLines::no_fairy_line))]
 pub fn fairy_lines(board: &Board, colour: Colour) -> Squares
@@ -141,8 +141,8 @@ fn riders_on_lines(board: &Board, colour: Colour, square: Square, lines: RiderLi
     line_riders(board, colour, lines) & lines.all(square)
 }
 
-// Returns the squares that a rider on the square reaches along these lines, or nothing if no rider of the
-// colour is on them, as is mostly so.
+// Returns the squares that a rider on the square reaches along these lines; none if no rider of the
+// colour is on them, as is usual.
 fn rides_to_riders(board: &Board, colour: Colour, square: Square, lines: RiderLines) -> Squares
     ensures { AreRides board.now.men colour (rider_along lines) (steps_along lines) square result }
 {
@@ -194,8 +194,8 @@ fn blockers_of(
         | blocking_squares(board, enemy, king, RiderLines::Diagonal, diagonal)
 }
 
-// Returns the squares of the men of this colour that reach the square; `straight` and `diagonal` are the
-// squares that a rook and a bishop on it reach.
+// Returns the squares of the colour's men that reach the square. `straight` and `diagonal` are the
+// squares that a rook and a bishop on the square reach.
 #[inline(always)]
 fn checkers_of(
     board: &Board,
@@ -285,8 +285,8 @@ pub fn blocker_squares(board: &Board, colour: Colour) -> Squares
     king_safety(board, colour).blockers
 }
 
-// Returns whether the move changes only its origin and its arrival: no castling, no en passant, no capture
-// with a rebirth.
+// Returns whether the move changes only its origin and its arrival: it isn't castling or en passant, and
+// captures nobody who is reborn.
 #[tactic(auto, unfolding(crate::specs::ties::Blockers::is_plain))]
 pub(crate) fn is_plain<R: Rules>(board: &Board, man: Man, m: &Move) -> bool
     ensures { result ≡ is_plain R.rule board.now man m.now }

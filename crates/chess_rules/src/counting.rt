@@ -30,7 +30,7 @@ pub(crate) enum Legality {
     Sure,
 }
 
-// Candidate squares of a man, and whether each of them is known to be a legal move.
+// Candidate squares of a man, and whether its move to each of them is known to be legal.
 #[derive(Clone, Copy)]
 pub(crate) struct Candidates {
     pub(crate) squares: Squares,
@@ -49,8 +49,9 @@ fn count_from(word: Squares, from: u8) -> u16
     (word >> from).count_ones() as u16
 }
 
-// Returns the squares where a move of this man, not a king, needs a test of its own: those on fairy lines
-// of its king, and the squares of en passant, rebirth and promotion.
+// Returns the squares where a move of this man, not a king, needs a test of its own: the squares on
+// fairy lines of its king, the en passant square, and the squares of captures with rebirth and of
+// promotion.
 #[tactic(auto, using(crate::proofs::listing_moves::SurelyLegal::unsure_word))]
 fn untested_squares<R: Rules>(board: &Board, man: Man) -> Squares
     ensures { result ≡ word (is_untested R.rule board.now man) }
@@ -61,7 +62,7 @@ fn untested_squares<R: Rules>(board: &Board, man: Man) -> Squares
         | promoting_squares(man)
 }
 
-// Returns whether all moves of the man on `from` to these squares are certainly legal and none promotes.
+// Returns whether all moves of the man on `from` to `squares` are certainly legal and none promotes.
 // `blocker_squares` are the squares from which a move may expose the mover's king.
 #[tactic(auto, using(crate::proofs::listing_moves::SurelyLegal::surely_legal))]
 fn are_surely_legal<R: Rules>(
@@ -92,8 +93,8 @@ fn are_surely_legal<R: Rules>(
     squares & untested_squares::<R>(board, man) == 0
 }
 
-// Returns whether all moves of the man on `from` to the candidate squares are certainly legal, without a
-// test if `given` says so.
+// Returns whether all moves of the man on `from` to the squares of `given` are certainly legal. Needs no
+// test if `given` says that they are.
 fn are_known_legal<R: Rules>(
     board: &Board,
     blocker_squares: Squares,
@@ -211,8 +212,8 @@ fn count_one_by_one<R: Rules>(
 }
 
 // Returns the number of legal moves of the man on `from` among its triples from `start` up to but not
-// including `end`. The board is unchanged. It mostly counts bits, so the loops that test each move are out
-// of line.
+// including `end`. Usually it only counts bits; the loops that test each move are out of line. The board
+// is unchanged.
 #[inline(always)]
 pub(crate) fn count_origin<R: Rules>(
     board: &mut Board,
@@ -233,7 +234,7 @@ pub(crate) fn count_origin<R: Rules>(
 {
     let squares = given.squares;
     if are_known_legal::<R>(board, known.blocker_squares, from, given) {
-        // Mostly the whole origin is counted, and no division is needed.
+        // Usually the whole origin is counted, and no division is needed.
         if start == 0 && end == PER_ORIGIN {
             return squares.count_ones() as u16;
         }

@@ -22,7 +22,7 @@ use chess_core::board::Board;
 use chess_core::man::{Colour, Kind, Man, Move};
 use chess_core::square::{Square, Squares};
 
-// Returns whether a rider or hopper among the fairy men is on the square.
+// Returns whether a fairy rider or hopper is on the square.
 fn has_fairy_lines_on(board: &Board, square: Square) -> bool
     ensures { result ≡ has_fairy_lines_of (man_on board.now.men square) }
 {
@@ -51,9 +51,9 @@ fn may_be_paralysed<R: Rules>(board: &Board, colour: Colour, square: Square) -> 
     R::like_men_paralyse() && has_like(board, colour, square)
 }
 
-// Returns the squares to which a man other than the king must go to parry a check to the colour's king; all
-// squares if there is no check. Moves that aren't plain, and promotions in Madrasi, aren't bound by it.
-// `checkers` are the squares of the enemy men that reach the king.
+// Returns the squares to which a man other than the king must go to parry a check to the colour's king;
+// all squares if there is no check. Says nothing about moves that aren't plain, nor about promotions in
+// Madrasi. `checkers` are the squares of the enemy men that reach the king.
 pub(crate) fn evasion_squares<R: Rules>(board: &Board, colour: Colour, checkers: Squares) -> Squares
     requires { checkers ≡ word (is_checker board.now.men colour) }
     ensures { AreEvasions R.rule board.now.men colour result }
@@ -75,16 +75,16 @@ pub(crate) fn evasion_squares<R: Rules>(board: &Board, colour: Colour, checkers:
             & reach_as(board, colour, Kind::Queen, checker))
 }
 
-// Returns whether the move might paralyse a man of a kind that its side didn't have: in Madrasi, a
-// promotion.
+// Returns whether the move might give its side the first man of a kind, which may paralyse the checker:
+// in Madrasi, any promotion.
 fn may_paralyse_new_kind<R: Rules>(m: &Move) -> bool
     ensures { result ≡ may_paralyse_new_kind R.rule m.now }
 {
     R::like_men_paralyse() && m.promo.is_some()
 }
 
-// Returns the squares on which the man's arrival might paralyse a man of a new kind: in Madrasi, a pawn's
-// promotion squares.
+// Returns the squares where the man's arrival might give its side the first man of a kind, which may
+// paralyse the checker: in Madrasi, a pawn's promotion squares.
 fn paralysing_squares<R: Rules>(man: Man) -> Squares
     ensures { result ≡ (if like_men_paralyse R.rule then word (is_promoting man) else 0) }
 {
@@ -95,7 +95,7 @@ fn paralysing_squares<R: Rules>(man: Man) -> Squares
     }
 }
 
-// Returns whether the move surely leaves its own king in check: it isn't the king's and misses
+// Returns whether the move certainly leaves its own king in check: it isn't the king's and misses
 // `evasion_squares`. `false` says nothing.
 #[tactic(auto, using(crate::proofs::attacks::StayingInCheck::check_unmet))]
 fn leaves_check<R: Rules>(board: &Board, evasion_squares: Squares, m: &Move) -> bool
@@ -165,8 +165,9 @@ pub(crate) fn evasions_from<R: Rules>(
             | paralysing_squares::<R>(man))
 }
 
-// Returns whether the mover isn't in check after the move. `squares` are the squares from which a move may
-// expose its king, `evasion_squares` those where a move may parry a check. The board is unchanged.
+// Returns whether the mover isn't in check after the move. `squares` are the squares from which a move
+// may expose its king, `evasion_squares` the squares where a move may parry a check. The board is
+// unchanged.
 #[tactic(auto, using(crate::proofs::attacks::Blocking::cannot_expose_own))]
 #[inline(always)]
 pub(crate) fn is_safe<R: Rules>(

@@ -1,4 +1,4 @@
-//! Whether a move leaves its own king in check.
+//! Tests whether a move leaves its own king in check.
 ghost use Rattle.std.specs.Prelude.{◌≡◌, ◌==◌, ◌&&◌, IfSome, List, Option, not, true};
 ghost use Rattle.std.specs.Int.{bit_at};
 ghost use Rattle.chess_core.specs.Position.{is_man, is_of_colour, man_on, other};
@@ -34,15 +34,15 @@ fn king_after(board: &Board, man: Man, m: &Move) -> Option<Square>
     }
 }
 
-/// Returns whether the move does no more than move this man and remove at most one captured man: no
-/// castling, and no rebirth.
+/// Returns whether the move does no more than move this man and remove at most one captured man: it
+/// isn't castling, and nobody is reborn. `captures` says whether it captures.
 pub fn is_simple<R: Rules>(man: Man, m: &Move, captures: bool) -> bool
     ensures { result ≡ is_simple R.rule man m.now captures }
 {
     !is_castling(man, m) && !(R::captures_do_more() && captures)
 }
 
-// Returns the arrival square if the man that arrives there is of this kind, otherwise nothing.
+// Returns the arrival square if the man that arrives there is of this kind; otherwise no square.
 #[tactic(auto, using(crate::proofs::attacks::Exposing::arrives_as, crate::proofs::attacks::Exposing::arrives_otherwise))]
 fn arrival_as(man: Man, m: &Move, kind: Kind) -> Squares
     ensures { result ≡ word (is_arriving_as man m.now kind) }
@@ -54,7 +54,8 @@ fn arrival_as(man: Man, m: &Move, kind: Kind) -> Squares
     }
 }
 
-// Returns the squares of the mover's men of this kind after a simple move; `occupancy` is the sight after it.
+// Returns the squares of the mover's men of this kind after a simple move; `occupancy` is the occupancy
+// after it.
 fn own_squares_after(board: &Board, occupancy: Occupancy, man: Man, m: &Move, kind: Kind) -> Squares
     ensures { result ≡ own_after board.now.men occupancy man m.now kind }
 {
@@ -62,8 +63,8 @@ fn own_squares_after(board: &Board, occupancy: Occupancy, man: Man, m: &Move, ki
         | arrival_as(man, m, kind)
 }
 
-// Returns whether one of the mover's men of this kind reaches the square after the move; `occupancy` is the
-// sight after it.
+// Returns whether one of the mover's men of this kind reaches the square after the move; `occupancy` is
+// the occupancy after it.
 fn is_attacked_by_like_after(
     board: &Board,
     occupancy: Occupancy,
@@ -147,8 +148,8 @@ fn is_attacked_after<R: Rules>(
     some_unparalysed_after::<R>(board, occupancy, man, m, attackers)
 }
 
-// Returns whether the move leaves its own king in check, from attacks after the move and without playing
-// it. `None` if the move isn't simple.
+// Returns whether the move leaves its own king in check, without playing it; `None` if the move isn't
+// simple.
 #[inline(always)]
 fn leaves_king_in_check_unplayed<R: Rules>(board: &Board, m: &Move) -> Option<bool>
     requires well_formed { IsWellFormed board.now }
@@ -187,7 +188,8 @@ pub(crate) fn leaves_king_in_check<R: Rules>(board: &mut Board, m: Move) -> bool
     }
 }
 
-// Returns whether the move leaves its own king in check, by playing it and taking it back.
+// Returns whether the move leaves its own king in check, by playing it and taking it back. The board is
+// unchanged.
 fn leaves_king_in_check_played<R: Rules>(board: &mut Board, m: Move) -> bool
     requires well_formed { IsWellFormed board.old }
     requires pseudo { is_pseudo_legal R.rule board.old m ≡ true }

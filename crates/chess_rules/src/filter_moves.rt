@@ -1,4 +1,4 @@
-//! Filters over the legal moves of a position, which skip moves many at a time.
+//! Filters over the legal moves of a position, which skip many moves at a time.
 ghost use Rattle.std.specs.Prelude.{◌≡◌, ◌+◌, ◌*◌, ◌<◌, ◌≤◌, length, true};
 ghost use Rattle.chess_core.specs.WellFormed.{IsWellFormed};
 ghost use Rattle.chess_rules.specs.Legal.{is_legal};
@@ -17,9 +17,8 @@ use chess_core::board::Board;
 use chess_core::man::Move;
 use chess_core::square::{Square, Squares};
 
-/// A filter over the legal moves of a position, by their arrival squares. The moves that it takes fail a
-/// test; it leaves all moves that pass, and perhaps others. `fits` says to which positions a filter
-/// belongs.
+/// A filter over the legal moves of a position, by arrival squares. The moves that it takes fail a test;
+/// it leaves all moves that pass, and perhaps others. `fits` says to which positions the filter belongs.
 pub trait FilteredMoves {
     ghost use Rattle.std.specs.Prelude.{Bool, ◌≡◌, IfSome};
     ghost use Rattle.chess_core.specs.Position.{Position};
@@ -33,16 +32,16 @@ pub trait FilteredMoves {
 
     ghost fits: { Self → RuleSet → Position → Type 0 };
 
-    /// Returns the squares, out of `squares`, to which a legal move of the man on `from` may pass the test, and
-    /// perhaps others. Contracts don't see what the filter caches for later calls.
+    /// Returns the squares among `squares` to which a legal move of the man on `from` may pass the test,
+    /// and perhaps others. The filter may cache results; contracts don't see them.
     fn filter_moves<R: Rules>(&mut self, board: &Board, from: Square, squares: Squares) -> Squares
         requires well_formed { IsWellFormed board.now }
         requires fits { fits self.old R.rule board.now }
         ensures filtered { AreFiltered R.rule board.now (test R.rule board.now) from squares result }
         ensures same { self.new ≡ self.old };
 
-    /// Returns exactly the squares to which the man on `from` has legal moves, if the filter knows them.
-    /// `squares` are a superset of them.
+    /// Returns exactly the squares to which the man on `from` has legal moves, or `None` if the filter
+    /// doesn't know them. `squares` is a superset of these squares.
     fn legal_squares<R: Rules>(
         &self,
         board: &Board,
@@ -91,7 +90,7 @@ fn known_candidates<R: Rules, S: FilteredMoves>(
     }
 }
 
-// Returns the candidate squares of the man on `from` that the filter leaves.
+// Returns which of `squares`, the candidate squares of the man on `from`, the filter leaves.
 #[tactic(auto, using(crate::proofs::listing_moves::Filtering::wanted_candidates))]
 fn unfiltered_squares<R: Rules, S: FilteredMoves>(
     board: &Board,
@@ -112,8 +111,9 @@ fn unfiltered_squares<R: Rules, S: FilteredMoves>(
     squares & filter_moves.filter_moves::<R>(board, from, squares)
 }
 
-// Returns the number of the first legal move that the filter leaves, from triple `start` on; `TRIPLES` if
-// there is none. Adds to `passed` the number of legal moves before it. The board is unchanged.
+// Returns the number of the first legal move that the filter leaves, from triple `start` on; `TRIPLES`
+// if there is none. Adds to `passed`, which is 0, the number of legal moves before it. The board is
+// unchanged.
 pub(crate) fn next_unfiltered<R: Rules, S: FilteredMoves>(
     board: &mut Board,
     known: LegalityMasks,
@@ -177,7 +177,7 @@ fn filters_some<R: Rules, S: FilteredMoves>(
     }
 }
 
-// Returns whether the filter takes a legal move of a man on one of these squares. The board is unchanged.
+// Returns whether the filter takes a legal move of a man on one of `origins`. The board is unchanged.
 pub(crate) fn some_filtered<R: Rules, S: FilteredMoves>(
     board: &mut Board,
     known: LegalityMasks,

@@ -23,9 +23,9 @@ use chess_core::square::{Square, Squares};
 use std::alloc::AllocError;
 use std::marker::{Model, PhantomData};
 
-/// A cursor over the legal moves of one position, as `Moves`, that also keeps what speeds up the search:
-/// the squares from which a move may expose the mover's king, the squares where a move may parry a check,
-/// and the candidate squares of its current origin.
+/// A cursor over the legal moves of one position. It is a place in the order of moves, like `Moves`, and
+/// also keeps what speeds up the search: the squares from which a move may expose the mover's king, the
+/// squares where a move may parry a check, and the candidate squares of its current origin.
 #[derive_where(Copy)]
 pub struct LegalCursor<R> {
     number: u16,
@@ -91,14 +91,14 @@ impl<R: Rules> LegalCursor<R> {
         }
     }
 
-    /// Returns the cursor as `Moves`, without what is kept for this position.
+    /// Returns the cursor's place, without what the cursor keeps for its position.
     pub fn place(&self) -> Moves<R>
         ensures { result ≡ self.now.place }
     {
         Moves::at(self.number)
     }
 
-    /// Returns what is known of the position.
+    /// Returns what the cursor knows of its position.
     pub fn known(&self) -> LegalityMasks
         ensures { result ≡ record {
           blocker_squares = self.now.blocker_squares;
@@ -111,16 +111,16 @@ impl<R: Rules> LegalCursor<R> {
         }
     }
 
-    /// Moves the cursor to another place in the list of the same position.
+    /// Moves the cursor to another place in the order of moves of its position.
     pub fn go_to(&mut self, place: Moves<R>)
         ensures { self.new ≡ record self.old { place = place } }
     {
         self.number = place.number();
     }
 
-    /// Returns the next legal move after the cursor and moves the cursor to it. After the last legal move
-    /// it returns `None` and moves the cursor to the end. The cursor must be of the board's position. The
-    /// board is unchanged.
+    /// Returns the next legal move after the cursor and moves the cursor to it. After the last one it
+    /// returns `None` and moves the cursor to the end. The cursor must belong to the board's position.
+    /// The board is unchanged.
     pub fn next(&mut self, board: &mut Board) -> Option<Move>
         requires well_formed { IsWellFormed board.old }
         requires place { IsPlaceIn R.rule board.old self.old }
@@ -153,9 +153,9 @@ impl<R: Rules> LegalCursor<R> {
         None
     }
 
-    /// Returns the next legal move after the cursor and not after `end`, and moves the cursor to it. If
-    /// there is none it returns `None` and the cursor stays. The cursor must be of the board's position.
-    /// The board is unchanged.
+    /// Returns the next legal move between the cursor and `end`, and moves the cursor to it. If there is
+    /// none it returns `None` and the cursor stays. The cursor must belong to the board's position. The
+    /// board is unchanged.
     #[tactic(auto, using(crate::proofs::listing_moves::Between::until))]
     pub fn next_until(&mut self, end: Moves<R>, board: &mut Board) -> Option<Move>
         requires well_formed { IsWellFormed board.old }
@@ -187,8 +187,8 @@ impl<R: Rules> LegalCursor<R> {
         None
     }
 
-    /// Returns whether the filter takes a legal move of a man on one of these squares; `false` says nothing
-    /// about other men. Cursor and filter must be of the board's position. The board is unchanged.
+    /// Returns whether the filter takes a legal move of a man on one of `origins`; `false` says nothing
+    /// about other men. Cursor and filter must belong to the board's position. The board is unchanged.
     pub fn has_filtered<S: FilteredMoves>(
         &self,
         filter_moves: &mut S,
@@ -205,10 +205,10 @@ impl<R: Rules> LegalCursor<R> {
         some_filtered::<R, S>(board, self.known(), filter_moves, origins)
     }
 
-    /// Returns the next legal move after the cursor that the filter leaves, with the number of legal moves
-    /// passed over, and moves the cursor to it. The moves passed over fail the filter's test. If there is
-    /// none, the cursor moves to the end. Cursor and filter must be of the board's position. The board is
-    /// unchanged.
+    /// Returns the next legal move after the cursor that the filter leaves, with the number of legal
+    /// moves before it, and moves the cursor to it. The moves before it fail the filter's test. If there
+    /// is none, returns the number of all legal moves after the cursor, and moves the cursor to the end.
+    /// Cursor and filter must belong to the board's position. The board is unchanged.
     #[tactic(auto, using(crate::proofs::listing_moves::Filtering::next_filtered))]
     pub fn next_filtered<S: FilteredMoves>(
         &mut self,
@@ -252,8 +252,8 @@ impl<R: Rules> LegalCursor<R> {
 }
 
 // Returns the number of the first legal move from triple `start` up to but not including `end`; `end` if
-// there is none. `squares` are the squares from which a move may expose the mover's king, `evasion_squares`
-// those where a move may parry a check. The board is unchanged.
+// there is none. `squares` are the squares from which a move may expose the mover's king,
+// `evasion_squares` the squares where a move may parry a check. The board is unchanged.
 pub(crate) fn next_legal<R: Rules>(
     board: &mut Board,
     squares: Squares,
@@ -321,7 +321,8 @@ impl MoveFilter for LegalityMasks {
     ghost idle = { λ rule p m h. is_legal-idle rule p m h };
 }
 
-// Returns a superset of the squares from which the side to move has a legal move: all squares of its men.
+// Returns a superset of the squares from which the side to move has a legal move: the squares of all its
+// men.
 pub(crate) fn own_origins<R: Rules>(board: &Board) -> Squares
     ensures { AreOrigins (is_legal R.rule board.now) result }
 {

@@ -1,3 +1,3 @@
-//! Moves made and taken back on the board.
+//! Makes moves on the board and takes them back.
 pub mod play;
 pub mod undoing;

@@ -1,4 +1,5 @@
-//! Searches the triples for the next move that passes a test. Knowledge of the position skips most of them.
+//! Searches the triples for the next move that passes a test. What is known of the position skips most
+//! of them.
 ghost use Rattle.std.specs.Int.{bit_at};
 ghost use Rattle.std.specs.Prelude.{◌≡◌, ◌==◌, ◌+◌, ◌*◌, ◌≤◌, ◌<◌, Some, false, true};
 ghost use Rattle.chess_core.specs.Position.{is_man, man_on};
@@ -15,9 +16,9 @@ use chess_core::board::Board;
 use chess_core::man::{Kind, Move};
 use chess_core::square::{Square, Squares};
 
-/// Knowledge of a position that finds the moves that pass a test. It may also find moves that fail the
-/// test: `found` says what each found move passes for certain, and `fits` says of which positions the
-/// knowledge is true.
+/// A filter that finds the moves of a position that pass a test. It may find moves that fail the test
+/// too: `found` is what each found move certainly passes, and `fits` says to which positions the filter
+/// belongs.
 pub trait MoveFilter {
     ghost use Rattle.std.specs.Prelude.{Bool, ◌≡◌, true, false};
     ghost use Rattle.chess_core.specs.Position.{Position};
@@ -43,8 +44,8 @@ pub trait MoveFilter {
         requires fits { fits self.now R.rule board.now }
         ensures { AreCandidates R.rule board.now (test R.rule board.now) from result };
 
-    /// Returns whether the move is found: true for each move that passes the test, perhaps for others too.
-    /// The board is unchanged.
+    /// Returns whether the filter finds the move: `true` for each move that passes the test, and perhaps
+    /// for others. The board is unchanged.
     fn is_found<R: Rules>(&self, board: &mut Board, m: Move) -> bool
         requires well_formed { IsWellFormed board.old }
         requires aimed { IsAimed R.rule board.old m }
@@ -57,7 +58,7 @@ pub trait MoveFilter {
         → test rule p m ≡ false };
 }
 
-// Returns `kept` if it belongs to this origin, and otherwise computes the candidate squares of `from`.
+// Returns `kept` if it belongs to this origin; otherwise computes the candidate squares of `from`.
 fn keep<R: Rules, S: MoveFilter>(
     board: &Board,
     move_filter: &S,

@@ -1,4 +1,4 @@
-//! Whether a man other than the king has a legal move.
+//! Tests whether a man other than the king has a legal move.
 ghost use Rattle.std.specs.Prelude.{◌≡◌, ◌<◌, ◌&&◌, filter, not};
 ghost use Rattle.chess_core.specs.WellFormed.{IsWellFormed};
 ghost use Rattle.chess_rules.specs.Legal.{is_legal, is_nil, moves};
@@ -48,8 +48,8 @@ impl MoveFilter for Others {
     ghost idle = { λ rule p m h. is_unfiltered-idle rule p (is_of_others p) m h };
 }
 
-// Returns a superset of the squares from which a man other than the king has a legal move: all squares of
-// these men.
+// Returns a superset of the squares from which a man other than the king has a legal move: the squares
+// of all men of the side to move except the king.
 #[tactic(auto, using(crate::proofs::listing_moves::OtherMoves::other_origins))]
 fn origins_of_others<R: Rules>(board: &Board) -> Squares
     ensures { AreOrigins (is_unfiltered R.rule board.now (is_of_others board.now)) result }

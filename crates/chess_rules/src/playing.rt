@@ -1,4 +1,4 @@
-//! Moves made and taken back as methods of the rules.
+//! Makes moves and takes them back by methods of the rules.
 ghost use Rattle.std.specs.Prelude.{◌≡◌, true};
 ghost use Rattle.chess_core.specs.WellFormed.{IsWellFormed};
 ghost use Rattle.chess_rules.specs.Legal.{is_pseudo_legal};

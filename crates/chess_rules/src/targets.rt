@@ -20,7 +20,8 @@ use chess_core::board::Board;
 use chess_core::man::{Colour, Kind, Man};
 use chess_core::square::{Square, Squares};
 
-// The number of triples with the same origin and arrival: no promotion, or one of six pieces.
+// The number of triples with the same origin and arrival: one without a promotion, and one for each of
+// six pieces.
 pub(crate) const PER_ARRIVAL: u16 = 7;
 
 // The number of triples with the same origin.
@@ -29,7 +30,7 @@ pub(crate) const PER_ORIGIN: u16 = 64 * PER_ARRIVAL;
 /// The number of all triples of origin, arrival and promotion.
 pub const TRIPLES: u16 = 64 * PER_ORIGIN;
 
-/// The candidate squares of one origin, kept while its moves are listed.
+/// The candidate squares of one origin, kept while the moves from there are listed.
 #[derive(Clone, Copy)]
 pub struct TargetCache {
     /// The origin, or `None` if nothing is kept.
@@ -38,7 +39,8 @@ pub struct TargetCache {
     pub squares: Squares,
 }
 
-/// Returns the squares one and two ahead of a pawn, or two files to either side of a king.
+/// Returns the squares one and two ahead of a pawn on `from`, or two files to either side of a king;
+/// none for other men.
 #[tactic(auto, using(crate::proofs::listing_moves::Targeting::step_words))]
 pub fn steps_to(man: Man, from: Square) -> Squares
     ensures { result ≡ word (steps_to man from) }
@@ -82,7 +84,8 @@ fn pawn_steps_to(board: &Board, man: Man, from: Square) -> Squares
     ahead & king_leaps(from)
 }
 
-// Returns a superset of the squares where the king arrives by castling.
+// Returns a superset of the squares where the king on `from` arrives by castling; none without its
+// castling right.
 fn castling_squares(board: &Board, man: Man, from: Square) -> Squares
     ensures { result ≡ word (λ t. has_unmoved board.now.unmoved from && steps_to man from t) }
 {
@@ -93,8 +96,8 @@ fn castling_squares(board: &Board, man: Man, from: Square) -> Squares
     }
 }
 
-// Returns the squares to which the man on `from` may go, whoever stands there; for a king without most
-// tests of castling.
+// Returns the squares to which the man on `from` may go, whoever stands there. Castling passes only some
+// of its tests.
 #[tactic(auto, using(crate::proofs::listing_moves::Arrivals::other_ways, crate::proofs::listing_moves::Arrivals::pawn_ways))]
 fn arrivals_of(board: &Board, man: Man, from: Square) -> Squares
     ensures { result ≡ word (may_arrive board.now man from) }
@@ -113,8 +116,8 @@ fn free_squares(board: &Board, colour: Colour) -> Squares
     !(board.side(colour) | board.squares(colour.other(), Kind::King))
 }
 
-/// Returns the squares where the man on `from` may arrive, without most tests of castling; nothing if the
-/// man is paralysed or not of the side to move.
+/// Returns the squares where the man on `from` may arrive; none if it is paralysed or not of the side to
+/// move. Castling passes only some of its tests.
 #[tactic(auto, using(crate::proofs::listing_moves::Arrivals::arrivals_nobody, crate::proofs::listing_moves::Arrivals::arrivals_other, crate::proofs::listing_moves::Arrivals::arrivals_paralysed))]
 #[inline(always)]
 pub fn arrivals<R: Rules>(board: &Board, from: Square) -> Squares
@@ -132,7 +135,7 @@ pub fn arrivals<R: Rules>(board: &Board, from: Square) -> Squares
     free_squares(board, board.turn()) & arrivals_of(board, man, from)
 }
 
-// Returns whether a pawn arrives on its last rank.
+// Returns whether the man is a pawn that arrives on its last rank.
 pub(crate) fn is_promoting(man: Man, to: Square) -> bool
     ensures { result ≡ is_promoting man to }
 {
@@ -150,7 +153,7 @@ fn last_rank_squares(colour: Colour) -> Squares
     }
 }
 
-// Returns the squares on which this man promotes; nothing unless it is a pawn.
+// Returns the squares on which this man promotes; none unless it is a pawn.
 #[tactic(auto, using(crate::proofs::listing_moves::SurelyLegal::promotion_words))]
 pub(crate) fn promoting_squares(man: Man) -> Squares
     ensures { result ≡ word (is_promoting man) }

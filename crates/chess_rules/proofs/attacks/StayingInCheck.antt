@@ -1,4 +1,4 @@
--- A check that isn't parried stays.
+-- A check that isn't parried remains.
 use Rattle.chess_rules.proofs.Chess.{AreEvasions, AtMostOneKing, Bool, Colour, IsNoEvasion, IsWellFormed, Kind, King, List, Man, Move, Option, Position, Queen, RuleSet, Some, Step, and_from, and_parts, and_right, ap, arith, arriving_man, bit_and, bit_at, bit_not, bit_or, capture_square, cases_eq, cond-false, eq-eqb, like_men_paralyse, attacks_like, is_attacked_by_like, false, false≢true, find_first, first_of_and, has_fairy_lines, has_fairy_lines_of, in_check, is_attacked, is_attacker, is_checker, is_man, is_of_colour, is_paralysed, is_plain, is_pseudo_legal, is_square, is_vacant_at, king_square, list_any, list_any-append, man_on, may_be_paralysed, may_paralyse_new_kind, not-true, or_left, or_parts, or_right, other, position_after, queen_steps, reaches, reaches_as, rides, rules, same_colour, same_kind, second_fails, second_of_and, some_square, some_square_false, some_square_true, squares, squares_both, squares_either, subst, sym, true, w64, word, word_has, ℕ, ◌&&◌, ◌<◌, ◌==◌, ◌∙◌, ◌≡◌, ◌≢◌}
 use Rattle.chess_rules.proofs.attacks.Blocking.{IsPlain, IsShift, arrived_shift, king_is, man_there, men_after, other_differs}
 use Rattle.chess_rules.proofs.attacks.Exposing.{free_of_own}

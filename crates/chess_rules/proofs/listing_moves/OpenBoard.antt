@@ -1,4 +1,5 @@
--- Where a man goes, it could go on some board: `unblocked_reach` and `unblocked_targets` miss no square.
+-- To each square where a man may go, it could go on some board: `unblocked_reach` and
+-- `unblocked_targets` miss no square.
 use Rattle.chess_rules.proofs.Chess.{Bool, King, Man, Pawn, Position, and_parts, arith, bit_at, bit_or, cond-false, cond-true, false, false≢true, is_advance, may_arrive, AreReached, on_left, on_right, or_cases, reaches_as, rules, same_kind, steps_to, true, word, word_has, ℕ, ◌&&◌, ◌<◌, ◌==◌, ◌||◌, ◌≡◌}
 use Rattle.chess_rules.proofs.listing_moves.Arrivals.{no_steps}
 

@@ -14,7 +14,7 @@ use Rattle.chess_rules.specs.ties.Evasions.{AreEvasions}
 use Rattle.chess_rules.specs.ties.Blockers.{may_expose, may_be_hurdle}
 use Rattle.chess_rules.specs.ties.Targets.{AreCandidates, is_promoting}
 
--- k is true of position p
+-- the masks k belong to position p
 pub record IsKnownIn (rule : RuleSet) (p : Position) (k : LegalityMasks) : Type 0 where
   pub blocker_squares : k.blocker_squares ≡ word (may_expose p.men p.turn)
   pub evasion_squares : AreEvasions rule p.men p.turn k.evasion_squares

@@ -33,11 +33,13 @@ has_like men c (Some y) = some_square (λ s. is_man (man_on men s) c y.kind)
 abbrev pub may_be_paralysed : RuleSet → List (Option Man) → Colour → Option Man → Bool
 may_be_paralysed rule men c o = like_men_paralyse rule && has_like men c o
 
--- in Madrasi: the move might paralyse a man of a kind that its side didn't have
+-- in Madrasi: the move promotes, which might give its side the first man of a kind, and that may
+-- paralyse the checker
 abbrev pub may_paralyse_new_kind : RuleSet → Move → Bool
 may_paralyse_new_kind rule m = like_men_paralyse rule && is_some m.promo
 
--- an orthodox check to the king of colour c that a move to t doesn't parry
+-- the king of colour c is in check by a man without fairy lines, which nobody may paralyse, and a move
+-- to t doesn't parry this check
 pub record IsNoEvasion (rule : RuleSet) (men : List (Option Man)) (c : Colour) (t : ℕ) : Type
     0 where
   pub king : ℕ
@@ -49,7 +51,7 @@ pub record IsNoEvasion (rule : RuleSet) (men : List (Option Man)) (c : Colour) (
   pub check : reaches men checker king ≡ true
   pub no_evasion : is_evasion men c king checker t ≡ false
 
--- a plain move by another man than the king (in Madrasi: no promotion) leaves its king in check if its
+-- a plain move by a man other than the king (in Madrasi: no promotion) leaves its king in check if its
 -- arrival isn't in the bitboard w
 pub record AreEvasions (rule : RuleSet) (men : List (Option Man)) (c : Colour) (w : ℕ) : Type
     0 where

@@ -1,4 +1,4 @@
--- The men that an attack sees once a move is made (own).
+-- What decides attacks after a move, without playing it (own).
 use Rattle.std.specs.Prelude.{◌≡◌, ◌<◌, ◌==◌, ℕ, Bool, true, ◌&&◌, not, List, Option, Some, if◌then◌else◌}
 use Rattle.std.specs.Int.{bit_at, bit_not, w64}
 use Rattle.std.specs.Int.Bits.{bit_and, bit_or}
@@ -29,8 +29,8 @@ own_after men v x m k =
     bit_or (bit_and (bit_and (squares_of men x.colour k) v.standing)
     (bit_not w64 (word (is_square (Some m.from))))) (word (is_arriving_as x m k))
 
--- v describes these men, those after the move m of x: its side's men as in `own_after`, the others where
--- they stood
+-- v describes `men`, the men after the move m of x: x's side as in `own_after`, the other side where it
+-- stood
 pub record DescribesMenAfter (before men : List (Option Man)) (x : Man) (m : Move) (v : Occupancy) : Type
     0 where
   pub occupied : v.occupied ≡ occupied_squares men
@@ -38,7 +38,7 @@ pub record DescribesMenAfter (before men : List (Option Man)) (x : Man) (m : Mov
   pub others : (s : ℕ) → is_of_colour (man_on men s) (other x.colour) ≡ true
       → man_on men s ≡ man_on before s
 
--- men of the other colour than c are on all squares of w
+-- each square of w holds a man of the colour other than c
 pub record AreOthers (men : List (Option Man)) (c : Colour) (w : ℕ) : Type 0 where
   pub side : (s : ℕ) → s < 64 → (bit_at w s == 1) ≡ true
       → is_of_colour (man_on men s) (other c) ≡ true

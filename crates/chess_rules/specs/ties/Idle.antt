@@ -13,7 +13,7 @@ pub is_legal-idle : (rule : RuleSet) (p : Position) (m : Move) → is_pseudo_leg
 unfolding is_legal
 is_legal-idle rule p m h = and_left _ _ h
 
--- a move that isn't pseudo-legal isn't wanted
+-- a move that isn't pseudo-legal isn't a legal move that passes the test
 pub is_unfiltered-idle : (rule : RuleSet) (p : Position) (test : Move → Bool) (m : Move)
     → is_pseudo_legal rule p m ≡ false → is_unfiltered rule p test m ≡ false
 is_unfiltered-idle rule p test m h = and_left _ _ (is_legal-idle rule p m h)

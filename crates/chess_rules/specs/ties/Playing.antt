@@ -1,4 +1,4 @@
--- What the board must satisfy before a move is made (own).
+-- What must hold before a move is made on the board (own).
 use Rattle.std.specs.Prelude.{ℕ, true, false, List, Option, Some, None, IsSome, ◌≡◌}
 use Rattle.chess_core.specs.Position.{Position, man_on, with_man, without_man, same_kind, HasNoKing}
 use Rattle.chess_core.specs.declared.man.Man.{Man}
@@ -11,7 +11,7 @@ pub record CanCastle (men : List (Option Man)) (a b : ℕ) : Type 0 where
   pub free : man_on (without_man men a) b ≡ None
   pub no_king : (z : Man) → man_on men a ≡ Some z → same_kind z.kind King ≡ false
 
--- the board's calls may move the men one by one
+-- the calls of `Board` may make the move man by man
 pub record CanMove (p : Position) (x : Man) (m : Move) : Type 0 where
   pub here : man_on p.men m.from ≡ Some x
   pub taken : (s : ℕ) → capture_square p x m ≡ Some s → IsSome (man_on (without_man p.men m.from) s)

@@ -27,8 +27,8 @@ steps_to x s t =
 abbrev pub pawn_steps_to : Position → Man → ℕ → ℕ → Bool
 pawn_steps_to p x s t = is_pawn_step p x (record { from = s; to = t; promo = None })
 
--- x goes from s to t, without most tests of castling: a pawn captures or steps, another man reaches t, and
--- a king with castling rights goes two files to either side
+-- x goes from s to t: a pawn captures or steps, another man reaches t, and a king with its castling
+-- right goes two files to either side, without further tests of castling
 unfoldable pub may_arrive : Position → Man → ℕ → ℕ → Bool
 may_arrive p x s t =
     if same_kind x.kind Pawn then (reaches_as p.men x.colour x.kind s t

@@ -27,7 +27,8 @@ pub fn arriving_man(man: Man, promo: Option<Kind>) -> Man
     }
 }
 
-/// Returns the corner of the rook with which a king castles by this move.
+/// Returns the corner of the rook with which a king castles by this move. For other moves the result
+/// means nothing.
 pub fn corner(m: &Move) -> Square
     ensures { result ≡ corner m.now }
 {
@@ -89,8 +90,8 @@ pub(crate) fn remove_at(board: &mut Board, square: Option<Square>)
     }
 }
 
-// Moves the men of the move: lifts the captured man, moves the man, and moves the rook in castling. Rebirth
-// comes later.
+// Carries out the move on the board, rebirth apart: moves the man, removes the captured man, and in
+// castling moves the rook.
 #[inline(always)]
 #[tactic(auto, using(crate::proofs::making_moves::Plays::capture_clears), unfolding(crate::specs::Play::moved_men))]
 fn move_men(board: &mut Board, man: Man, m: &Move, captured: Option<Square>)
@@ -224,8 +225,8 @@ fn with_rook(unmoved: Unmoved, square: Option<Square>, man: Option<Man>) -> Unmo
     }
 }
 
-// Makes the move of `man`, which is on its origin: the man first, then the castling rook, and the
-// reborn man last. Returns what is needed to take it back.
+// Makes the move of `man`, which is on the origin: first the man, then the castling rook, and last the
+// reborn man. Returns what is needed to take the move back.
 fn play_by<R: Rules>(board: &mut Board, man: Man, m: &Move) -> Undo
     requires moves { CanMove board.old man m.now }
     requires mortal { (y : Man) → captured_man board.old man m.now ≡ Some y

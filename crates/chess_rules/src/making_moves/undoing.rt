@@ -13,7 +13,7 @@ use chess_core::board::Board;
 use chess_core::man::{Kind, Man, Move};
 use chess_core::square::Square;
 
-// Returns the man that left the origin: a promoted man was a pawn.
+// Returns the man that left the origin: the pawn if it promoted.
 fn leaving_man(man: Man, promo: Option<Kind>) -> Man
     ensures { result ≡ leaving_man man promo }
 {
@@ -26,7 +26,8 @@ fn leaving_man(man: Man, promo: Option<Kind>) -> Man
     }
 }
 
-// Returns the square to which the captured man returns: one rank before the arrival for en passant.
+// Returns the square to which the captured man returns: after en passant, one rank before the arrival.
+// `None` if nobody was captured.
 fn return_square(
     man: Man,
     m: &Move,
@@ -83,7 +84,7 @@ fn take_reborn_off(board: &mut Board, undo: &Undo)
     remove_at(board, undo.rebirth);
 }
 
-// Takes back a move: removes the reborn man first, then returns the men of the move and the captured man.
+// Takes back a move: first removes the reborn man, then returns the men that moved and the captured man.
 fn take_back<R: Rules>(board: &mut Board, m: Move, undo: Undo)
     requires { WasPlayed R.rule board.old m undo }
     ensures { RestoresPosition R.rule board.old m undo board.new }
