@@ -1,5 +1,5 @@
--- What the clauses of attack and of lines exclude: small positions in which the definitions say otherwise than a wrong
--- body would.
+-- What the clauses on attacks and lines exclude: small positions where a wrong body would differ from
+-- the definitions.
 use Rattle.chess_attacks.proofs.Chess.{Black, Knight, List, Man, Option, Pawn, Queen, Rook, Some, White, [], along, bit_at, attacks_like, is_attacked_by_like, false, find, hopped_from, hops, is_attacked, is_clear, is_man, is_met, is_of_colour, is_reached, leaps, madrasi, man_on, orthodox, range_with_len, reaches, reaches_as, refl, rides, rides_on, some_square, squares, step_by, straight_steps, true, word, word_of, ◌&&◌, ◌==◌, ◌^◌, ◌∷◌, ◌≡◌}
 use Rattle.chess_attacks.proofs.Typed.{man, on, set_up, a1, b1, d1, h1, a2, b3, d3, a4, d5, e4, a5, a6, b6, a8}
 unfoldable pub use Rattle.chess_attacks.proofs.Typed.{check}

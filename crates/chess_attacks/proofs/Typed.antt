@@ -1,4 +1,4 @@
--- Positions and moves typed in for the examples.
+-- The positions and moves of the examples.
 use Rattle.chess_attacks.proofs.Chess.{Colour, Kind, List, Man, Move, None, Option, Position, Some, [], along, attacks_like, is_attacked_by_like, hops, in_check, is_attacked, is_attacker, is_clear, is_paralysed, king_square, leaps, none_unmoved, reaches, reaches_as, repeat, rides, some_square, squares, with_man, ℕ, ◌∷◌}
 pub use Rattle.chess_core.specs.SquareNames.{a1, b1, c1, d1, e1, f1, g1, h1, a2, b2, c2, d2, e2, f2, g2, h2, a3, b3, c3, d3, f3, h3, a4, b4, e4, a5, d5, e5, a6, b6, d6, e6, f6, g6, a7, b7, c7, d7, e7, f7, g7, h7, a8, b8, c8, d8, e8, f8, g8, h8}
 

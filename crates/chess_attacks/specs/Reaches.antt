@@ -52,7 +52,7 @@ goes_by Hopper men = hops men
 unfoldable pub reaches_as : List (Option Man) → Colour → Kind → ℕ → ℕ → Bool
 reaches_as men c k s t = list_any (goes_by (gait_of k) men s t) (kind_steps c k)
 
--- this man, if there is one, could capture from s an enemy on t
+-- this man, if there is one, could capture an enemy on t from s
 abbrev pub reaches_of : List (Option Man) → Option Man → ℕ → ℕ → Bool
 reaches_of men None s t = false
 reaches_of men (Some x) s t = reaches_as men x.colour x.kind s t

@@ -73,8 +73,8 @@ pub fn reaching_among(
     squares & reach_to(occupied, colour, kind, square)
 }
 
-// Returns the squares of the rooks and queens of this colour that reach the square along its file or rank.
-// The first test is cheap and mostly enough: no rook or queen is on these lines.
+// Returns the squares of the rooks and queens of this colour that reach the square along its file or
+// rank. The first test is cheap and usually enough: no rook or queen is on these lines.
 #[tactic(auto, using(crate::proofs::attacks::Attacking::met, crate::proofs::attacks::Attacking::met_none))]
 fn straight_attackers(
     board: &Board,
@@ -113,8 +113,8 @@ fn diagonal_attackers(
     men & diagonal_rides(occupancy.occupied, square)
 }
 
-// Returns the squares of the men of this colour and leaping kind that reach the square. It needs no test
-// beforehand: leaps come from a table.
+// Returns the squares of the men of this colour and leaping kind that reach the square. Leaps come from
+// a table, so no cheaper test comes first.
 #[inline(always)]
 fn leaping_attackers(
     board: &Board,
@@ -130,8 +130,8 @@ fn leaping_attackers(
         & reach_to(occupancy.occupied, colour, kind, square)
 }
 
-// Returns which of `squares`, all grasshoppers of this colour, reach the square.
-// Grasshoppers hop along a queen's lines only, and mostly none is on one: that test comes first.
+// Returns which of `squares`, all grasshoppers of this colour, reach the square. Usually none is on the
+// square's queen lines: that test comes first.
 fn hoppers_reaching(occupied: Squares, squares: Squares, square: Square, colour: Colour) -> Squares
     ensures { (men : List (Option Man)) → occupied ≡ occupied_squares men
         → squares ≡ squares_of men colour Grasshopper
@@ -163,8 +163,8 @@ fn fairy_men_reaching(
         | reaching_among(occupied, nightriders, square, colour, Kind::Nightrider)
 }
 
-/// Returns the squares of the standing fairy men of this colour that reach the square. Mostly there are no
-/// fairy men: that test comes first.
+/// Returns the squares of the standing fairy men of this colour that reach the square. Usually there are
+/// no fairy men: that test comes first.
 #[inline(always)]
 pub fn fairy_attackers(
     board: &Board,
@@ -212,7 +212,7 @@ pub fn attackers_in(board: &Board, occupancy: Occupancy, square: Square, colour:
         | fairy_attackers(board, occupancy, square, colour)
 }
 
-/// Returns whether a man of this colour reaches the square. It looks for leapers first: their table is
+/// Returns whether a man of this colour reaches the square. Looks for leapers first: their table is
 /// cheaper than lines.
 #[tactic(auto, using(crate::proofs::attacks::Attacking::diagonal_reaches, crate::proofs::attacks::Attacking::leap_reaches, crate::proofs::attacks::Attacking::straight_reaches))]
 #[inline(always)]

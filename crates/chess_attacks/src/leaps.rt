@@ -12,7 +12,7 @@ use crate::geometry::{
 use chess_core::man::Colour;
 use chess_core::square::{Square, Squares};
 
-/// Returns the squares next to `from`: where a king moves, castling aside.
+/// Returns the squares next to `from`: where a king moves, apart from castling.
 pub fn king_leaps(from: Square) -> Squares
     ensures { result ≡ word (λ t. list_any (leaps from t) queen_steps) }
 {
@@ -37,7 +37,8 @@ pub fn pawn_leaps(colour: Colour, from: Square) -> Squares
     }
 }
 
-/// Returns the squares one and two ahead of a pawn of this colour.
+/// Returns the squares one and two ahead of a pawn of this colour on `from`, whatever its rank, as far
+/// as they are on the board.
 pub fn pawn_advances(colour: Colour, from: Square) -> Squares
     ensures { result ≡ word (is_advance colour from) }
 {
@@ -48,7 +49,7 @@ pub fn pawn_advances(colour: Colour, from: Square) -> Squares
     }
 }
 
-/// Returns the squares two files to either side on the same rank: where a king arrives when castling.
+/// Returns the squares two files to either side of `from` on its rank: where a king arrives by castling.
 pub fn squares_aside(from: Square) -> Squares
     ensures { result ≡ word (is_two_files_aside from) }
 {

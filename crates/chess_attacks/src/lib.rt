@@ -1,4 +1,5 @@
 //! Where men move and what they attack: attack, paralysis and check in orthodox chess, Circe and Madrasi.
+//! `in_check` is the main call.
 //!
 //! ```rust
 //! use chess_attacks::{Orthodox, Rules, in_check};
@@ -20,8 +21,8 @@
 //! }
 //! ```
 //!
-//! The items re-exported at the root are the interface. The public modules serve `chess_rules` and
-//! `chess_mates` only: bitboards of lines, leaps, rides and attackers. No call changes a board or allocates.
+//! The interface is what the root re-exports. The public modules serve only `chess_rules`, `chess_mates`
+//! and tests: bitboards of lines, leaps, rides and attackers. No call changes a board or allocates.
 #![tactic(auto)]
 
 pub mod attacks_on;

@@ -73,8 +73,8 @@ impl Direction {
         self as usize
     }
 
-    // Returns the first square of `word` in this direction. For an empty `word` it returns the board's last
-    // square in this direction; no line goes on after it.
+    // Returns the first square of `word` in this direction. For an empty `word` it returns a1 or h8,
+    // whichever comes last in this direction; no line continues from there.
     #[tactic(auto, using(crate::proofs::rays::Firsts::highest_stop, crate::proofs::rays::Firsts::lowest_stop))]
     fn first(self, word: Squares) -> Square
         ensures { IsStop (step_of self) word result }
@@ -120,8 +120,8 @@ pub fn occupied(board: &Board) -> Squares
     board.side(Colour::White) | board.side(Colour::Black)
 }
 
-// Returns the squares that a rider on `from` reaches in this direction; only `occupied` matters, not which
-// men stand there.
+// Returns the squares that a rider on `from` reaches in this direction. Only `occupied` matters, not
+// which men stand there.
 fn ride(occupied: Squares, from: Square, direction: Direction) -> Squares
     ensures { (men : List (Option Man)) → occupied ≡ occupied_squares men
         → result ≡ word (λ t. rides men from t (step_of direction)) }
@@ -146,7 +146,8 @@ pub fn diagonal_lines(from: Square) -> Squares
     DIAGONAL_LINES[from.index() as usize]
 }
 
-/// Returns the squares that a rook on `from` reaches.
+/// Returns the squares that a rook on `from` reaches. Only `occupied` matters, not which men stand
+/// there.
 pub fn straight_rides(occupied: Squares, from: Square) -> Squares
     ensures { (men : List (Option Man)) → occupied ≡ occupied_squares men
         → result ≡ word (λ t. list_any (rides men from t) straight_steps) }
@@ -157,7 +158,8 @@ pub fn straight_rides(occupied: Squares, from: Square) -> Squares
         | ride(occupied, from, Direction::South)
 }
 
-/// Returns the squares that a bishop on `from` reaches.
+/// Returns the squares that a bishop on `from` reaches. Only `occupied` matters, not which men stand
+/// there.
 pub fn diagonal_rides(occupied: Squares, from: Square) -> Squares
     ensures { (men : List (Option Man)) → occupied ≡ occupied_squares men
         → result ≡ word (λ t. list_any (rides men from t) diagonal_steps) }
@@ -176,7 +178,8 @@ pub(crate) fn queen_rides(occupied: Squares, from: Square) -> Squares
     straight_rides(occupied, from) | diagonal_rides(occupied, from)
 }
 
-// Returns the line from `from` in this direction if it crosses one of the squares, otherwise nothing.
+// Returns the squares of the line from `from` in this direction if it crosses one of `squares`;
+// otherwise none.
 fn line_with(from: Square, squares: Squares, direction: Direction) -> Squares
     ensures { (test : ℕ → Bool) → squares ≡ word test
         → result ≡ word (λ t. is_ahead from (step_of direction) t
@@ -309,7 +312,7 @@ pub(crate) fn queen_hops_back(occupied: Squares, to: Square) -> Squares
     straight_hops_back(occupied, to) | diagonal_hops_back(occupied, to)
 }
 
-/// Returns the queen's lines from `from` that cross one of the squares.
+/// Returns the squares of the queen's lines from `from` that cross one of `squares`.
 pub fn queen_lines_with(from: Square, squares: Squares) -> Squares
     ensures { (men : List (Option Man)) (e : Colour) → squares ≡ squares_of men e Grasshopper
         → result ≡ word (λ t. list_any (is_lined men e Grasshopper from t) queen_steps) }
@@ -325,7 +328,7 @@ pub fn queen_lines_with(from: Square, squares: Squares) -> Squares
     straight | diagonal
 }
 
-/// Returns the nightrider's lines from `from` that cross one of the squares.
+/// Returns the squares of the nightrider's lines from `from` that cross one of `squares`.
 pub fn knight_lines_with(from: Square, squares: Squares) -> Squares
     ensures { (men : List (Option Man)) (e : Colour) → squares ≡ squares_of men e Nightrider
         → result ≡ word (λ t. list_any (is_lined men e Nightrider from t) knight_steps) }

@@ -11,16 +11,17 @@ use chess_core::board::Board;
 use chess_core::man::{Colour, Kind};
 use chess_core::square::{Square, Squares};
 
-/// What attacks depend on: the occupied squares, and the squares whose men still stand.
+/// What attacks depend on: the occupied squares, and the squares whose men are still there.
 #[derive(Clone, Copy)]
 pub struct Occupancy {
     /// The occupied squares.
     pub occupied: Squares,
-    /// The squares on which the board's men count; men on other squares have moved or been captured.
+    /// The squares whose men on the board still count. Men on other squares have been captured or
+    /// lifted.
     pub standing: Squares,
 }
 
-/// Returns the sight of the board as it is.
+/// Returns the occupancy of the board as it is.
 #[tactic(auto, using(crate::proofs::attacks::Attacking::seen_now))]
 pub fn sight_now(board: &Board) -> Occupancy
     ensures { (c : Colour) → DescribesMen board.now.men board.now.men c result }
@@ -31,7 +32,8 @@ pub fn sight_now(board: &Board) -> Occupancy
     }
 }
 
-/// Returns the sight after the man on `from` has gone to `to` and the man on `captured` is off the board.
+/// Returns the occupancy after the man on `from` has gone to `to` and the man on `captured`, if there is
+/// one, is off the board.
 pub fn sight_after(board: &Board, from: Square, captured: Option<Square>, to: Square) -> Occupancy
     ensures { result ≡ sight_after board.now.men from captured to }
 {

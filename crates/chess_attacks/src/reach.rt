@@ -34,7 +34,8 @@ pub fn reach_over(occupied: Squares, colour: Colour, kind: Kind, from: Square) -
     }
 }
 
-/// Returns the squares where a man of this colour and kind on `from` could capture, on this board.
+/// Returns the squares where a man of this colour and kind on `from` could capture an enemy on this
+/// board.
 pub fn reach_as(board: &Board, colour: Colour, kind: Kind, from: Square) -> Squares
     ensures { result ≡ word (λ t. reaches_as board.now.men colour kind from t) }
 {

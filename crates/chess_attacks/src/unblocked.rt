@@ -1,4 +1,4 @@
-//! Where a man could go on some board: a superset of its moves that ignores the other men.
+//! Where a man could go on some board, whoever else stands there.
 ghost use Rattle.chess_attacks.specs.ties.Lines.{AreReached};
 
 use crate::leaps::{king_leaps, knight_leaps, pawn_leaps};
@@ -7,8 +7,8 @@ use crate::reach::reach_over;
 use chess_core::man::{Kind, Man};
 use chess_core::square::{Square, Squares};
 
-/// Returns the squares that the man on `from` could reach on some board; for a grasshopper all of a queen's
-/// lines.
+/// Returns a superset of the squares that the man on `from` could reach on some board; for a grasshopper
+/// a queen's lines. Pawns reach the squares on which they capture.
 #[tactic(auto, using(crate::proofs::rays::OpenBoard::grasshopper_reach, crate::proofs::rays::OpenBoard::leap_reach, crate::proofs::rays::OpenBoard::nightrider_reach, crate::proofs::rays::OpenBoard::queen_reach, crate::proofs::rays::OpenBoard::ride_reach))]
 pub fn unblocked_reach(man: Man, from: Square) -> Squares
     ensures { AreReached man from result }

@@ -8,7 +8,7 @@ ghost use Rattle.chess_attacks.specs.ties.Taking.{IsPopped};
 
 use chess_core::square::{Square, Squares};
 
-/// Returns the bitboard with this square alone, or the empty one for `None`.
+/// Returns the bitboard of this square only, or the empty bitboard for `None`.
 #[tactic(auto, using(crate::proofs::Bits::word_only, crate::proofs::Bits::word_empty))]
 pub fn only(square: Option<Square>) -> Squares
     ensures { result ≡ word (λ t. is_square square t) }
@@ -53,7 +53,7 @@ pub fn squares_from(word: Squares, from: u8) -> Squares
     word & following
 }
 
-/// Removes the lowest square from the bitboard and returns it, or `None` if the bitboard is empty. A `while
+/// Removes the lowest square from the bitboard and returns it; `None` if the bitboard is empty. A `while
 /// let` loop over it visits all squares in order.
 #[inline(always)]
 #[tactic(auto, using(crate::proofs::LowestBit::lowest_goes))]

@@ -1,5 +1,5 @@
--- What the clauses on men, diagrams and boards exclude: small boards where a wrong body would differ from
--- the definitions.
+-- What the clauses on men, diagrams and boards exclude: small boards where a wrong body would differ
+-- from the definitions.
 use Rattle.chess_core.proofs.Basics.{Black, King, List, Man, None, Option, Pawn, Some, White, [], false, has_kind, has_men, has_unmoved, is_home, is_other_king, is_second_king, is_stray_pawn, is_taken, is_man_on, king_square, man_on, mark_unmoved, none_unmoved, refl, repeat, is_kind_on, side_of, some_square, squares, squares_of, has_man, true, with_man, with_unmoved, without_man, without_unmoved, word, word_of, ◌∷◌, ◌≡◌}
 use Rattle.chess_core.specs.SquareNames.{a1, b1, e1, a2, e8, h8}
 

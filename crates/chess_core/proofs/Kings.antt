@@ -1,4 +1,4 @@
--- Kings by the word of their squares, and by the square kept for each colour.
+-- Kings by the bitboard of their squares, and by the square kept for each colour.
 use Rattle.chess_core.proofs.Basics.{AtMostOneKing, Black, Bool, Colour, HasNoKing, King, List, Man, None, Option, Some, White, [], and_left, and_right, ap, arith, bit_at, bit_at-trailing_zeros, bit_at-zero, cases_eq, colour_number, colours, false, false_from_ne_true, find, get_or, is_man, king_square, king_squares, length, man_on, map, refl, same_colour, same_kind, set, squares, squares_of, sym, trailing_zeros, true, w64, with_man, without_man, ℕ, ◌<◌, ◌∙◌, ◌∷◌, ◌≡◌}
 use Rattle.chess_core.proofs.Kept.{same_colour-refl}
 use Rattle.chess_core.proofs.Men.{man_on-with_other, man_on-with_same, man_on-without_other, man_on-without_same}

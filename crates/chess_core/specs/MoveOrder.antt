@@ -1,10 +1,10 @@
--- The order of moves: by origin, then arrival, then promotion, with none first (own).
+-- The order of moves: by origin, then arrival, then promotion; without a promotion comes first (own).
 use Rattle.std.specs.Prelude.{ℕ, ◌+◌, ◌*◌, Option, Some, None}
 use Rattle.chess_core.specs.Position.{kind_number}
 use Rattle.chess_core.specs.Move.{Move}
 use Rattle.chess_core.specs.declared.man.Kind.{Kind}
 
--- promotions in order: none, then the kinds
+-- the place of a promotion in their order: none first, then the kinds
 abbrev pub promotion_order : Option Kind → ℕ
 promotion_order None = 0
 promotion_order (Some k) = kind_number k + 1

@@ -1,5 +1,5 @@
--- Names of squares: a letter for the file, a figure for the rank (FIDE Laws, appendix C), as far as
--- definitions and examples use them.
+-- Names of squares, as far as definitions and examples use them: a letter for the file, a figure for the
+-- rank (FIDE Laws, appendix C).
 use Rattle.std.specs.Prelude.{ℕ}
 
 abbrev pub a1 : ℕ

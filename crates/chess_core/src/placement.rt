@@ -9,8 +9,8 @@ use crate::man::{Colour, Kind, Man};
 use crate::square::{Square, Squares};
 use std::marker::Model;
 
-/// The men on the squares, and bitboards of the men of each kind and of each colour, so that no search for
-/// them is needed. Contracts see the men square by square, a1 first.
+/// The men on the squares, with bitboards of the men of each kind and of each colour, which make a
+/// search for them needless. Contracts see the men square by square, a1 first.
 #[derive(Clone, Copy)]
 pub(crate) struct Placement {
     array: [Option<Man>; 64],
@@ -40,7 +40,7 @@ impl Model for Placement {
 }
 
 impl Placement {
-    // Returns the placement without any man.
+    // Returns the empty placement.
     pub(crate) fn none() -> Placement
         ensures { result ≡ repeat 64 (None ∷ []) }
     {

@@ -3,7 +3,8 @@ use crate::man::{Man, Unmoved};
 use crate::square::Square;
 use std::marker::Model;
 
-/// What a move destroyed: with the move itself, all that is needed to take it back. It holds no position.
+/// What a move destroyed. Together with the move itself it is all that is needed to take the move back.
+/// It holds no position.
 #[derive(Clone, Copy, Default)]
 pub struct Undo {
     // First, since fields lie in memory in this order and this one needs an address that is a multiple of

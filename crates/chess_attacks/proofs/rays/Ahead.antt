@@ -1,4 +1,4 @@
--- Squares one after another on a line.
+-- The squares of a line, one after another.
 use Rattle.chess_attacks.proofs.Chess.{Direction, Some, Step, add-mul, along, and_from, ap, arith, cases_eq, cases_lt, false, file_of, is_on_board, leb-true, mul-add, place, rank_of, refl, rises, rules, some_is, step_of, true, ℕ, ◌&&◌, ◌*◌, ◌+◌, ◌-◌, ◌<◌, ◌∙◌, ◌≡◌, ◌≤◌}
 use Rattle.chess_attacks.proofs.rays.Ends.{Placed, cond-on, on_board, placed_from}
 

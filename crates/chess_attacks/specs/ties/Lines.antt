@@ -94,7 +94,7 @@ abbrev pub is_two_files_aside : ℕ → ℕ → Bool
 is_two_files_aside s t = is_square (along s (step_by 2 0 0 0) 1) t
     || is_square (along s (step_by 0 2 0 0) 1) t
 
--- square numbers rise along lines of this step
+-- the square numbers rise along a line of this step
 unfoldable pub rises : Step → Bool
 rises d = nat_le (d.left + 8 * d.down + 1) (d.right + 8 * d.up)
 

@@ -10,12 +10,13 @@ use Rattle.chess_core.specs.declared.man.Man.{Man}
 use Rattle.chess_attacks.specs.ties.Lines.{occupied_squares}
 use Rattle.chess_attacks.specs.declared.occupancy.Occupancy.{Occupancy}
 
--- v describes these men: of the men of colour c before, exactly those on `standing` still stand
+-- v describes `men`: its occupied squares are theirs, and of the men of colour c `before`, exactly the
+-- ones on standing squares are among them
 pub record DescribesMen (before men : List (Option Man)) (c : Colour) (v : Occupancy) : Type 0 where
   pub occupied : v.occupied ≡ occupied_squares men
   pub standing : (k : Kind) → bit_and (squares_of before c k) v.standing ≡ squares_of men c k
 
--- the sight after the man on a has gone to b and the man on o has left the board
+-- the occupancy after the man on a has gone to b and the man on o has left the board
 abbrev pub sight_after : List (Option Man) → ℕ → Option ℕ → ℕ → Occupancy
 sight_after men a o b = record {
   occupied = bit_or (bit_and (occupied_squares men)

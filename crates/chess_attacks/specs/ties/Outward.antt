@@ -34,7 +34,8 @@ rides_on f men s t d =
     && list_all (λ i. is_vacant_at men (along s d i)) (range_with_len f (k - f)))
     (range_with_len f (8 - f))
 
--- a grasshopper on s hops to t against this step: a man stands next to t, and s is on the line after it
+-- a grasshopper on s hops to t in the direction opposite to d: a man is one step d from t, and s is
+-- farther along this line, with empty squares between
 unfoldable pub hopped_from : List (Option Man) → ℕ → ℕ → Step → Bool
 hopped_from men t s d = is_occupied men (along t d 1) && rides_on 2 men t s d
 

@@ -1,4 +1,4 @@
--- What is kept beside the men on the squares, so that they needn't be looked for (own).
+-- What is kept with the men on the squares, so that no search for them is needed (own).
 use Rattle.std.specs.Prelude.{◌≡◌, ℕ, List, [], ◌∷◌, Option, map}
 use Rattle.chess_core.specs.Diagrams.{is_kind}
 use Rattle.chess_core.specs.Position.{is_of_colour, king_square, kinds}
@@ -28,7 +28,7 @@ side_bitboards men = map (λ c. word_of (λ x. is_of_colour x c) men) colours
 unfoldable pub king_squares : List (Option Man) → List (Option ℕ)
 king_squares men = map (king_square men) colours
 
--- the words say what the men on the squares say
+-- the bitboards agree with the men on the squares
 pub record Agrees (men : List (Option Man)) (by_kind by_side : List ℕ) : Type 0 where
   pub kinds_are : by_kind ≡ kind_bitboards men
   pub sides_are : by_side ≡ side_bitboards men
