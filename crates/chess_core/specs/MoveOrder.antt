@@ -1,4 +1,5 @@
--- The order of moves: by origin, then arrival, then promotion; without a promotion comes first (own).
+-- The order of moves: by origin, then arrival, then promotion; the move without a promotion comes first
+-- (own).
 use Rattle.std.specs.Prelude.{ℕ, ◌+◌, ◌*◌, Option, Some, None}
 use Rattle.chess_core.specs.Position.{kind_number}
 use Rattle.chess_core.specs.Move.{Move}

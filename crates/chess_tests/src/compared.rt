@@ -1,4 +1,4 @@
-//! Compares all that the chess crates say of a position with the plain rules.
+//! Compares everything that the chess crates report of a position with the plain rules.
 ghost use Rattle.std.specs.Prelude.{◌≡◌};
 ghost use Rattle.chess_core.specs.WellFormed.{IsWellFormed};
 
@@ -9,7 +9,7 @@ use chess_core::{Board, Colour, Move, Square};
 use chess_mates::{MateCursor, next_mate};
 use chess_rules::{LegalCursor, Moves, Rules, has_legal_move, in_check, is_mate, play, unplay};
 
-// What the chess crates are tested for.
+// What the chess crates are compared on.
 #[derive(Clone, Copy, Debug)]
 pub(crate) enum Question {
     Moves,
@@ -70,7 +70,7 @@ pub(crate) fn first_difference<R: Rules>(board: &mut Board, rule: Rule) -> Optio
     unlike_of_play::<R>(board, &plain, rule)
 }
 
-// Compares attack, paralysis and check.
+// Compares attack, paralysis and check. Returns the first question on which they differ.
 fn difference_in_men<R: Rules>(board: &Board, plain: &Plain, rule: Rule) -> Option<Question> {
     for number in 0..64u8 {
         let square = Square::numbered(number);
@@ -91,7 +91,7 @@ fn difference_in_men<R: Rules>(board: &Board, plain: &Plain, rule: Rule) -> Opti
     None
 }
 
-// Compares the different ways to list moves.
+// Compares the different ways to list moves. Returns the first question on which they differ.
 fn unlike_of_moves<R: Rules>(board: &mut Board, choices: &[Choice]) -> Option<Question>
     requires { IsWellFormed board.old }
     ensures { board.new ≡ board.old }
@@ -175,7 +175,8 @@ fn place_after<R: Rules>(board: &mut Board, count: usize) -> Moves<R>
     place
 }
 
-// Returns whether the legal moves after the first `passed` ones, up to number `last`, are returned.
+// Returns whether the cursor after the first `passed` legal moves returns the others up to number
+// `last`.
 fn gives_until<R: Rules>(board: &mut Board, choices: &[Choice], passed: usize, last: usize) -> bool
     requires { IsWellFormed board.old }
     ensures { board.new ≡ board.old }
@@ -191,7 +192,7 @@ fn gives_until<R: Rules>(board: &mut Board, choices: &[Choice], passed: usize, l
     place.next_until(end, board).is_none()
 }
 
-// Returns whether the mates after the first `passed` legal moves are returned.
+// Returns whether the cursor after the first `passed` legal moves returns the mates among the others.
 fn gives_mates<R: Rules>(board: &mut Board, choices: &[Choice], passed: usize) -> bool
     requires { IsWellFormed board.old }
     ensures { board.new ≡ board.old }
@@ -208,8 +209,8 @@ fn gives_mates<R: Rules>(board: &mut Board, choices: &[Choice], passed: usize) -
     next_mate::<R>(&mut place, board).is_none()
 }
 
-// Returns whether the mates after the first `passed` legal moves, up to legal move number `last`, are
-// returned.
+// Returns whether the cursor after the first `passed` legal moves returns the mates among the others up
+// to number `last`.
 fn gives_mates_until<R: Rules>(
     board: &mut Board,
     choices: &[Choice],
@@ -231,7 +232,8 @@ fn gives_mates_until<R: Rules>(
     place.next_until(end, board).is_none()
 }
 
-// Compares the positions one move on, and the position after each move is taken back.
+// Compares the positions after each legal move, and the position after each move is taken back. Returns
+// the first question on which they differ.
 #[tactic(auto, using(chess_rules::proofs::listing_moves::Calls::playing))]
 fn unlike_of_play<R: Rules>(board: &mut Board, plain: &Plain, rule: Rule) -> Option<Question>
     requires { IsWellFormed board.old }
@@ -253,7 +255,7 @@ fn unlike_of_play<R: Rules>(board: &mut Board, plain: &Plain, rule: Rule) -> Opt
     None
 }
 
-// Compares a position that a move has led to.
+// Compares the position after a move. Returns the first question on which they differ.
 fn unlike_after<R: Rules>(board: &mut Board, plain: &Plain, rule: Rule) -> Option<Question>
     requires { IsWellFormed board.old }
     ensures { board.new ≡ board.old }

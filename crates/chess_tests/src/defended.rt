@@ -1,4 +1,5 @@
-//! Compares threats with the plain rules: no mate follows a move that `rule_out_mate` accepts.
+//! Compares threats with the plain rules: no mate may follow a move for which `rule_out_mate` returns
+//! `true`.
 ghost use Rattle.std.specs.Prelude.{◌≡◌};
 ghost use Rattle.chess_core.specs.WellFormed.{IsWellFormed};
 
@@ -18,7 +19,7 @@ pub(crate) struct Defences {
     pub(crate) reported: u32,
 }
 
-// Tests `count` positions of the family, with the other side to move.
+// Tests `count` positions of the family, each with the other side to move.
 pub(crate) fn defended(rule: Rule, family: Family, count: u64) -> Defences {
     let mut defences = Defences {
         wrong: None,

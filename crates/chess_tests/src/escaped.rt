@@ -1,4 +1,5 @@
-//! Positions before a defence: whether a man who is said to have a safe defence has one.
+//! Positions before a defence. If `KeptFlights` takes a move of a man, the man must have a move after
+//! which no reply mates, by the plain rules.
 ghost use Rattle.std.specs.Prelude.{◌≡◌};
 ghost use Rattle.chess_core.specs.Diagrams.{position_of};
 ghost use Rattle.chess_core.specs.WellFormed.{IsWellFormed};
@@ -13,16 +14,16 @@ use chess_mates::kept_flights::KeptFlights;
 use chess_mates::threats::Threats;
 use chess_rules::{Circe, LegalCursor, Madrasi, Orthodox, Rules};
 
-// What the filter says of the men in the positions of a family.
+// What the filter reports of the men in the positions of a family.
 #[derive(Clone, Copy)]
 pub(crate) struct Defended {
-    // The number of the first position in which a man without a safe defence is said to have one.
+    // The number of the first position in which the filter takes a move of a man that has no safe move.
     pub(crate) wrong: Option<u64>,
-    // How many men are said to have one.
+    // The number of men with a safe move of which the filter takes a move.
     pub(crate) taken: u32,
 }
 
-// Asks about each man of the side to move in `count` positions of the family under the rule.
+// Tests each man of the side to move in `count` positions of the family under the rule.
 pub(crate) fn kept_flights(rule: Rule, family: Family, count: u64) -> Defended {
     let mut defended = Defended {
         wrong: None,
@@ -46,7 +47,7 @@ pub(crate) fn kept_flights(rule: Rule, family: Family, count: u64) -> Defended {
     defended
 }
 
-// What the filter says of one man.
+// What the filter reports of one man: nothing, or that it has a safe move, rightly or wrongly.
 #[derive(Clone, Copy, PartialEq, Eq)]
 enum Said {
     Nothing,
@@ -87,7 +88,7 @@ fn said_of<R: Rules>(rule: Rule, diagram: &Diagram, from: Square) -> Said
     }
 }
 
-// Whether the man on the square has a legal move that no mate follows, by the plain rules.
+// Returns whether the man on the square has a legal move that no mate follows, by the plain rules.
 fn has_safe_move(rule: Rule, plain: &Plain, from: Square) -> bool {
     let moves = plain.moves_but_for_check(rule);
     for m in moves.as_slice() {

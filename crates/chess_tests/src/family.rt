@@ -1,4 +1,4 @@
-//! Families of positions, each built so that its motif is likely.
+//! Families of drawn positions, each built so that its motif is likely.
 mod castling;
 mod fairy;
 mod kings;

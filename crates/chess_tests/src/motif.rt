@@ -1,4 +1,4 @@
-//! The motifs of moves. Tests count them, to know that a family of positions holds what it is made for.
+//! The motifs of moves. Tests count them to see that a family of positions holds what it is made for.
 use chess_core::Kind;
 
 // What a move may show.
@@ -99,7 +99,7 @@ pub(crate) enum Motif {
     RebirthChecksPromoted,
     // A capture mates because the reborn man takes a flight or guards nothing.
     RebirthMates,
-    // A capture would mate but for the reborn man.
+    // A capture would mate if the reborn man weren't on the board.
     RebirthParriesMate,
     // A move is illegal because it frees a paralysed enemy, which gives check.
     FreesEnemy,

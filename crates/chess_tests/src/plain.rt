@@ -1,4 +1,4 @@
-//! A plain implementation of the rules, for comparison: it copies the position for each move, and lists
+//! A plain implementation of the rules, to compare with: it copies the position for each move, and lists
 //! moves by testing all triples.
 use arrayvec::ArrayVec;
 use chess_core::{Board, Colour, Kind, Man, Move, Square, Unmoved};
@@ -488,7 +488,7 @@ impl Plain {
         plain
     }
 
-    // Removes the captured man and moves the other one, which may promote.
+    // Removes the captured man, if there is one, and moves `man`, which may promote.
     fn carry(&mut self, man: Man, m: &Move, captured: Square) {
         self.men[captured.index() as usize] = None;
         self.men[m.from.index() as usize] = None;

@@ -12,7 +12,7 @@ use chess_mates::quiet_steps::QuietSteps;
 use chess_mates::threats::Threats;
 use chess_rules::{Circe, Madrasi, Moves, Orthodox, Rules, is_mate, play, unplay};
 
-// Returns whether two boards agree in all that they say.
+// Returns whether two boards agree in everything that they report.
 pub(crate) fn is_same(one: &Board, two: &Board) -> bool {
     for number in 0..64u8 {
         let square = Square::numbered(number);
@@ -54,7 +54,8 @@ pub(crate) fn shows(board: &Board, plain: &Plain) -> bool {
         && shows_men(board, plain, Colour::Black)
 }
 
-// Returns whether the board knows the colour's men, and to which kinds pawns may promote.
+// Returns whether the board agrees with the plain position on the colour's men, and on the kinds to
+// which pawns may promote.
 fn shows_men(board: &Board, plain: &Plain, colour: Colour) -> bool {
     let mut side = 0u64;
     for kind in &Kind::all() {
@@ -127,7 +128,8 @@ pub(crate) fn has_outcome(rule: Rule, position: &str, m: &str, wanted: Outcome) 
         }
 }
 
-// Returns whether a legal move from the diagram leads to this board, and taking it back restores the first.
+// Returns whether a legal move from the diagram leads to this board, and taking it back restores the
+// diagram's board.
 #[tactic(auto, using(chess_rules::proofs::listing_moves::Calls::playing))]
 fn leads_and_back<R: Rules>(diagram: &Diagram, wanted: Move, after: &Board) -> bool
     requires { IsWellFormed (position_of diagram.now) }
@@ -207,7 +209,7 @@ pub(crate) fn has_mates(rule: Rule, position: &str, wanted: &str) -> bool {
     mates.as_slice() == moves_of(wanted).as_slice()
 }
 
-// Returns whether threats rule out a mate after this move, if it is legal.
+// Returns whether threats rule out a mate after this move; `None` if it isn't legal.
 fn is_harmless_under<R: Rules>(diagram: &Diagram, wanted: Move) -> Option<bool>
     requires { IsWellFormed (position_of diagram.now) }
 {
@@ -241,7 +243,8 @@ pub(crate) fn is_ruled_safe(rule: Rule, position: &str, m: &str, wanted: bool) -
     reported == Some(wanted)
 }
 
-// Returns whether `QuietSteps` sees a quiet step of the other king after this move, if it is legal.
+// Returns whether `QuietSteps` finds a quiet step of the other king after this move; `None` if it isn't
+// legal.
 fn steps_under<R: Rules>(diagram: &Diagram, wanted: Move) -> Option<bool>
     requires { IsWellFormed (position_of diagram.now) }
 {
@@ -255,7 +258,7 @@ fn steps_under<R: Rules>(diagram: &Diagram, wanted: Move) -> Option<bool>
     None
 }
 
-// Returns whether `QuietSteps` sees a quiet step after the legal move exactly if `wanted`.
+// Returns whether `QuietSteps` finds a quiet step after the legal move exactly if `wanted`.
 pub(crate) fn has_seen_step(rule: Rule, position: &str, m: &str, wanted: bool) -> bool {
     let (Some(diagram), Some(m)) = (posed(position), move_of(m)) else {
         return false;

@@ -3,7 +3,7 @@ use crate::draw::{Draw, Kinds};
 use crate::plain::{LINES, next};
 use chess_core::{Colour, Diagram, Kind, Man, Square};
 
-// Returns a board without men and with a drawn side to move.
+// Returns a diagram without men, with a drawn side to move.
 pub(crate) fn board(draw: &mut Draw) -> Diagram {
     let mut diagram = Diagram::new();
     diagram.turn = draw.colour();
@@ -102,7 +102,8 @@ pub(crate) fn line_rider(way: (u8, u8)) -> Kind {
     }
 }
 
-// Puts a battery on a target: a man in front of a rider, with drawn numbers of empty squares between.
+// Puts a battery on a line to a target: a man in front of a rider, with drawn numbers of empty squares
+// between.
 pub(crate) fn put_battery(
     diagram: &mut Diagram,
     draw: &mut Draw,

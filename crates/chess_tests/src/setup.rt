@@ -52,8 +52,8 @@ fn diagram_of(rows: &str) -> Diagram {
     diagram
 }
 
-// Returns the diagram of these rows and the words after them, if it is well formed: castling squares with
-// rights, the en passant square, and `b` for Black to move.
+// Returns the diagram of a text, if it is well formed. The text has the rows and then words: the
+// castling squares with rights, the en passant square, and `b` for Black to move.
 pub(crate) fn posed(position: &str) -> Option<Diagram>
     ensures { IfSome result (λ d. IsWellFormed (position_of d)) }
 {

@@ -1,10 +1,11 @@
-//! Castling into lines, out of them and across them.
+//! Castling into lines, out of lines and across them.
 use crate::draw::Draw;
 use crate::plain::up;
 use crate::scene::{board, man, mark_homes, put, put_rider, rank_for, scatter, steps};
 use chess_core::{Diagram, Kind, Square};
 
-// King and rooks at home, attackers of the squares between them, and the other king on their files.
+// Returns a position with king and rooks at home, attackers of the squares between them, and the other
+// king on their files.
 pub(crate) fn castling(draw: &mut Draw) -> Diagram {
     let mut diagram = board(draw);
     let kinds = draw.kinds();
@@ -85,8 +86,8 @@ fn put_guard(diagram: &mut Diagram, draw: &mut Draw, file: u8) {
     let _guard = put(diagram, far, man(mover, guard));
 }
 
-// King and one rook at home, the other king on their rank beyond the castling king's square, and a rook or
-// queen on the next rank.
+// Returns a position with king and one rook at home, the other king on their rank beyond the castling
+// king's square, and a rook or queen on the next rank.
 pub(crate) fn home_ranks(draw: &mut Draw) -> Diagram {
     let mut diagram = board(draw);
     let kinds = draw.kinds();

@@ -4,7 +4,7 @@ use crate::plain::next;
 use crate::scene::{board, man, put, put_battery, put_king, put_rider, scatter, steps};
 use chess_core::{Colour, Diagram, Kind, Square};
 
-// Grasshoppers on lines of a king, with one hurdle, two or none.
+// Returns a position with grasshoppers on lines of a king, with one hurdle, two or none.
 pub(crate) fn hurdles(draw: &mut Draw) -> Diagram {
     let mut diagram = board(draw);
     let mover = diagram.turn;
@@ -42,7 +42,7 @@ fn put_second(diagram: &mut Diagram, draw: &mut Draw, king: Square, line: (u8, u
     }
 }
 
-// Nightriders on lines of both kings, with or without men between.
+// Returns a position with nightriders on lines of both kings, with or without men between.
 pub(crate) fn nightrider_lines(draw: &mut Draw) -> Diagram {
     let mut diagram = board(draw);
     let mover = diagram.turn;

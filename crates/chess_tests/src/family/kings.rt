@@ -7,7 +7,7 @@ use crate::scene::{
 };
 use chess_core::{Diagram, Kind, Square};
 
-// A king in check on a line that continues beyond it.
+// Returns a position with a king in check on a line that continues beyond it.
 pub(crate) fn king_steps(draw: &mut Draw) -> Diagram {
     let mut diagram = board(draw);
     let mover = diagram.turn;
@@ -35,7 +35,8 @@ fn put_hopper(diagram: &mut Diagram, draw: &mut Draw, kinds: Kinds, king: Square
     }
 }
 
-// The other side's king at the edge, with some squares next to it taken by its men or attacked.
+// Returns a position with the other side's king at the edge, and some squares next to it taken by its
+// men or attacked.
 pub(crate) fn flights(draw: &mut Draw) -> Diagram {
     let mut diagram = board(draw);
     let mover = diagram.turn;
@@ -71,8 +72,8 @@ fn put_attackers(diagram: &mut Diagram, draw: &mut Draw, kinds: Kinds) {
     let _queen = put(diagram, Some(draw.square()), man(mover, Kind::Queen));
 }
 
-// The other side's king among its men, riders of the mover that reach it and squares next to it, and one
-// rider masked by a man of the mover on a line to one of these squares.
+// Returns a position with the other side's king among its men, riders of the mover that reach it and
+// squares next to it, and one rider masked by a man of the mover on a line to one of these squares.
 pub(crate) fn refuges(draw: &mut Draw) -> Diagram {
     let mut diagram = board(draw);
     let mover = diagram.turn;
@@ -109,7 +110,7 @@ fn put_near_riders(diagram: &mut Diagram, draw: &mut Draw, king: Square) {
     }
 }
 
-// Lines to kings, and to squares where a king is missing.
+// Returns a position with lines to kings, and to squares where a king is missing.
 pub(crate) fn missing_kings(draw: &mut Draw) -> Diagram {
     let mut diagram = board(draw);
     let kinds = draw.kinds();
@@ -138,8 +139,8 @@ fn put_one_king(diagram: &mut Diagram, draw: &mut Draw) -> Square {
     at
 }
 
-// The other side's king shut in by its men but for one square. From there a pawn of the mover may give
-// check, or the mover's king or a pawn masks a rider on the line through it.
+// Returns a position with the other side's king shut in by its men except for one square. From there a
+// pawn of the mover may give check, or the mover's king or a pawn masks a rider on the line through it.
 pub(crate) fn nooks(draw: &mut Draw) -> Diagram {
     let mut diagram = board(draw);
     let mover = diagram.turn;
@@ -189,8 +190,8 @@ fn put_pawn_before(diagram: &mut Diagram, draw: &mut Draw, king: Square) -> Squa
     checked_from
 }
 
-// Puts the king's own men on the other squares next to it, a rider that reaches the hole, and one that
-// reaches another square.
+// Puts the king's own men on the other squares next to it, a rider that reaches the hole, and a rider
+// that reaches another square.
 fn shut_in(diagram: &mut Diagram, draw: &mut Draw, king: Square, hole: Square) {
     let colour = diagram.turn.other();
     for way in &LINES {

@@ -6,8 +6,8 @@ use crate::scene::{
 };
 use chess_core::{Colour, Diagram, Kind, Square};
 
-// A pawn of the side to move next to one that has just gone two squares, and a king of either side with a
-// rider on a line that the capture may open.
+// Returns a position with a pawn of the side to move next to a pawn that has just gone two squares, and
+// a king of either side with a rider on a line that the capture may open.
 pub(crate) fn en_passant(draw: &mut Draw) -> Diagram {
     let mut diagram = board(draw);
     let (passing, capturer) = put_pawns(&mut diagram, draw);
@@ -73,7 +73,8 @@ fn put_ends(diagram: &mut Diagram, draw: &mut Draw, front: Square, way: (u8, u8)
     let _rider = put(diagram, following, man(king.other(), rider));
 }
 
-// Pawns one step before promotion, men to capture on the last rank, and kings nearby.
+// Returns a position with pawns one step before promotion, men to capture on the last rank, and kings
+// nearby.
 pub(crate) fn promotions(draw: &mut Draw) -> Diagram {
     let mut diagram = board(draw);
     let kinds = draw.kinds();

@@ -4,7 +4,8 @@ use crate::plain::{next, up};
 use crate::scene::{back, board, man, put, put_blockers, put_king, rank_for, scatter, steps};
 use chess_core::{Diagram, Kind, Square};
 
-// A pawn before its last rank, between the other king and its arrival: it opens its own line.
+// Returns a position with a pawn before its last rank, between the other king and its arrival: it opens
+// its own line.
 pub(crate) fn opened_lines(draw: &mut Draw) -> Diagram {
     let mut diagram = board(draw);
     let kinds = draw.kinds();
@@ -13,7 +14,8 @@ pub(crate) fn opened_lines(draw: &mut Draw) -> Diagram {
     diagram
 }
 
-// A pawn before its last rank, and the other king a knight's leap from its arrival.
+// Returns a position with a pawn before its last rank, and the other king a knight's leap from its
+// arrival.
 pub(crate) fn underpromotions(draw: &mut Draw) -> Diagram {
     let mut diagram = board(draw);
     let kinds = draw.kinds();
@@ -22,7 +24,8 @@ pub(crate) fn underpromotions(draw: &mut Draw) -> Diagram {
     diagram
 }
 
-// A pawn before its last rank, and a fairy man elsewhere, so that the pawn may promote to one.
+// Returns a position with a pawn before its last rank, and a fairy man elsewhere, so that the pawn may
+// promote to one.
 pub(crate) fn fairy_promotions(draw: &mut Draw) -> Diagram {
     let mut diagram = board(draw);
     if draw.once_in(2) {
@@ -37,7 +40,7 @@ pub(crate) fn fairy_promotions(draw: &mut Draw) -> Diagram {
     diagram
 }
 
-// A pawn of the mover's before its last rank.
+// Puts a pawn of the mover before its last rank.
 fn put_pawn(diagram: &mut Diagram, draw: &mut Draw) -> Square {
     let mover = diagram.turn;
     let at = Square::new(1 + draw.below(8), rank_for(mover, 7)).unwrap_or_default();
@@ -45,7 +48,7 @@ fn put_pawn(diagram: &mut Diagram, draw: &mut Draw) -> Square {
     at
 }
 
-// A pawn, and the other king beyond it on the line of its step, or of its capture of a man on the last rank.
+// Puts a pawn, and the other king beyond it on the line of its step or of its capture on the last rank.
 fn put_after_pawn(diagram: &mut Diagram, draw: &mut Draw) {
     let mover = diagram.turn;
     let pawn = put_pawn(diagram, draw);
@@ -59,7 +62,7 @@ fn put_after_pawn(diagram: &mut Diagram, draw: &mut Draw) {
     let _king = put(diagram, king, man(mover.other(), Kind::King));
 }
 
-// A pawn, and the other king among his men, a knight's leap from the square before it.
+// Puts a pawn, and the other king among its men, a knight's leap from the square before the pawn.
 fn put_leap(diagram: &mut Diagram, draw: &mut Draw, kinds: Kinds) {
     let mover = diagram.turn;
     let pawn = put_pawn(diagram, draw);
@@ -70,7 +73,7 @@ fn put_leap(diagram: &mut Diagram, draw: &mut Draw, kinds: Kinds) {
     put_blockers(diagram, draw, kinds, at);
 }
 
-// The mover's king and men who guard squares, and some of either side.
+// Puts the mover's king, men that guard squares, and some men of either side.
 fn put_net(diagram: &mut Diagram, draw: &mut Draw, kinds: Kinds) {
     let mover = diagram.turn;
     let _own = put_king(diagram, draw, mover);

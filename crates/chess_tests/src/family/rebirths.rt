@@ -7,7 +7,8 @@ use crate::scene::{
 };
 use chess_core::{Colour, Diagram, Kind, Man, Square};
 
-// Kings near the ranks where victims are reborn, and victims next to the mover's men.
+// Returns a position with kings near the ranks where victims are reborn, and victims next to the mover's
+// men.
 pub(crate) fn rebirths(draw: &mut Draw) -> Diagram {
     let mut diagram = board(draw);
     let kinds = draw.kinds();
@@ -49,8 +50,8 @@ fn put_pair(diagram: &mut Diagram, draw: &mut Draw, kinds: Kinds) {
     let _taker = put(diagram, beside, taker);
 }
 
-// Men to be captured that are reborn next to the other side's king, and beyond their home squares
-// grasshoppers or other men of the mover.
+// Returns a position with men to be captured that are reborn next to the other side's king, and
+// grasshoppers or other men of the mover beyond their home squares.
 pub(crate) fn reborn_hurdles(draw: &mut Draw) -> Diagram {
     let mut diagram = board(draw);
     if draw.once_in(2) {
@@ -92,7 +93,7 @@ fn put_captured(diagram: &mut Diagram, draw: &mut Draw) {
     put_taker(diagram, draw, at, aside);
 }
 
-// Returns a grasshopper, mostly of the mover.
+// Returns a grasshopper, usually of the mover.
 fn hopper_of(draw: &mut Draw, mover: Colour) -> Man {
     man(draw.pick(3, mover.other(), mover), Kind::Grasshopper)
 }
@@ -113,8 +114,8 @@ fn put_taker(diagram: &mut Diagram, draw: &mut Draw, at: Square, line: (u8, u8))
     let _taker = put(diagram, steps(at, line, 1 + draw.below(3)), taker);
 }
 
-// The other side's king in the corner without a flight, and a grasshopper on its diagonal that gives check
-// once a captured pawn is reborn between them.
+// Returns a position with the other side's king in the corner without a flight, and a grasshopper on its
+// diagonal that gives check once a captured pawn is reborn between them.
 pub(crate) fn hurdle_nets(draw: &mut Draw) -> Diagram {
     let mut diagram = board(draw);
     let beside = put_corner(&mut diagram, draw);
@@ -152,7 +153,8 @@ fn put_corner(diagram: &mut Diagram, draw: &mut Draw) -> u8 {
     beside
 }
 
-// Riders that attack the kings, and enemy men of the same kinds that attack them or may do so.
+// Returns a position with riders that attack the kings, and enemy men of the same kinds that attack
+// these riders or may do so.
 pub(crate) fn paralysis(draw: &mut Draw) -> Diagram {
     let mut diagram = board(draw);
     let mover = diagram.turn;
@@ -186,7 +188,8 @@ fn put_facing(diagram: &mut Diagram, draw: &mut Draw, king: Square, colour: Colo
     let _facing = put(diagram, steps(at, turned(line), aside), like);
 }
 
-// The other side's king on its home rank opposed by the mover's king, and captures that give check.
+// Returns a position with the other side's king on its home rank opposed by the mover's king, and
+// captures that give check.
 pub(crate) fn nets(draw: &mut Draw) -> Diagram {
     let mut diagram = board(draw);
     if draw.once_in(2) {

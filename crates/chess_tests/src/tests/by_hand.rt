@@ -4,8 +4,8 @@ use crate::probe::{has_mates, has_moves, has_seen_step, is_ruled_safe};
 
 // The rules, the position, and White's legal moves.
 const LEGAL_MOVES: [(Rule, &str, &str); 28] = [
-    // The rook on e2 is pinned by the one on e8: it moves along the file only, up to the capture. The king
-    // has all squares next to it but those on the file.
+    // The rook on e2 is pinned by the rook on e8: it moves along the file only, up to the capture. The
+    // king has all squares next to it except on the file.
     (
         Rule::Orthodox,
         "k3r3/8/8/8/8/8/4R3/4K3",
@@ -147,8 +147,8 @@ const LEGAL_MOVES: [(Rule, &str, &str); 28] = [
         "3K4/1r6/8/8/8/5B2/7k/8",
         "f3d1 f3h1 f3e2 f3g2 f3e4 f3g4 f3d5 f3h5 f3c6 f3b7 d8c8 d8e8",
     ),
-    // The rooks on a8 and e8 paralyse each other, so the one on e8 doesn't check. A bishop on c8 would free
-    // it.
+    // The rooks on a8 and e8 paralyse each other, so the rook on e8 doesn't check. A bishop on c8 would
+    // free it.
     (
         Rule::Madrasi,
         "R3r3/7k/8/8/8/7B/8/4K3",
@@ -209,7 +209,7 @@ const HARMLESS: [(Rule, &str, &str, bool); 17] = [
     (Rule::Circe, "8/8/3k4/8/K7/1s6/3R4/8 b", "b3d4", false),
     // The rook mates on h8.
     (Rule::Orthodox, "k7/8/1K6/8/8/8/8/7R b", "a8b8", false),
-    // Threats say nothing of castling.
+    // Threats say nothing about castling.
     (
         Rule::Orthodox,
         "r3k3/8/8/8/8/8/8/K6R a8 e8 b",
@@ -225,8 +225,8 @@ const HARMLESS: [(Rule, &str, &str, bool); 17] = [
     (Rule::Orthodox, "6br/p4P1k/7p/8/8/8/8/B1K5 b", "a7a6", false),
     // A grasshopper reaches few squares next to the king.
     (Rule::Orthodox, "8/8/8/4k3/8/8/8/K6G b", "e5e4", true),
-    // The king takes the last man; or a man takes the rook, and may be taken itself. Threats say nothing of
-    // captures in Circe.
+    // The king takes the last man; or a man takes the rook, and may be taken itself. Threats say nothing
+    // about captures in Circe.
     (Rule::Orthodox, "8/8/8/3k4/4R3/8/8/K7 b", "d5e4", true),
     (Rule::Circe, "8/8/8/3k4/4R3/8/8/K7 b", "d5e4", false),
     (Rule::Orthodox, "8/8/8/3k4/8/2s5/8/KR6 b", "c3b1", true),
@@ -250,7 +250,7 @@ const QUIET_STEPS: [(Rule, &str, &str, bool); 11] = [
     (Rule::Orthodox, "b7/1k6/8/8/8/8/8/7K", "h1g1", true),
     // The king captures the pawn that arrives next to it.
     (Rule::Orthodox, "k7/8/1P6/8/8/8/8/7K", "b6b7", true),
-    // `QuietSteps` says nothing of captures in Circe, since men are reborn.
+    // `QuietSteps` says nothing about captures in Circe, since men are reborn.
     (Rule::Orthodox, "k7/8/8/8/8/8/7p/K6R", "h1h2", true),
     (Rule::Circe, "k7/8/8/8/8/8/7p/K6R", "h1h2", false),
     // `QuietSteps` doesn't look for a step that only the move makes possible.

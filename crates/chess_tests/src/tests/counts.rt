@@ -1,4 +1,5 @@
-//! Counts of lines of moves that move generators agree on (perft), and boards restored along them.
+//! Counts of lines of moves on which published move generators agree (perft), and boards restored along
+//! these lines.
 use crate::count::walk_lines;
 use crate::plain::Rule;
 
@@ -60,8 +61,8 @@ const COUNTS: [(&str, u32, u64); 12] = [
     ),
 ];
 
-// A position, a length in moves, and how many of the last moves are castlings: the initial position, a full
-// board, a check from a distance.
+// A position, a length in moves, and the number of castlings among the last moves: the initial position,
+// a full board, a check from a distance.
 const CASTLINGS: [(&str, u32, u64); 4] = [
     (
         "rsbqkbsr/pppppppp/8/8/8/8/PPPPPPPP/RSBQKBSR a1 e1 h1 a8 e8 h8",

@@ -1,12 +1,12 @@
-//! Defences after which the king keeps a flight, beside the plain rules.
+//! Defences after which the king keeps a flight, compared with the plain rules.
 use crate::escaped::kept_flights;
 use crate::family::Family;
 use crate::plain::Rule;
 use crate::plain::Rule::{Madrasi, Orthodox};
 use std::process::Abort;
 
-// A name, the rule, the family, how many of its positions are compared, and how many men at least are said to have a safe
-// defence.
+// A name, the rule, the family, the number of its positions compared, and the least number of men that
+// the filter must report to have a safe defence.
 const FAMILIES: [(&str, Rule, Family, u64, u32); 6] = [
     ("pinned men", Orthodox, Family::Pins, 60, 6),
     ("castling", Orthodox, Family::Castling, 60, 6),

@@ -6,8 +6,8 @@ use crate::survey::surveyed;
 use chess_core::Kind;
 use std::process::Abort;
 
-// A name, the rules, the family, the number of its positions compared, the motifs, and the least number of
-// moves that must show each.
+// A name, the rules, the family, the number of its positions compared, the motifs, and the least number
+// of moves that must show each motif.
 type Row<'a> = (&'a str, &'a [Rule], Family, u64, &'a [Motif], u32);
 
 const EACH: [Rule; 3] = [Rule::Orthodox, Rule::Circe, Rule::Madrasi];
