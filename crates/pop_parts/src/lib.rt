@@ -9,7 +9,7 @@
 //! let mut sink = TrialSink::<4096>::new(4096, None);
 //! // In help play two moves would distinguish the parts; in a direct mate the key does.
 //! let _status = list_parts(2, &mut source, &mut sink);
-//! assert!(rt; sink.text() == b"1: play 19\n");
+//! assert!(rt; sink.text() == b"1: play 19\n".as_slice());
 //! ```
 //!
 //! `list` and `show` are the interface, with the types of `request`; `part_search` searches one part, and
