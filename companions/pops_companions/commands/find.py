@@ -55,7 +55,10 @@ def command_line() -> argparse.ArgumentParser:
     add("collection", metavar="COLLECTION", help="the file; --add makes it if it doesn't exist")
     actions = parser.add_mutually_exclusive_group()
     actions.add_argument(
-        "--add", nargs="+", metavar="FILE", help="add the problems of FILEs; a FILE added again replaces its older problems"
+        "--add",
+        nargs="+",
+        metavar="FILE",
+        help="add the problems of FILEs; a FILE added again replaces its older problems",
     )
     actions.add_argument("--near", metavar="FILE", help="find positions near each one in FILE")
     actions.add_argument(
