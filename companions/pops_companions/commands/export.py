@@ -33,7 +33,7 @@ def arguments(words: list[str]) -> Settings:
         NAME,
         "Writes the problems of FILE as an input of Popeye, or in YAML as the Olive editor and\n"
         "YACPDB have it. Twins that pops-import made of one problem are one again. pops-import\n"
-        "makes the same problems of what is written.",
+        "makes the same problems from what is written.",
         epilog="example: pops-export --to yaml mine.pop --report mine.report -o mine.olv",
     )
     add = parser.add_argument

@@ -52,10 +52,13 @@ def command_line() -> argparse.ArgumentParser:
         "out, 2 for a mistake in the command line, 3 if a file can't be read or written.",
     )
     add = parser.add_argument
-    add("collection", metavar="COLLECTION", help="the file; --add makes it if it isn't there")
+    add("collection", metavar="COLLECTION", help="the file; --add makes it if it doesn't exist")
     actions = parser.add_mutually_exclusive_group()
     actions.add_argument(
-        "--add", nargs="+", metavar="FILE", help="add the problems of FILEs; a FILE's older ones go"
+        "--add",
+        nargs="+",
+        metavar="FILE",
+        help="add the problems of FILEs; a FILE added again replaces its older problems",
     )
     actions.add_argument("--near", metavar="FILE", help="find positions near each one in FILE")
     actions.add_argument(
@@ -73,7 +76,7 @@ def command_line() -> argparse.ArgumentParser:
         type=command.number_from_one,
         default=MOST,
         metavar="N",
-        help=f"show N problems at most for each question ({MOST})",
+        help=f"show at most N problems for each question ({MOST})",
     )
     add("-o", "--output", metavar="PAGE", help="an HTML page with the diagrams of what was found")
     command.add_encoding(parser)

@@ -114,7 +114,7 @@ def _add_split(parser: argparse.ArgumentParser) -> None:
         choices=DEPTHS,
         metavar="D",
         help=f"cut help play by its first D half-moves, 1 to 4 ({DEPTH_HERE}, with --sshlogin"
-        f" {DEPTH_THERE}): more make more and smaller parts",
+        f" {DEPTH_THERE}): a greater D makes more and smaller parts",
     )
     add(
         "--pops-part",

@@ -49,7 +49,7 @@ def _add_evidence(parser: argparse.ArgumentParser) -> None:
     add(
         "--pose",
         action="store_true",
-        help="write the input that asks for short solutions of an input, and nothing else",
+        help="write the input that asks for an input's short solutions, and nothing else",
     )
     add("--short", metavar="REPORT", help="the report of what --pose wrote")
     add(

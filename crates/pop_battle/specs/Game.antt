@@ -41,13 +41,13 @@ module _ {P M : Type 0} where
       some_move game (λ q. can_move game q
       && every_move game (λ r. game.goal r || self_wins game k r) q) p
 
-  -- after a move by that side to q, which is one of its j moves: there is a reply, and each reply reaches
-  -- the goal or leaves a win
+  -- Selfmate: q is a position after one of the j moves of the side that forces the goal. There is a reply,
+  -- and each reply reaches the goal or leaves that side a win.
   unfoldable pub is_self_lost : Game P M → ℕ → P → Bool
   is_self_lost game j q = can_move game q && every_move game
       (λ r. game.goal r || self_wins game (j - 1) r) q
 
-  -- Help play: all lists of h moves, each legal in its position, after which the goal is reached; in the
+  -- Help play: all lists of h moves, each legal when it is played, after which the goal is reached; in the
   -- order of moves
   unfoldable pub lines_to_goal : Game P M → ℕ → P → List (List M)
   lines_to_goal game zero p = if game.goal p then [] ∷ [] else []

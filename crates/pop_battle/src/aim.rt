@@ -4,12 +4,12 @@ ghost use Rattle.pop_battle.specs.Plays.{play_of};
 
 use pop_stipulation::stipulation::{Form, Goal};
 
-/// Who is to reach the goal against the other side's will (Codex).
+/// Which side is to reach the goal of a battle (Codex).
 #[derive(Clone, Copy, PartialEq, Eq)]
 pub enum Battle {
-    /// White reaches it, against every defence.
+    /// White reaches the goal against every defence.
     Direct,
-    /// White forces Black to reach it.
+    /// White forces Black to reach the goal.
     Selfmate,
 }
 

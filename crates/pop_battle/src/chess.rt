@@ -30,8 +30,8 @@ use chess_rules::{
 use pop_events::shown::{Mark, Shown, Side};
 use pop_stipulation::stipulation::Goal;
 
-/// Returns the legal-move cursor of the board's position, moved to `place`; it starts from `known` if that
-/// is there.
+/// Returns a cursor over the legal moves of the board's position, at `place`. Reuses the cursor `known` if
+/// there is one.
 pub(crate) fn moves_at<R: Rules>(
     known: Option<LegalCursor<R>>,
     place: Moves<R>,
@@ -62,7 +62,8 @@ pub(crate) fn next_after<R: Rules>(moves: &mut LegalCursor<R>, board: &mut Board
 }
 
 /// Returns the next legal move after `place` and moves `place` to it, or to the end if there is none.
-/// `known` keeps what is known of the position's moves from call to call. The board is unchanged.
+/// `known` keeps what has been computed about the position's moves from call to call; it is `None` before
+/// the first call for a position. The board is unchanged.
 pub fn next_move<R: Rules>(
     known: &mut Option<LegalCursor<R>>,
     place: &mut Moves<R>,
@@ -90,7 +91,7 @@ pub fn next_move<R: Rules>(
     found
 }
 
-/// Returns the next legal move after the cursor and not after `end`, and moves the cursor to it.
+/// Returns the next legal move after the cursor, up to and including `end`, and moves the cursor to it.
 pub(crate) fn next_until<R: Rules>(
     moves: &mut LegalCursor<R>,
     end: Moves<R>,
@@ -105,8 +106,7 @@ pub(crate) fn next_until<R: Rules>(
     moves.next_until(end, board)
 }
 
-/// Returns a legal-move cursor if the board's position has a legal move, otherwise `None`. It tests the
-/// killer first.
+/// Returns a cursor at some legal move, or `None` if the board's position has none. Tests the killer first.
 #[tactic(auto, using(crate::proofs::Boards::some_move))]
 pub(crate) fn cursor_if_any_move<R: Rules>(
     killer: Moves<R>,
@@ -278,8 +278,8 @@ fn reborn_man(man: Option<Man>, square: Option<Square>) -> Option<(Man, Square)>
     }
 }
 
-/// Returns the move of `man` as it is shown, once it is played; `there` is the man that was on the
-/// arrival before.
+/// Returns a played move as it is shown. `man` made it, `there` is the man that was on the arrival square
+/// before, and `undo` is what `play` returned.
 #[tactic(auto, unfolding(pop_events::specs::Shown::shown_of))]
 pub fn shown_of(man: Option<Man>, there: Option<Man>, by: &Move, undo: &Undo, mark: Mark) -> Shown
     ensures { result ≡ shown_of man there by.now undo.now mark }
@@ -301,7 +301,7 @@ pub fn shown_of(man: Option<Man>, there: Option<Man>, by: &Move, undo: &Undo, ma
     }
 }
 
-/// Gives the move to the other side and clears the en passant square, as set play begins.
+/// Gives the move to the other side and clears the en passant square, as at the start of set play (own).
 pub fn turn_over(board: &mut Board)
     ensures { board.new ≡ set_start board.old }
 {

@@ -11,9 +11,9 @@ use std::marker::Model;
 /// stage.
 #[derive(Clone, Copy, PartialEq, Eq)]
 pub enum MoveStage {
-    /// The last killer.
+    /// The move of the last killer.
     Killer,
-    /// The killer before it, if it is another move.
+    /// The move of the second killer, if the killers differ.
     Earlier,
     /// The other moves that attack next to the enemy king or give check, if the order has this stage.
     Aimed,
@@ -30,8 +30,8 @@ pub enum Early {
     NoMoves,
 }
 
-/// How a test orders the moves of a position: two killers, each any number of a triple, and which moves
-/// come right after them. Contracts see the record `Order` with the same fields.
+/// How a test orders the moves of a position: two killers, which may be illegal moves, and which moves come
+/// right after them. Contracts see the record `Order` with the same fields.
 #[derive(Copy)]
 pub struct Order<R: Rules> {
     pub killer: Moves<R>,
@@ -77,7 +77,7 @@ impl<R: Rules> Order<R> {
 #[derive(Copy)]
 pub struct Frame<R: Rules> {
     // Fields lie in memory in this order: the largest come first.
-    /// What takes back the move that led here.
+    /// What `unplay` needs to take back the move that led here.
     pub undo: Undo,
     /// The number of half-moves to try from here.
     pub left: usize,

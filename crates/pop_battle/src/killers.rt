@@ -15,9 +15,9 @@ use chess_mates::threats::Threats;
 use chess_rules::{Moves, Rules};
 
 /// For each number of half-moves below 32, the last two moves that decided a position with that many
-/// half-moves left. A direct mate tries them first in the next position like it; a killer may be any number of
-/// a triple, since a bad guess only costs time. A selfmate tries moves in order: its last deciding move is
-/// no good guess.
+/// half-moves left. A direct mate tries them first in the next position with as many half-moves left. A
+/// killer may be an illegal move there: a bad guess costs only time. A selfmate tries its moves in order,
+/// since the move that decided last is a bad guess.
 #[derive(Drop)]
 pub struct Killers<R: Rules> {
     places: [Moves<R>; 32],
@@ -105,7 +105,7 @@ impl<R: Rules> Killers<R> {
         }
     }
 
-    /// Makes sure that the kept threats belong to the board's position, if any are kept.
+    /// Makes sure that the threats, if any are kept, belong to the board's position.
     pub fn compute_threats(&mut self, board: &Board)
         requires well_formed { IsWellFormed board.now }
         ensures { IfSome self.new.threats (λ t. AreThreatsOf R.rule board.now t) }
@@ -119,7 +119,7 @@ impl<R: Rules> Killers<R> {
     }
 
     /// Returns whether the threats in the board's position rule out that a reply to this move mates;
-    /// `false` says nothing. The threats are kept for the position's other moves.
+    /// `false` proves nothing. Keeps the threats for the position's other moves.
     pub fn rule_out_mate(&mut self, board: &Board, m: &Move) -> bool
         requires well_formed { IsWellFormed board.now }
         requires legal { is_legal R.rule board.now m.now ≡ true }

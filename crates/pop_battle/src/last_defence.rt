@@ -146,7 +146,7 @@ fn value_by_trial<R: Rules>(board: &mut Board, search_state: &mut SearchState<R>
 }
 
 // Returns whether Black surely has a legal move after which its king keeps a flight, whatever White plays;
-// `false` says nothing. It tries the king last.
+// `false` proves nothing. Tries the king's moves last.
 #[inline(never)]
 fn keeps_flight<R: Rules>(board: &mut Board, king: Square) -> bool
     requires well_formed { IsWellFormed board.old }
@@ -164,12 +164,11 @@ fn keeps_flight<R: Rules>(board: &mut Board, king: Square) -> bool
         || known.has_filtered(&mut flights, board, kings)
 }
 
-// The most attackers against which kept flights are computed before any defence is tried. The limit affects
+// The most men of White with which kept flights are computed before any defence is tried. The limit affects
 // speed only.
 const MOST_ATTACKERS: u32 = 5;
 
-/// Returns whether Black surely has a defence, since its king keeps a flight after it; `false` says
-/// nothing.
+/// Returns whether Black surely has a defence after which its king keeps a flight; `false` proves nothing.
 #[inline(always)]
 fn surely_escapes<R: Rules>(board: &mut Board) -> bool
     requires well_formed { IsWellFormed board.old }

@@ -22,8 +22,8 @@ use chess_mates::quiet_steps::QuietSteps;
 use chess_rules::{LegalCursor, Rules, play};
 use pop_stipulation::stipulation::Goal;
 
-/// Returns whether Black must mate after this move by White. The move isn't played if Black's king then has
-/// a quiet step, or if no mate can follow.
+/// Returns whether Black must mate after this move by White. The move isn't played if Black's king has a
+/// quiet step after it, or if no reply can mate.
 #[tactic(auto, using(chess_rules::proofs::listing_moves::Calls::playing, crate::proofs::LastMoves::unforced, crate::proofs::Values::last_half_move))]
 fn forces_mate<R: Rules>(
     steps: QuietSteps,
@@ -46,8 +46,8 @@ fn forces_mate<R: Rules>(
     forced
 }
 
-/// Returns the next legal move after the cursor after which Black's king has no quiet step, as far as the
-/// filter knows. Adds the moves passed over to `counted`.
+/// Returns the next legal move after the cursor, and skips moves after which the filter finds a quiet step
+/// of Black's king. Adds the number of skipped moves to `counted`.
 #[tactic(auto, using(crate::proofs::Passing::none_passed))]
 fn next_unquiet<R: Rules>(
     steps: &mut QuietSteps,

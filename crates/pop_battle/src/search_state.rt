@@ -13,7 +13,7 @@ pub struct SearchState<R: Rules> {
 }
 
 impl<R: Rules> SearchState<R> {
-    /// Returns a new state: nothing tried, these killers.
+    /// Returns a state with these killers, before any position is tried.
     pub fn with(killers: Killers<R>) -> SearchState<R>
         ensures killers { result.killers ≡ killers }
         ensures opened { result.opened ≡ 0 }

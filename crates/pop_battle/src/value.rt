@@ -38,8 +38,7 @@ use chess_core::man::Move;
 use chess_rules::{LegalCursor, Rules, play};
 use pop_stipulation::stipulation::Goal;
 
-/// Returns whether the side to move needs just one good move with `left` half-moves left, since it is White
-/// who moves.
+/// Returns whether White, who needs only one good move, is to move with `left` half-moves left.
 pub fn attacker_to_move(battle: Battle, left: usize) -> bool
     ensures { result ≡ attacker_to_move battle left }
 {
@@ -184,8 +183,9 @@ fn close<R: Rules>(
     None
 }
 
-/// Plays a move of the top frame, given as `top` with its new cursor. Opens a frame for the position after
-/// it, unless that position's value is known at once; then takes the move back and returns the value.
+/// Plays a move of the top frame; `top` is that frame with its new cursor. Opens a frame for the position
+/// after the move, unless that position's value is known at once; then takes the move back and returns the
+/// value.
 #[tactic(auto, using(chess_rules::proofs::listing_moves::Calls::playing))]
 fn descend<R: Rules, const N: usize>(
     aim: Aim,
@@ -295,8 +295,8 @@ fn turn<R: Rules, const N: usize>(
     None
 }
 
-/// Returns the value of the board's position with `left` half-moves left. The test's frames go on top of
-/// those in use; board and frames are unchanged afterwards.
+/// Returns the value of the board's position: whether White reaches the aim within `left` half-moves. The
+/// test opens at most `left` frames on top of the frames in use; board and frames are unchanged afterwards.
 pub fn value_of<R: Rules, const N: usize>(
     aim: Aim,
     left: usize,

@@ -81,7 +81,7 @@ unfoldable pub shown_of : Option Man → Option Man → Move → Undo → Mark �
 shown_of None there m lost mark = no_move_shown
 shown_of (Some x) there m lost mark = shown_by x there m lost mark
 
--- the move m as shown, by the positions before and after it
+-- the move m of position p as shown, from the positions before and after it
 unfoldable pub shown_move : Goal → RuleSet → Position → Move → Shown
 shown_move goal rule p m = shown_of (man_on p.men m.from) (man_on p.men m.to) m (undo_of rule p m)
     (mark_of goal rule (position_after rule p m))

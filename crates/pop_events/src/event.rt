@@ -11,18 +11,19 @@ pub enum Phase {
     Play,
 }
 
-/// What a search returns, in order: for each phase its name, then `Impossible`, or its solutions and their total.
+/// What a search returns. In order, for each phase: its name, and then either `Impossible`, or its solutions and their
+/// total.
 #[derive(Drop)]
 pub enum Event {
     /// A phase begins.
     Phase(Phase),
-    /// A solution of help play: its moves. `half` is the number of the first one's half-move, counted from 1.
+    /// A solution of help play: its moves. `half` is the number of the first move's half-move, counted from 1.
     Line {
         half: u32,
         moves: ArrayVec<Shown, 32>,
     },
-    /// A move of battle play in the tree of a solution. `depth` is the number of moves above it; `half` is the number
-    /// of its half-move, counted from 1.
+    /// A move of battle play in the tree of a solution. `depth` is the number of moves above it in the tree, 0 for the
+    /// first; `half` is the number of its half-move, counted from 1.
     Node {
         depth: u32,
         half: u32,

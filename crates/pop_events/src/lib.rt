@@ -1,4 +1,4 @@
-//! The types of what a search returns: its events, and moves with all that their text says.
+//! What a search returns: events, and moves with everything that their text says.
 //!
 //! ```rust
 //! use pop_events::Event;

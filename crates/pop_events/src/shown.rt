@@ -23,7 +23,8 @@ pub enum Mark {
     Stalemate,
 }
 
-/// A move as shown, with all that its text says. Contracts see it as the record `Shown`, with squares as numbers.
+/// A move as shown, with everything that its text says. Contracts see it as the record `Shown`, with squares as
+/// numbers.
 #[derive(Clone, Copy)]
 pub struct Shown {
     /// The man that moves, before a promotion.

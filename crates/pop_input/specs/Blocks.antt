@@ -26,7 +26,8 @@ words_in ((TextLine line keyword text) ∷ tokens) = words_in tokens
 -- The words and text lines of a problem. In the first block the problem begins after the first word, BeginProblem; in a
 -- later block it is the whole block.
 
--- whether a problem has begun after these tokens of a block: in the first block if a word is among them, later always
+-- whether a problem has begun after these tokens of a block: in the first block if a word is among them, in a later
+-- block always
 abbrev pub has_begun : Bool → List Token → Bool
 has_begun false tokens = true
 has_begun true [] = false
@@ -66,7 +67,8 @@ closing_of (TextLine line keyword text) = None
 abbrev pub closes_none : Token → Bool
 closes_none token = not (closes (closing_of token))
 
--- the blocks of tokens, by the command that the first token is, if any, the first token, and the blocks of the others
+-- the blocks of tokens, from the first token and the blocks of the others; the command is the first token's, if it has
+-- one
 abbrev pub before_blocks : Option Command → Token → List (List Token) → List (List Token)
 before_blocks (Some Next) token blocks = (token ∷ []) ∷ blocks
 before_blocks (Some Last) token blocks = (token ∷ []) ∷ []

@@ -28,7 +28,7 @@ rule_of None = orthodox
 rule_of (Some Circe) = circe
 rule_of (Some Madrasi) = madrasi
 
--- What holds of every sound problem: its position may be played from; the side to move and the number of moves fit the
+-- What holds of every sound problem: its position is well formed; the side to move and the number of moves fit the
 -- stipulation; its limit of solutions is from 1 to 4,000,000,000 (own); the side to be mated has a king; and the side
 -- that isn't to move isn't in check (FIDE Laws 3.9), under the problem's condition.
 pub record IsSound (posed : Posed) : Type 0 where

@@ -15,7 +15,7 @@ use Rattle.pop_stipulation.specs.declared.stipulation.Stipulation.{Stipulation}
 abbrev pub square_by : ℕ → ℕ → Option ℕ
 square_by letter digit = square_at (to_ascii_lowercase letter - (letter_a - 1)) (digit - digit_0)
 
--- a square followed by squares, if all of them are squares
+-- a square followed by other squares, if there are both
 abbrev pub before_squares : Option ℕ → Option (List ℕ) → Option (List ℕ)
 before_squares (Some square) (Some squares) = Some (square ∷ squares)
 before_squares (Some square) None = None
@@ -51,7 +51,7 @@ value_of text = fold (λ value digit. 10 * value + (digit - digit_0)) 0 text
 abbrev pub most_solutions : ℕ
 most_solutions = 4000000000
 
--- the limit of solutions that decimal digits write
+-- the limit of solutions that decimal digits state
 unfoldable pub limit_of : List ℕ → Option ℕ
 limit_of text = if list_all is_digit text
     && (nat_le 1 (value_of text) && nat_le (value_of text) most_solutions) then Some (value_of text)
@@ -66,7 +66,7 @@ goal_of sign = if sign == mate_sign then Some Mate
 abbrev pub one_digit : ℕ → Option ℕ
 one_digit a = if is_digit a then Some (a - digit_0) else None
 
--- the value of two digits, the first of them not 0
+-- the value of two digits, if the first isn't 0
 abbrev pub two_digits : ℕ → ℕ → Option ℕ
 two_digits a b = if (is_digit a && not (a == digit_0))
     && is_digit b then Some (10 * (a - digit_0) + (b - digit_0)) else None

@@ -86,7 +86,7 @@ impl Block {
         }
     }
 
-    /// Takes the text after a text word. Has no effect before the first problem.
+    /// Records the text after a text word. Has no effect before the first problem.
     pub(crate) fn note(&mut self, keyword: TextWord, text: &Text)
         ensures { TakesLine self.old self.new keyword text.now }
     {

@@ -119,7 +119,7 @@ impl Draft {
         }
     }
 
-    // Reads a word of a section: no command, and no value that an option expects.
+    // Reads a word of a section, which is neither a command nor a value that an option expects.
     fn take_in(&mut self, section: Option<Section>, word: &ShortWord<'_>) -> Option<FaultKind>
         ensures fault { result ≡ role_fault self.old (Within section) word.now }
         ensures draft { result ≡ None → self.new ≡ draft_by (Within section) self.old word.now }

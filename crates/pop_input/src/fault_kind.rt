@@ -17,9 +17,9 @@ pub enum FaultKind {
     SquareTaken,
     /// 6: a pawn on rank 1 or 8.
     PawnOnOuterRank,
-    /// 7: a second king of a colour.
+    /// 7: a second king of the same colour.
     SecondKing,
-    /// 8: a word in the section Stipulation that isn't one, or one whose number of moves is out of range.
+    /// 8: in the section Stipulation, a word that isn't a stipulation or whose number of moves is out of range.
     BadStipulation,
     /// 9: a second stipulation.
     SecondStipulation,

@@ -4,18 +4,23 @@
 //!
 //! ```rust
 //! use pop_input::{Item, Reader};
-//! use pop_text::ReadSource;
+//! use pop_text::TrialSource;
 //!
-//! let mut source = ReadSource::new(input);
+//! // The second problem has no men.
+//! let text = b"BeginProblem Pieces White Kg6 Ra1 Black Kg8 Stipulation #1
+//!     NextProblem Stipulation #2 EndProblem";
+//! let mut source = TrialSource::new(text, 4096, None);
 //! let mut reader = Reader::new();
-//! let mut found = (0u64, 0u64);
+//! let mut sound = 0u64;
+//! let mut faulty = 0u64;
 //! loop {
 //!     match reader.next_problem(&mut source) {
-//!         Item::Sound(_problem, _) => found.0 += 1,
-//!         Item::Faulty(_fault, _) => found.1 += 1,
+//!         Item::Sound(_problem, _) => sound += 1,
+//!         Item::Faulty(_fault, _) => faulty += 1,
 //!         Item::End => break,
 //!     }
 //! }
+//! assert!(rt; sound == 1 && faulty == 1);
 //! ```
 //!
 //! The interface is `reader` (`Reader`), `item` (`Item`, `Fault`, `Last`), `problem`, `condition` and

@@ -73,7 +73,7 @@ impl Model for Problem {
 }
 
 impl Problem {
-    // Makes a problem of its parts. The caller shows that it is sound.
+    // Makes a problem from its parts. The caller proves that it is sound.
     pub(crate) fn new(
         diagram: &Diagram,
         stipulation: Stipulation,
@@ -116,7 +116,8 @@ impl Problem {
         }
     }
 
-    /// Returns a copy of the diagram: the men, the side to move, the castling rights as squares, the en passant square.
+    /// Returns a copy of the diagram: the men, the side to move, the castling rights as squares, and the en passant
+    /// square.
     pub fn diagram(&self) -> Diagram
         ensures diagram { result ≡ self.now.diagram }
         ensures sound { IsSound self.now }
@@ -176,14 +177,14 @@ impl Problem {
         self.max_solutions
     }
 
-    /// The last title, empty if there is none.
+    /// Returns the last title, empty if there is none.
     pub fn title(&self) -> &Text
         ensures { result.now ≡ self.now.title }
     {
         &self.title
     }
 
-    /// The last author, empty if there is none.
+    /// Returns the last author, empty if there is none.
     pub fn author(&self) -> &Text
         ensures { result.now ≡ self.now.author }
     {

@@ -37,7 +37,7 @@ pub enum Next {
 
 /// A reader of the items of one input. Pass the same source to every call.
 ///
-/// The language is a part of that of the Popeye manual. The faults are this project's own.
+/// The language is a part of Popeye's (Popeye manual). The faults are this project's own.
 #[derive(Drop)]
 pub struct Reader {
     scanner: Scanner,
@@ -179,8 +179,8 @@ fn next_after(last: Last) -> Next
     }
 }
 
-// Returns the fault to report if the input is cut in a block with this fault or none, and whether it is the last. If
-// the block has a fault, the cut is an item of its own, which the next call returns.
+// Returns the fault to report if the input is cut in a block, and whether it is the last. `fault` is the block's own
+// fault, if any; the cut is then an item of its own, which the next call returns.
 fn item_of_cut(fault: Option<Fault>, cut: ReadFault) -> (Fault, Last)
     ensures { result ≡ item_of_cut fault cut }
 {

@@ -63,7 +63,7 @@ pub(crate) fn is_digit(byte: u8) -> bool
     byte >= b'0' && byte <= b'9'
 }
 
-/// Returns the limit of solutions that a word of decimal digits writes, 1 to 4,000,000,000.
+/// Returns the limit of solutions that a word of decimal digits states, 1 to 4,000,000,000.
 #[tactic(auto, unfolding(crate::specs::Values::limit_of))]
 pub(crate) fn limit_of(word: &[u8]) -> Option<u32>
     ensures value { result ≡ limit_of word.now }
@@ -107,7 +107,7 @@ fn one_digit(digit: u8) -> Option<u8>
     }
 }
 
-// Returns the value of two digits, the first of them not 0.
+// Returns the value of two digits, if the first isn't 0.
 fn two_digits(tens: u8, ones: u8) -> Option<u8>
     ensures value { result ≡ two_digits tens ones }
 {

@@ -1,4 +1,4 @@
--- The parts of a phase by their numbers, and their number.
+-- The parts of a phase by their numbers, and how many there are.
 use Rattle.pop_parts.proofs.Words.{Bool, Phase, Posed, Position, RuleSet, [], arith, beginnings, chess, eqb, false, half_moves, is_impossible_phase, not, part_depth, parts, phase_half_moves, phase_start, refl, true, ℕ, ◌||◌, ◌≡◌, ◌≤◌}
 use Rattle.pop_stipulation.specs.declared.stipulation.Goal.{Goal}
 

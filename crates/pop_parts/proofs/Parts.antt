@@ -1,4 +1,4 @@
--- The walk shows after a part's first moves exactly the part's solutions.
+-- After a part's first moves the walk shows exactly the part's solutions.
 use Rattle.pop_parts.proofs.Words.{Bool, Contains, IsPlayable, IsSound, IsWellFormed, List, Move, Phase, Posed, Position, RuleSet, [], after_well_formed, ap, append-nil, append_assoc, arith, battle-form, begins_path, begins_so, chess, eqb, false, filter, game_of, help_lines, helps-form, is_help, is_help_play, is_pseudo_legal-from_legal, legal_moves, length, length-append, lines_to_goal, map, map-id, moves_are_the_legal_moves, moves_in_order, part_solutions, path_end, path_end-append, phase_half_moves, phase_start, plan_of, play_of, position_after, refl, set_tree, shown_paths, solutions, start_sound, subst, suc, sym, true, zero, ℕ, ◌++◌, ◌+◌, ◌-◌, ◌∙◌, ◌∷◌, ◌≡◌, ◌≤◌}
 use Rattle.pop_battle.specs.declared.aim.Battle.{Battle}
 use Rattle.pop_battle.specs.declared.aim.Play.{Play as PlayOfSides}

@@ -51,7 +51,7 @@ lines_from depth number (entry ∷ entries) = parts_line number depth entry
 abbrev pub list_text : ℕ → Input → List ℕ
 list_text depth input = lines_from depth 1 (entries_in input)
 
--- the item with a number, counted from 1
+-- the item with this number, counted from 1
 abbrev pub entry_numbered : List Entry → ℕ → Option Entry
 entry_numbered entries number = if number == 0 then None else slice_get entries (number - 1)
 
@@ -85,7 +85,7 @@ unfoldable pub text_in : RuleSet → PartRequest → Posed → List ℕ
 text_in rule request posed = if has_phase posed request.phase && has_parts rule request posed
     then flat_map (part_text rule posed request.phase) (parts_requested rule request posed) else []
 
--- the outcome for an item; if there is none, by whether the input's device failed
+-- the outcome for an item; without an item, it depends on whether the input's device failed
 abbrev pub outcome_at : PartRequest → Bool → Option Entry → Outcome
 outcome_at request failed None = if failed then InputFailed else NoItem
 outcome_at request failed (Some (Sound posed)) = outcome_in (rule_of posed.condition) request posed

@@ -12,7 +12,7 @@ use Rattle.pop_battle.specs.Game.{Game}
 use Rattle.pop_events.specs.declared.event.Phase.{Phase}
 
 module _ {P M : Type 0} where
-  -- all lists of d moves from p, each legal in its position, in the order of moves
+  -- all lists of d moves from p, each legal when it is played, in the order of moves
   unfoldable pub beginnings : Game P M → ℕ → P → List (List M)
   beginnings game zero p = [] ∷ []
   beginnings game (suc d) p =

@@ -1,4 +1,4 @@
--- What the calls do (own).
+-- What `list_parts` and `show_parts` do (own).
 use Rattle.std.specs.Prelude.{◌≡◌, ◌≤◌, ℕ, List, Option, Bool, true, false}
 use Rattle.pop_text.specs.Bytes.{Appends, Begins}
 use Rattle.pop_text.specs.Words.{Input}
@@ -27,8 +27,8 @@ Shows request input before now false answer = Appends before now (text_of reques
 Shows request input before now true answer = Begins before now (text_of request input)
     × (answer ≡ OutputFailed)
 
--- How far a call reads that took these bytes to find the item with a number: as a run does, and the words
--- taken close at most `number` items. No item has number 0.
+-- A call that took these bytes to find item `number` read as a run does, and the words that it took close
+-- at most `number` items. No item has number 0.
 pub record ReadsItems (number : ℕ) (input : Input) (taken : List ℕ) : Type 0 where
   pub reads : ReadsUpTo input taken
   pub few : 1 ≤ number → closings reads.tokens ≤ number

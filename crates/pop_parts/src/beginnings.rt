@@ -1,5 +1,5 @@
 //! The first moves of each part of a phase, in the order of moves. The walk over them uses frames with no
-//! half-moves left, so nothing is tried below a part's first moves.
+//! half-moves left, so it tries nothing after a part's first moves.
 ghost use Rattle.std.specs.Prelude.{◌≡◌, ◌+◌, ◌-◌, ◌<◌, ◌≤◌, ◌==◌, ◌^◌, ◌||◌, ℕ, min, not, [], ◌∷◌, ◌++◌, length, reverse, slice_get, true, false, MatchOption, None, Some};
 ghost use Rattle.arrayvec.specs.ArrayVec.{array_vec_len};
 ghost use Rattle.chess_core.specs.Position.{Position};
@@ -25,8 +25,8 @@ use pop_input::problem::Problem;
 use pop_solve::phases::{phase_half_moves, set_up};
 use pop_solve::walk::step_back;
 
-/// Returns the number of moves that distinguish the parts of a phase: `depth`, but at most the half-moves
-/// of the phase, in help play; otherwise one.
+/// Returns the number of moves that distinguish the parts of a phase: in help play `depth`, but at most
+/// the half-moves of the phase; otherwise one.
 pub(crate) fn part_depth(problem: &Problem, phase: Phase, depth: usize) -> usize
     ensures { result ≡ depth_of_parts problem.now phase depth }
 {
@@ -37,7 +37,7 @@ pub(crate) fn part_depth(problem: &Problem, phase: Phase, depth: usize) -> usize
     }
 }
 
-/// Returns the frame of a position that a move has reached, from which nothing is tried.
+/// Returns the frame of the position after a move, from which nothing is tried.
 fn idle<R: Rules>(by: Move, undo: Undo) -> Frame<R>
     ensures { result ≡ opened_frame by undo 0 }
 {
@@ -52,8 +52,9 @@ fn idle<R: Rules>(by: Move, undo: Undo) -> Frame<R>
     }
 }
 
-/// Takes one step of the walk over lists of `depth` moves: plays the next move of the top frame, or closes
-/// the frame. Returns the move instead, unplayed, if it completes a list.
+/// Takes one step of the walk over lists of `depth` moves. Plays the next move of the top frame and opens
+/// a frame for it, but returns the move without playing it if it completes a list. Closes the frame if it
+/// has no more moves.
 fn seek<R: Rules, const N: usize>(
     depth: usize,
     board: &mut Board,
@@ -92,7 +93,7 @@ fn seek<R: Rules, const N: usize>(
 }
 
 /// Puts a phase's first position on the board and its frame on the empty stack. Returns `false`, with
-/// nothing changed, if the phase has no part.
+/// nothing changed, if the phase has no half-move or is impossible.
 pub(crate) fn begin_walk<R: Rules, const N: usize>(
     problem: &Problem,
     phase: Phase,
@@ -125,8 +126,8 @@ pub(crate) fn begin_walk<R: Rules, const N: usize>(
     true
 }
 
-/// Walks to the part with this number, counted from 1 among the parts still to come. Returns its last first
-/// move, unplayed, or `None` if there are fewer parts.
+/// Walks to the part with this number, counted from 1 among the parts still to come. Returns the last of
+/// its first moves without playing it, or `None` if there are fewer parts.
 pub(crate) fn seek_numbered<R: Rules, const N: usize>(
     problem: &Problem,
     phase: Phase,
@@ -156,7 +157,7 @@ pub(crate) fn seek_numbered<R: Rules, const N: usize>(
     None
 }
 
-/// Returns how many parts of `depth` first moves are still to come, up to the greatest u64.
+/// Returns how many parts, each of `depth` first moves, are still to come, up to the greatest u64.
 fn count_to_come<R: Rules, const N: usize>(
     problem: &Problem,
     phase: Phase,

@@ -1,4 +1,4 @@
-//! What a call needs to know of an item.
+//! What `list_parts` and `show_parts` need to know about an item.
 ghost use Rattle.std.specs.Prelude.{◌≡◌, is_some, not, true};
 ghost use Rattle.pop_run.specs.ties.Sessions.{status_with};
 ghost use Rattle.pop_parts.specs.ties.Items.{entry_in, is_failure, status_after as with_item};
@@ -36,7 +36,7 @@ pub(crate) fn status_after(so_far: Status, item: &Item) -> Status
     }
 }
 
-// Returns the status after one more fault; `failed`: the device failed.
+// Returns the status after one more fault. `failed` says whether the device failed.
 fn status_with_fault(so_far: Status, failed: bool) -> Status
     ensures { result ≡ status_with so_far failed true }
 {

@@ -2,14 +2,18 @@
 //!
 //! ```rust
 //! use pop_parts::list::list_parts;
+//! use pop_text::{TrialSink, TrialSource};
 //!
-//! // Writes a line such as `1: set 3, play 20` for each item of the source; two moves
-//! // distinguish the parts of help play.
-//! let status = list_parts(2, &mut source, &mut sink);
+//! let text = b"BeginProblem Pieces White Kg6 Ra1 Black Kg8 Stipulation #1 EndProblem";
+//! let mut source = TrialSource::new(text, 4096, None);
+//! let mut sink = TrialSink::<4096>::new(4096, None);
+//! // In help play two moves would distinguish the parts; in a direct mate the key does.
+//! let _status = list_parts(2, &mut source, &mut sink);
+//! assert!(rt; sink.text() == b"1: play 19\n".as_slice());
 //! ```
 //!
-//! `list` and `show` are the interface, with the types of `requested` and, for a search of one part,
-//! `part_search`.
+//! `list` and `show` are the interface, with the types of `request`; `part_search` searches one part, and
+//! `beginnings` counts the parts of a phase.
 #![tactic(auto)]
 
 pub mod beginnings;

@@ -24,11 +24,11 @@ use pop_text::sink::{Sink, SinkFault};
 use pop_text::source::Source;
 
 /// Reads all items of the source and writes one line for each: the number of parts of its phases. `depth`
-/// moves distinguish the parts of help play. Returns the status of the input.
+/// moves, 1 or more, distinguish the parts of help play. Returns the status of the input.
 ///
-/// It writes exactly the list of the input. If the sink fails, it has written a beginning of the list,
-/// writes nothing more and returns `OutputFailed`. It takes at most 4,096 bytes after the first EndProblem,
-/// and doesn't use them. At most one call to the source and one call to the sink fail.
+/// It writes exactly the list of the input, or a beginning of the list if the sink fails; then it writes
+/// nothing more and returns `OutputFailed`. It takes at most 4,096 bytes after the first EndProblem, and
+/// doesn't use them. At most one call to the source and one call to the sink fail.
 pub fn list_parts<S: Source, W: Sink>(depth: usize, source: &mut S, sink: &mut W) -> Status
     requires depth { 1 ≤ depth }
     requires source { S.failures source.old < greatest_count }
@@ -111,7 +111,7 @@ fn add_sound<const N: usize>(line: &mut LineBuffer<N>, number: u64, depth: usize
     line.add(b"\n");
 }
 
-// Adds the part count of set play, if the problem has it.
+// Adds the number of parts of set play, if the problem has set play.
 fn add_set<const N: usize>(line: &mut LineBuffer<N>, depth: usize, problem: &Problem)
     requires depth { 1 ≤ depth }
     requires room { length line.old + 26 ≤ N }
@@ -125,7 +125,7 @@ fn add_set<const N: usize>(line: &mut LineBuffer<N>, depth: usize, problem: &Pro
     }
 }
 
-// Adds the part count of a phase, or `not possible` for `None`.
+// Adds the number of parts of a phase, or `not possible` for `None`.
 fn add_count<const N: usize>(line: &mut LineBuffer<N>, count: Option<u64>)
     requires { length line.old + 20 ≤ N }
     ensures text { line.new ≡ line.old ++ count_text count }

@@ -43,8 +43,8 @@ pub enum PartStage {
     After,
 }
 
-/// Returns whether a path may begin with this legal move, after which `left` half-moves are left: if each
-/// path ends with it and mates, only if it mates.
+/// Returns whether a path may begin with this legal move, after which `left` half-moves are left. A move
+/// that ends every path and must mate may only if it mates.
 #[tactic(auto, using(chess_rules::proofs::listing_moves::Calls::playing))]
 fn may_lead<R: Rules>(plan: Plan, left: usize, by: Move, board: &mut Board) -> bool
     requires well_formed { IsWellFormed board.old }
@@ -65,7 +65,7 @@ fn may_lead<R: Rules>(plan: Plan, left: usize, by: Move, board: &mut Board) -> b
     mates
 }
 
-/// Returns the moves that lead to the top frame, and then `by`.
+/// Returns the moves that lead to the top frame, followed by `by`.
 fn front_of<R: Rules, const N: usize>(frames: &ArrayVec<Frame<R>, N>, by: Move) -> ArrayVec<Move, N>
     requires open { 0 < array_vec_len frames.now }
     ensures { result.items ≡ path (reverse frames.now.items) ++ by ∷ [] }
@@ -81,7 +81,7 @@ fn front_of<R: Rules, const N: usize>(frames: &ArrayVec<Frame<R>, N>, by: Move) 
     front
 }
 
-/// Begins the part whose first moves lead to the top frame and end with `by`.
+/// Begins the part whose first moves lead to the top frame and end with `by`. Returns the next stage.
 fn begin<R: Rules, const N: usize>(
     problem: &Problem,
     phase: Phase,
@@ -182,9 +182,9 @@ fn next_event_in_part<R: Rules, const N: usize>(
     (PartStage::After, total(problem, count))
 }
 
-/// The search for the solutions of one part of a phase: those that begin with the part's first moves. It
-/// returns their events one by one, as `Search` does for a whole problem. Contracts see the record
-/// `PartSeen`.
+/// A search for the solutions of one part of a phase, the solutions that begin with the part's first
+/// moves. It returns their events one by one, as `Search` does for a whole problem. Contracts see the
+/// record `PartSeen`.
 #[derive(Drop)]
 pub struct PartSearch<R: Rules, const N: usize> {
     problem: Problem,
@@ -241,9 +241,9 @@ impl<R: Rules, const N: usize> PartSearch<R, N> {
     ghost use Rattle.pop_solve.specs.ties.Seen.{IsAtPathOf};
 
     /// Returns a search of the part with this number, counted from 1 in the order of moves; `None` if the
-    /// phase has fewer parts. `depth` moves distinguish the parts of help play. `N` must be more than the
-    /// half-moves of the play and at most 33, and `R` must be the rules of the problem's condition. The
-    /// killers affect speed only: killers from another part make tests quicker.
+    /// phase has fewer parts. `depth` moves, 1 or more, distinguish the parts of help play. `N` must be
+    /// more than the half-moves of the play and at most 33, and `R` must be the rules of the problem's
+    /// condition. The killers affect speed only: killers from another part make tests faster.
     pub fn of(
         problem: &Problem,
         phase: Phase,
@@ -363,9 +363,9 @@ impl<R: Rules, const N: usize> PartSearch<R, N> {
         search_state.killers
     }
 
-    /// Returns the number of positions tried so far, up to the greatest u64, without the first moves and a
-    /// test whether they mate. In help play, after the last event and if no limit stopped the part, it is
-    /// the part's walk count.
+    /// Returns the number of positions tried so far, up to the greatest u64. Positions before the end of
+    /// the first moves don't count, and a test whether the first moves mate doesn't either. In help play,
+    /// after the last event and if no limit stopped the part, it is the part's walk count.
     pub fn opened(&self) -> u64
         ensures opened { result ≡ self.now.opened }
         ensures all { is_help self.now.problem.stipulation.form ≡ true

@@ -1,4 +1,4 @@
-//! The parts of a phase one after another: the walk to each continues from the one before it.
+//! The parts of a phase, one after another: the walk to each part continues from the part before it.
 ghost use Rattle.std.specs.Prelude.{◌≡◌, ◌≤◌};
 ghost use Rattle.arrayvec.specs.ArrayVec.{array_vec_len};
 
@@ -50,8 +50,8 @@ impl<R: Rules, const N: usize> RemainingParts<R, N> {
     ghost use Rattle.pop_stipulation.specs.Stipulations.{half_moves};
     ghost use Rattle.pop_parts.specs.PhaseParts.{part_events, parts};
 
-    /// Returns all parts of a phase, or `None` if it has none; `depth` moves distinguish the parts of help
-    /// play.
+    /// Returns all parts of a phase, or `None` if the phase has no half-move or is impossible. `depth`
+    /// moves, 1 or more, distinguish the parts of help play.
     pub(crate) fn of(problem: &Problem, phase: Phase, depth: usize) -> Option<Self>
         requires room { half_moves problem.now.stipulation < N }
         requires few { N ≤ 33 }
@@ -74,8 +74,9 @@ impl<R: Rules, const N: usize> RemainingParts<R, N> {
         })
     }
 
-    /// Returns a search of the part with this number, counted from 1 among the parts still to come, and
-    /// passes all parts up to it; `None` if there are fewer. The killers affect speed only.
+    /// Returns a search of the part with this number, counted from 1 among the parts still to come;
+    /// `None` if there are fewer. The parts after it are then still to come. The killers affect speed
+    /// only.
     pub(crate) fn search(&mut self, number: u64, killers: Killers<R>) -> Option<PartSearch<R, N>>
         requires few { N ≤ 33 }
         requires number { 1 ≤ number }

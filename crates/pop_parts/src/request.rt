@@ -1,14 +1,15 @@
 //! A request for parts of a phase, and its outcome.
 use pop_events::event::Phase;
 
-/// A request: the parts `first` to `last` of a phase of an item. Items and parts are numbered from 1.
+/// A request for the parts `first` to `last`, inclusive, of a phase of an item. Items and parts are
+/// numbered from 1.
 #[derive(Clone, Copy)]
 pub struct PartRequest {
     pub item: u64,
     pub phase: Phase,
     pub first: u64,
     pub last: u64,
-    /// The number of moves that distinguish the parts of help play.
+    /// The number of moves, 1 or more, that distinguish the parts of help play.
     pub depth: usize,
 }
 

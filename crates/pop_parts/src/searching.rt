@@ -1,4 +1,4 @@
-//! Part counts for problems of any length: with frames for the longest stipulation.
+//! Part counts for problems of any length: there are frames for the longest stipulation.
 ghost use Rattle.std.specs.Prelude.{◌≡◌, ◌≤◌, ◌-◌, ◌^◌, length, min};
 ghost use Rattle.pop_input.specs.Posed.{rule_of};
 ghost use Rattle.pop_parts.specs.PhaseParts.{parts};

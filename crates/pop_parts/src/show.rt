@@ -31,10 +31,10 @@ use pop_text::source::Source;
 /// Reads items of the source up to the requested one and writes the solutions of its requested parts.
 /// Returns the outcome.
 ///
-/// It writes exactly the text of the parts, or nothing if the input doesn't have them. If the sink fails, it
-/// has written a beginning of the text, writes nothing more and returns `OutputFailed`. It takes at most
-/// 4,096 bytes after the requested item, and doesn't use them. At most one call to the source and one call
-/// to the sink fail.
+/// It writes exactly the text of the parts, or nothing if the input doesn't have them. If the sink fails,
+/// it has written a beginning of the text; then it writes nothing more and returns `OutputFailed`. It
+/// takes at most 4,096 bytes after the requested item, and doesn't use them. At most one call to the
+/// source and one call to the sink fail.
 pub fn show_parts<S: Source, W: Sink>(
     request: &PartRequest,
     source: &mut S,
@@ -73,7 +73,7 @@ pub fn show_parts<S: Source, W: Sink>(
     }
 }
 
-// Returns the outcome for an input without the item; `failed`: its device failed.
+// Returns the outcome for an input without the item. `failed` says whether the input's device failed.
 fn outcome_without_item(failed: bool) -> Outcome
     ensures { result ≡ (if failed then InputFailed else NoItem) }
 {
@@ -240,8 +240,8 @@ fn print_parts_from<R: Rules, W: Sink>(
     Ok(())
 }
 
-// Prints the part with this number among the parts still to come. Its search starts with these killers;
-// returns its own at the end.
+// Prints the part with this number among the parts still to come. Its search starts with these killers.
+// Returns the killers at its end.
 #[tactic(auto, unfolding(crate::specs::Parts::part_text))]
 fn print_part<R: Rules, W: Sink>(
     sink: &mut W,
@@ -268,7 +268,7 @@ fn print_part<R: Rules, W: Sink>(
     }
 }
 
-// Prints the events still to come of a search, each as it is found.
+// Prints the remaining events of a search, each as soon as it is found.
 fn print_events<R: Rules, W: Sink>(
     sink: &mut W,
     search: &mut PartSearch<R, 33>,

@@ -8,7 +8,7 @@ use Rattle.pop_events.specs.declared.event.Event.TheVariants.{Phase, Line, Node,
 use Rattle.pop_print.specs.Moves.{move_text}
 use Rattle.pop_print.specs.Notation.{blank}
 
--- the number of a half-move: White's half-moves are odd and have one point, Black's have three
+-- the number of a half-move: White's half-moves are odd and have one point, Black's are even and have three
 abbrev pub prefix_text : ℕ → List ℕ
 prefix_text half = if half % 2 == 1 then decimal ((half + 1) / 2) ++ codes "."
     else decimal (half / 2) ++ codes "..."

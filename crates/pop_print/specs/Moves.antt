@@ -14,7 +14,7 @@ abbrev pub castling_text : Side → List ℕ
 castling_text H = codes "0-0"
 castling_text A = codes "0-0-0"
 
--- the sign between origin and arrival square, by whether the move captures
+-- the sign between origin and arrival square: it says whether the move captures
 abbrev pub step_text : Bool → List ℕ
 step_text true = codes "*"
 step_text false = codes "-"

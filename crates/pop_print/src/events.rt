@@ -10,12 +10,12 @@ use pop_events::event::{Event, Phase};
 use pop_events::shown::Shown;
 use pop_text::sink::{Sink, SinkFault, put_all};
 
-// The room for a total, or for a node of battle play with at most 64 blanks before it (own).
+// The room in bytes for a total, or for a node of battle play with at most 64 blanks before it (own).
 const NODE: usize = 128;
 
 /// Writes an event as one line.
 ///
-/// Hands the line to the sink at once; only blanks beyond the 64th before a node go one by one.
+/// Passes the line to the sink in one piece; only blanks before a node beyond the 64th go one by one.
 ///
 /// # Errors
 ///
@@ -48,8 +48,8 @@ fn print_line<W: Sink>(sink: &mut W, half: u32, moves: &[Shown]) -> Result<(), S
     line.put(sink)
 }
 
-// Writes a node of battle play. No node of a problem has more than 64 blanks before it. Blanks beyond these are for the
-// prover alone, to which `depth` is any number.
+// Writes a node of battle play. No node of a problem has more than 64 blanks before it. The code for more blanks is for
+// the prover alone, since `depth` may be any number.
 fn print_node<W: Sink>(sink: &mut W, depth: u32, half: u32, shown: &Shown) -> Result<(), SinkFault>
     requires { W.failures sink.old < greatest_count }
     ensures bytes { Writes (W.taken sink.old) (W.taken sink.new) (node_text depth half shown.now)
@@ -93,7 +93,7 @@ fn stopped_text(stopped: bool) -> &'static [u8]
 }
 
 impl<const N: usize> LineBuffer<N> {
-    // Adds the number of a half-move: `1.` for White's first, `1...` for Black's first.
+    // Adds the number of a half-move, such as `1.` for White's first and `1...` for Black's first.
     fn add_prefix(&mut self, half: u64)
         requires room { length self.old + 23 ≤ N }
         requires half { half < 2 ^ 33 }
@@ -126,7 +126,7 @@ impl<const N: usize> LineBuffer<N> {
         }
     }
 
-    // Adds the moves of a line. `half` is the number of the first one's half-move.
+    // Adds the moves of a line. `half` is the number of the first move's half-move.
     fn add_moves(&mut self, half: u64, moves: &[Shown])
         requires room { length self.old + 1408 ≤ N }
         requires moves { length moves.now ≤ 32 }

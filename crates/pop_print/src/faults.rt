@@ -8,7 +8,8 @@ use pop_input::fault_kind::FaultKind;
 use pop_input::item::Fault;
 use pop_text::sink::{Sink, SinkFault};
 
-/// Writes a faulty item: its number, the fault with its line, and an empty line. Hands all of it to the sink at once.
+/// Writes a faulty item: its number, the fault with its line, and an empty line. Passes the text to the sink in one
+/// piece.
 ///
 /// # Errors
 ///

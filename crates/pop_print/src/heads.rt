@@ -16,7 +16,7 @@ use pop_text::sink::{Sink, SinkFault};
 use pop_text::text::Text;
 
 /// Writes the head of a sound item: its number, its title and author if there are any, the board unless the problem or
-/// `no_board` leaves it out, and the stipulation with the condition. Hands all of it to the sink at once.
+/// `no_board` leaves it out, and the stipulation with the condition. Passes the head to the sink in one piece.
 ///
 /// # Errors
 ///
@@ -37,8 +37,8 @@ pub fn print_head<W: Sink>(
     lines.put(sink)
 }
 
-/// Writes a sound item that is only tested: its head, the line `sound`, and an empty line. Hands all of it to the sink
-/// at once.
+/// Writes a sound item that is only tested: its head, the line `sound`, and an empty line. Passes the text to the sink
+/// in one piece.
 ///
 /// # Errors
 ///

@@ -8,7 +8,7 @@
 //! let mut sink = TrialSink::<64>::new(64, None);
 //! print_event(&mut sink, &Event::Phase(Phase::Set))?;
 //! print_event(&mut sink, &Event::Total { count: 1, stopped: false })?;
-//! assert!(rt; sink.text() == b"set\nsolutions: 1\n");
+//! assert!(rt; sink.text() == b"set\nsolutions: 1\n".as_slice());
 //! ```
 //!
 //! The interface is `print_head`, `print_event`, `print_fault` and `print_checked`, and the module `line`, which

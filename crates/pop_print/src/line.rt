@@ -10,7 +10,7 @@ use std::marker::Model;
 /// The size of a buffer for the longest line or head of any problem, in bytes (own).
 pub const LONGEST: usize = 1536;
 
-/// A text of at most N bytes that is put together piece by piece and then written at once. Contracts see the bytes.
+/// A text of at most N bytes that is built piece by piece and then written in one piece. Contracts see the bytes.
 #[derive(Drop)]
 pub struct LineBuffer<const N: usize> {
     text: ArrayVec<u8, N>,
@@ -34,16 +34,16 @@ impl<const N: usize> LineBuffer<N> {
         }
     }
 
-    /// Adds bytes. The caller shows that they fit.
+    /// Adds bytes. The caller proves that they fit.
     pub fn add(&mut self, piece: &[u8])
         requires { length self.old + length piece.now ≤ N }
         ensures { self.new ≡ self.old ++ piece.now }
     {
-        // The bytes always fit: `requires` says so.
+        // The bytes always fit, as `requires` says.
         let _fits = self.text.try_extend_from_slice(piece);
     }
 
-    /// Adds one byte. The caller shows that it fits.
+    /// Adds one byte. The caller proves that it fits.
     pub fn add_byte(&mut self, byte: u8)
         requires { length self.old < N }
         ensures { self.new ≡ self.old ++ byte ∷ [] }

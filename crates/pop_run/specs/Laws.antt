@@ -17,7 +17,8 @@ text_at choice input index = option_map (λ entry. entry_text choice (index + 1)
 abbrev pub is_closed : List Token → Bool
 is_closed block = is_some (closing_line block)
 
--- two inputs end alike: cleanly, too long or with a failed source, and after the same number of line ends
+-- two inputs end alike: both cleanly, both too long or both with a failed source, and after the same number of line
+-- ends
 pub record EndAlike (input other : Input) : Type 0 where
   pub tail : (words_of input).tail ≡ (words_of other).tail
   pub line : (words_of input).tail_line ≡ (words_of other).tail_line

@@ -4,17 +4,18 @@ ghost use Rattle.pop_run.specs.Report.{choice_of};
 
 use run_settings::Settings;
 
-/// The settings that a report depends on: two flags. It owns no text, so callers without an allocator can make one.
+/// The settings that a report depends on: two flags. Callers without an allocator can make a `Choice`, since it owns no
+/// text.
 #[derive(Clone, Copy)]
 pub struct Choice {
-    /// Whether to only read and test the problems, and not solve them.
+    /// Whether to only read and test the problems, without solving them.
     pub check: bool,
     /// Whether to leave the boards out.
     pub no_board: bool,
 }
 
 impl Choice {
-    /// Returns the flags of the settings.
+    /// Returns the two flags of the settings.
     pub fn of(settings: &Settings) -> Choice
         ensures { result ≡ choice_of settings.now }
     {

@@ -10,7 +10,7 @@
 //! let mut sink = TrialSink::<64>::new(64, None);
 //! let status = report(choice, &mut source, &mut sink);
 //! assert!(rt; status == Status::Sound);
-//! assert!(rt; sink.text() == b"problem 1\n#1\nsound\n\n");
+//! assert!(rt; sink.text() == b"problem 1\n#1\nsound\n\n".as_slice());
 //! ```
 //!
 //! The interface is `run`, `report` and `Session`, which reports one item a call, with `Settings`, `Choice`, `Status` and

@@ -75,8 +75,9 @@ impl Session {
         }
     }
 
-    /// Reads the next item and writes its report. Uses the input's bytes up to the end of the word that closes the item, and
-    /// none after it. After the last item calls neither source nor sink, and returns the status of all items.
+    /// Reads the next item and writes its report. Uses the input's bytes up to the end of the word that closes the
+    /// item, and none after it. After the last item it calls neither source nor sink, and returns the status of all
+    /// items.
     ///
     /// # Errors
     ///
@@ -133,7 +134,7 @@ impl Session {
         }
     }
 
-    // Returns the step of an item, by whether it was printed and is sound. If the sink failed, stops the session.
+    // Returns the step of an item that is sound or not. If the item couldn't be printed, stops the session.
     fn answer(&mut self, printed: Result<(), SinkFault>, sound: bool) -> Result<Step, SinkFault>
         ensures step { result ≡ step_of printed sound }
         ensures place { self.new ≡ record self.old {

@@ -16,7 +16,7 @@ use pop_print::{print_checked, print_event, print_head};
 use pop_solve::search::Search;
 use pop_text::sink::{Sink, SinkFault, put_all};
 
-// Writes the report of a sound problem: its solutions, or that it is sound if problems are only tested.
+// Writes the report of a sound problem: its solutions, or, if problems are only tested, that it is sound.
 #[tactic(auto, unfolding(crate::specs::Report::entry_text))]
 pub(crate) fn print_sound<W: Sink>(
     sink: &mut W,
@@ -78,7 +78,7 @@ fn print_solutions<R: Rules, W: Sink>(sink: &mut W, problem: &Problem) -> Result
     ensures counted { W.failures sink.new ≡ count_after result (W.failures sink.old) }
 {
     let mut search = start_search::<R>(problem);
-    // The event is borrowed: moved out of its `Some` it would be copied.
+    // Borrows the event: moving it out of its `Some` would copy it.
     while let Some(event) = &search.next() {
         print_event(sink, event)?;
     }

@@ -16,7 +16,7 @@ pub enum Status {
 /// What a step of a session did.
 #[derive(Clone, Copy, PartialEq, Eq)]
 pub enum Step {
-    /// One item was read and reported. A sound one was solved, or only tested.
+    /// One item was read and reported. A sound item was solved, or only tested.
     Problem { sound: bool },
     /// No item was left. Holds the status of all items.
     Finished(Status),

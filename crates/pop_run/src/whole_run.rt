@@ -38,7 +38,7 @@ pub fn run<S: Source, W: Sink>(settings: &Settings, source: &mut S, sink: &mut W
     report(Choice::of(settings), source, sink)
 }
 
-/// Does what `run` does, for callers that have only the flags.
+/// Does what `run` does, for callers that have only the flags. Returns the status.
 pub fn report<S: Source, W: Sink>(choice: Choice, source: &mut S, sink: &mut W) -> Status
     requires source { S.failures source.old < greatest_count }
     requires sink { W.failures sink.old < greatest_count }

@@ -11,7 +11,7 @@ use clap::error::ErrorKind;
 pub enum ArgFault {
     /// The command line has no form that the program knows.
     Usage,
-    /// There was no memory to read the command line.
+    /// There was too little memory to read the command line.
     Memory,
 }
 

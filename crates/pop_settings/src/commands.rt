@@ -8,7 +8,7 @@ ghost use Rattle.pop_settings.specs.Commands.{flag, is_set, option_with_value};
 use clap::{Arg, ArgAction, ArgMatches, Command};
 use std::alloc::{AllocError, Global};
 
-// Adds an argument to a command. Passes on the error if memory was short before.
+// Adds an argument to a command. Passes on the error of an earlier allocation.
 fn with<'a>(
     command: Result<Command<'a>, AllocError>,
     argument: Arg<'a>,

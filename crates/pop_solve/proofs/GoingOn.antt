@@ -1,4 +1,4 @@
--- For how many half-moves a line goes on after a move, and what is reached at its end.
+-- How many half-moves a line goes on after a move, and what is reached at its end.
 use Rattle.pop_solve.proofs.Words.{Battle, BattlePlay, Bool, Game, HelpPlay, Plan, PlayOfSides, arith, cond, ends_at_goal, eqb, false, fewest_half_moves, least_length_from, is_followed, walk_length, inl, inr, nat_tests, shown_length, refl, rules, attacker_to_move, suc, true, value, has_variations, zero, ℕ, ◌*◌, ◌+◌, ◌-◌, ◌/◌, ◌||◌, ◌≡◌, ◌≤◌, ◌⊎◌, is_emitted}
 
 -- a test by its two results

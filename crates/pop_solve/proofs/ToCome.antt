@@ -1,4 +1,5 @@
--- What the moves still to come mean for paths, turns and counts: the next move, and the moves passed over.
+-- What the moves still to come mean for paths, turns and counts: the next move, and the moves that are
+-- skipped.
 use Rattle.pop_solve.proofs.Words.{Battle, BattlePlay, Bool, Frame, GoesTo, HelpPlay, are_whites, List, Mate, Move, Plan, Position, RuleSet, Steps, Undo, [], ap, append_assoc, append-nil, allows_mate, arith, chess, cond, eqb, false, fewest_for, fewest_left, fewest_walked, filter, is_followed, is_emitted, walk_length, is_mating, length, length-append, map, map-append, mates_after, moves_after, opened_frame, path, position, refl, rules, seeks_last, shown_paths, smallest_tree, work_from, work_after, suc, sum_by-append, sum_by-cons, to_come, to_open, true, walk_work, value, has_variations, walk_after, walk_count, zero, ℕ, ◌++◌, ◌+◌, ◌-◌, ◌<◌, ◌∙◌, ◌∷◌, ◌≡◌, ◌≤◌, ◌⊎◌, position_after, legal_moves}
 use Rattle.pop_battle.proofs.Boards.{after_start, each_one, none_of}
 use Rattle.pop_battle.specs.ties.Frames.{moved}

@@ -32,7 +32,7 @@ Path = List Move
 abbrev pub Solution : Type 0
 Solution = List Path
 
--- an event before it is shown: a path in place of shown moves, with its phase
+-- an event before it is shown: it has a path and its phase where the shown event has moves
 pub data BareEvent : Type 0 where
   opening : Phase → BareEvent
   impossible : BareEvent
@@ -118,13 +118,13 @@ events_from rule problem phase =
 abbrev pub events : RuleSet → Posed → List BareEvent
 events rule problem = events_from rule problem (first_phase problem)
 
--- the moves of a path from p as they are shown
+-- the moves of a path from p, as they are shown
 abbrev pub moves_shown : Goal → RuleSet → Position → Path → List Shown
 moves_shown goal rule p [] = []
 moves_shown goal rule p (m ∷ path) = shown_move goal rule p m
     ∷ moves_shown goal rule (position_after rule p m) path
 
--- the last move of a path from p as it is shown
+-- the last move of a path from p, as it is shown
 abbrev pub last_shown : Goal → RuleSet → Position → Path → Shown
 last_shown goal rule p [] = no_move_shown
 last_shown goal rule p (m ∷ []) = shown_move goal rule p m

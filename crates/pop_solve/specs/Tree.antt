@@ -1,6 +1,6 @@
 -- The tree of a battle problem: its keys, all defences, and the continuations of least length. Key and
--- defence are the Codex's; that a tree shows just these, in the order of moves, and what set play is, is
--- own.
+-- defence are the Codex's terms. That a tree shows exactly these, in the order of moves, and what set
+-- play is, are own rules.
 use Rattle.pop_battle.specs.declared.aim.Battle.{Battle}
 use Rattle.pop_battle.specs.declared.aim.Battle.TheVariants.{Direct, Selfmate}
 use Rattle.std.specs.Prelude.{ℕ, zero, suc, ◌-◌, Bool, ◌||◌, if◌then◌else◌, List, [], ◌∷◌, map}
@@ -13,7 +13,7 @@ module _ {M : Type 0} where
   node m below = (m ∷ []) ∷ map (λ path. m ∷ path) below
 
 module _ {P M : Type 0} where
-  -- after a move by White to q White still wins within n moves, this move counted
+  -- after a move by White that leads to q, White still wins within n moves, which include that move
   abbrev pub keeps_win : Battle → Game P M → ℕ → P → Bool
   keeps_win Direct game n q = is_lost game (n - 1) q
   keeps_win Selfmate game n q = is_self_lost game n q
@@ -56,7 +56,7 @@ module _ {P M : Type 0} where
       else []))
       (filter (λ m. keeps_win battle game n (game.after p m)) (game.moves p))
 
-  -- set play shows Black's move that led to r
+  -- set play shows the move by Black that leads to r
   abbrev pub is_in_set_play : Battle → Game P M → ℕ → P → Bool
   is_in_set_play Direct game n r = wins game (n - 1) r
   is_in_set_play Selfmate game n r = game.goal r || self_wins game (n - 1) r

@@ -29,7 +29,8 @@ walk_from rule problem phase =
 abbrev pub whole_walk : RuleSet → Posed → ℕ
 whole_walk rule problem = walk_from rule problem (first_phase problem)
 
--- the search of the problem walks no line of moves twice: help play, and battle play that shows only keys
+-- the search of the problem walks no list of moves twice: help play, and battle play without set play
+-- that shows only keys
 abbrev pub is_walked_once : Posed → Bool
 is_walked_once problem = is_help problem.stipulation.form
     || (not problem.variation && not problem.set_play)

@@ -1,5 +1,5 @@
-//! Guesses at the moves that decide a test, from tests with fewer half-moves. They affect speed only:
-//! contracts don't see them.
+//! Guesses of killers, the moves that will probably decide a test, from tests with fewer half-moves. They
+//! affect speed only: no contract says which killers are guessed.
 ghost use Rattle.std.specs.Prelude.{◌≡◌, ◌≤◌, is_some, not, false, true};
 ghost use Rattle.chess_core.specs.WellFormed.{IsWellFormed};
 ghost use Rattle.chess_rules.specs.Legal.{is_legal};
@@ -31,8 +31,8 @@ fn wants_guess(play: Play, left: usize) -> bool
     play == Play::Battle(Battle::Direct) && left % 2 == 0
 }
 
-/// Returns whether White reaches the goal with `left` half-moves, and how many positions that test tries.
-/// It works on a copy of the board.
+/// Returns whether White reaches the aim within `left` half-moves, and how many positions were tried to
+/// find out. Tests a copy of the board, and updates the killers.
 fn cost_of_test<R: Rules>(
     aim: Aim,
     left: usize,
@@ -55,8 +55,8 @@ fn cost_of_test<R: Rules>(
     (wins, opened)
 }
 
-/// Returns how many positions it takes to find that a defence holds, with `left` half-moves left after it;
-/// `None` if it fails.
+/// Returns how many positions were tried to find that the defence `by` holds, or `None` if it doesn't
+/// hold. `left` is the number of half-moves left after the defence.
 #[tactic(auto, using(chess_rules::proofs::listing_moves::Calls::playing))]
 fn cost_of_defence<R: Rules>(
     aim: Aim,
@@ -77,7 +77,8 @@ fn cost_of_defence<R: Rules>(
     if wins { None } else { Some(opened) }
 }
 
-/// Returns the place of the defence that is found to hold at the least cost, or `None` if no defence holds.
+/// Returns the place of the cheapest defence, the one found to hold with the fewest positions tried, or
+/// `None` if no defence holds. `left` is the number of half-moves left after a defence.
 fn cheapest_defence<R: Rules>(
     aim: Aim,
     left: usize,
@@ -103,7 +104,7 @@ fn cheapest_defence<R: Rules>(
     best
 }
 
-/// Makes the cheapest defence the killer of a test of the position with `left` half-moves.
+/// Makes the cheapest defence, if any holds, the killer for `left` half-moves.
 fn choose_killer<R: Rules>(aim: Aim, left: usize, board: &Board, killers: &mut Killers<R>)
     requires well_formed { IsWellFormed board.now }
     requires few { left ≤ 32 }
@@ -113,10 +114,10 @@ fn choose_killer<R: Rules>(aim: Aim, left: usize, board: &Board, killers: &mut K
     }
 }
 
-/// Guesses the killers for the test of a direct mate's move, with `left` half-moves left after it, by tests
-/// of rising length. In all but the longest test the cheapest defence becomes the killer: the first one
-/// found may take long to refute, also with more half-moves left. In help play and selfmates the killers
-/// stay unchanged.
+/// Guesses the killers for the test of a direct mate's move, with `left` half-moves left after it, by
+/// tests of rising length. After each test but the longest, the cheapest defence becomes the killer: the
+/// first defence found may take many positions to confirm, and more still with more half-moves left. In
+/// help play and selfmates the killers stay unchanged.
 #[tactic(auto, using(chess_rules::proofs::listing_moves::Calls::playing))]
 pub fn guess_killers<R: Rules>(
     plan: Plan,

@@ -3,23 +3,28 @@
 //!
 //! ```rust
 //! use chess_rules::Orthodox;
+//! use pop_input::{Item, Reader};
 //! use pop_solve::{Event, Search};
+//! use pop_text::TrialSource;
 //!
-//! // `problem` is a `pop_input::Problem` without a condition: a mate in two at most, so four
-//! // half-moves and one more frame are enough.
-//! let mut search = Search::<Orthodox, 5>::new(&problem);
-//! while let Some(event) = search.next() {
-//!     match event {
-//!         Event::Line { moves, .. } => { /* A solution of help play. */ }
-//!         Event::Node { depth, shown, .. } => { /* A move of a tree: depth 0 is a key. */ }
-//!         Event::Total { count, .. } => { /* The end of a phase. */ }
-//!         _ => {}
+//! let text = b"BeginProblem Pieces White Kg6 Ra1 Black Kg8 Stipulation #1 EndProblem";
+//! let mut source = TrialSource::new(text, 4096, None);
+//! let mut keys = 0u64;
+//! if let Item::Sound(problem, _) = Reader::new().next_problem(&mut source) {
+//!     // One half-move needs two frames; a problem without a condition needs `Orthodox`.
+//!     let mut search = Search::<Orthodox, 2>::new(&problem);
+//!     while let Some(event) = search.next() {
+//!         match event {
+//!             Event::Node { depth: 0, .. } => keys += 1,
+//!             _ => {}
+//!         }
 //!     }
 //! }
+//! assert!(rt; keys == 1);
 //! ```
 //!
-//! The items re-exported at the root are the interface. The public modules serve `pop_parts` only: phases,
-//! plans and steps of the walk. No call allocates.
+//! The items re-exported at the root are the interface. The public modules serve only `pop_parts`:
+//! phases, plans and steps of the walk. No call allocates.
 #![tactic(auto)]
 
 pub mod guess;

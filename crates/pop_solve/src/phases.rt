@@ -38,9 +38,9 @@ pub struct Walk {
 pub enum Stage {
     /// Before this phase.
     Before { phase: Phase },
-    /// After the start of set play, which isn't possible.
+    /// After the `Phase` event of a set play that isn't possible.
     Barred,
-    /// In a phase; `count` of its solutions have begun.
+    /// In a phase, `count` of whose solutions have begun.
     Within { walk: Walk, count: u32 },
     /// After the last phase.
     After,
@@ -92,8 +92,8 @@ fn phase_half(problem: &Problem, phase: Phase) -> u32
     }
 }
 
-/// Returns whether a phase ends before another solution begins: `limit` more may begin, and none is under
-/// way.
+/// Returns whether the limit ends a phase here: no more solutions may begin, and none is unfinished.
+/// `limit` is how many may still begin, `depth` the number of frames.
 fn is_full(plan: Plan, depth: usize, limit: u32) -> bool
     ensures { result ≡ ((limit == 0) && (is_help_play plan.play || (depth == 1))) }
 {
@@ -148,7 +148,7 @@ fn close_all<R: Rules, const N: usize>(board: &mut Board, frames: &mut ArrayVec<
 }
 
 /// Returns the event of the line of help play that leads to the top frame; `half` is the number of its
-/// first half-move. Out of line: it keeps the room for its moves out of `event_at`.
+/// first half-move. A function of its own, which keeps the room for the line's moves out of `event_at`.
 fn line_at<R: Rules>(plan: Plan, half: u32, frames: &[Frame<R>], board: &mut Board) -> Event
     requires shallow { length frames.now ≤ 33 }
     requires walking { (h : ℕ) × (p : Position)
@@ -195,8 +195,8 @@ pub fn event_at<R: Rules>(
     }
 }
 
-/// Puts the first position of a phase on the board and returns `true`; returns `false` if that is
-/// impossible and leaves the board unchanged.
+/// Puts the first position of a phase on the board, which has the play's first position. Returns `false`,
+/// with the board unchanged, if the phase is impossible.
 pub fn set_up<R: Rules>(problem: &Problem, phase: Phase, board: &mut Board) -> bool
     requires { board.old ≡ play_start problem.now }
     ensures possible { result ≡ not (is_impossible_phase R.rule problem.now phase) }
@@ -214,7 +214,7 @@ pub fn set_up<R: Rules>(problem: &Problem, phase: Phase, board: &mut Board) -> b
     false
 }
 
-/// Begins a phase with one frame, or finds that the phase is impossible.
+/// Begins a phase with one frame, or finds that the phase is impossible. Returns the next stage.
 #[tactic(auto, unfolding(crate::specs::ties::Phases::HoldsAtStage))]
 fn begin<R: Rules, const N: usize>(
     problem: &Problem,
@@ -283,7 +283,7 @@ pub fn still_to_begin(problem: &Problem, count: u32) -> u32
     problem.max_solutions() - count
 }
 
-/// Returns the event that ends a phase with `count` solutions: `stopped` if they are as many as the limit.
+/// Returns the event that ends a phase with `count` solutions. It says `stopped` if `count` is the limit.
 pub fn total(problem: &Problem, count: u32) -> Event
     ensures { result ≡ Total count (count == problem.now.max_solutions) }
 {
@@ -293,8 +293,8 @@ pub fn total(problem: &Problem, count: u32) -> Event
     }
 }
 
-/// Returns the count of solutions after a path to the top of `depth` frames is emitted; it may begin a
-/// solution.
+/// Returns the count of solutions after the path to the top of `depth` frames is emitted: one more if
+/// this path begins a solution.
 pub fn count_with(problem: &Problem, depth: usize, count: u32) -> u32
     requires sound { IsSound problem.now }
     requires begins { (if is_help problem.now.stipulation.form || (depth == 2) then 1 else 0)
@@ -310,8 +310,8 @@ pub fn count_with(problem: &Problem, depth: usize, count: u32) -> u32
     }
 }
 
-/// Writes the next event of a search to `event`, or `None` after the last, and updates the stage. It takes
-/// `event` by reference: a returned event would be copied by each caller.
+/// Writes the next event of a search to `event`, or `None` after the last, and updates the stage. Takes
+/// `event` by reference, since each caller would copy a returned event.
 #[tactic(auto, unfolding(crate::specs::ties::Phases::HoldsAtStage, crate::specs::ties::Phases::left_of))]
 pub(crate) fn advance<R: Rules, const N: usize>(
     problem: &Problem,

@@ -20,12 +20,12 @@ pub enum Detail {
 pub struct Plan {
     pub play: Play,
     pub goal: Goal,
-    /// What is shown of a battle; without meaning in help play.
+    /// What is shown of a battle. Help play ignores it.
     pub tree: Detail,
 }
 
 impl Detail {
-    /// Returns what is shown with variations or without.
+    /// Returns what is shown with variations, or without.
     fn with(variation: bool) -> Detail
         ensures { result ≡ tree_with variation }
     {

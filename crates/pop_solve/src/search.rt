@@ -11,9 +11,9 @@ use pop_input::problem::Problem;
 use std::marker::Model;
 
 /// A search for the solutions of a problem, which returns its events one by one and may be dropped at any
-/// time. It holds one board on which it makes moves and takes them back, at most one frame for each
-/// half-move and one more, and the moves that last decided tests. Contracts see the record `Seen`: the
-/// problem, the events still to come, the board's position, and counts.
+/// time. It holds one board, on which it plays moves and takes them back, a frame for the first position
+/// and for each half-move, and the killers, the moves that last decided tests. Contracts see the record
+/// `Seen`: the problem, the events still to come, the board's position, and counts.
 #[derive(Drop)]
 pub struct Search<R: Rules, const N: usize> {
     problem: Problem,
@@ -114,7 +114,8 @@ impl<R: Rules, const N: usize> Search<R, N> {
         event
     }
 
-    /// Returns the number of frames in use: after a line or node one more than its path has moves.
+    /// Returns the number of frames in use, at most `N`. After a line or node it is one more than its
+    /// path has moves.
     pub fn depth(&self) -> usize
         ensures depth { result ≡ self.now.depth }
         ensures most { result ≤ half_moves self.now.problem.stipulation + 1 }

@@ -32,8 +32,8 @@ fn take_back<R: Rules>(frame: &Frame<R>, board: &mut Board)
     retract::<R>(board, frame.by, frame.undo);
 }
 
-/// Returns whether the goal is known to be reached at the frame where an emitted path ends: in help play
-/// always, in direct play with variations where a variation ends.
+/// Returns whether the goal is known to be reached at the frame where an emitted path ends: always in
+/// help play; in a direct mate or stalemate with variations, where a whole variation ends.
 fn reached_at<R: Rules>(plan: Plan, frame: &Frame<R>) -> Reached
     ensures { result ≡ if ends_at_goal plan.play (has_variations plan.tree) frame.now.left
         then Surely else Perhaps }
@@ -48,8 +48,8 @@ fn reached_at<R: Rules>(plan: Plan, frame: &Frame<R>) -> Reached
     }
 }
 
-/// Returns whether the goal is known to be reached at frame `k` of an emitted path: never below the top
-/// frame.
+/// Returns whether the goal is known to be reached at frame `k` of an emitted path. Below the top frame
+/// it isn't.
 #[tactic(auto, using(crate::proofs::Paths::left_last))]
 fn reached_along<R: Rules>(plan: Plan, frames: &[Frame<R>], k: usize) -> Reached
     requires { k < length frames.now }

@@ -1,4 +1,4 @@
-//! The walk over the moves of a phase, on frames.
+//! The walk over the moves of a phase, with a stack of frames.
 ghost use Rattle.chess_rules.specs.Play.{position_after};
 ghost use Rattle.chess_rules.specs.Legal.{moves as legal_moves};
 ghost use Rattle.std.specs.Prelude.{◌≡◌, ◌↔◌, ◌+◌, ◌<◌, ◌≤◌, ◌/◌, [], ◌∷◌, ◌++◌, length, reverse, take, List, IsTrue, true, false, IfSome, MatchOption, ◌⊎◌, not, ◌&&◌, ◌||◌, ◌==◌, ◌-◌, ◌^◌, min};
@@ -34,7 +34,7 @@ use pop_battle::frame::{Frame, MoveStage, Order};
 use pop_battle::search_state::SearchState;
 use pop_battle::value::{attacker_to_move, value_of};
 
-/// Returns the fewest half-moves with which a move by White is tried.
+/// Returns the fewest half-moves with which White, to move, can reach the aim.
 fn fewest_half_moves(battle: Battle) -> usize
     ensures { result ≡ fewest_half_moves battle }
 {
@@ -44,8 +44,8 @@ fn fewest_half_moves(battle: Battle) -> usize
     }
 }
 
-/// Returns the least number of half-moves with which White, to move, reaches the aim, trying rising
-/// lengths; the longest, `left`, needs no try.
+/// Returns the least number of half-moves within which White, to move, reaches the aim. Tests rising
+/// lengths, and takes for granted that White reaches it within `left`.
 #[tactic(auto, using(crate::proofs::Lengths::next_length), unfolding(crate::specs::ties::Walk::least_length_from))]
 fn least_length<R: Rules, const N: usize>(
     aim: Aim,
@@ -71,8 +71,8 @@ fn least_length<R: Rules, const N: usize>(
     tried
 }
 
-/// Returns the number of half-moves for which the moves of the board's position are shown in battle play,
-/// with `left` half-moves left; 0 if they aren't shown.
+/// Returns how many half-moves battle play shows from the board's position, with `left` half-moves left:
+/// 0 if it shows no more.
 #[tactic(auto, unfolding(crate::specs::ties::Walk::shown_length))]
 fn shown_length<R: Rules, const N: usize>(
     aim: Aim,
@@ -96,8 +96,7 @@ fn shown_length<R: Rules, const N: usize>(
     least_length::<R, N>(aim, left, board, frames, search_state)
 }
 
-/// Returns the number of half-moves for which the walk goes on from the board's position, with `left`
-/// half-moves left.
+/// Returns how many half-moves the walk goes on from the board's position, with `left` half-moves left.
 #[tactic(auto, unfolding(crate::specs::ties::Walk::walk_length))]
 fn walk_length<R: Rules, const N: usize>(
     plan: Plan,
@@ -143,8 +142,8 @@ fn tested_in(play: Play, root: bool, left: usize) -> Option<Battle>
     }
 }
 
-/// Returns whether the side that makes the last half-move wants the goal: each side in help play, White in
-/// direct play.
+/// Returns whether the side that makes the last half-move wants to reach the goal: either side in help
+/// play, White in a direct mate; in a selfmate Black doesn't.
 fn seeks_last(play: Play) -> bool
     ensures { result ≡ seeks_last play }
 {
@@ -154,7 +153,7 @@ fn seeks_last(play: Play) -> bool
     }
 }
 
-/// Returns whether each path ends with the next half-move, which must mate: the last half-move of play for
+/// Returns whether the next half-move ends every path and must mate: it is the last half-move of play for
 /// mate, by a side that wants mate.
 pub fn ends_with_mate(plan: Plan, left: usize) -> bool
     ensures { IsTrue result ↔ ((is_for_mate plan.goal ≡ true) × (seeks_last plan.play ≡ true)
@@ -163,8 +162,8 @@ pub fn ends_with_mate(plan: Plan, left: usize) -> bool
     is_for_mate(plan.goal) && left == 1 && seeks_last(plan.play)
 }
 
-/// Returns the value of the position that a move has reached, with `left` half-moves left. It tests nothing
-/// if the move was the last one and is known to mate.
+/// Returns the value of the position that a move has reached, with `left` half-moves left. It tests
+/// nothing after a last move that is known to mate.
 fn value_after<R: Rules, const N: usize>(
     aim: Aim,
     left: usize,
@@ -201,7 +200,7 @@ fn is_emitted<R: Rules>(plan: Plan, left: usize, board: &mut Board) -> bool
 }
 
 /// Returns the count of tried positions after a frame with `tried` half-moves has been opened. A frame
-/// without half-moves doesn't count, and a tested position has counted in its test.
+/// without half-moves doesn't count, nor does a tested position, which its test has counted.
 pub(crate) fn opened_after(opened: u64, tried: usize, tested: bool) -> u64
     ensures more { 0 < tried → tested ≡ false → result ≡ min (opened + 1) (2 ^ 64 - 1) }
     ensures none { tried ≡ 0 → result ≡ opened }
@@ -214,9 +213,9 @@ pub(crate) fn opened_after(opened: u64, tried: usize, tested: bool) -> u64
     }
 }
 
-/// Plays a legal move, after which `left` half-moves are left, and opens a frame for the position after it
-/// if the walk follows the move; otherwise takes it back. Returns whether its path is emitted. Inlined: it
-/// is called for each move, and the compiler alone wouldn't.
+/// Plays a legal move, after which `left` half-moves are left, and opens a frame for the position after
+/// it if the walk follows the move; otherwise takes it back. Returns whether its path is emitted. Inlined
+/// by hand: it is called for each move, and the compiler wouldn't inline it.
 #[tactic(auto, using(chess_rules::proofs::listing_moves::Calls::playing), unfolding(crate::specs::ties::Walk::is_followed, crate::specs::ties::Walk::walk_length))]
 #[inline(always)]
 pub fn enter<R: Rules, const N: usize>(
@@ -275,7 +274,7 @@ pub fn enter<R: Rules, const N: usize>(
     is_emitted::<R>(plan, left, board)
 }
 
-/// Returns whether the search passes over moves to which no reply mates: in help play for mate with two
+/// Returns whether the search may skip moves to which no reply mates: in help play for mate with two
 /// half-moves left.
 #[tactic(auto, using(pop_battle::proofs::Boards::for_mate))]
 fn may_pass_over(plan: Plan, left: usize) -> bool
@@ -284,8 +283,9 @@ fn may_pass_over(plan: Plan, left: usize) -> bool
     left == 2 && plan.play == Play::Help && is_for_mate(plan.goal)
 }
 
-/// Returns the next move after `place` to which a reply may mate, as far as the threats know. Adds the
-/// moves passed over to `opened`, each as the position that it would have reached.
+/// Returns the next legal move after `place`, and skips moves for which the threats rule out that a reply
+/// mates. Adds the number of skipped moves to `opened`: each counts as the position that it would have
+/// reached.
 fn next_risky<R: Rules>(
     threats: &mut Threats,
     known: &mut Option<LegalCursor<R>>,
@@ -314,7 +314,8 @@ fn next_risky<R: Rules>(
     filtered.found
 }
 
-/// Returns the next move after `place` to which a reply may mate; without threats each move.
+/// Returns the next legal move after `place` to which a reply may mate; without threats, the next legal
+/// move.
 #[tactic(auto, using(pop_battle::proofs::Passing::none_passed))]
 fn next_matable<R: Rules>(
     known: &mut Option<LegalCursor<R>>,
@@ -396,8 +397,8 @@ fn top_of<R: Rules, const N: usize>(frames: &ArrayVec<Frame<R>, N>) -> &Frame<R>
     &frames.as_slice()[frames.len() - 1]
 }
 
-/// Returns the next move to try from the top frame and moves its cursor. The frame changes in place: popped
-/// and pushed it would be copied twice.
+/// Returns the next move to try from the top frame and moves its cursor. Changes the frame in place:
+/// popping and pushing it would copy it twice.
 fn next_of_top<R: Rules, const N: usize>(
     plan: Plan,
     board: &mut Board,

@@ -4,7 +4,7 @@
 //! use pop_stipulation::{Form, Goal, Stipulation};
 //!
 //! let helpmate = Stipulation { form: Form::Help, goal: Goal::Mate, n: 2 };
-//! assert!(helpmate.half_moves() == 4);
+//! assert!(rt; helpmate.half_moves() == 4);
 //! ```
 //!
 //! `specs/Stipulations.antt` defines what each stipulation means. No call allocates.

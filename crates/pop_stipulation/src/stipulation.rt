@@ -4,8 +4,8 @@ ghost use Rattle.pop_stipulation.specs.Stipulations.{first_half, half_moves, is_
 
 use chess_core::man::Colour;
 
-/// Who starts, who helps, and which side the goal is against (Codex; spelling of the Popeye manual). `#` stands for
-/// either goal.
+/// Who starts, who helps, and which side is to be mated or stalemated (Codex; spelling of the Popeye manual). Below,
+/// `#` stands for either goal.
 #[derive(Clone, Copy, PartialEq, Eq)]
 pub enum Form {
     /// `#n`: White starts and reaches the goal against every defence.
@@ -14,16 +14,16 @@ pub enum Form {
     SelfMate,
     /// `h#n`: Black starts, both sides help, and White reaches the goal with the last move.
     Help,
-    /// `h#n.5`: help play of n moves, with one more half-move of White before them.
+    /// `h#n.5`: White starts with one half-move, and help play of n moves follows.
     HelpHalf,
 }
 
-/// What the last move must reach against the goal side.
+/// What the last move must do to the goal side.
 #[derive(Clone, Copy, PartialEq, Eq)]
 pub enum Goal {
     /// `#`: mate, which is check without a legal move (FIDE Laws 5.1.1).
     Mate,
-    /// `=`: stalemate, which is no check and no legal move (FIDE Laws 5.2.1).
+    /// `=`: stalemate, which is no legal move without check (FIDE Laws 5.2.1).
     Stalemate,
 }
 
@@ -62,8 +62,8 @@ impl Form {
         }
     }
 
-    /// Returns the number of the first half-move: 1, or 2 if White starts help play and Black's half of the first move
-    /// is left out.
+    /// Returns the number of the first half-move: 1, or 2 if White starts help play, so that Black's half of the first
+    /// move is left out.
     pub fn first_half(self) -> u32
         ensures { result ≡ first_half self }
     {
@@ -95,7 +95,7 @@ impl Form {
 }
 
 impl Stipulation {
-    /// Returns the number of half-moves of the play.
+    /// Returns the number of half-moves of the play: at most 32.
     pub fn half_moves(self) -> usize
         ensures { result ≡ half_moves self }
     {

@@ -1,6 +1,7 @@
--- What the clauses exclude. In the scanner: using more than a word or a line, and another line number, if the source's bytes are known; cutting a word;
--- a part of a line that holds a line end. In sinks and adapters: leaving out a part of a text, reporting a clean end as a failure, and reporting a text
--- that was taken as refused.
+-- What the clauses exclude. In the scanner: using more than a word or a line, or reporting another line
+-- number, if the source's bytes are known; cutting a word; returning a part of a line that has a line
+-- end. In sinks and adapters: leaving out a part of a text, reporting a clean end as a failure, and
+-- reporting a text that was taken as refused.
 use Rattle.pop_text.proofs.Basics.{Appends, IsRunOver, List, Ok, Open, Reading, Result, Some, Text, Uses, UsesLine, UsesRun, [], ap, append_cancel_right, arith, count_by, inl, inr, is_gap, is_in_line, is_in_word, is_line_end, length, length-append, list_all, refl, sym, true, ℕ, ◌++◌, ◌+◌, ◌∙◌, ◌∷◌, ◌≡◌}
 use Rattle.std.specs.Prelude.{IsErr, ◌<◌}
 use Rattle.pop_text.proofs.WordLaws.{all_parts}

@@ -7,7 +7,7 @@ ghost use Rattle.pop_text.specs.ties.Plain.{ArePlain, is_named, is_named_front};
 
 use memchr::memchr;
 
-// How many bytes of a gap are tested one by one before whole blocks are.
+// The number of bytes of a gap that are tested one by one, before whole blocks are tested.
 const NEAR: usize = 4;
 
 // The size of a block, whose bytes are tested without a branch so that the compiler makes vector code.
@@ -22,7 +22,8 @@ pub struct Prefix {
     pub line_ends: usize,
 }
 
-// Returns blanks and line ends at the front: the first `NEAR` bytes, then whole blocks. May stop before the gap ends.
+// Returns a prefix of blanks and line ends: at most `NEAR` single bytes, then whole blocks. May stop before the gap
+// ends.
 #[inline(always)]
 pub(crate) fn gap_prefix(view: &[u8]) -> Prefix
     ensures first { AreFirst is_gap view.now result.count result.line_ends }
@@ -117,7 +118,7 @@ fn line_ends_in(block: &[u8]) -> u8
     ends
 }
 
-// Returns the length of the run at the front. `is_long` says that the run is long already, and so likely goes on.
+// Returns the length of the run at the front. `is_long` says that the run is already long, and so probably goes on.
 pub(crate) fn run_length(view: &[u8], is_long: bool) -> usize
     ensures { Leads is_in_word view.now result }
 {
@@ -202,8 +203,8 @@ pub(crate) fn plain_prefix(view: &[u8]) -> Prefix
     plain
 }
 
-// Returns whether the first `count` bytes are a plain word: it ends within the view and begins like no text word and no
-// closing word, so that it says nothing in skipped text.
+// Returns whether the first `count` bytes are a plain word, which says nothing in skipped text: it ends within the view
+// and doesn't begin like a text word or a closing word.
 fn says_nothing(view: &[u8], count: usize) -> bool
     requires { count ≤ length view.now }
     ensures some { result ≡ true → 0 < count }

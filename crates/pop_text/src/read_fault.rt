@@ -3,8 +3,8 @@
 /// Why a scanner returns no word or text line. Each case holds a line, counted from 1. The limits are own.
 #[derive(Clone, Copy)]
 pub enum ReadFault {
-    /// A word has more than 160 bytes. Holds the line on which it begins. The word is used, and the next call continues
-    /// after it.
+    /// A word has more than 160 bytes. Holds the line on which the word begins. The word is used, and the next call
+    /// continues after it.
     TooLong(u64),
     /// A byte after the first 2^30 of the input is needed. Holds the line of that byte. Every later call returns this
     /// fault.

@@ -7,8 +7,8 @@ use crate::source::{Device, Source};
 use std::io;
 use std::io::Read;
 
-/// A reader of the standard library as a source. Each call makes one call of the reader and never retries: an
-/// interrupted call is a failure.
+/// A reader of the standard library as a source. Each call calls the reader once and never retries: an interrupted call
+/// is a failure.
 #[derive(Drop)]
 pub struct ReadSource<R> {
     reader: R,

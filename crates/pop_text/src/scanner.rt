@@ -17,7 +17,7 @@ use crate::word::Word;
 use arrayvec::ArrayVec;
 use std::marker::Model;
 
-// The greatest number of bytes that are used of an input (own).
+// The greatest number of bytes of an input that are used (own).
 const LIMIT: u32 = 1 << 30;
 
 // The size of the window, in bytes: the greatest number of bytes that are read but not used.
@@ -258,7 +258,8 @@ impl Scanner {
         }
     }
 
-    /// Uses whole words of the window that begin like no text word and no closing word, up to the first other word.
+    /// Uses the plain words at the front of the window: whole words that don't begin like a text word or a closing
+    /// word. Never calls the source.
     pub fn skip_plain(&mut self)
         ensures { Skips self.old self.new }
     {
@@ -266,12 +267,13 @@ impl Scanner {
         self.advance(plain.count, plain.line_ends);
     }
 
-    /// Returns the next word, or `None` at the end of the input. Doesn't use the byte after the word.
+    /// Returns the next word, of 1 to 160 bytes, or `None` at the end of the input. Doesn't use the byte after the
+    /// word.
     ///
     /// # Errors
     ///
     /// `TooLong` if the word has more than 160 bytes. `InputTooLong` or `Device` if the limit of the input or a failure
-    /// of the source comes before the end of the word; these are returned by every later call.
+    /// of the source comes before the end of the word; every later call then returns that fault.
     pub fn next_word<S: Source>(&mut self, source: &mut S) -> Result<Option<Word>, ReadFault>
         requires { self.old.end ≡ End.Open → S.failures source.old < greatest_count }
         ensures word { NextWord self.old self.new (S.remaining source.old) (S.remaining source.new)
@@ -296,7 +298,7 @@ impl Scanner {
         }
     }
 
-    /// Reads into `word` the word that `next_word` would return, in place of the old one.
+    /// Reads the word that `next_word` would return into `word`, and replaces its old content.
     ///
     /// # Errors
     ///
@@ -378,7 +380,7 @@ impl Scanner {
     }
 }
 
-// Turns the outcome of a run, which begins in this line, into a `Found`.
+// Turns the outcome of a run that begins in this line into the result of `read_word`.
 fn found_of_run(run: Result<bool, ReadFault>, line: u64) -> Result<Found, ReadFault>
     ensures { result ≡ found_of run line }
 {

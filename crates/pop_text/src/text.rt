@@ -50,7 +50,7 @@ impl Text {
         &self.cells[..self.size as usize]
     }
 
-    /// Returns the text of the bytes that were kept of a line, without trailing blanks.
+    /// Returns the text of the kept bytes of a line, without trailing blanks.
     pub(crate) fn of_line(mut kept: ArrayVec<u8, 200>) -> Text
         ensures { result ≡ without_trailing kept.items }
     {

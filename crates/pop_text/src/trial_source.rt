@@ -7,8 +7,8 @@ ghost use Rattle.pop_text.specs.ties.Trials.{Gives, bytes_handed_out, cycled_byt
 use crate::source::{Device, Source};
 use std::marker::Model;
 
-/// A source of a text, once or over and over. It returns few bytes a call, and can fail once at a chosen byte. No call
-/// returns bytes of two rounds.
+/// A source of a text, once or over and over. It returns a limited number of bytes a call, and can fail once at a
+/// chosen byte. No call returns bytes of two rounds.
 #[derive(Drop)]
 pub struct TrialSource<'a> {
     text: &'a [u8],
@@ -38,8 +38,8 @@ impl<'a> Model for TrialSource<'a> {
 }
 
 impl<'a> TrialSource<'a> {
-    /// Returns a source of the text, of at most `at_most` bytes a call, 1 or more, that fails once before byte
-    /// `fails_at`, counted from 0, if there is one.
+    /// Returns a source of the text that returns at most `at_most` bytes a call, which is 1 or more. With `fails_at` it
+    /// fails once, before that byte, counted from 0.
     pub fn new(text: &'a [u8], at_most: usize, fails_at: Option<usize>) -> TrialSource<'a>
         requires { 0 < at_most }
         ensures remaining { ⟦<TrialSource<'a> as Source>⟧.remaining result ≡ Some text.now }
@@ -63,8 +63,8 @@ impl<'a> TrialSource<'a> {
         }
     }
 
-    /// Returns a source of the text over and over, `length` bytes in all, of at most `at_most` bytes a call, 1 or more,
-    /// that fails once before byte `fails_at`, counted from 0, if there is one.
+    /// Returns a source of the text over and over, `length` bytes in all, that returns at most `at_most` bytes a call,
+    /// which is 1 or more. With `fails_at` it fails once, before that byte, counted from 0.
     pub fn repeated(
         text: &'a [u8],
         length: usize,
@@ -170,7 +170,7 @@ impl<'a> Source for TrialSource<'a> {
     }
 }
 
-// Returns how many bytes are left before the failure after `count` more bytes.
+// Returns how many bytes are left before the failure once `count` more bytes have been moved.
 pub(crate) fn less(until: Option<usize>, count: usize) -> Option<usize>
     ensures { result ≡ option_map (λ bytes. bytes - count) until }
 {

@@ -7,8 +7,8 @@ use crate::sink::{Sink, SinkFault};
 use std::io;
 use std::io::Write;
 
-/// A writer of the standard library as a sink. Each call makes one call of the writer and never retries: an interrupted
-/// call is a failure, and a call that takes no byte of a non-empty text is a failure too.
+/// A writer of the standard library as a sink. Each call calls the writer once and never retries: an interrupted call
+/// is a failure, and so is a call that takes no byte of a non-empty text.
 #[derive(Drop)]
 pub struct WriteSink<W> {
     writer: W,
@@ -27,7 +27,7 @@ impl<W: Write + Drop> WriteSink<W> {
         }
     }
 
-    /// Returns the writer, with all that it has taken.
+    /// Returns the writer, with everything that it has taken.
     pub fn into_inner(self) -> W
         ensures { W.contents result ≡ ⟦<WriteSink<W> as Sink>⟧.taken self }
     {

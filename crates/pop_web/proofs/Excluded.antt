@@ -1,5 +1,5 @@
--- What the clauses of a page's calls exclude: cutting a text before the output is full, losing it, reporting a faulty
--- text as sound, and reporting a missing part as shown.
+-- What the clauses of the page's calls exclude: cutting a text before the output is full, losing it,
+-- reporting a faulty text as sound, and reporting a missing part as shown.
 use Rattle.std.proofs.Common.{List, ap, arith, length, refl, ℕ, ◌∙◌, ◌≡◌, ◌≢◌}
 use Rattle.pop_run.specs.declared.choice.Choice.{Choice}
 use Rattle.pop_run.specs.Report.{report, status}

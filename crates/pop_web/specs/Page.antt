@@ -1,4 +1,4 @@
--- What the calls of a page return (own).
+-- What the calls of the page return (own).
 use Rattle.std.specs.Prelude.{◌≡◌, ℕ, ◌^◌, ◌==◌, List, [], length, Some, Bool, true, false, if◌then◌else◌}
 use Rattle.pop_text.specs.Words.{Input, Clean}
 use Rattle.pop_events.specs.declared.event.Phase.{Phase}
@@ -65,8 +65,8 @@ part_of set_play depth number = record {
   depth = depth_of depth;
 }
 
--- A call that writes to memory: the bytes are those that it writes, and the result is the number of how it ends. If it
--- is cut, the bytes fill the output.
+-- A call that writes to memory: `shown` is what it writes, and the result is the number of its ending. If the text is
+-- cut, `shown` fills the output.
 pub record Fills (Ending : Type 0) (number : Ending → ℕ)
     (Does : List ℕ → Bool → Ending → Type 0) (shown : List ℕ) (answer : ℕ) : Type 0 where
   pub cut : Bool

@@ -3,7 +3,7 @@
 //! ```rust
 //! use pop_web::page::pops_report;
 //!
-//! // `output` has 2^22 bytes or more.
+//! // `input` is the text, and `output` has 2^22 bytes or more.
 //! let mut written = 0;
 //! let status = pops_report(false, false, input, output, &mut written);
 //! let report = &output[..written];

@@ -1,4 +1,4 @@
-//! The calls of a page: a text's report, the list of its parts, the solutions of one part.
+//! The calls of the page: a text's report, the list of its parts, the solutions of one part.
 ghost use Rattle.std.specs.Prelude.{◌≡◌, ◌<◌, ◌≤◌, length, take};
 ghost use Rattle.pop_web.specs.Page.{Lists, Shows, ShowsParts, depth_of as depth_by, status_number, outcome_number, part_of as part_by, phase_of as phase_by, room, too_small};
 
@@ -51,10 +51,10 @@ pub extern "C" fn pops_report(
     status_number(status)
 }
 
-/// Writes the list of the input's parts to the front of `output`, one line an item, and its length in bytes to
+/// Writes the list of the input's parts to the front of `output`, one line per item, and its length in bytes to
 /// `written`. A part of help play fixes `depth` first moves; 0 counts as 1.
 ///
-/// The result means what it means for `pops_report`.
+/// The results are those that `pops_report` returns.
 #[unsafe(no_mangle)]
 pub extern "C" fn pops_list(
     depth: usize,

@@ -7,14 +7,14 @@ use Rattle.pop_parts.specs.declared.request.Outcome.TheVariants.{Shown, NoItem, 
 use Rattle.pops_part.specs.declared.program.Ending.{Ending}
 use Rattle.pops_part.specs.declared.program.Ending.TheVariants.{Done, Faulty, Refused, InputFailed, OutputFailed}
 
--- how a list ends
+-- how a run that lists parts ends
 abbrev pub ending_of_list : Status → Ending
 ending_of_list Sound = Done
 ending_of_list SomeFaulty = Faulty
 ending_of_list ListBroken = InputFailed
 ending_of_list ListCut = OutputFailed
 
--- how parts end
+-- how a run that shows parts ends
 abbrev pub ending_of_parts : Outcome → Ending
 ending_of_parts Shown = Done
 ending_of_parts PartsBroken = InputFailed
@@ -32,7 +32,7 @@ status_of (Refused outcome) = 2
 status_of InputFailed = 3
 status_of OutputFailed = 3
 
--- how a run ends, by how it ended before the last flush and whether the flush succeeded
+-- how a run ends, given how it ended before the last flush and whether the flush succeeded
 abbrev pub ending_flushed : Ending → Bool → Ending
 ending_flushed ending true = ending
 ending_flushed ending false = OutputFailed

@@ -5,7 +5,7 @@
 //! pops-part --item 1 --phase play --part 1..5 mate.pop
 //! ```
 //!
-//! `program` is the whole program but for its streams; `main` passes it the words and the standard streams.
+//! `program` is the whole program except its streams; `main` passes it the words and the standard streams.
 #![tactic(auto)]
 
 pub mod program;
@@ -24,8 +24,8 @@ fn main(rt: HostRuntime) -> ExitCode {
     }
 }
 
-// Runs the program on the words of the command line and the standard streams. Fails if a word is no UTF-8 text or
-// memory is short: then there are no words to run it on.
+// Runs the program on the words of the command line and the standard streams. Fails if a word isn't UTF-8 or there is
+// too little memory for the words.
 fn run_words(rt: &HostRuntime) -> io::Result<u8> {
     let mut words = Vec::new(rt.alloc());
     for word in env::args(rt)? {

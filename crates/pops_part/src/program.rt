@@ -101,7 +101,7 @@ fn report<R: Read + Drop, W: Write + Drop, E: Write + Drop>(
     }
 }
 
-// Writes what is wanted of the source to the sink, and returns how that ends.
+// Writes what is wanted of the source to the sink, and returns how the run ends.
 //
 // Writes exactly the list of the input or the text of the parts, or a beginning of it if the sink fails. At most one
 // source call and one sink call fail.
@@ -150,7 +150,8 @@ fn phase_named(name: PhaseName) -> Phase
     }
 }
 
-// Returns how a run ends, by how it ended before the last flush and whether the flush succeeded.
+// Returns how a run ends. `ending` is how it ended before the last flush, and `is_flushed` says whether the flush
+// succeeded.
 fn ending_after_flush(ending: Ending, is_flushed: bool) -> Ending
     ensures { result ≡ ending_flushed ending is_flushed }
 {
@@ -161,7 +162,7 @@ fn ending_after_flush(ending: Ending, is_flushed: bool) -> Ending
     }
 }
 
-// Returns how a list ends.
+// Returns how a run that lists parts ends.
 fn ending_of_list(status: Status) -> Ending
     ensures { result ≡ ending_of_list status }
 {
@@ -173,7 +174,7 @@ fn ending_of_list(status: Status) -> Ending
     }
 }
 
-// Returns how parts end.
+// Returns how a run that shows parts ends.
 fn ending_of_parts(outcome: Outcome) -> Ending
     ensures { result ≡ ending_of_parts outcome }
 {

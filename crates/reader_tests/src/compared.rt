@@ -41,7 +41,8 @@ fn read(input: &[u8], at_most: usize, failed: bool) -> ArrayVec<Expected, ITEMS>
     items
 }
 
-/// Returns whether both readers find equal items, both for a clean end of the input and for a source that fails there.
+/// Returns whether the two readers find equal items, for a clean end of the input and for a source that
+/// fails there.
 pub(crate) fn agree(input: &[u8], at_most: usize) -> bool
     requires { 0 < at_most }
 {

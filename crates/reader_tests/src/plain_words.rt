@@ -72,7 +72,7 @@ pub(crate) fn without_trailing(text: &[u8]) -> &[u8] {
     left
 }
 
-// Counts the bytes before the first line end, or with `blanks` before the first line end or blank.
+// Counts the bytes before the first line end, or, with `blanks`, before the first line end or blank.
 fn reach(text: &[u8], blanks: bool) -> usize
     ensures { result ≤ length text.now }
 {

@@ -5,7 +5,8 @@ use pop_input::item::Item;
 use pop_input::problem::Problem;
 use pop_stipulation::stipulation::{Form, Goal};
 
-/// A problem: its men as letters, small ones for Black, 0 for an empty square, and all else that it states.
+/// A problem: its men as letters, small ones for Black and 0 for an empty square, and everything else
+/// that it states.
 #[derive(Clone, Copy, PartialEq, Eq)]
 pub(crate) struct Summary {
     pub(crate) men: [u8; 64],

@@ -12,7 +12,7 @@
 pub struct Settings {
     /// The path of the input file, or `None` for standard input.
     pub file: Option<String>,
-    /// Whether to only read and test the problems, and not solve them.
+    /// Whether to only read and test the problems, without solving them.
     pub check: bool,
     /// Whether to leave the boards out of the report.
     pub no_board: bool,

@@ -9,7 +9,7 @@ use pop_input::condition::Condition;
 use pop_input::problem::Problem;
 use pop_stipulation::stipulation::{Form, Goal};
 
-/// Returns the number of lists of fewer than `half_moves` moves, each legal in its position.
+/// Returns the number of lists of fewer than `half_moves` moves, each legal when it is played.
 #[tactic(auto, using(chess_rules::proofs::listing_moves::Calls::playing))]
 fn walk_count<R: Rules>(board: &Board, half_moves: usize) -> u64
     requires { IsWellFormed board.now }
@@ -68,9 +68,10 @@ struct Shown {
     positions: u64,
 }
 
-/// Returns what the next `left` half-moves show. A tree shows it by a half-move from each of its positions:
-/// if one move decides, the tree goes on only after the deciding move with the smallest tree, otherwise
-/// after all moves. If the goal is reached or no move is left, the tree is empty.
+/// Returns whether White reaches the goal within `left` half-moves, and the size of a smallest tree that
+/// shows it. At each position of the tree, if one move decides, the tree goes on only after the deciding
+/// move with the smallest tree, otherwise after all moves. If the goal is reached or no move is left, the
+/// tree is empty.
 #[tactic(auto, using(chess_rules::proofs::listing_moves::Calls::playing))]
 fn smallest<R: Rules>(battle: Battle, board: &Board, left: usize) -> Shown
     requires { IsWellFormed board.now }

@@ -1,4 +1,4 @@
-//! Generated help problems: few men on pseudorandom squares, equal on each run.
+//! Generated help problems: few men on pseudorandom squares, the same on each run.
 ghost use Rattle.std.specs.Prelude.{◌<◌};
 
 use crate::row::posed;

@@ -206,8 +206,8 @@ fn self_wins<R: Rules>(goal: Goal, board: &Board, moves: u8) -> bool
     some
 }
 
-/// Returns whether White, after a move to this position, still wins within `moves` moves, this move
-/// counted.
+/// Returns whether White, after a move to this position, still wins within `moves` moves, which include
+/// that move.
 #[tactic(auto, using(chess_rules::proofs::listing_moves::Calls::playing))]
 fn keeps<R: Rules>(goal: Goal, selfmate: bool, board: &Board, moves: u8) -> bool
     requires { IsWellFormed board.now }

@@ -1,4 +1,4 @@
-//! Rows: problems with known solutions, and all that a search for them must do.
+//! Rows: problems with known solutions, and everything that a search for them must do.
 ghost use Rattle.std.specs.Prelude.{◌≡◌, ◌<◌, ◌≤◌};
 ghost use Rattle.pop_input.specs.Posed.{rule_of};
 ghost use Rattle.pop_stipulation.specs.Stipulations.{half_moves};
@@ -28,9 +28,9 @@ pub(crate) struct Row {
 /// More events than any row has.
 const ALL: u64 = 1000;
 
-/// The outcome of a search: the text and number of its events, what `given` and `opened` then return, and
-/// the most frames in use; and after three more calls, how many of them returned an event and what `given`
-/// returns.
+/// The outcome of a search: the text and number of its events, what `given` and `opened` return after
+/// them, and the most frames in use; also how many of three more calls returned an event, and what
+/// `given` returns after these.
 #[derive(Drop)]
 struct Given {
     text: ArrayVec<u8, 4096>,
@@ -58,7 +58,7 @@ pub(crate) fn half_moves(problem: &Problem) -> usize
     problem.stipulation().half_moves()
 }
 
-/// Runs a search that is dropped after `most` events.
+/// Runs a search, and stops after `most` events.
 fn run<R: Rules, const N: usize>(problem: &Problem, most: u64) -> Given
     requires rule { R.rule ≡ rule_of problem.now.condition }
     requires room { half_moves problem.now.stipulation < N }
@@ -120,8 +120,8 @@ impl Given {
             && self.given_after == self.events
     }
 
-    /// Returns whether the search, dropped after this number of events, returned the beginning of the whole
-    /// text and would have returned the rest.
+    /// Returns whether the search, which was stopped after this number of events, returned a beginning of
+    /// the whole text, and then, when called again, the events after it.
     fn begins(&self, events: u64, whole: &Given) -> bool {
         self.events == events
             && self.given == events
@@ -159,7 +159,7 @@ fn is_searched_under<R: Rules>(problem: &Problem, row: &Row) -> bool
     true
 }
 
-/// Returns whether searches do all that they must for the row's problem.
+/// Returns whether searches do everything that they must for the row's problem.
 pub(crate) fn is_searched(row: &Row) -> bool {
     let Some(problem) = read(row.input) else {
         return false;
@@ -211,7 +211,7 @@ fn read(text: &[u8]) -> Option<Problem> {
 }
 
 /// Returns whether a search agrees with the plain solver on the problem with these men, stipulation and
-/// options; `None` if it isn't sound.
+/// options, or `None` if the problem isn't sound.
 pub(crate) fn agrees(men: &str, stipulation: &str, rest: &str) -> Option<bool> {
     let problem = posed(men.as_bytes(), stipulation, rest)?;
     Some(match problem.condition() {

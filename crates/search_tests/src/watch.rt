@@ -1,4 +1,4 @@
-//! What a search says of the positions that it has tried, at each of its events.
+//! The number of positions that a search has tried, checked at each of its events.
 ghost use Rattle.std.specs.Prelude.{◌≡◌};
 ghost use Rattle.pop_input.specs.Posed.{rule_of};
 
@@ -20,13 +20,13 @@ pub(crate) struct Seen {
     /// The positions tried when set play ended, and at the end.
     pub after_set: u64,
     pub opened: u64,
-    /// The solutions of all phases, and of the phase with most.
+    /// The number of solutions of all phases, and of the phase with the most.
     pub solutions: u32,
     pub most: u32,
-    /// The phases that the limit stopped, and set play that isn't possible.
+    /// The number of phases that the limit stopped, and of set plays that aren't possible.
     pub stopped: u32,
     pub castling_forbidden: u32,
-    /// The lines and nodes with a check that is no mate, and with a rebirth.
+    /// The number of lines and nodes with a check that isn't mate, and with a rebirth.
     pub checks: u32,
     pub rebirths: u32,
 }
@@ -60,7 +60,7 @@ impl Seen {
 #[derive(Drop)]
 struct ShownPositions {
     line: ArrayVec<Shown, 32>,
-    /// A node of this depth or more is the first below another node.
+    /// A next node of this depth or more is the first node below another one.
     below: u32,
     positions: u64,
 }
@@ -131,8 +131,9 @@ fn note(event: &Event, opened: u64, seen: &mut Seen, stood: &mut ShownPositions)
     }
 }
 
-/// Runs a search to its end. After each event `opened()` hasn't fallen, is at least the number of positions
-/// from which the shown moves go on, and at most `most`; after the end it stays.
+/// Runs a search to its end. Checks that after each event `opened()` hasn't fallen and is at least the
+/// number of positions from which the shown moves go on, and at most `most`; after the end it stays the
+/// same.
 fn watch_under<R: Rules>(rt: &impl Abort, problem: &Problem, most: u64) -> Seen
     requires { R.rule ≡ rule_of problem.now.condition }
 {

@@ -23,14 +23,14 @@ use Rattle.pop_battle.specs.declared.frame.MoveStage.TheVariants.{Killer, Earlie
 use Rattle.pop_battle.specs.declared.frame.Early.{Early}
 use Rattle.pop_battle.specs.declared.frame.Early.TheVariants.{AimedMoves, NoMoves}
 
--- how a test orders the moves of a position: two killers, each any number of a triple, and which moves come
+-- how a test orders the moves of a position: two killers, which may be illegal moves, and which moves come
 -- right after them
 pub record Order : Type 0 where
   pub killer : ℕ
   pub earlier : ℕ
   pub early : Early
 
--- all moves one after another
+-- the order that tries all moves one after another
 abbrev pub unordered : Order
 unordered = record { killer = 0; earlier = 0; early = NoMoves }
 
@@ -82,7 +82,7 @@ IsLinked rule p (f ∷ (g ∷ below)) =
     × (f.undo ≡ undo_of rule (position rule p (g ∷ below)) f.by)
     × IsLinked rule p (g ∷ below)
 
--- the move, no killer, comes before other moves
+-- the move, which is no killer, comes before other moves
 abbrev pub comes_early : Early → Position → Move → Bool
 comes_early AimedMoves p m = aims_at_king p m
 comes_early NoMoves p m = false
@@ -124,8 +124,8 @@ moves_later rule p order Others = []
 abbrev pub moves_ahead : RuleSet → Position → Order → MoveStage → ℕ → List Move
 moves_ahead rule p order s place = moves_here rule p order s place ++ moves_later rule p order s
 
--- the moves that a test has still to try, if perhaps only the killer has been tested and nothing is known
--- of the moves
+-- the moves that a test has still to try; while nothing is known of the moves, only the killer has been
+-- tested
 abbrev pub moves_unlooked : RuleSet → Position → Order → MoveStage → Option LegalPlace → List Move
 moves_unlooked rule p order s None = moves_later rule p order Killer
 moves_unlooked rule p order s (Some known) = moves_ahead rule p order s known.place
@@ -271,7 +271,7 @@ CameFrom rule f board = (p : Position) × CameFromAt rule f board p
 unfoldable pub tests : ℕ → List Frame → List Frame
 tests floor frames = reverse (drop floor frames)
 
--- what one turn of a test leaves: another state that will have the same value
+-- what one turn of a test leaves: another state, which will yield the same value
 pub record Turns (rule : RuleSet) (aim : Aim) (floor : ℕ) (p : Position) (old new : List Frame)
     (was is : Option Bool) (board : Position) (before after : ℕ) : Type 0 where
   pub testing : IsTesting rule p (tests floor new) board

@@ -1,4 +1,4 @@
--- Moves that the search passes over, since a filter takes them (own).
+-- Moves that the search skips, since a filter removes them (own).
 use Rattle.std.specs.Prelude.{◌≡◌, ℕ, ◌+◌, ◌-◌, ◌^◌, min, Bool, true, List, [], ◌∷◌, ◌++◌, length, filter, Option, MatchOption}
 use Rattle.chess_core.specs.Position.{Position}
 use Rattle.chess_core.specs.declared.man.Move.{Move}
@@ -7,7 +7,8 @@ use Rattle.chess_mates.specs.ties.Mates.{allows_mate}
 use Rattle.chess_rules.specs.Legal.{is_legal}
 use Rattle.chess_attacks.specs.RuleSet.{RuleSet}
 
--- the moves after `place` are `over`, of which `what` holds, and then `rest`, the moves after a later place
+-- the moves after `place` are `over`, for which `what` holds, and then `rest`, the moves after a later
+-- place
 pub record Passes (rule : RuleSet) (p : Position) (place : ℕ) (rest : List Move)
     (what : List Move → Type 0) : Type 0 where
   pub mid : ℕ

@@ -5,16 +5,17 @@ use Rattle.std.specs.Prelude.{ℕ, zero, suc, ◌%◌, ◌==◌, Bool, false, no
 use Rattle.std.specs.List.{list_any, list_all}
 use Rattle.pop_battle.specs.Game.{Game, can_move, some_move, every_move}
 
--- with t half-moves left White is to move, who needs one good move
+-- with t half-moves left, White is to move and needs only one good move
 abbrev pub attacker_to_move : Battle → ℕ → Bool
 attacker_to_move Direct t = t % 2 == 1
 attacker_to_move Selfmate t = t % 2 == 0
 
--- the values of all moves joined: some is true, or all are
+-- the value of a move joined with that of the other moves: White, seeking, needs one true value; otherwise
+-- all must be true
 abbrev pub join : Bool → Bool → Bool → Bool
 join seeking v rest = if seeking then v || rest else v && rest
 
--- the value decides: a good one if one good move is enough, otherwise a bad one
+-- the value of one move decides the position: a true one if White seeks, otherwise a false one
 abbrev pub decides : Bool → Bool → Bool
 decides seeking v = if seeking then v else not v
 

@@ -1,4 +1,4 @@
--- The entry of a block depends on its own words and their lines alone: no neighbour changes it.
+-- The entry of a block depends only on its own words and their lines: no neighbour changes it.
 use Rattle.pop_input.proofs.Words.{Bool, Command, Entry, List, None, Option, Some, Tail, Token, Word, Words, [], ap, append_assoc, arith, block_fault, closed_entry, closes, closes_none, command_of, entries_by, entries_of, false, flat_map, get_or, get_or_at, length, length-map, list_all, map, no_words, put_before, refl, suc, sym, tokens_inside, true, ℕ, ◌++◌, ◌∙◌, ◌∷◌, ◌≡◌}
 use Rattle.pop_input.specs.declared.names.Command.TheVariants.{Last, Next}
 use Rattle.pop_input.proofs.Blocks.{ended_entries, last_entries, next_entries}

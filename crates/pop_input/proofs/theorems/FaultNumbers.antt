@@ -1,4 +1,4 @@
--- Each kind of fault has a number of its own.
+-- No two kinds of faults have the same number.
 use Rattle.pop_input.proofs.Words.{BadLimit, BadStipulation, BeginProblemMissing, ColourMissing, DeviceFailed, EnPassantImpossible, EndProblemMissing, FaultKind, KingMissing, NoMen, NoneCastlesThere, PawnOnOuterRank, SecondCondition, SecondKing, SecondStipulation, Some, SquareMissing, SquareTaken, StipulationMissing, WaitingSideInCheck, WordMisplaced, WordTooLong, List, Option, [], arith, number_of, refl, ◌==◌, ◌≡◌, ◌∷◌, ℕ}
 use Rattle.std.specs.Prelude.{find}
 use Rattle.pop_input.specs.declared.fault_kind.FaultKind.TheVariants.{InputTooLong}

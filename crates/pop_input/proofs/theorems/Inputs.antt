@@ -1,4 +1,4 @@
--- The words of lines of an input depend on these lines alone, apart from their line numbers.
+-- The words of some lines of an input depend only on these lines, apart from their line numbers.
 use Rattle.pop_input.proofs.Words.{Clean, Input, List, None, Words, [], ap, append-nil, append_assoc, arith, cond, count_by, drop_all, inl, inr, is_line_end, length, length-append, limit, no_words, put_before, refl, sym, words_by, words_from, words_of, ℕ, ◌++◌, ◌+◌, ◌-◌, ◌<◌, ◌∙◌, ◌∷◌, ◌≡◌, ◌≤◌, ◌⊎◌}
 use Rattle.std.proofs.lemmas.List.{take_all}
 use Rattle.pop_text.specs.Words.{End, tail_of}

@@ -86,8 +86,8 @@ cut_fault (TooLong line) = fault_at InputTooLong line
 cut_fault (PastLimit line) = fault_at InputTooLong line
 cut_fault (Device line) = fault_at DeviceFailed line
 
--- the fault to report if the input is cut in a block with this fault or none, and whether it is the last: after a fault
--- the cut is an item of its own
+-- the fault to report if the input is cut in a block, and whether it is the last; if the block has a fault of its own,
+-- the cut is another item
 abbrev pub item_of_cut : Option Fault → ReadFault → Fault × Last
 item_of_cut (Some fault) cut = (fault, No)
 item_of_cut None cut = (cut_fault cut, Yes)

@@ -24,7 +24,7 @@ use pop_stipulation::stipulation::{Form, Stipulation};
 use pop_text::text::Text;
 
 impl Draft {
-    /// Returns the problem that the words pose, or the fault at its end, in this line.
+    /// Returns the problem that the words pose, or the fault found at its end, in this line.
     ///
     /// The first test that fails decides. In order: there is a stipulation; there are men; a pawn can have just passed
     /// over the en passant square; the side to be mated has a king; the side that isn't to move isn't in check.
@@ -107,7 +107,7 @@ impl Draft {
         set
     }
 
-    // Adds the square to the set if it has castling rights, else removes it, as the definition does.
+    // Adds the square to the set if the man on it has castling rights, otherwise removes it, as the definition does.
     fn with_rights(&self, set: Unmoved, square: Square) -> Unmoved
         ensures { result ≡ mark_unmoved set square
             (has_castling_rights self.now.men self.now.castling_forbidden square) }

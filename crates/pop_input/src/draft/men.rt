@@ -107,7 +107,7 @@ impl Draft {
         }
     }
 
-    // Returns why the man may not be put on the square, if so.
+    // Returns the fault of putting the man on the square, if any.
     fn man_fault(&self, man: Man, square: Square) -> Option<FaultKind>
         ensures { result ≡ man_fault self.now.men man square }
     {

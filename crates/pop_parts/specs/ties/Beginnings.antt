@@ -22,7 +22,7 @@ use Rattle.pop_solve.specs.ties.Walk.{IsWalking, path, walk_work}
 unfoldable pub are_idle : List Frame → Bool
 are_idle frames = list_all (λ f. f.left == 0) frames
 
--- the lists of moves from p that begin with one of these moves, with k moves after it
+-- the lists of moves from p that begin with one of these moves and have k moves after it
 unfoldable pub beginnings_by : Goal → RuleSet → ℕ → Position → List Move → List Path
 beginnings_by goal rule k p ms =
     flat_map (λ m. map (λ rest. m ∷ rest) (beginnings (chess goal rule) k
@@ -60,8 +60,8 @@ pub record Seeks (rule : RuleSet) (h d : ℕ) (p : Position) (old new : List Fra
   pub full : IfSome found (λ m. length new ≡ d)
   pub falls : walk_work rule h p new < walk_work rule h p old
 
--- the walk found the list with this number, counted from 1 among the lists to come, or there are fewer; the
--- lists after it are still to come
+-- the walk found the list with this number, counted from 1 among the lists to come, or found that there
+-- are fewer; the lists after it are still to come
 pub record FindsNumbered (rule : RuleSet) (h d : ℕ) (p : Position) (old new : List Frame)
     (board : Position) (number : ℕ) (found : Option Move) : Type 0 where
   pub here : (goal : Goal) → slice_get (beginnings_to_come goal rule d p old) (number - 1)

@@ -51,7 +51,8 @@ part_left rule problem phase (Within count) frames =
     events_left problem phase count (part_paths rule problem phase (Within count) frames)
 part_left rule problem phase After frames = []
 
--- the board has the position of the top frame of a part's walk, and the solutions add up to the part's
+-- the board has the position of the top frame of a part's walk, and the solutions that have begun and
+-- those still to begin add up to the part's
 pub record IsInPart (rule : RuleSet) (problem : Posed) (phase : Phase) (front : Path)
     (stage : PartStage) (frames : List Frame) (board : Position) : Type 0 where
   pub walking : IsWalking rule (phase_half_moves problem phase) (phase_start problem phase) frames
@@ -70,8 +71,8 @@ StandsInPart rule problem phase front (Within count) frames board =
 StandsInPart rule problem phase front After frames board = (frames ≡ [])
     × (board ≡ play_start problem)
 
--- in help play, if no limit stops the part, exactly the positions of its walk that aren't still to be tried
--- have counted
+-- in help play, if no limit stops the part, `opened` is the number of positions of the part's walk that
+-- aren't still to come
 abbrev pub IsPartOpened : RuleSet → Posed → Phase → Path → List Frame → ℕ → Type 0
 IsPartOpened rule problem phase front frames opened =
     is_help problem.stipulation.form ≡ true → is_part_stopped rule problem phase front ≡ false

@@ -32,8 +32,8 @@ pub record RemainingSeen : Type 0 where
   pub phase : Phase
   pub left : List Path
 
--- the walk count of a part: the number of lists of moves after its first moves, shorter than the half-moves
--- left, each legal in its position
+-- the walk count of a part: the number of lists of moves after its first moves that are shorter than the
+-- half-moves left, each move legal when it is played
 abbrev pub part_walk : RuleSet → Posed → Phase → Path → ℕ
 part_walk rule problem phase front =
     walk_count (legal_moves rule) (position_after rule)
@@ -45,7 +45,7 @@ abbrev pub is_part_stopped : RuleSet → Posed → Phase → Path → Bool
 is_part_stopped rule problem phase front =
     part_count rule problem phase front == problem.max_solutions
 
--- each of the moves from p on is legal in its position
+-- each of the moves, played from p on, is legal
 unfoldable pub are_legal : RuleSet → Position → Path → Bool
 are_legal rule p [] = true
 are_legal rule p (m ∷ ms) = is_legal rule p m && are_legal rule (position_after rule p m) ms

@@ -38,13 +38,13 @@ value_of text = fold (λ value digit. 10 * value + (digit - digit_0)) 0 text
 abbrev pub greatest_number : ℕ
 greatest_number = 999999999999999999
 
--- the number that decimal digits write, if it is at most the greatest number
+-- the number that decimal digits state, if it is at most the greatest number
 unfoldable pub number_in : List ℕ → Option ℕ
 number_in text = if nat_lt 0 (length text) && (list_all is_digit text
     && nat_le (value_of text) greatest_number)
     then Some (value_of text) else None
 
--- the last number of a range, by its first number and the text after it: nothing, or two points and a number
+-- the last number of a range from its first number and the text after that, which is empty, or two points and a number
 abbrev pub last_in : ℕ → List ℕ → Option ℕ
 last_in first [] = Some first
 last_in first (a ∷ []) = None

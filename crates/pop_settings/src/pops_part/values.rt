@@ -48,7 +48,7 @@ fn is_digit(byte: u8) -> bool
     byte >= b'0' && byte <= b'9'
 }
 
-/// Returns the number that decimal digits write, if it is at most 999,999,999,999,999,999.
+/// Returns the number that decimal digits state, if it is at most 999,999,999,999,999,999.
 #[tactic(auto, unfolding(crate::specs::pops_part::Numbers::number_in))]
 pub fn number_of(text: &[u8]) -> Option<u64>
     ensures { result ≡ number_in text.now }
@@ -90,7 +90,7 @@ fn digit_count(text: &[u8]) -> usize
     at
 }
 
-// Returns the last number of a range, by its first number and the text after it.
+// Returns the last number of a range from its first number and the text after that.
 fn last_of(first: u64, following: &[u8]) -> Option<u64>
     ensures { result ≡ last_in first following.now }
 {

@@ -1,4 +1,4 @@
--- What a move of a walk counts (own).
+-- How many positions a move of a walk adds to the count (own).
 use Rattle.chess_core.specs.Position.{Position}
 use Rattle.chess_rules.specs.Legal.{moves as legal_moves}
 use Rattle.chess_rules.specs.Play.{position_after}
@@ -14,9 +14,9 @@ use Rattle.pop_solve.specs.ties.Walk.{fewest_for}
 use Rattle.pop_battle.specs.ties.Values.{attacker_to_move}
 use Rattle.std.specs.Prelude.{◌≡◌, ◌+◌, ◌-◌, ◌^◌, ◌<◌, ◌≤◌, min, ℕ, Bool, false, true}
 
--- what a move to q has counted, with `left` half-moves left there: in help play one frame, if moves are
--- tried from it; if only keys are shown, at most the walk count; and in a battle at least the positions
--- that have to be tried
+-- how many positions a move to q has added to the count, with `left` half-moves left there: in help play
+-- one, if moves are tried from q; in a battle at least the positions that have to be tried and, if only
+-- keys are shown, at most the walk count
 pub record Counts (rule : RuleSet) (plan : Plan) (root : Bool) (left : ℕ) (q : Position)
     (before after : ℕ) : Type 0 where
   pub more : plan.play ≡ HelpPlay → 0 < left → after ≡ min (before + 1) (2 ^ 64 - 1)

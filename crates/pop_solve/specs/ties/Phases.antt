@@ -33,7 +33,7 @@ module _ {M : Type 0} where
   kept_paths help (suc n) (x ∷ xs) =
       x ∷ (if begins_solution help x then kept_paths help n xs else kept_paths help (suc n) xs)
 
-  -- the number of solutions that begin among the first n
+  -- the number of solutions that begin in the paths, up to n
   unfoldable pub beginning_count : Bool → ℕ → List (List M) → ℕ
   beginning_count help n [] = 0
   beginning_count help zero (x ∷ xs) =
@@ -71,7 +71,8 @@ HoldsAtStage rule problem (Within walk count) frames board =
     × (count ≤ problem.max_solutions) × (walk ≡ walk_of problem walk.phase)
 HoldsAtStage rule problem After frames board = (frames ≡ []) × (board ≡ play_start problem)
 
--- what walking on in a phase leaves, if at most `limit` solutions may still begin
+-- what the walk to the next path of a phase leaves, if at most `limit` solutions may still begin;
+-- `given`: there is such a path, and it is emitted
 pub record Walks (rule : RuleSet) (plan : Plan) (help : Bool) (h : ℕ) (p : Position) (limit : ℕ)
     (old new : List Frame) (board : Position) (given : Bool) : Type 0 where
   pub walking : IsWalking rule h p new board
@@ -98,7 +99,7 @@ pub record Gives (rule : RuleSet) (problem : Posed) (old new : List BareEvent) (
   pub event_is : event ≡ event_of rule problem bare
   pub stands : IsAtPathOf rule problem bare board depth
 
--- the most frames that can still be opened
+-- the most positions that can still be counted in help play, or if only keys are shown
 unfoldable pub rest_open : RuleSet → Posed → Stage → List Frame → ℕ
 rest_open rule problem (Before phase) frames = walk_from rule problem phase
 rest_open rule problem Barred frames = walk_from rule problem Play
@@ -134,7 +135,7 @@ IsNarrow problem (Within walk count) frames =
     ⊎ ((keys : IsKeys problem walk.phase) × (are_whites keys.battle frames ≡ true))
 IsNarrow problem After frames = Unit {0}
 
--- what a call opens; `left` are the events still to come before it
+-- how many positions a call counts; `left` are the events still to come before the call
 pub record OpensOn (rule : RuleSet) (problem : Posed) (old new : Stage) (frames last : List Frame)
     (before after : ℕ) (left : List BareEvent) : Type 0 where
   pub narrow : IsNarrow problem old frames → IsNarrow problem new last
@@ -149,8 +150,9 @@ pub record OpensOn (rule : RuleSet) (problem : Posed) (old new : Stage) (frames 
       → min (before + rest_fewest rule problem old frames) (2 ^ 64 - 1)
       ≤ after + rest_fewest rule problem new last
 
--- the count of tried positions so far: never more than the walk allows; in help play exactly the frames
--- that aren't still to be opened; in a battle no fewer than have to be tried
+-- the count of tried positions so far: if no list of moves is walked twice, at most the walk count; in
+-- help play, exactly the positions of the walk that aren't still to come; in a battle, no fewer than have
+-- to be tried
 pub record IsOpened (rule : RuleSet) (problem : Posed) (stage : Stage) (frames : List Frame)
     (opened : ℕ) : Type 0 where
   pub narrow : is_walked_once problem ≡ true → IsNarrow problem stage frames
@@ -163,8 +165,8 @@ pub record IsOpened (rule : RuleSet) (problem : Posed) (stage : Stage) (frames :
       → min (fewest_tried rule problem) (2 ^ 64 - 1)
       ≤ opened + rest_fewest rule problem stage frames
 
--- the count of events returned so far, up to the greatest u64; the events still to come are the end of all
--- events
+-- `given` counts the events returned so far, up to the greatest u64, and the events still to come are the
+-- rest of all events
 pub record IsCountedUpTo (rule : RuleSet) (problem : Posed) (left : List BareEvent)
     (given : ℕ) : Type 0 where
   pub within : length left ≤ length (events rule problem)

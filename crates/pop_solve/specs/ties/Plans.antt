@@ -11,7 +11,7 @@ use Rattle.pop_solve.specs.declared.plan.Plan.{Plan}
 use Rattle.pop_solve.specs.declared.plan.Detail.{Detail}
 use Rattle.pop_solve.specs.declared.plan.Detail.TheVariants.{Keys, Variations}
 
--- what is shown with variations or without
+-- what is shown with variations, or without
 abbrev pub tree_with : Bool → Detail
 tree_with true = Variations
 tree_with false = Keys

@@ -26,21 +26,20 @@ use Rattle.pop_solve.specs.declared.plan.Plan.{Plan}
 use Rattle.pop_battle.specs.ties.Marks.{is_for_mate}
 use Rattle.pop_solve.specs.ties.Plans.{has_variations}
 
--- the fewest half-moves with which a move by White is tried
+-- the fewest half-moves with which White, to move, can reach the aim
 abbrev pub fewest_half_moves : Battle → ℕ
 fewest_half_moves Direct = 1
 fewest_half_moves Selfmate = 2
 
 module _ {P M : Type 0} where
-  -- the first of n + 1 numbers of half-moves, rising by twos from a, with which White reaches the aim; the
-  -- last needs no try
+  -- the first of the n + 1 lengths a, a + 2, .. a + 2n within which White reaches the aim; the last one
+  -- isn't tested
   unfoldable pub least_length_from : Battle → Game P M → P → ℕ → ℕ → ℕ
   least_length_from battle game q zero a = a
   least_length_from battle game q (suc n) a = if value battle game a q then a
       else least_length_from battle game q n (a + 2)
 
-  -- the number of half-moves for which the moves of q are shown in battle play, with t left; 0 if they
-  -- aren't shown
+  -- how many half-moves battle play shows from q, with t half-moves left: 0 if it shows no more
   unfoldable pub shown_length : Battle → Game P M → ℕ → P → ℕ
   shown_length battle game t q =
       if t == 0 || game.goal q then 0
@@ -60,7 +59,7 @@ module _ {P M : Type 0} where
   is_emitted HelpPlay game t q = t == 0 && game.goal q
   is_emitted (BattlePlay battle) game t q = true
 
-  -- the number of half-moves for which the walk goes on from q, with variations or without
+  -- how many half-moves the walk goes on from q, with t half-moves left, with variations or without
   unfoldable pub walk_length : Play → Bool → Game P M → ℕ → P → ℕ
   walk_length HelpPlay variation game t q = t
   walk_length (BattlePlay battle) variation game t q =
@@ -134,7 +133,7 @@ pub record IsWalking (rule : RuleSet) (h : ℕ) (p : Position) (frames : List Fr
   pub sound : IsWellFormed board
   pub board_at : board ≡ position rule p frames
 
--- the most turns that a walk can still take; it falls with each turn
+-- the most steps that a walk can still take; it falls with each step
 unfoldable pub walk_work : RuleSet → ℕ → Position → List Frame → ℕ
 walk_work rule h p [] = 0
 walk_work rule h p (f ∷ below) =
@@ -150,8 +149,8 @@ pub record IsCounted (walk opened rest : ℕ) : Type 0 where
 unfoldable pub are_whites : Battle → List Frame → Bool
 are_whites battle frames = list_all (λ f. f.left == 0 || attacker_to_move battle f.left) frames
 
--- the frames opened and still to be opened before and after some steps of a walk: in help play, and if only
--- keys are shown, their sum doesn't grow
+-- what some steps of a walk count: in help play, and if only keys are shown, the sum of the positions
+-- counted and of those still to be counted doesn't grow
 pub record Opens (rule : RuleSet) (plan : Plan) (p : Position) (old new : List Frame)
     (before after : ℕ) : Type 0 where
   pub whites : (battle : Battle) → plan.play ≡ BattlePlay battle → has_variations plan.tree ≡ false
@@ -164,7 +163,7 @@ pub record Opens (rule : RuleSet) (plan : Plan) (p : Position) (old new : List F
   pub counted : plan.play ≡ HelpPlay → (walk : ℕ) → IsCounted walk before (to_open rule p old)
       → IsCounted walk after (to_open rule p new)
 
--- what some steps of a walk count: in a battle no fewer positions than have to be tried
+-- what some steps of a walk count: in a battle, no fewer positions than have to be tried
 pub record Tries (rule : RuleSet) (plan : Plan) (h : ℕ) (p : Position) (old new : List Frame)
     (before after : ℕ) : Type 0 where
   pub grows : min before (2 ^ 64 - 1) ≤ after
@@ -172,7 +171,8 @@ pub record Tries (rule : RuleSet) (plan : Plan) (h : ℕ) (p : Position) (old ne
       → min (before + fewest_left rule plan h p old) (2 ^ 64 - 1)
       ≤ after + fewest_left rule plan h p new
 
--- the side that makes the last half-move wants the goal: each side in help play, White in direct play
+-- the side that makes the last half-move wants to reach the goal: either side in help play, White in a
+-- direct mate
 abbrev pub seeks_last : Play → Bool
 seeks_last HelpPlay = true
 seeks_last (BattlePlay battle) = attacker_to_move battle 1
@@ -192,7 +192,7 @@ HaveNoPaths rule plan left p before after over =
     ⊎ ((plan.play ≡ HelpPlay) × (plan.goal ≡ Mate) × (left ≡ 2)
     × CannotBeMated rule p before after over)
 
--- the walk passes over only moves without paths, from `place` to the moves `rest` after a later place
+-- from `place` on, the walk skips only moves without paths; the moves `rest` come after them
 abbrev pub GoesTo : RuleSet → Plan → ℕ → Position → ℕ → List Move → (before after : ℕ) → Type 0
 GoesTo rule plan left p place rest before after =
     Passes rule p place rest (HaveNoPaths rule plan left p before after)
@@ -220,8 +220,8 @@ pub record MovesOn (rule : RuleSet) (plan : Plan) (p : Position) (old new : List
   pub next : IsNextOf rule plan top.left p top.place place before after found
   pub mated : IfSome found (λ m. IsMatedAtLast rule plan (top.left - 1) (position_after rule p m))
 
--- the path that ends at a frame with `left` half-moves reaches the goal: always in help play, and in direct
--- play with variations if it is a whole variation
+-- the path that ends at a frame with `left` half-moves is known to reach the goal: always in help play,
+-- and in a direct mate with variations if it is a whole variation
 abbrev pub ends_at_goal : Play → Bool → ℕ → Bool
 ends_at_goal HelpPlay variation left = true
 ends_at_goal (BattlePlay battle) variation left = left == 0 && (variation && attacker_to_move battle 1)

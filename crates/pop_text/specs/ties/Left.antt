@@ -12,7 +12,7 @@ use Rattle.pop_text.specs.declared.read_fault.ReadFault.TheVariants.{TooLong, In
 use Rattle.pop_text.specs.declared.word.Word.{Word as Read}
 use Rattle.pop_text.specs.declared.text.Text.{Text}
 
--- an input of these bytes and then a rest
+-- an input of these bytes followed by a rest
 abbrev pub onto_input : List ℕ → Input → Input
 onto_input bytes rest = record { bytes = bytes ++ rest.bytes; ending = rest.ending }
 

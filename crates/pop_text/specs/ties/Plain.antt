@@ -1,5 +1,5 @@
--- Plain words: words that begin like no text word and no word that closes a problem. They say nothing in skipped text
--- (own).
+-- Plain words: words that don't begin like a text word or a word that closes a problem. They say nothing in skipped
+-- text (own).
 use Rattle.std.specs.Prelude.{◌≡◌, ◌≤◌, ℕ, ◌+◌, ◌==◌, ◌&&◌, ◌||◌, not, List, [], ◌∷◌, ◌++◌, length, count_by, take, drop, Option, None, Bool, true, false, ◌⊎◌}
 use Rattle.std.specs.List.{list_all}
 use Rattle.std.specs.Char.{to_ascii_lowercase}

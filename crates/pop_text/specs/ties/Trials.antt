@@ -1,7 +1,7 @@
 -- What trial sources return and trial sinks take, call by call (own).
 use Rattle.std.specs.Prelude.{◌≡◌, ◌≢◌, ◌<◌, ◌+◌, ◌-◌, ℕ, zero, suc, min, List, [], ◌∷◌, ◌++◌, length, take, drop, Option, Some, None, option_map, Result, Ok, Err}
 
--- the first n bytes of `rest` and then the text over and over
+-- the first n bytes of `rest` followed by the text over and over
 abbrev pub cycled_bytes : List ℕ → List ℕ → ℕ → List ℕ
 cycled_bytes text rest zero = []
 cycled_bytes text (b ∷ rest) (suc n) = b ∷ cycled_bytes text rest n

@@ -1,4 +1,4 @@
--- A page is shown the bytes that the programs write of a text, and the number of their status.
+-- The page receives the bytes that the programs write for a text, and the number of their status.
 use Rattle.std.proofs.Common.{List, Some, [], ap, false, sym, take, ℕ, ◌∙◌, ◌≡◌, ◌≢◌}
 use Rattle.pop_run.specs.declared.choice.Choice.{Choice}
 use Rattle.pop_run.specs.Run.{Runs}

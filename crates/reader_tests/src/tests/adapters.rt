@@ -1,4 +1,5 @@
-//! Readers and writers of the standard library as sources and sinks: each call makes one call and never retries.
+//! Readers and writers of the standard library as sources and sinks: each call calls its reader or writer
+//! once and never retries.
 use pop_text::read_source::ReadSource;
 use pop_text::sink::Sink;
 use pop_text::source::Source;
@@ -90,7 +91,7 @@ fn read(given: usize) -> (Option<usize>, u64) {
     (answer, reader.calls)
 }
 
-// A read of no byte is the end and no failure.
+// A read of no byte means the end, not a failure.
 #[test]
 fn a_read_makes_one_call(rt: HostRuntime) {
     assert!(rt; read(3) == (Some(3), 1));

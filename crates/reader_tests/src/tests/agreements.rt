@@ -46,7 +46,7 @@ fn long_texts(rt: HostRuntime) -> Result<(), Fail> {
     Ok(())
 }
 
-// Sources of each number of bytes a call, up to more than a window.
+// Sources that return each number of bytes per call, up to more than a window.
 #[test]
 fn bytes_a_call(rt: HostRuntime) -> Result<(), Fail> {
     for bytes in 1..4098usize {

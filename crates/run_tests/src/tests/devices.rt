@@ -15,7 +15,7 @@ const PROBLEM: &[u8] = crate::tests::rows::MATE_IN_ONE_INPUT;
 
 const REPORT: &[u8] = crate::tests::rows::MATE_IN_ONE_REPORT;
 
-// A faulty problem, a sound one, and one that the input ends in.
+// A faulty problem, a sound one, and one in which the input ends.
 const THREE: &[u8] = crate::tests::rows::THREE_PROBLEMS_INPUT;
 
 const THREE_REPORT: &[u8] = crate::tests::rows::THREE_PROBLEMS_REPORT;
@@ -228,8 +228,8 @@ fn steps_after_a_failed_write(rt: HostRuntime) {
 const TWO: &[u8] =
     b"BeginProblem\nPieces White Kg6 Ra1 Black Kg8\nStipulation #1\nNextProblem\nPieces White Kg6 Ra1 Black Kg8\nStipulation #1\nEndProblem\nPieces White Kh1\nEndProblem\n";
 
-// With one byte a call, a step reads up to the end of the closing word, one byte more, which ends the word, and nothing
-// else. NextProblem is bytes 59 to 69, and EndProblem is bytes 117 to 126.
+// With one byte per call, a step reads up to the end of the closing word, then the byte that ends the
+// word, and nothing else. NextProblem is bytes 59 to 69, and EndProblem is bytes 117 to 126.
 #[test]
 fn calls_of_a_step(rt: HostRuntime) {
     let mut source = Counted::new(TrialSource::new(TWO, 1, None));

@@ -8,7 +8,7 @@ const LIMIT: usize = 1 << 30;
 
 const WITHOUT_END: usize = LIMIT + 8192;
 
-// Returns whether the text over and over, `bytes` bytes in all, has this report of faults.
+// Returns whether this report is that of the text over and over, `bytes` bytes in all.
 fn reports(text: &[u8], bytes: usize, report: &[u8]) -> bool {
     let mut source = TrialSource::repeated(text, bytes, 4096, None);
     let mut sink = TrialSink::<256>::new(256, None);

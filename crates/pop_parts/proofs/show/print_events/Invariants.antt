@@ -2,7 +2,7 @@ use Rattle.pop_parts.proofs.Words.{IsPrinting, event_of, length, map, ◌≡◌}
 use Rattle.pop_print.specs.Events.{event_text}
 use Rattle.pop_parts.proofs.show.print_events.Given as goal
 
--- the events so far are printed, and the search has the others still to give
+-- the events so far are printed, and the search still has the others
 abbrev pub invariant-loop-event : goal.invariant-loop-event
 invariant-loop-event g l = record {
   problem : l.search.problem ≡ l.fn.search.problem;

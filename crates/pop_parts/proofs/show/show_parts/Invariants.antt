@@ -2,7 +2,7 @@ use Rattle.pop_parts.proofs.Words.{IsEndSeen, Open, failures_after, work_left, â
 use Rattle.pop_parts.proofs.Showing.{Passed}
 use Rattle.pop_parts.proofs.show.show_parts.Given as goal
 
--- the items so far are read, and none is the one that is asked for
+-- the items so far are read, and none is the requested one
 abbrev pub invariant-loop-reader : goal.invariant-loop-reader
 invariant-loop-reader g l = record {
   passed : Passed l.request.item l.reader l.number l.failed (g.S.Source.remaining l.fn.source) (g.S.Source.remaining l.source);
