@@ -29,7 +29,7 @@ impl Play {
     {
         match form {
             Form::Direct => Play::Battle(Battle::Direct),
-            Form::SelfMate => Play::Battle(Battle::Selfmate),
+            Form::Selfmate => Play::Battle(Battle::Selfmate),
             Form::Help | Form::HelpHalf => Play::Help,
         }
     }

@@ -189,7 +189,7 @@ fn form_text(form: Form) -> &'static [u8]
 {
     match form {
         Form::Direct => b"",
-        Form::SelfMate => b"s",
+        Form::Selfmate => b"s",
         Form::Help | Form::HelpHalf => b"h",
     }
 }
@@ -211,7 +211,7 @@ fn half_text(form: Form) -> &'static [u8]
     ensures short { length result.now ≤ 2 }
 {
     match form {
-        Form::Direct | Form::SelfMate | Form::Help => b"",
+        Form::Direct | Form::Selfmate | Form::Help => b"",
         Form::HelpHalf => b".5",
     }
 }
