@@ -9,7 +9,7 @@ pub enum FaultKind {
     BeginProblemMissing,
     /// 2: an unknown or misplaced word.
     WordMisplaced,
-    /// 3: a word of more than 160 bytes.
+    /// 3: a word of more than `LONGEST_WORD` bytes, 160.
     WordTooLong,
     /// 4: men without a colour before them.
     ColourMissing,

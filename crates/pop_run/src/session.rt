@@ -4,6 +4,7 @@ ghost use Rattle.pop_text.specs.Words.{limit};
 ghost use Rattle.pop_text.specs.Bytes.{count_after, greatest_count};
 ghost use Rattle.pop_text.specs.ties.Reading.{IsEndSeen, failures_after};
 ghost use Rattle.pop_text.specs.declared.scanner.End.{End};
+ghost use Rattle.pop_text.specs.declared.scanner.TheConstants.{WINDOW};
 ghost use Rattle.pop_input.specs.FaultKinds.{is_device_failure};
 ghost use Rattle.pop_input.specs.ties.ReaderState.{work_left};
 ghost use Rattle.pop_run.specs.Report.{choice_of};
@@ -34,6 +35,7 @@ pub struct Session {
 impl Model for Session {
     ghost use Rattle.std.specs.Prelude.{◌≡◌, ◌≤◌, ◌+◌, ◌^◌, length};
     ghost use Rattle.pop_text.specs.Words.{limit};
+    ghost use Rattle.pop_text.specs.declared.scanner.TheConstants.{WINDOW};
     ghost use Rattle.pop_input.specs.ties.ReaderState.{work_left};
     ghost use Rattle.pop_run.specs.ties.Sessions.{RunState, ends, is_last};
 
@@ -48,7 +50,7 @@ impl Model for Session {
     } };
 
     ghost invariant = { λ s. (s.next_number + work_left s.reader ≤ 2 ^ 31)
-        × (s.reader.at.used ≤ limit) × (length s.reader.at.window ≤ 4096)
+        × (s.reader.at.used ≤ limit) × (length s.reader.at.window ≤ WINDOW)
         × (ends s.reader.next ≡ is_last s.last) };
 }
 
@@ -104,7 +106,7 @@ impl Session {
         ensures write_failures { self.old.stopped ≡ false
             → W.failures sink.new ≡ count_after result (W.failures sink.old) }
         ensures within { self.new.at.at.used ≤ limit }
-        ensures waits { length self.new.at.at.window ≤ 4096 }
+        ensures waits { length self.new.at.at.window ≤ WINDOW }
         ensures less { is_problem result ≡ true → work_left self.new.at < work_left self.old.at }
     {
         if self.has_stopped {

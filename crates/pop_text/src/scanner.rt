@@ -13,15 +13,15 @@ use crate::front::{gap_prefix, in_gap, line_front, plain_prefix, run_length};
 use crate::read_fault::ReadFault;
 use crate::source::Source;
 use crate::text::{Text, extend_kept};
-use crate::word::Word;
+use crate::word::{LONGEST_WORD, Word};
 use arrayvec::ArrayVec;
 use std::marker::Model;
 
 // The greatest number of bytes that are used of an input (own).
 const LIMIT: u32 = 1 << 30;
 
-// The size of the window, in bytes: the greatest number of bytes that are read but not used.
-const WINDOW: usize = 4096;
+/// The size of the window in bytes: the most bytes that a scanner has read but not used (own).
+pub const WINDOW: usize = 4096;
 
 /// How the input ends, if that is known.
 #[derive(Clone, Copy)]
@@ -56,6 +56,7 @@ pub struct Scanner {
 
 impl Model for Scanner {
     ghost use Rattle.std.specs.Prelude.{◌≤◌, ◌+◌, ◌^◌, slice_range};
+    ghost use Rattle.pop_text.specs.declared.scanner.TheConstants.{WINDOW};
     ghost use Rattle.pop_text.specs.ties.Reading.{Reading};
 
     ghost Value = { Reading };
@@ -67,7 +68,7 @@ impl Model for Scanner {
       end = s.end;
     } };
 
-    ghost invariant = { λ s. (s.start ≤ s.stop) × (s.stop ≤ 4096) × (s.used ≤ 2 ^ 30)
+    ghost invariant = { λ s. (s.start ≤ s.stop) × (s.stop ≤ WINDOW) × (s.used ≤ 2 ^ 30)
         × (s.line ≤ s.used + 1) };
 }
 
@@ -99,7 +100,7 @@ impl Scanner {
         requires { self.old.end ≡ End.Open → S.failures source.old < greatest_count }
         ensures uses { Uses self.old self.new (S.remaining source.old) (S.remaining source.new) [] }
         ensures known { self.new.window ≡ [] → self.new.end ≢ End.Open }
-        ensures waits { length self.new.window ≤ 4096 }
+        ensures waits { length self.new.window ≤ WINDOW }
         ensures calls_source { CallsSource self.old.end self.new.end (S.remaining source.old)
             (S.remaining source.new) (S.failures source.old) (S.failures source.new) }
         ensures kept { self.old.end ≢ End.Open ⊎ 0 < length self.old.window → self.new ≡ self.old }
@@ -125,7 +126,7 @@ impl Scanner {
         requires { self.old.end ≡ End.Open → S.failures source.old < greatest_count }
         ensures uses { Uses self.old self.new (S.remaining source.old) (S.remaining source.new) [] }
         ensures at { ComesNext self.new result }
-        ensures waits { length self.new.window ≤ 4096 }
+        ensures waits { length self.new.window ≤ WINDOW }
         ensures calls_source { CallsSource self.old.end self.new.end (S.remaining source.old)
             (S.remaining source.new) (S.failures source.old) (S.failures source.new) }
         ensures stuck { (fault : ReadFault) → ComesNext self.old (Err fault)
@@ -216,7 +217,7 @@ impl Scanner {
             (S.remaining source.new) }
         ensures at { ComesNext self.new result }
         ensures other { IfOk result (λ o. IfSome o (λ b. is_gap b ≡ false)) }
-        ensures waits { length self.new.window ≤ 4096 }
+        ensures waits { length self.new.window ≤ WINDOW }
         ensures calls_source { CallsSource self.old.end self.new.end (S.remaining source.old)
             (S.remaining source.new) (S.failures source.old) (S.failures source.new) }
         ensures stuck { (fault : ReadFault) → ComesNext self.old (Err fault)
@@ -234,13 +235,13 @@ impl Scanner {
     fn take_run<S: Source>(
         &mut self,
         source: &mut S,
-        word: &mut ArrayVec<u8, 160>,
+        word: &mut ArrayVec<u8, LONGEST_WORD>,
     ) -> Result<bool, ReadFault>
         requires failures { self.old.end ≡ End.Open → S.failures source.old < greatest_count }
         requires empty { word.old.items ≡ [] }
         ensures run { RunsTo self.old self.new (S.remaining source.old) (S.remaining source.new)
             word.new.items result }
-        ensures waits { length self.new.window ≤ 4096 }
+        ensures waits { length self.new.window ≤ WINDOW }
         ensures calls_source { CallsSource self.old.end self.new.end (S.remaining source.old)
             (S.remaining source.new) (S.failures source.old) (S.failures source.new) }
     {
@@ -270,7 +271,7 @@ impl Scanner {
     ///
     /// # Errors
     ///
-    /// `TooLong` if the word has more than 160 bytes. `InputTooLong` or `Device` if the limit of the input or a failure
+    /// `TooLong` if the word has more than `LONGEST_WORD` bytes. `InputTooLong` or `Device` if the limit of the input or a failure
     /// of the source comes before the end of the word; these are returned by every later call.
     pub fn next_word<S: Source>(&mut self, source: &mut S) -> Result<Option<Word>, ReadFault>
         requires { self.old.end ≡ End.Open → S.failures source.old < greatest_count }
@@ -279,7 +280,7 @@ impl Scanner {
         ensures used { UsesWord self.old self.new (S.remaining source.old) (S.remaining source.new)
             result }
         ensures sticks { IfErr result (Sticks self.new) }
-        ensures waits { length self.new.window ≤ 4096 }
+        ensures waits { length self.new.window ≤ WINDOW }
         ensures seen { IsEndSeen self.old.end (S.remaining source.old)
             → IsEndSeen self.new.end (S.remaining source.new) }
         ensures ends { self.old.end ≡ End.Open ⊎ self.new.end ≡ self.old.end }
@@ -312,7 +313,7 @@ impl Scanner {
         ensures used { UsesWord self.old self.new (S.remaining source.old) (S.remaining source.new)
             (found_by word.new result) }
         ensures sticks { IfErr result (Sticks self.new) }
-        ensures waits { length self.new.window ≤ 4096 }
+        ensures waits { length self.new.window ≤ WINDOW }
         ensures seen { IsEndSeen self.old.end (S.remaining source.old)
             → IsEndSeen self.new.end (S.remaining source.new) }
         ensures ends { self.old.end ≡ End.Open ⊎ self.new.end ≡ self.old.end }
@@ -334,7 +335,7 @@ impl Scanner {
         }
     }
 
-    /// Returns the rest of the line: its first 200 bytes after leading blanks, without trailing blanks. Uses the line
+    /// Returns the rest of the line: its first `LONGEST_TEXT` bytes after leading blanks, without trailing blanks. Uses the line
     /// end too.
     ///
     /// # Errors
@@ -349,7 +350,7 @@ impl Scanner {
         ensures used { UsesLine self.old self.new (S.remaining source.old) (S.remaining source.new)
             result }
         ensures sticks { IfErr result (Sticks self.new) }
-        ensures waits { length self.new.window ≤ 4096 }
+        ensures waits { length self.new.window ≤ WINDOW }
         ensures seen { IsEndSeen self.old.end (S.remaining source.old)
             → IsEndSeen self.new.end (S.remaining source.new) }
         ensures ends { self.old.end ≡ End.Open ⊎ self.new.end ≡ self.old.end }
@@ -398,9 +399,9 @@ fn line_after(line: u64, line_ends: usize) -> u64
 }
 
 // Appends the bytes that fit, and returns whether all fit.
-fn extend_word(word: &mut ArrayVec<u8, 160>, part: &[u8]) -> bool
-    ensures kept { word.new.items ≡ take 160 (word.old.items ++ part.now) }
-    ensures fits { result ≡ nat_lt (length (word.old.items ++ part.now)) 161 }
+fn extend_word(word: &mut ArrayVec<u8, LONGEST_WORD>, part: &[u8]) -> bool
+    ensures kept { word.new.items ≡ take LONGEST_WORD (word.old.items ++ part.now) }
+    ensures fits { result ≡ nat_lt (length (word.old.items ++ part.now)) (LONGEST_WORD + 1) }
 {
     let room = word.remaining_capacity();
     if part.len() <= room {
@@ -412,8 +413,8 @@ fn extend_word(word: &mut ArrayVec<u8, 160>, part: &[u8]) -> bool
     }
 }
 
-fn extend(word: &mut ArrayVec<u8, 160>, part: &[u8])
-    requires { length word.old.items + length part.now ≤ 160 }
+fn extend(word: &mut ArrayVec<u8, LONGEST_WORD>, part: &[u8])
+    requires { length word.old.items + length part.now ≤ LONGEST_WORD }
     ensures { word.new.items ≡ word.old.items ++ part.now }
 {
     match word.try_extend_from_slice(part) {
