@@ -16,10 +16,8 @@ use Rattle.pop_text.specs.declared.word.TheConstants.{LONGEST_WORD}
 use Rattle.pop_input.specs.Letters.{mate_sign, stalemate_sign}
 use Rattle.pop_input.specs.Names.{command_of, colour_of, kind_of, condition_of, option_of, or_else}
 use Rattle.pop_input.specs.Values.{squares_named, only_square, is_digit, limit_of, stipulation_of}
-use Rattle.pop_input.specs.Drafts.{Draft, role_of}
+use Rattle.pop_input.specs.Drafts.{Draft, Role, Limit, EnPassantSquare, ForbiddenSquares, Control, Within, role_of}
 use Rattle.pop_input.specs.declared.condition.Condition.{Condition}
-use Rattle.pop_input.specs.declared.context.Role.{Role}
-use Rattle.pop_input.specs.declared.context.Role.TheVariants.{Limit, EnPassantSquare, ForbiddenSquares, Control, Within}
 use Rattle.pop_input.specs.declared.names.Section.{Section}
 use Rattle.pop_input.specs.declared.names.Section.TheVariants.{Pieces, Stipulation as Stipulations, Condition as Conditions, Options}
 use Rattle.pop_input.specs.declared.names.Command.{Command}

@@ -5,9 +5,8 @@ ghost use Rattle.chess_core.specs.Position.{with_man};
 ghost use Rattle.pop_text.specs.declared.word.TheConstants.{LONGEST_WORD};
 ghost use Rattle.pop_input.specs.Names.{kind_of};
 ghost use Rattle.pop_input.specs.Values.{is_digit, squares_named};
-ghost use Rattle.pop_input.specs.Drafts.{put_kind, put_men, draft_by};
+ghost use Rattle.pop_input.specs.Drafts.{Within, put_kind, put_men, draft_by};
 ghost use Rattle.pop_input.specs.WordFaults.{is_other_word, letter_fault, man_fault, men_fault, role_fault};
-ghost use Rattle.pop_input.specs.declared.context.Role.TheVariants.{Within};
 ghost use Rattle.pop_input.specs.declared.names.Section.TheVariants.{Pieces};
 
 use crate::draft::Draft;
