@@ -123,28 +123,28 @@ impl Session {
                 self.next_number += 1;
                 self.last = *last;
                 let printed = print_sound(sink, number, problem, self.choice);
-                self.answer(printed, true)
+                self.step_after(printed, Step::Problem { sound: true })
             }
             Item::Faulty(fault, last) => {
                 self.next_number += 1;
                 self.last = *last;
                 self.so_far = status_with(self.so_far, fault);
                 let printed = print_fault(sink, number, fault);
-                self.answer(printed, false)
+                self.step_after(printed, Step::Problem { sound: false })
             }
         }
     }
 
-    // Returns the step of an item, by whether it was printed and is sound. If the sink failed, stops the session.
-    fn answer(&mut self, printed: Result<(), SinkFault>, sound: bool) -> Result<Step, SinkFault>
-        ensures step { result ≡ step_of printed sound }
+    // Returns the step if its item was printed. If the sink failed, stops the session.
+    fn step_after(&mut self, printed: Result<(), SinkFault>, step: Step) -> Result<Step, SinkFault>
+        ensures step { result ≡ step_of printed step }
         ensures place { self.new ≡ record self.old {
           stopped = self.old.stopped
               || is_err printed;
         } }
     {
         match printed {
-            Ok(()) => Ok(Step::Problem { sound }),
+            Ok(()) => Ok(step),
             Err(fault) => {
                 self.has_stopped = true;
                 Err(fault)
