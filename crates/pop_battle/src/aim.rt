@@ -5,7 +5,7 @@ ghost use Rattle.pop_battle.specs.Plays.{play_of};
 use pop_stipulation::stipulation::{Form, Goal};
 
 /// Who is to reach the goal against the other side's will (Codex).
-#[derive(Clone, Copy, PartialEq, Eq)]
+#[derive(Clone, Copy, Debug, PartialEq, Eq)]
 pub enum Battle {
     /// White reaches it, against every defence.
     Direct,
@@ -14,7 +14,7 @@ pub enum Battle {
 }
 
 /// How a stipulation is played (Codex).
-#[derive(Clone, Copy, PartialEq, Eq)]
+#[derive(Clone, Copy, Debug, PartialEq, Eq)]
 pub enum Play {
     /// Both sides help to reach the goal.
     Help,
@@ -36,7 +36,7 @@ impl Play {
 }
 
 /// What White wants in a battle: the kind of battle, and its goal.
-#[derive(Clone, Copy)]
+#[derive(Clone, Copy, Debug)]
 pub struct Aim {
     pub battle: Battle,
     pub goal: Goal,

@@ -3,7 +3,7 @@ ghost use Rattle.std.specs.Prelude.{◌≡◌, ◌≤◌};
 ghost use Rattle.pop_input.specs.FaultKinds.{is_device_failure, number_of};
 
 /// Why an item isn't sound (own), in the order of their numbers 1 to 21.
-#[derive(Clone, Copy)]
+#[derive(Clone, Copy, Debug)]
 pub enum FaultKind {
     /// 1: the first word isn't BeginProblem, or the input ends before any word.
     BeginProblemMissing,

@@ -26,7 +26,7 @@ use pop_text::word::Word;
 use std::marker::Model;
 
 /// Which block of the input is next. A block ends with NextProblem or EndProblem.
-#[derive(Clone, Copy)]
+#[derive(Clone, Copy, Debug)]
 pub enum Next {
     /// The first block, which must begin with BeginProblem.
     First,

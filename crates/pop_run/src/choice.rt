@@ -5,7 +5,7 @@ ghost use Rattle.pop_run.specs.Report.{choice_of};
 use run_settings::Settings;
 
 /// The settings that a report depends on: two flags. It owns no text, so callers without an allocator can make one.
-#[derive(Clone, Copy)]
+#[derive(Clone, Copy, Debug)]
 pub struct Choice {
     /// Whether to only read and test the problems, and not solve them.
     pub check: bool,

@@ -6,7 +6,7 @@ use chess_core::man::Colour;
 
 /// Who starts, who helps, and which side the goal is against (Codex; spelling of the Popeye manual). `#` stands for
 /// either goal.
-#[derive(Clone, Copy, PartialEq, Eq)]
+#[derive(Clone, Copy, Debug, PartialEq, Eq)]
 pub enum Form {
     /// `#n`: White starts and reaches the goal against every defence.
     Direct,
@@ -19,7 +19,7 @@ pub enum Form {
 }
 
 /// What the last move must reach against the goal side.
-#[derive(Clone, Copy, PartialEq, Eq)]
+#[derive(Clone, Copy, Debug, PartialEq, Eq)]
 pub enum Goal {
     /// `#`: mate, which is check without a legal move (FIDE Laws 5.1.1).
     Mate,
@@ -31,7 +31,7 @@ pub enum Goal {
 pub const MOST_MOVES: u8 = 16;
 
 /// A form, a goal and a number of moves: 1 to 16, for `HelpHalf` 0 to 15.
-#[derive(Clone, Copy)]
+#[derive(Clone, Copy, Debug)]
 pub struct Stipulation {
     pub form: Form,
     pub goal: Goal,

@@ -24,7 +24,7 @@ const LIMIT: u32 = 1 << 30;
 pub const WINDOW: usize = 4096;
 
 /// How the input ends, if that is known.
-#[derive(Clone, Copy)]
+#[derive(Clone, Copy, Debug)]
 pub enum End {
     /// Nothing is known yet.
     Open,
@@ -35,7 +35,7 @@ pub enum End {
 }
 
 /// What `read_word` found.
-#[derive(Clone, Copy)]
+#[derive(Clone, Copy, Debug)]
 pub enum Found {
     /// A word.
     Word,
