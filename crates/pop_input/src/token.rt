@@ -1,9 +1,7 @@
 //! The tokens of an input: words and text lines.
-ghost use Rattle.std.specs.Prelude.{◌≡◌, ◌<◌, ◌≤◌, length};
+ghost use Rattle.std.specs.Prelude.{◌≤◌, length};
 ghost use Rattle.pop_text.specs.Words.{limit};
-ghost use Rattle.pop_text.specs.Bytes.{greatest_count};
-ghost use Rattle.pop_text.specs.ties.Reading.{CallsSource};
-ghost use Rattle.pop_text.specs.declared.scanner.End.{End};
+ghost use Rattle.pop_text.specs.ties.Reading.{CallsSource, MayCall};
 ghost use Rattle.pop_text.specs.declared.scanner.TheConstants.{WINDOW};
 ghost use Rattle.pop_input.specs.ties.Tokens.{NextToken, UsesToken};
 
@@ -36,7 +34,7 @@ pub(crate) fn next_token<S: Source>(
     word: &mut Word,
     text: &mut Text,
 ) -> ReadToken
-    requires { scanner.old.end ≡ End.Open → S.failures source.old < greatest_count }
+    requires { MayCall scanner.old.end (S.failures source.old) }
     ensures token { NextToken scanner.old scanner.new (S.remaining source.old)
         (S.remaining source.new) word.new text.new result }
     ensures used { UsesToken scanner.old scanner.new (S.remaining source.old)

@@ -1,10 +1,9 @@
 //! The scanner: cuts an input into words and text lines.
 ghost use Rattle.std.specs.Prelude.{◌≡◌, ◌<◌, ◌+◌, ◌-◌, ◌^◌, ◌++◌, ◌⊎◌, ◌≢◌, [], ◌∷◌, List, ℕ, count_by, drop, length, nat_lt, slice_index, Some, None, Ok, take, Option, Err, IfErr, IfOk, IfSome, false, true, ◌≤◌};
-ghost use Rattle.pop_text.specs.Bytes.{greatest_count};
 ghost use Rattle.std.specs.List.{list_all};
 ghost use Rattle.pop_text.specs.Words.{limit, is_gap, is_in_line, is_in_word, is_line_end};
-ghost use Rattle.pop_text.specs.ties.Reading.{first_reading, AreFirst, IsView, Leads, CallsSource, IsFront, Uses, UsesAll, IsEndSeen, failures_after};
-ghost use Rattle.pop_text.specs.ties.Runs.{ComesNext, RunsTo, Sticks, UsesLine, UsesWord};
+ghost use Rattle.pop_text.specs.ties.Reading.{CallsSource, IsFront, IsView, MayCall, Uses, UsesAll, first_reading};
+ghost use Rattle.pop_text.specs.ties.Runs.{ComesNext, FailsAgain, RunsTo, Sticks, UsesLine, UsesWord};
 ghost use Rattle.pop_text.specs.ties.Plain.{ArePlain, Skips, is_named, is_named_front};
 ghost use Rattle.pop_text.specs.ties.Left.{NextWord, RestOfLine, found_by, found_of};
 ghost use Rattle.pop_text.specs.declared.read_fault.ReadFault.{ReadFault};
@@ -97,7 +96,7 @@ impl Scanner {
     // Fills the window if it is empty and the source may have more.
     #[tactic(auto, unfolding(crate::specs::Words::limit))]
     fn refill<S: Source>(&mut self, source: &mut S)
-        requires { self.old.end ≡ End.Open → S.failures source.old < greatest_count }
+        requires { MayCall self.old.end (S.failures source.old) }
         ensures uses { Uses self.old self.new (S.remaining source.old) (S.remaining source.new) [] }
         ensures known { self.new.window ≡ [] → self.new.end ≢ End.Open }
         ensures waits { length self.new.window ≤ WINDOW }
@@ -123,14 +122,13 @@ impl Scanner {
     // Returns the next byte without using it, or `None` at the end of the input.
     #[tactic(auto, unfolding(crate::specs::Words::limit))]
     fn peek<S: Source>(&mut self, source: &mut S) -> Result<Option<u8>, ReadFault>
-        requires { self.old.end ≡ End.Open → S.failures source.old < greatest_count }
+        requires { MayCall self.old.end (S.failures source.old) }
         ensures uses { Uses self.old self.new (S.remaining source.old) (S.remaining source.new) [] }
         ensures at { ComesNext self.new result }
         ensures waits { length self.new.window ≤ WINDOW }
         ensures calls_source { CallsSource self.old.end self.new.end (S.remaining source.old)
             (S.remaining source.new) (S.failures source.old) (S.failures source.new) }
-        ensures stuck { (fault : ReadFault) → ComesNext self.old (Err fault)
-            → (result ≡ Err fault) × (self.new ≡ self.old) }
+        ensures stuck { FailsAgain self.old self.new result }
     {
         self.refill(source);
         if self.start < self.stop {
@@ -212,7 +210,7 @@ impl Scanner {
 
     // Uses blanks and line ends, and returns the next byte without using it.
     fn skip_gap<S: Source>(&mut self, source: &mut S) -> Result<Option<u8>, ReadFault>
-        requires { self.old.end ≡ End.Open → S.failures source.old < greatest_count }
+        requires { MayCall self.old.end (S.failures source.old) }
         ensures uses { UsesAll is_gap self.old self.new (S.remaining source.old)
             (S.remaining source.new) }
         ensures at { ComesNext self.new result }
@@ -220,8 +218,7 @@ impl Scanner {
         ensures waits { length self.new.window ≤ WINDOW }
         ensures calls_source { CallsSource self.old.end self.new.end (S.remaining source.old)
             (S.remaining source.new) (S.failures source.old) (S.failures source.new) }
-        ensures stuck { (fault : ReadFault) → ComesNext self.old (Err fault)
-            → (result ≡ Err fault) × (self.new ≡ self.old) }
+        ensures stuck { FailsAgain self.old self.new result }
     {
         loop {
             match self.peek(source) {
@@ -237,7 +234,7 @@ impl Scanner {
         source: &mut S,
         word: &mut ArrayVec<u8, LONGEST_WORD>,
     ) -> Result<bool, ReadFault>
-        requires failures { self.old.end ≡ End.Open → S.failures source.old < greatest_count }
+        requires failures { MayCall self.old.end (S.failures source.old) }
         requires empty { word.old.items ≡ [] }
         ensures run { RunsTo self.old self.new (S.remaining source.old) (S.remaining source.new)
             word.new.items result }
@@ -274,20 +271,16 @@ impl Scanner {
     /// `TooLong` if the word has more than `LONGEST_WORD` bytes. `InputTooLong` or `Device` if the limit of the input or a failure
     /// of the source comes before the end of the word; these are returned by every later call.
     pub fn next_word<S: Source>(&mut self, source: &mut S) -> Result<Option<Word>, ReadFault>
-        requires { self.old.end ≡ End.Open → S.failures source.old < greatest_count }
+        requires { MayCall self.old.end (S.failures source.old) }
         ensures word { NextWord self.old self.new (S.remaining source.old) (S.remaining source.new)
             result }
         ensures used { UsesWord self.old self.new (S.remaining source.old) (S.remaining source.new)
             result }
         ensures sticks { IfErr result (Sticks self.new) }
         ensures waits { length self.new.window ≤ WINDOW }
-        ensures seen { IsEndSeen self.old.end (S.remaining source.old)
-            → IsEndSeen self.new.end (S.remaining source.new) }
-        ensures ends { self.old.end ≡ End.Open ⊎ self.new.end ≡ self.old.end }
-        ensures counted { S.failures source.new
-            ≡ failures_after self.old.end self.new.end (S.failures source.old) }
-        ensures stuck { (fault : ReadFault) → ComesNext self.old (Err fault)
-            → (result ≡ Err fault) × (self.new ≡ self.old) }
+        ensures calls_source { CallsSource self.old.end self.new.end (S.remaining source.old)
+            (S.remaining source.new) (S.failures source.old) (S.failures source.new) }
+        ensures stuck { FailsAgain self.old self.new result }
     {
         let mut word = Word::new();
         match self.read_word(source, &mut word) {
@@ -307,20 +300,16 @@ impl Scanner {
         source: &mut S,
         word: &mut Word,
     ) -> Result<Found, ReadFault>
-        requires { self.old.end ≡ End.Open → S.failures source.old < greatest_count }
+        requires { MayCall self.old.end (S.failures source.old) }
         ensures word { NextWord self.old self.new (S.remaining source.old) (S.remaining source.new)
             (found_by word.new result) }
         ensures used { UsesWord self.old self.new (S.remaining source.old) (S.remaining source.new)
             (found_by word.new result) }
         ensures sticks { IfErr result (Sticks self.new) }
         ensures waits { length self.new.window ≤ WINDOW }
-        ensures seen { IsEndSeen self.old.end (S.remaining source.old)
-            → IsEndSeen self.new.end (S.remaining source.new) }
-        ensures ends { self.old.end ≡ End.Open ⊎ self.new.end ≡ self.old.end }
-        ensures counted { S.failures source.new
-            ≡ failures_after self.old.end self.new.end (S.failures source.old) }
-        ensures stuck { (fault : ReadFault) → ComesNext self.old (Err fault)
-            → (result ≡ Err fault) × (self.new ≡ self.old) }
+        ensures calls_source { CallsSource self.old.end self.new.end (S.remaining source.old)
+            (S.remaining source.new) (S.failures source.old) (S.failures source.new) }
+        ensures stuck { FailsAgain self.old self.new result }
     {
         match self.skip_gap(source) {
             Ok(None) => Ok(Found::Nothing),
@@ -343,7 +332,7 @@ impl Scanner {
     /// `InputTooLong` or `Device` if the limit of the input or a failure of the source comes before the end of the
     /// line. Never `TooLong`.
     pub fn rest_of_line<S: Source>(&mut self, source: &mut S) -> Result<Text, ReadFault>
-        requires { self.old.end ≡ End.Open → S.failures source.old < greatest_count }
+        requires { MayCall self.old.end (S.failures source.old) }
         ensures text { (keyword : List ℕ)
             → RestOfLine keyword self.old self.new (S.remaining source.old) (S.remaining source.new)
             result }
@@ -351,13 +340,9 @@ impl Scanner {
             result }
         ensures sticks { IfErr result (Sticks self.new) }
         ensures waits { length self.new.window ≤ WINDOW }
-        ensures seen { IsEndSeen self.old.end (S.remaining source.old)
-            → IsEndSeen self.new.end (S.remaining source.new) }
-        ensures ends { self.old.end ≡ End.Open ⊎ self.new.end ≡ self.old.end }
-        ensures counted { S.failures source.new
-            ≡ failures_after self.old.end self.new.end (S.failures source.old) }
-        ensures stuck { (fault : ReadFault) → ComesNext self.old (Err fault)
-            → (result ≡ Err fault) × (self.new ≡ self.old) }
+        ensures calls_source { CallsSource self.old.end self.new.end (S.remaining source.old)
+            (S.remaining source.new) (S.failures source.old) (S.failures source.new) }
+        ensures stuck { FailsAgain self.old self.new result }
     {
         let mut kept = ArrayVec::new();
         loop {

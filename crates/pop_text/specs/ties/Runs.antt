@@ -26,6 +26,11 @@ Sticks new (TooLong line) = Unit {0}
 Sticks new (InputTooLong line) = ComesNext new (Err (InputTooLong line))
 Sticks new (Device line) = ComesNext new (Err (Device line))
 
+-- if a fault comes next, the call returns it and changes nothing
+abbrev pub FailsAgain : {A : Type 0} → Reading → Reading → Result A ReadFault → Type 0
+FailsAgain old new result = (fault : ReadFault) → ComesNext old (Err fault)
+    → (result ≡ Err fault) × (new ≡ old)
+
 -- a run is over: a gap follows it, or nothing does
 abbrev pub IsRunOver : Reading → Type 0
 IsRunOver new = ((b : ℕ) × (rest : List ℕ) × (new.window ≡ b ∷ rest) × (is_gap b ≡ true)
