@@ -7,8 +7,8 @@
 //! use chess_rules::Orthodox;
 //! use pop_battle::aim::{Aim, Battle};
 //! use pop_battle::frame::Frame;
-//! use pop_battle::history::History;
 //! use pop_battle::killers::Killers;
+//! use pop_battle::search_state::SearchState;
 //! use pop_battle::value::value_of;
 //! use pop_stipulation::Goal;
 //!
@@ -24,9 +24,9 @@
 //! if diagram.is_well_formed() {
 //!     let mut board = Board::of(&diagram);
 //!     let mut frames = ArrayVec::<Frame<Orthodox>, 2>::new();
-//!     let mut history = History::with(Killers::none());
+//!     let mut search_state = SearchState::with(Killers::none());
 //!     let aim = Aim { battle: Battle::Direct, goal: Goal::Mate };
-//!     let mates = value_of::<Orthodox, 2>(aim, 1, &mut board, &mut frames, &mut history);
+//!     let mates = value_of::<Orthodox, 2>(aim, 1, &mut board, &mut frames, &mut search_state);
 //! }
 //! ```
 //!

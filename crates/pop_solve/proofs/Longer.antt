@@ -1,5 +1,5 @@
 -- A win within n moves is a win within n + 1.
-use Rattle.pop_solve.proofs.Words.{Bool, Game, List, [], arith, can_move, cases_lt, every_move, fails_before_first, false, is_lost, is_self_lost, list_all, list_any, passes_at_first, position_or_len, prefix_len-le-length, range_with_len, rules, self_wins, suc, true, wins, zero, ℕ, ◌&&◌, ◌-◌, ◌<◌, ◌||◌, ◌∷◌, ◌≡◌, ◌≤◌}
+use Rattle.pop_solve.proofs.Words.{Bool, Game, List, [], arith, can_move, cases_lt, every_move, fails_before_first, false, is_lost, is_self_lost, list_all, list_any, passes_at_first, position_or_len, prefix_len-le-length, range_with_len, rules, self_wins, suc, true, wins, zero, ℕ, ◌&&◌, ◌<◌, ◌||◌, ◌∷◌, ◌≡◌, ◌≤◌}
 use Rattle.std.proofs.lemmas.List.FromFn.{get_or-range_with_len, length-range_with_len}
 
 module _ {X : Type 0} (f g : X → Bool) (weaker : (x : X) → f x ≡ true → g x ≡ true) where
