@@ -70,13 +70,14 @@ impl Draft {
         ensures fault { result ≡ diagram_fault self.now stipulation diagram.now }
         ensures well_formed { result ≡ None → IsWellFormed (position_of diagram.now) }
     {
+        let condition = self.condition;
         if !diagram.has_men() {
             return Some(FaultKind::NoMen);
         }
         if !self.is_well_formed(diagram, stipulation.form) {
             return Some(FaultKind::EnPassantImpossible);
         }
-        position_fault(stipulation, self.condition, &Board::of(diagram))
+        position_fault(stipulation, condition, &Board::of(diagram))
     }
 
     // Returns whether the diagram that `diagram_for` returned is well formed. Only its en passant square can be wrong.
