@@ -1,6 +1,6 @@
 -- An abstract game of two sides; nothing here is chess. Direct mate, selfmate and helpmate ask for what the
 -- Codex for Chess Composition and the Popeye manual say.
-use Rattle.std.specs.Prelude.{ℕ, zero, suc, ◌-◌, ◌==◌, Bool, false, not, ◌&&◌, ◌||◌, if◌then◌else◌, List, [], ◌∷◌, map, length}
+use Rattle.std.specs.Prelude.{ℕ, zero, suc, ◌==◌, Bool, false, not, ◌&&◌, ◌||◌, if◌then◌else◌, List, [], ◌∷◌, map, length}
 use Rattle.std.specs.List.{list_any, list_all, flat_map}
 
 -- the legal moves of a position in order, the position after a move, and whether the goal is reached
@@ -41,11 +41,11 @@ module _ {P M : Type 0} where
       some_move game (λ q. can_move game q
       && every_move game (λ r. game.goal r || self_wins game k r) q) p
 
-  -- Selfmate: q is a position after one of the j moves of the side that forces the goal. There is a reply,
-  -- and each reply reaches the goal or leaves that side a win.
+  -- Selfmate: in q there is a reply, and each reply reaches the goal or leaves the side that forces it a win
+  -- within j further moves.
   unfoldable pub is_self_lost : Game P M → ℕ → P → Bool
   is_self_lost game j q = can_move game q && every_move game
-      (λ r. game.goal r || self_wins game (j - 1) r) q
+      (λ r. game.goal r || self_wins game j r) q
 
   -- Help play: all lists of h moves, each legal when it is played, after which the goal is reached; in the
   -- order of moves

@@ -5,7 +5,7 @@ ghost use Rattle.pop_battle.specs.Plays.{play_of};
 use pop_stipulation::stipulation::{Form, Goal};
 
 /// Which side is to reach the goal of a battle (Codex).
-#[derive(Clone, Copy, PartialEq, Eq)]
+#[derive(Clone, Copy, Debug, PartialEq, Eq)]
 pub enum Battle {
     /// White reaches the goal against every defence.
     Direct,
@@ -14,7 +14,7 @@ pub enum Battle {
 }
 
 /// How a stipulation is played (Codex).
-#[derive(Clone, Copy, PartialEq, Eq)]
+#[derive(Clone, Copy, Debug, PartialEq, Eq)]
 pub enum Play {
     /// Both sides help to reach the goal.
     Help,
@@ -29,14 +29,14 @@ impl Play {
     {
         match form {
             Form::Direct => Play::Battle(Battle::Direct),
-            Form::SelfMate => Play::Battle(Battle::Selfmate),
+            Form::Selfmate => Play::Battle(Battle::Selfmate),
             Form::Help | Form::HelpHalf => Play::Help,
         }
     }
 }
 
 /// What White wants in a battle: the kind of battle, and its goal.
-#[derive(Clone, Copy)]
+#[derive(Clone, Copy, Debug)]
 pub struct Aim {
     pub battle: Battle,
     pub goal: Goal,

@@ -206,7 +206,7 @@ pub(crate) fn mark_of<R: Rules>(goal: Goal, board: &mut Board) -> Mark
 }
 
 /// Whether the goal is known to be reached in a position.
-#[derive(Clone, Copy)]
+#[derive(Clone, Copy, Debug)]
 pub enum Reached {
     Surely,
     Perhaps,

@@ -9,7 +9,7 @@ use std::marker::Model;
 
 /// A stage in the order in which a test tries the moves of a position. Each move belongs to exactly one
 /// stage.
-#[derive(Clone, Copy, PartialEq, Eq)]
+#[derive(Clone, Copy, Debug, PartialEq, Eq)]
 pub enum MoveStage {
     /// The move of the last killer.
     Killer,
@@ -22,7 +22,7 @@ pub enum MoveStage {
 }
 
 /// Which moves come right after the killers.
-#[derive(Clone, Copy)]
+#[derive(Clone, Copy, Debug)]
 pub enum Early {
     /// Moves that give check or attack next to the enemy king.
     AimedMoves,

@@ -3,7 +3,7 @@ use crate::shown::Shown;
 use arrayvec::ArrayVec;
 
 /// A phase of a problem, which has its own solutions: set play, in which the other side starts, or the play.
-#[derive(Clone, Copy, PartialEq, Eq)]
+#[derive(Clone, Copy, Debug, PartialEq, Eq)]
 pub enum Phase {
     /// Set play.
     Set,

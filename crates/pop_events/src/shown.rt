@@ -4,14 +4,14 @@ use chess_core::square::Square;
 use std::marker::Model;
 
 /// The side that a king castles to: the a-file or the h-file.
-#[derive(Clone, Copy, PartialEq, Eq)]
+#[derive(Clone, Copy, Debug, PartialEq, Eq)]
 pub enum Side {
     A,
     H,
 }
 
 /// What a move does to the opponent, as a report marks it.
-#[derive(Clone, Copy, PartialEq, Eq)]
+#[derive(Clone, Copy, Debug, PartialEq, Eq)]
 pub enum Mark {
     /// No check.
     Plain,

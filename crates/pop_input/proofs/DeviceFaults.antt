@@ -4,7 +4,7 @@ use Rattle.pop_input.proofs.Words.{Block, Bool, Colour, Command, CutsOff, Fault,
 use Rattle.pop_input.specs.declared.condition.Condition.{Condition}
 use Rattle.pop_input.specs.declared.item.Item.TheVariants.{Faulty}
 use Rattle.pop_input.specs.declared.item.Last.{Last}
-use Rattle.pop_input.specs.declared.context.Role.{Role}
+use Rattle.pop_input.specs.Drafts.{Role}
 
 -- no fault, or one of the text
 abbrev IsTextual : Option FaultKind → Type 0

@@ -10,8 +10,6 @@ use Rattle.chess_core.specs.declared.man.Unmoved.{Unmoved}
 use Rattle.pop_input.specs.Names.{command_of, colour_of, kind_of, condition_of, option_of, or_else}
 use Rattle.pop_input.specs.Values.{squares_named, only_square, limit_of, most_solutions, stipulation_of}
 use Rattle.pop_input.specs.declared.condition.Condition.{Condition}
-use Rattle.pop_input.specs.declared.context.Role.{Role}
-use Rattle.pop_input.specs.declared.context.Role.TheVariants.{Limit, EnPassantSquare, ForbiddenSquares, Control, Within}
 use Rattle.pop_input.specs.declared.context.Context.{Context}
 use Rattle.pop_input.specs.declared.names.Section.{Section}
 use Rattle.pop_input.specs.declared.names.Section.TheVariants.{Pieces, Stipulation as Stipulations, Condition as Conditions, Options}
@@ -25,6 +23,15 @@ use Rattle.pop_stipulation.specs.declared.stipulation.Stipulation.{Stipulation}
 use Rattle.pop_input.specs.declared.switches.Switches.{Switches}
 
 -- The context of a word: the open section, and the value that an option expects.
+
+-- What a word is in its context: the number after MaxSolutions, the square after EnPassant, squares after NoCastling, a
+-- command, or a word of this section, or of none before the first section.
+pub data Role : Type 0 where
+  Limit : Role
+  EnPassantSquare : Role
+  ForbiddenSquares : Role
+  Control : Command → Role
+  Within : Option Section → Role
 
 -- what a word is if no option expects it
 abbrev pub plain_role : Option Command → Option Section → Role

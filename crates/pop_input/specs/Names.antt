@@ -6,7 +6,7 @@ use Rattle.chess_core.specs.declared.man.Colour.{Colour}
 use Rattle.chess_core.specs.declared.man.Colour.TheVariants.{White, Black}
 use Rattle.chess_core.specs.declared.man.Kind.{Kind}
 use Rattle.chess_core.specs.declared.man.Kind.TheVariants.{King, Queen, Rook, Bishop, Knight, Pawn, Grasshopper, Nightrider}
-use Rattle.pop_text.specs.Words.{is_short_form}
+use Rattle.pop_text.specs.Words.{is_short_form, title_name, author_name, origin_name, remark_name}
 use Rattle.pop_input.specs.Letters.{king_letter, queen_letter, rook_letter, bishop_letter, knight_letter, pawn_letter, grasshopper_letter, nightrider_letter}
 use Rattle.pop_input.specs.declared.condition.Condition.{Condition}
 use Rattle.pop_input.specs.declared.condition.Condition.TheVariants.{Circe, Madrasi}
@@ -43,8 +43,8 @@ command_of text = or_else (entry_named ((codes "beginproblem", Begin) ∷ (codes
 
 -- the text word that a word is, if any
 unfoldable pub text_word_of : List ℕ → Option TextWord
-text_word_of text = entry_named ((codes "title", Title) ∷ (codes "author", Author)
-    ∷ (codes "origin", Origin) ∷ (codes "remark", Remark) ∷ []) text
+text_word_of text = entry_named ((title_name, Title) ∷ (author_name, Author)
+    ∷ (origin_name, Origin) ∷ (remark_name, Remark) ∷ []) text
 
 -- the condition that a word names
 unfoldable pub condition_of : List ℕ → Option Condition

@@ -1,7 +1,7 @@
 //! The fairy conditions.
 
 /// A fairy condition of a problem (Popeye manual, Circe and Madrasi).
-#[derive(Clone, Copy, PartialEq, Eq)]
+#[derive(Clone, Copy, Debug, PartialEq, Eq)]
 pub enum Condition {
     /// Circe: a captured man is reborn on its square of rebirth, if that is free.
     Circe,

@@ -1,9 +1,9 @@
 //! A problem while its words are read. One module for each section of the input, and `closing` for the tests at its
 //! end.
 ghost use Rattle.std.specs.Prelude.{◌≡◌, [], None, Some};
-ghost use Rattle.pop_input.specs.Drafts.{empty_draft, draft_after, draft_by};
+ghost use Rattle.pop_input.specs.Drafts.{Control, Within, draft_after, draft_by, empty_draft, plain_role};
+ghost use Rattle.pop_input.specs.Names.{command_of};
 ghost use Rattle.pop_input.specs.WordFaults.{control_fault, fault_in, role_fault};
-ghost use Rattle.pop_input.specs.declared.context.Role.TheVariants.{Control, Within};
 
 mod closing;
 mod condition;
@@ -13,12 +13,12 @@ mod options;
 mod stipulation;
 
 use crate::condition::Condition;
-use crate::context::{Context, Role};
+use crate::context::Context;
 use crate::fault_kind::FaultKind;
 use crate::names::{Command, ExpectedValue, Section};
 use crate::short_word::ShortWord;
 use crate::switches::Switches;
-use crate::values::MOST_SOLUTIONS;
+use crate::values::{MOST_SOLUTIONS, squares_named};
 use chess_core::diagram::Diagram;
 use chess_core::man::{Colour, Unmoved};
 use chess_core::square::Square;
@@ -93,12 +93,31 @@ impl Draft {
         ensures fault { result ≡ fault_in self.old word.now }
         ensures draft { result ≡ None → self.new ≡ draft_after self.old word.now }
     {
-        match self.context.role_of(word) {
-            Role::Limit => self.take_limit(word),
-            Role::EnPassantSquare => self.take_en_passant(word),
-            Role::ForbiddenSquares => self.take_forbidden(word),
-            Role::Control(command) => self.take_command(command),
-            Role::Within(section) => self.take_in(section, word),
+        match self.context.expected {
+            Some(ExpectedValue::Number) => self.take_limit(word),
+            Some(ExpectedValue::OneSquare) => self.take_en_passant(word),
+            Some(ExpectedValue::Squares) => match squares_named(word.bytes()) {
+                Some(squares) => self.forbid(squares.as_slice()),
+                None => Some(FaultKind::SquareMissing),
+            },
+            Some(ExpectedValue::MoreSquares) => match squares_named(word.bytes()) {
+                Some(squares) => self.forbid(squares.as_slice()),
+                None => self.take_plain(word),
+            },
+            None => self.take_plain(word),
+        }
+    }
+
+    // Reads a word that no option expects: a command, or a word of the open section.
+    fn take_plain(&mut self, word: &ShortWord<'_>) -> Option<FaultKind>
+        ensures fault { result
+            ≡ role_fault self.old (plain_role (command_of word.now) self.old.context.section) word.now }
+        ensures draft { result ≡ None → self.new
+            ≡ draft_by (plain_role (command_of word.now) self.old.context.section) self.old word.now }
+    {
+        match word.command() {
+            Some(command) => self.take_command(command),
+            None => self.take_in(self.context.section, word),
         }
     }
 

@@ -3,13 +3,13 @@ ghost use Rattle.std.specs.Prelude.{◌≡◌, ◌≤◌};
 ghost use Rattle.pop_input.specs.FaultKinds.{is_device_failure, number_of};
 
 /// Why an item isn't sound (own), in the order of their numbers 1 to 21.
-#[derive(Clone, Copy)]
+#[derive(Clone, Copy, Debug)]
 pub enum FaultKind {
     /// 1: the first word isn't BeginProblem, or the input ends before any word.
     BeginProblemMissing,
     /// 2: an unknown or misplaced word.
     WordMisplaced,
-    /// 3: a word of more than 160 bytes.
+    /// 3: a word of more than `LONGEST_WORD` bytes, 160.
     WordTooLong,
     /// 4: men without a colour before them.
     ColourMissing,

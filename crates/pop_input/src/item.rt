@@ -6,7 +6,7 @@ use crate::fault_kind::FaultKind;
 use crate::problem::Problem;
 
 /// Why an item isn't sound, and where.
-#[derive(Clone, Copy)]
+#[derive(Clone, Copy, Debug)]
 pub struct Fault {
     /// What is wrong.
     pub kind: FaultKind,
@@ -33,7 +33,7 @@ impl Fault {
 }
 
 /// Whether an item is the last one of its input.
-#[derive(Clone, Copy, PartialEq, Eq)]
+#[derive(Clone, Copy, Debug, PartialEq, Eq)]
 pub enum Last {
     /// EndProblem closes it, or the input ends or is cut in it.
     Yes,

@@ -5,6 +5,7 @@ ghost use Rattle.pop_text.specs.Words.{limit};
 ghost use Rattle.pop_text.specs.ties.Reading.{IsEndSeen, failures_after};
 ghost use Rattle.pop_text.specs.ties.Plain.{Skips};
 ghost use Rattle.pop_text.specs.declared.scanner.End.{End};
+ghost use Rattle.pop_text.specs.declared.scanner.TheConstants.{WINDOW};
 ghost use Rattle.pop_input.specs.declared.reader.Next.{Next};
 ghost use Rattle.pop_input.specs.ties.ReaderState.{HasFailed, NextItem, initial_state, is_item, next_after as following, work_left};
 ghost use Rattle.pop_input.specs.ties.Used.{UsesItem};
@@ -25,7 +26,7 @@ use pop_text::word::Word;
 use std::marker::Model;
 
 /// Which block of the input is next. A block ends with NextProblem or EndProblem.
-#[derive(Clone, Copy)]
+#[derive(Clone, Copy, Debug)]
 pub enum Next {
     /// The first block, which must begin with BeginProblem.
     First,
@@ -51,10 +52,11 @@ impl Model for Reader {
 
     ghost use Rattle.std.specs.Prelude.{◌≤◌, length};
     ghost use Rattle.pop_text.specs.Words.{limit};
+    ghost use Rattle.pop_text.specs.declared.scanner.TheConstants.{WINDOW};
 
     ghost view = { λ r. record { next = r.next_block; at = r.scanner } };
 
-    ghost invariant = { λ r. (r.scanner.used ≤ limit) × (length r.scanner.window ≤ 4096) };
+    ghost invariant = { λ r. (r.scanner.used ≤ limit) × (length r.scanner.window ≤ WINDOW) };
 }
 
 impl Reader {
@@ -96,7 +98,7 @@ impl Reader {
         ensures used { UsesItem self.old self.new (S.remaining source.old) (S.remaining source.new)
             result }
         ensures within { self.new.at.used ≤ limit }
-        ensures waits { length self.new.at.window ≤ 4096 }
+        ensures waits { length self.new.at.window ≤ WINDOW }
         ensures seen { IsEndSeen self.old.at.end (S.remaining source.old)
             → IsEndSeen self.new.at.end (S.remaining source.new) }
         ensures ends { self.old.at.end ≡ End.Open ⊎ self.new.at.end ≡ self.old.at.end }

@@ -1,12 +1,13 @@
 //! A word of the input, with its command.
 ghost use Rattle.std.specs.Prelude.{◌≡◌, ◌≤◌, length};
 ghost use Rattle.pop_input.specs.Names.{command_of};
+ghost use Rattle.pop_text.specs.declared.word.TheConstants.{LONGEST_WORD};
 
 use crate::names::{Command, command_of};
 use pop_text::word::Word;
 use std::marker::Model;
 
-/// A word of at most 160 bytes, and the command that it is, if any. Contracts see the bytes.
+/// A word of at most `LONGEST_WORD` bytes, and the command that it is, if any. Contracts see the bytes.
 #[derive(Drop)]
 pub(crate) struct ShortWord<'a> {
     letters: &'a [u8],
@@ -15,13 +16,14 @@ pub(crate) struct ShortWord<'a> {
 
 impl<'a> Model for ShortWord<'a> {
     ghost use Rattle.std.specs.Prelude.{◌≡◌, ◌≤◌, ℕ, List, length};
+    ghost use Rattle.pop_text.specs.declared.word.TheConstants.{LONGEST_WORD};
     ghost use Rattle.pop_input.specs.Names.{command_of};
 
     ghost Value = { List ℕ };
 
     ghost view = { λ w. w.letters.now };
 
-    ghost invariant = { λ w. (length w.letters.now ≤ 160) × (w.named ≡ command_of w.letters.now) };
+    ghost invariant = { λ w. (length w.letters.now ≤ LONGEST_WORD) × (w.named ≡ command_of w.letters.now) };
 }
 
 impl<'a> ShortWord<'a> {
@@ -39,7 +41,7 @@ impl<'a> ShortWord<'a> {
     /// Returns the bytes as written.
     pub(crate) fn bytes(&self) -> &'a [u8]
         ensures value { result.now ≡ self.now }
-        ensures short { length result.now ≤ 160 }
+        ensures short { length result.now ≤ LONGEST_WORD }
     {
         self.letters
     }
@@ -47,7 +49,7 @@ impl<'a> ShortWord<'a> {
     /// Returns the command that the word is, if any.
     pub(crate) fn command(&self) -> Option<Command>
         ensures value { result ≡ command_of self.now }
-        ensures short { length self.now ≤ 160 }
+        ensures short { length self.now ≤ LONGEST_WORD }
     {
         self.named
     }

@@ -1,9 +1,8 @@
 //! The tokens of an input: words and text lines.
-ghost use Rattle.std.specs.Prelude.{◌≡◌, ◌<◌, ◌≤◌, length};
+ghost use Rattle.std.specs.Prelude.{◌≤◌, length};
 ghost use Rattle.pop_text.specs.Words.{limit};
-ghost use Rattle.pop_text.specs.Bytes.{greatest_count};
-ghost use Rattle.pop_text.specs.ties.Reading.{CallsSource};
-ghost use Rattle.pop_text.specs.declared.scanner.End.{End};
+ghost use Rattle.pop_text.specs.ties.Reading.{CallsSource, MayCall};
+ghost use Rattle.pop_text.specs.declared.scanner.TheConstants.{WINDOW};
 ghost use Rattle.pop_input.specs.ties.Tokens.{NextToken, UsesToken};
 
 use crate::names::{TextWord, text_word_of};
@@ -18,7 +17,7 @@ use pop_text::word::Word;
 pub enum ReadToken {
     /// A word.
     Word,
-    /// A word of more than 160 bytes.
+    /// A word of more than `LONGEST_WORD` bytes.
     TooLong(u64),
     /// A text word and the text after it.
     Line(TextWord),
@@ -35,13 +34,13 @@ pub(crate) fn next_token<S: Source>(
     word: &mut Word,
     text: &mut Text,
 ) -> ReadToken
-    requires { scanner.old.end ≡ End.Open → S.failures source.old < greatest_count }
+    requires { MayCall scanner.old.end (S.failures source.old) }
     ensures token { NextToken scanner.old scanner.new (S.remaining source.old)
         (S.remaining source.new) word.new text.new result }
     ensures used { UsesToken scanner.old scanner.new (S.remaining source.old)
         (S.remaining source.new) word.new result }
     ensures within { scanner.new.used ≤ limit }
-    ensures waits { length scanner.new.window ≤ 4096 }
+    ensures waits { length scanner.new.window ≤ WINDOW }
     ensures calls_source { CallsSource scanner.old.end scanner.new.end (S.remaining source.old)
         (S.remaining source.new) (S.failures source.old) (S.failures source.new) }
 {

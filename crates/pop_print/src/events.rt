@@ -6,12 +6,20 @@ ghost use Rattle.pop_print.specs.Notation.{blank};
 ghost use Rattle.pop_print.specs.Events.{event_text, move_number_text, line_text, moves_text, node_text, prefix_text, stopped_text as text_of_stopped, total_text};
 
 use crate::line::{LONGEST, LineBuffer};
+use crate::moves::MOVE;
 use pop_events::event::{Event, Phase};
 use pop_events::shown::Shown;
 use pop_text::sink::{Sink, SinkFault, put_all};
 
 // The room in bytes for a total, or for a node of battle play with at most 64 blanks before it (own).
 const NODE: usize = 128;
+
+// The most bytes of a half-move's number, of what comes before a move of a line, of the longest line's moves, and of a
+// total (own).
+const PREFIX: usize = 23;
+const MOVE_NUMBER: usize = PREFIX + 1;
+const MOVES: usize = 32 * (MOVE_NUMBER + MOVE);
+const TOTAL: usize = 41;
 
 /// Writes an event as one line.
 ///
@@ -95,10 +103,10 @@ fn stopped_text(stopped: bool) -> &'static [u8]
 impl<const N: usize> LineBuffer<N> {
     // Adds the number of a half-move, such as `1.` for White's first and `1...` for Black's first.
     fn add_prefix(&mut self, half: u64)
-        requires room { length self.old + 23 ≤ N }
+        requires room { length self.old + PREFIX ≤ N }
         requires half { half < 2 ^ 33 }
         ensures text { self.new ≡ self.old ++ prefix_text half }
-        ensures short { length self.new ≤ length self.old + 23 }
+        ensures short { length self.new ≤ length self.old + PREFIX }
     {
         if half % 2 == 1 {
             self.add_number((half + 1) / 2);
@@ -111,10 +119,10 @@ impl<const N: usize> LineBuffer<N> {
 
     // Adds what comes before a move of a line: the first move and each White move have their number.
     fn add_move_number(&mut self, first: bool, half: u64)
-        requires room { length self.old + 24 ≤ N }
+        requires room { length self.old + MOVE_NUMBER ≤ N }
         requires half { half < 2 ^ 33 }
         ensures text { self.new ≡ self.old ++ move_number_text first half }
-        ensures short { length self.new ≤ length self.old + 24 }
+        ensures short { length self.new ≤ length self.old + MOVE_NUMBER }
     {
         if first {
             self.add_prefix(half);
@@ -128,11 +136,11 @@ impl<const N: usize> LineBuffer<N> {
 
     // Adds the moves of a line. `half` is the number of the first move's half-move.
     fn add_moves(&mut self, half: u64, moves: &[Shown])
-        requires room { length self.old + 1408 ≤ N }
+        requires room { length self.old + MOVES ≤ N }
         requires moves { length moves.now ≤ 32 }
         requires half { half < 2 ^ 32 }
         ensures text { self.new ≡ self.old ++ moves_text true half moves.now }
-        ensures short { length self.new ≤ length self.old + 1408 }
+        ensures short { length self.new ≤ length self.old + MOVES }
     {
         let mut number = half;
         let mut first = true;
@@ -146,7 +154,7 @@ impl<const N: usize> LineBuffer<N> {
 
     // Adds a line of help play.
     fn add_line(&mut self, half: u32, moves: &[Shown])
-        requires room { length self.old + 1409 ≤ N }
+        requires room { length self.old + MOVES + 1 ≤ N }
         requires moves { length moves.now ≤ 32 }
         ensures { self.new ≡ self.old ++ line_text half moves.now }
     {
@@ -156,7 +164,7 @@ impl<const N: usize> LineBuffer<N> {
 
     // Adds a node of battle play, after `blanks` blanks.
     fn add_node(&mut self, blanks: u64, half: u32, shown: &Shown)
-        requires { length self.old + blanks + 44 ≤ N }
+        requires { length self.old + blanks + PREFIX + MOVE + 1 ≤ N }
         ensures { self.new ≡ self.old ++ (replicate blanks blank ++ prefix_text half
             ++ move_text shown.now ++ codes "\n") }
     {
@@ -167,7 +175,7 @@ impl<const N: usize> LineBuffer<N> {
     }
 
     fn add_total(&mut self, count: u32, stopped: bool)
-        requires { length self.old + 41 ≤ N }
+        requires { length self.old + TOTAL ≤ N }
         ensures { self.new ≡ self.old ++ total_text count stopped }
     {
         self.add(b"solutions: ");

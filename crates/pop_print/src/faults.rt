@@ -8,6 +8,10 @@ use pop_input::fault_kind::FaultKind;
 use pop_input::item::Fault;
 use pop_text::sink::{Sink, SinkFault};
 
+// The most bytes of a fault's message, and of the text of a faulty item (own).
+const MESSAGE: usize = 40;
+const FAULT: usize = 140;
+
 /// Writes a faulty item: its number, the fault with its line, and an empty line. Passes the text to the sink in one
 /// piece.
 ///
@@ -28,7 +32,7 @@ pub fn print_fault<W: Sink>(sink: &mut W, number: u64, fault: &Fault) -> Result<
 /// Returns the text of a kind of fault.
 pub(crate) fn message_of(kind: FaultKind) -> &'static [u8]
     ensures text { result.now ≡ text_of_kind kind }
-    ensures short { length result.now ≤ 40 }
+    ensures short { length result.now ≤ MESSAGE }
 {
     match kind {
         FaultKind::BeginProblemMissing => b"BeginProblem expected",
@@ -58,7 +62,7 @@ pub(crate) fn message_of(kind: FaultKind) -> &'static [u8]
 impl<const N: usize> LineBuffer<N> {
     #[tactic(auto, unfolding(crate::specs::Faults::fault_text))]
     fn add_fault(&mut self, number: u64, fault: &Fault)
-        requires { length self.old + 140 ≤ N }
+        requires { length self.old + FAULT ≤ N }
         ensures { self.new ≡ self.old ++ fault_text number fault.now }
     {
         self.add_item_line(number);

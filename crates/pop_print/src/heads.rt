@@ -13,7 +13,17 @@ use pop_input::condition::Condition;
 use pop_input::problem::Problem;
 use pop_stipulation::stipulation::{Form, Goal, Stipulation};
 use pop_text::sink::{Sink, SinkFault};
-use pop_text::text::Text;
+use pop_text::text::{LONGEST_TEXT, Text};
+
+// The most bytes of each part of a head, and of the head of a problem that is only tested (own).
+pub(crate) const ITEM_LINE: usize = 29;
+const NAMES: usize = 15 + 2 * (LONGEST_TEXT + 1);
+const RANK: usize = 11;
+const BOARD: usize = 9 * RANK;
+const STIPULATION: usize = 24;
+const STIPULATION_LINE: usize = STIPULATION + 9;
+const HEAD: usize = 600;
+const CHECKED: usize = 700;
 
 /// Writes the head of a sound item: its number, its title and author if there are any, the board unless the problem or
 /// `no_board` leaves it out, and the stipulation with the condition. Passes the head to the sink in one piece.
@@ -62,9 +72,9 @@ pub fn print_checked<W: Sink>(
 impl<const N: usize> LineBuffer<N> {
     #[tactic(auto, unfolding(crate::specs::Heads::head_text))]
     fn add_head(&mut self, number: u64, problem: &Problem, no_board: bool)
-        requires { length self.old + 600 ≤ N }
+        requires { length self.old + HEAD ≤ N }
         ensures text { self.new ≡ self.old ++ head_text number problem.now no_board }
-        ensures short { length self.new ≤ length self.old + 600 }
+        ensures short { length self.new ≤ length self.old + HEAD }
     {
         self.add_item_line(number);
         self.add_names(problem);
@@ -74,7 +84,7 @@ impl<const N: usize> LineBuffer<N> {
 
     // Adds the head, the line `sound` and an empty line.
     fn add_checked(&mut self, number: u64, problem: &Problem, no_board: bool)
-        requires { length self.old + 700 ≤ N }
+        requires { length self.old + CHECKED ≤ N }
         ensures { self.new ≡ self.old ++ checked_text number problem.now no_board }
     {
         self.add_head(number, problem, no_board);
@@ -85,9 +95,9 @@ impl<const N: usize> LineBuffer<N> {
     // Adds the first line of an item.
     #[tactic(auto, unfolding(crate::specs::Heads::item_line))]
     pub(crate) fn add_item_line(&mut self, number: u64)
-        requires { length self.old + 29 ≤ N }
+        requires { length self.old + ITEM_LINE ≤ N }
         ensures text { self.new ≡ self.old ++ item_line number }
-        ensures short { length self.new ≤ length self.old + 29 }
+        ensures short { length self.new ≤ length self.old + ITEM_LINE }
     {
         self.add(b"problem ");
         self.add_number(number);
@@ -97,9 +107,9 @@ impl<const N: usize> LineBuffer<N> {
     // Adds the lines of the title and the author.
     #[tactic(auto, unfolding(crate::specs::Heads::names_text))]
     fn add_names(&mut self, problem: &Problem)
-        requires { length self.old + 417 ≤ N }
+        requires { length self.old + NAMES ≤ N }
         ensures text { self.new ≡ self.old ++ names_text problem.now }
-        ensures short { length self.new ≤ length self.old + 417 }
+        ensures short { length self.new ≤ length self.old + NAMES }
     {
         self.add_labelled(b"title: ", problem.title());
         self.add_labelled(b"author: ", problem.author());
@@ -108,9 +118,9 @@ impl<const N: usize> LineBuffer<N> {
     // Adds the line of the stipulation and the condition.
     #[tactic(auto, unfolding(crate::specs::Heads::stipulation_line))]
     fn add_stipulation_line(&mut self, problem: &Problem)
-        requires { length self.old + 33 ≤ N }
+        requires { length self.old + STIPULATION_LINE ≤ N }
         ensures text { self.new ≡ self.old ++ stipulation_line problem.now }
-        ensures short { length self.new ≤ length self.old + 33 }
+        ensures short { length self.new ≤ length self.old + STIPULATION_LINE }
     {
         self.add_stipulation(problem.stipulation());
         self.add(condition_text(problem.condition()));
@@ -119,9 +129,9 @@ impl<const N: usize> LineBuffer<N> {
 
     // Adds a label and its text, or nothing if the text is empty.
     fn add_labelled(&mut self, label: &[u8], text: &Text)
-        requires { length self.old + length label.now + 201 ≤ N }
+        requires { length self.old + length label.now + LONGEST_TEXT + 1 ≤ N }
         ensures text { self.new ≡ self.old ++ labelled_text label.now text.now }
-        ensures short { length self.new ≤ length self.old + length label.now + 201 }
+        ensures short { length self.new ≤ length self.old + length label.now + LONGEST_TEXT + 1 }
     {
         let bytes = text.bytes();
         if !bytes.is_empty() {
@@ -132,10 +142,10 @@ impl<const N: usize> LineBuffer<N> {
     }
 
     fn add_board_unless(&mut self, left_out: bool, diagram: &Diagram)
-        requires { length self.old + 99 ≤ N }
+        requires { length self.old + BOARD ≤ N }
         ensures text { self.new ≡ self.old
             ++ (if left_out then [] else board_text diagram.now.men) }
-        ensures short { length self.new ≤ length self.old + 99 }
+        ensures short { length self.new ≤ length self.old + BOARD }
     {
         if !left_out {
             self.add_board(diagram);
@@ -144,9 +154,9 @@ impl<const N: usize> LineBuffer<N> {
 
     // Adds the board, rank 8 first, and the line of the files.
     fn add_board(&mut self, diagram: &Diagram)
-        requires { length self.old + 99 ≤ N }
+        requires { length self.old + BOARD ≤ N }
         ensures text { self.new ≡ self.old ++ board_text diagram.now.men }
-        ensures short { length self.new ≤ length self.old + 99 }
+        ensures short { length self.new ≤ length self.old + BOARD }
     {
         self.add_rank(diagram, 7);
         self.add_rank(diagram, 6);
@@ -161,19 +171,19 @@ impl<const N: usize> LineBuffer<N> {
 
     // Adds a rank. `rank` is counted from 0.
     fn add_rank(&mut self, diagram: &Diagram, rank: u8)
-        requires room { length self.old + 11 ≤ N }
+        requires room { length self.old + RANK ≤ N }
         requires rank { rank < 8 }
         ensures text { self.new ≡ self.old ++ rank_text diagram.now.men rank }
-        ensures short { length self.new ≤ length self.old + 11 }
+        ensures short { length self.new ≤ length self.old + RANK }
     {
         self.add(&rank_line(diagram, rank));
     }
 
     // Adds the word of the stipulation.
     fn add_stipulation(&mut self, stipulation: Stipulation)
-        requires { length self.old + 24 ≤ N }
+        requires { length self.old + STIPULATION ≤ N }
         ensures text { self.new ≡ self.old ++ stipulation_text stipulation }
-        ensures short { length self.new ≤ length self.old + 24 }
+        ensures short { length self.new ≤ length self.old + STIPULATION }
     {
         self.add(form_text(stipulation.form));
         self.add(goal_text(stipulation.goal));
@@ -189,7 +199,7 @@ fn form_text(form: Form) -> &'static [u8]
 {
     match form {
         Form::Direct => b"",
-        Form::SelfMate => b"s",
+        Form::Selfmate => b"s",
         Form::Help | Form::HelpHalf => b"h",
     }
 }
@@ -211,7 +221,7 @@ fn half_text(form: Form) -> &'static [u8]
     ensures short { length result.now ≤ 2 }
 {
     match form {
-        Form::Direct | Form::SelfMate | Form::Help => b"",
+        Form::Direct | Form::Selfmate | Form::Help => b"",
         Form::HelpHalf => b".5",
     }
 }
@@ -235,7 +245,7 @@ fn is_left_out(no_board: bool, problem: &Problem) -> bool
 
 // Returns the line of a rank. `rank` is counted from 0.
 #[tactic(auto, unfolding(crate::specs::Heads::rank_text))]
-fn rank_line(diagram: &Diagram, rank: u8) -> [u8; 11]
+fn rank_line(diagram: &Diagram, rank: u8) -> [u8; RANK]
     requires { rank < 8 }
     ensures { result ≡ rank_text diagram.now.men rank }
 {

@@ -10,6 +10,9 @@ use std::marker::Model;
 /// The size of a buffer for the longest line or head of any problem, in bytes (own).
 pub const LONGEST: usize = 1536;
 
+/// The most digits of a number.
+pub const LONGEST_NUMBER: usize = 20;
+
 /// A text of at most N bytes that is built piece by piece and then written in one piece. Contracts see the bytes.
 #[derive(Drop)]
 pub struct LineBuffer<const N: usize> {
@@ -51,11 +54,11 @@ impl<const N: usize> LineBuffer<N> {
         self.text.push(byte);
     }
 
-    /// Adds a number as 1 to 20 decimal digits.
+    /// Adds a number as decimal digits.
     pub fn add_number(&mut self, number: u64)
-        requires { length self.old + 20 ≤ N }
+        requires { length self.old + LONGEST_NUMBER ≤ N }
         ensures text { self.new ≡ self.old ++ decimal number }
-        ensures short { length self.new ≤ length self.old + 20 }
+        ensures short { length self.new ≤ length self.old + LONGEST_NUMBER }
     {
         let mut digits = Buffer::new();
         self.add(digits.format(number).as_bytes());

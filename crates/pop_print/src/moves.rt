@@ -8,6 +8,12 @@ use chess_core::man::{Kind, Man};
 use chess_core::square::Square;
 use pop_events::shown::{Mark, Shown, Side};
 
+/// The most bytes of a move (own).
+pub(crate) const MOVE: usize = PLAIN_MOVE + 1;
+
+// The most bytes of a move without its mark (own).
+const PLAIN_MOVE: usize = 19;
+
 fn castling_text(side: Side) -> &'static [u8]
     ensures text { result.now ≡ text_of_castling side }
     ensures short { length result.now ≤ 5 }
@@ -44,12 +50,12 @@ fn en_passant_text(ep: bool) -> &'static [u8]
 }
 
 impl<const N: usize> LineBuffer<N> {
-    /// Adds a move in at most 20 bytes, such as `Ra1*a8[+bBc8]`.
+    /// Adds a move, such as `Ra1*a8[+bBc8]`.
     #[tactic(auto, unfolding(crate::specs::Moves::move_text))]
     pub(crate) fn add_move(&mut self, shown: &Shown)
-        requires { length self.old + 20 ≤ N }
+        requires { length self.old + MOVE ≤ N }
         ensures text { self.new ≡ self.old ++ move_text shown.now }
-        ensures short { length self.new ≤ length self.old + 20 }
+        ensures short { length self.new ≤ length self.old + MOVE }
     {
         match shown.castling {
             Some(side) => self.add(castling_text(side)),
@@ -60,9 +66,9 @@ impl<const N: usize> LineBuffer<N> {
 
     // Adds a move that isn't castling, without its mark.
     fn add_plain_move(&mut self, shown: &Shown)
-        requires { length self.old + 19 ≤ N }
+        requires { length self.old + PLAIN_MOVE ≤ N }
         ensures text { self.new ≡ self.old ++ plain_move_text shown.now }
-        ensures short { length self.new ≤ length self.old + 19 }
+        ensures short { length self.new ≤ length self.old + PLAIN_MOVE }
     {
         self.add_man(shown.man.kind);
         self.add_square(shown.from);

@@ -14,7 +14,7 @@ use Rattle.pop_run.specs.ties.Sessions.{ends}
 -- the result of a step that read an item and printed it
 pub item_done : {A : Type 0} (old new : RunState) (had left before now : Option (List ℕ)) (entry : Entry) (printed : Result A SinkFault)
     → TakesItem old new had left entry → new.stopped ≡ is_err printed → Writes before now (entry_text old.choice old.number entry) printed
-    → Steps old new had left before now (step_of printed (not (is_faulty entry)))
+    → Steps old new had left before now (step_of printed (Problem (not (is_faulty entry))))
 item_done old new had left before now entry printed takes stopped written = grind arith
 
 -- From the beginning to now these items were read, and their report was written.

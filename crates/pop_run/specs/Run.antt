@@ -3,6 +3,7 @@ use Rattle.std.specs.Prelude.{◌≡◌, ◌≤◌, ℕ, ◌+◌, ◌-◌, List,
 use Rattle.std.specs.List.{list_all}
 use Rattle.pop_text.specs.Bytes.{Appends, Begins}
 use Rattle.pop_text.specs.Words.{Input, Clean, Failed, Token, Word, Words, is_line_end, limit, words_from, words_of}
+use Rattle.pop_text.specs.declared.scanner.TheConstants.{WINDOW}
 use Rattle.pop_input.specs.Blocks.{closing_of}
 use Rattle.pop_input.specs.Names.{closes, command_of}
 use Rattle.pop_input.specs.declared.names.Command.{Command}
@@ -68,14 +69,14 @@ abbrev pub words_after : List ℕ → Input → Words
 words_after used input = words_from None (limit - length used) (1 + count_by is_line_end used)
     (record { bytes = drop (length used) input.bytes; ending = input.ending })
 
--- How far a run reads. The bytes that it takes are those that it uses, and at most 4,096 more that wait in the window.
+-- How far a run reads. The bytes that it takes are those that it uses, and at most a window more, which wait in it.
 -- The bytes that it uses end with the word that closes the last item: the first EndProblem, unless the sink fails
 -- before. If no word closes that item, the run uses all bytes of the input.
 pub record ReadsUpTo (input : Input) (taken : List ℕ) : Type 0 where
   pub used : List ℕ
   pub waiting : List ℕ
   pub whole : taken ≡ used ++ waiting
-  pub few : length waiting ≤ 4096
+  pub few : length waiting ≤ WINDOW
   pub tokens : List Token
   pub words : (words_of input).tokens ≡ tokens ++ (words_after used input).tokens
   pub stops : EndsWithItem used tokens ⊎ EndsWithInput input used tokens

@@ -6,7 +6,7 @@ use run_settings::Settings;
 
 /// The settings that a report depends on: two flags. Callers without an allocator can make a `Choice`, since it owns no
 /// text.
-#[derive(Clone, Copy)]
+#[derive(Clone, Copy, Debug)]
 pub struct Choice {
     /// Whether to only read and test the problems, without solving them.
     pub check: bool,

@@ -4,6 +4,7 @@ ghost use Rattle.pop_text.specs.Words.{limit};
 ghost use Rattle.pop_text.specs.Bytes.{count_after, greatest_count};
 ghost use Rattle.pop_text.specs.ties.Reading.{IsEndSeen, failures_after};
 ghost use Rattle.pop_text.specs.declared.scanner.End.{End};
+ghost use Rattle.pop_text.specs.declared.scanner.TheConstants.{WINDOW};
 ghost use Rattle.pop_input.specs.FaultKinds.{is_device_failure};
 ghost use Rattle.pop_input.specs.ties.ReaderState.{work_left};
 ghost use Rattle.pop_run.specs.Report.{choice_of};
@@ -34,6 +35,7 @@ pub struct Session {
 impl Model for Session {
     ghost use Rattle.std.specs.Prelude.{◌≡◌, ◌≤◌, ◌+◌, ◌^◌, length};
     ghost use Rattle.pop_text.specs.Words.{limit};
+    ghost use Rattle.pop_text.specs.declared.scanner.TheConstants.{WINDOW};
     ghost use Rattle.pop_input.specs.ties.ReaderState.{work_left};
     ghost use Rattle.pop_run.specs.ties.Sessions.{RunState, ends, is_last};
 
@@ -48,7 +50,7 @@ impl Model for Session {
     } };
 
     ghost invariant = { λ s. (s.next_number + work_left s.reader ≤ 2 ^ 31)
-        × (s.reader.at.used ≤ limit) × (length s.reader.at.window ≤ 4096)
+        × (s.reader.at.used ≤ limit) × (length s.reader.at.window ≤ WINDOW)
         × (ends s.reader.next ≡ is_last s.last) };
 }
 
@@ -105,7 +107,7 @@ impl Session {
         ensures write_failures { self.old.stopped ≡ false
             → W.failures sink.new ≡ count_after result (W.failures sink.old) }
         ensures within { self.new.at.at.used ≤ limit }
-        ensures waits { length self.new.at.at.window ≤ 4096 }
+        ensures waits { length self.new.at.at.window ≤ WINDOW }
         ensures less { is_problem result ≡ true → work_left self.new.at < work_left self.old.at }
     {
         if self.has_stopped {
@@ -122,28 +124,28 @@ impl Session {
                 self.next_number += 1;
                 self.last = *last;
                 let printed = print_sound(sink, number, problem, self.choice);
-                self.answer(printed, true)
+                self.step_after(printed, Step::Problem { sound: true })
             }
             Item::Faulty(fault, last) => {
                 self.next_number += 1;
                 self.last = *last;
                 self.so_far = status_with(self.so_far, fault);
                 let printed = print_fault(sink, number, fault);
-                self.answer(printed, false)
+                self.step_after(printed, Step::Problem { sound: false })
             }
         }
     }
 
     // Returns the step of an item that is sound or not. If the item couldn't be printed, stops the session.
-    fn answer(&mut self, printed: Result<(), SinkFault>, sound: bool) -> Result<Step, SinkFault>
-        ensures step { result ≡ step_of printed sound }
+    fn step_after(&mut self, printed: Result<(), SinkFault>, step: Step) -> Result<Step, SinkFault>
+        ensures step { result ≡ step_of printed step }
         ensures place { self.new ≡ record self.old {
           stopped = self.old.stopped
               || is_err printed;
         } }
     {
         match printed {
-            Ok(()) => Ok(Step::Problem { sound }),
+            Ok(()) => Ok(step),
             Err(fault) => {
                 self.has_stopped = true;
                 Err(fault)

@@ -1,7 +1,7 @@
 //! How runs and steps end.
 
 /// How a run ends.
-#[derive(Clone, Copy, PartialEq, Eq)]
+#[derive(Clone, Copy, Debug, PartialEq, Eq)]
 pub enum Status {
     /// Every problem is sound.
     Sound,
@@ -14,7 +14,7 @@ pub enum Status {
 }
 
 /// What a step of a session did.
-#[derive(Clone, Copy, PartialEq, Eq)]
+#[derive(Clone, Copy, Debug, PartialEq, Eq)]
 pub enum Step {
     /// One item was read and reported. A sound item was solved, or only tested.
     Problem { sound: bool },

@@ -7,7 +7,7 @@ use clap::Error;
 use clap::error::ErrorKind;
 
 /// Why a command line has no settings.
-#[derive(Clone, Copy)]
+#[derive(Clone, Copy, Debug)]
 pub enum ArgFault {
     /// The command line has no form that the program knows.
     Usage,

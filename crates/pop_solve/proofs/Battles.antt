@@ -29,6 +29,6 @@ module _ {P M : Type 0} (game : Game P M) where
       rw two (search (rules, black))
 
   -- with an odd number: White, having moved to this position, still wins
-  pub value-is_self_lost : (k : ℕ) (q : P) → value Selfmate game (suc (2 * k)) q ≡ is_self_lost game (suc k) q
+  pub value-is_self_lost : (k : ℕ) (q : P) → value Selfmate game (suc (2 * k)) q ≡ is_self_lost game k q
   unfolding is_self_lost value
   value-is_self_lost k q = search (rules, value-self_wins)

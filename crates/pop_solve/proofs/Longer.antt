@@ -1,5 +1,5 @@
 -- A win within n moves is a win within n + 1.
-use Rattle.pop_solve.proofs.Words.{Bool, Game, List, [], arith, can_move, cases_lt, every_move, fails_before_first, false, is_lost, is_self_lost, list_all, list_any, passes_at_first, position_or_len, prefix_len-le-length, range_with_len, rules, self_wins, suc, true, wins, zero, ℕ, ◌&&◌, ◌-◌, ◌<◌, ◌||◌, ◌∷◌, ◌≡◌, ◌≤◌}
+use Rattle.pop_solve.proofs.Words.{Bool, Game, List, [], arith, can_move, cases_lt, every_move, fails_before_first, false, is_lost, is_self_lost, list_all, list_any, passes_at_first, position_or_len, prefix_len-le-length, range_with_len, rules, self_wins, suc, true, wins, zero, ℕ, ◌&&◌, ◌<◌, ◌||◌, ◌∷◌, ◌≡◌, ◌≤◌}
 use Rattle.std.proofs.lemmas.List.FromFn.{get_or-range_with_len, length-range_with_len}
 
 module _ {X : Type 0} (f g : X → Bool) (weaker : (x : X) → f x ≡ true → g x ≡ true) where
@@ -37,10 +37,7 @@ module _ {P M : Type 0} (game : Game P M) where
   -- in a selfmate Black also loses in one move more
   pub is_self_lost-more : (j : ℕ) (q : P) → is_self_lost game j q ≡ true → is_self_lost game (suc j) q ≡ true
   unfolding is_self_lost
-  is_self_lost-more zero q h = h
-  is_self_lost-more (suc j) q h =
-      let a : suc j - 1 ≡ j = omega arith in
-      grind (arith, won-more (self_wins game j) (self_wins game (suc j)) (self_wins-more j) q (rw a at h))
+  is_self_lost-more j q h = won-more (self_wins game j) (self_wins game (suc j)) (self_wins-more j) q h
 
 -- what holds a step on holds of each greater number
 pub climbs : (f : ℕ → Bool) → ((k : ℕ) → f k ≡ true → f (suc k) ≡ true) → (k n : ℕ) → k ≤ n → f k ≡ true → f n ≡ true

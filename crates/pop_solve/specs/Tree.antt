@@ -16,7 +16,7 @@ module _ {P M : Type 0} where
   -- after a move by White that leads to q, White still wins within n moves, which include that move
   abbrev pub keeps_win : Battle → Game P M → ℕ → P → Bool
   keeps_win Direct game n q = is_lost game (n - 1) q
-  keeps_win Selfmate game n q = is_self_lost game n q
+  keeps_win Selfmate game n q = is_self_lost game (n - 1) q
 
   -- White, to move, wins p within k moves
   abbrev pub wins_in : Battle → Game P M → ℕ → P → Bool

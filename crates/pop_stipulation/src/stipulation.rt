@@ -6,12 +6,12 @@ use chess_core::man::Colour;
 
 /// Who starts, who helps, and which side is to be mated or stalemated (Codex; spelling of the Popeye manual). Below,
 /// `#` stands for either goal.
-#[derive(Clone, Copy, PartialEq, Eq)]
+#[derive(Clone, Copy, Debug, PartialEq, Eq)]
 pub enum Form {
     /// `#n`: White starts and reaches the goal against every defence.
     Direct,
     /// `s#n`: White starts and forces Black to reach the goal against White.
-    SelfMate,
+    Selfmate,
     /// `h#n`: Black starts, both sides help, and White reaches the goal with the last move.
     Help,
     /// `h#n.5`: White starts with one half-move, and help play of n moves follows.
@@ -19,7 +19,7 @@ pub enum Form {
 }
 
 /// What the last move must do to the goal side.
-#[derive(Clone, Copy, PartialEq, Eq)]
+#[derive(Clone, Copy, Debug, PartialEq, Eq)]
 pub enum Goal {
     /// `#`: mate, which is check without a legal move (FIDE Laws 5.1.1).
     Mate,
@@ -31,7 +31,7 @@ pub enum Goal {
 pub const MOST_MOVES: u8 = 16;
 
 /// A form, a goal and a number of moves: 1 to 16, for `HelpHalf` 0 to 15.
-#[derive(Clone, Copy)]
+#[derive(Clone, Copy, Debug)]
 pub struct Stipulation {
     pub form: Form,
     pub goal: Goal,
@@ -57,7 +57,7 @@ impl Form {
         ensures { result ≡ is_help self }
     {
         match self {
-            Form::Direct | Form::SelfMate => false,
+            Form::Direct | Form::Selfmate => false,
             Form::Help | Form::HelpHalf => true,
         }
     }
@@ -68,7 +68,7 @@ impl Form {
         ensures { result ≡ first_half self }
     {
         match self {
-            Form::Direct | Form::SelfMate | Form::Help => 1,
+            Form::Direct | Form::Selfmate | Form::Help => 1,
             Form::HelpHalf => 2,
         }
     }
@@ -79,7 +79,7 @@ impl Form {
     {
         match self {
             Form::Help => Colour::Black,
-            Form::Direct | Form::SelfMate | Form::HelpHalf => Colour::White,
+            Form::Direct | Form::Selfmate | Form::HelpHalf => Colour::White,
         }
     }
 
@@ -88,7 +88,7 @@ impl Form {
         ensures { result ≡ goal_side self }
     {
         match self {
-            Form::SelfMate => Colour::White,
+            Form::Selfmate => Colour::White,
             Form::Direct | Form::Help | Form::HelpHalf => Colour::Black,
         }
     }
@@ -102,7 +102,7 @@ impl Stipulation {
         let n = self.n as usize;
         match self.form {
             Form::Direct => (2 * n).saturating_sub(1),
-            Form::SelfMate | Form::Help => 2 * n,
+            Form::Selfmate | Form::Help => 2 * n,
             Form::HelpHalf => 2 * n + 1,
         }
     }

@@ -1,10 +1,9 @@
 //! The scanner: cuts an input into words and text lines.
 ghost use Rattle.std.specs.Prelude.{◌≡◌, ◌<◌, ◌+◌, ◌-◌, ◌^◌, ◌++◌, ◌⊎◌, ◌≢◌, [], ◌∷◌, List, ℕ, count_by, drop, length, nat_lt, slice_index, Some, None, Ok, take, Option, Err, IfErr, IfOk, IfSome, false, true, ◌≤◌};
-ghost use Rattle.pop_text.specs.Bytes.{greatest_count};
 ghost use Rattle.std.specs.List.{list_all};
 ghost use Rattle.pop_text.specs.Words.{limit, is_gap, is_in_line, is_in_word, is_line_end};
-ghost use Rattle.pop_text.specs.ties.Reading.{first_reading, AreFirst, IsView, Leads, CallsSource, IsFront, Uses, UsesAll, IsEndSeen, failures_after};
-ghost use Rattle.pop_text.specs.ties.Runs.{ComesNext, RunsTo, Sticks, UsesLine, UsesWord};
+ghost use Rattle.pop_text.specs.ties.Reading.{CallsSource, IsFront, IsView, MayCall, Uses, UsesAll, first_reading};
+ghost use Rattle.pop_text.specs.ties.Runs.{ComesNext, FailsAgain, RunsTo, Sticks, UsesLine, UsesWord};
 ghost use Rattle.pop_text.specs.ties.Plain.{ArePlain, Skips, is_named, is_named_front};
 ghost use Rattle.pop_text.specs.ties.Left.{NextWord, RestOfLine, found_by, found_of};
 ghost use Rattle.pop_text.specs.declared.read_fault.ReadFault.{ReadFault};
@@ -13,18 +12,18 @@ use crate::front::{gap_prefix, in_gap, line_front, plain_prefix, run_length};
 use crate::read_fault::ReadFault;
 use crate::source::Source;
 use crate::text::{Text, extend_kept};
-use crate::word::Word;
+use crate::word::{LONGEST_WORD, Word};
 use arrayvec::ArrayVec;
 use std::marker::Model;
 
 // The greatest number of bytes of an input that are used (own).
 const LIMIT: u32 = 1 << 30;
 
-// The size of the window, in bytes: the greatest number of bytes that are read but not used.
-const WINDOW: usize = 4096;
+/// The size of the window in bytes: the most bytes that a scanner has read but not used (own).
+pub const WINDOW: usize = 4096;
 
 /// How the input ends, if that is known.
-#[derive(Clone, Copy)]
+#[derive(Clone, Copy, Debug)]
 pub enum End {
     /// Nothing is known yet.
     Open,
@@ -35,7 +34,7 @@ pub enum End {
 }
 
 /// What `read_word` found.
-#[derive(Clone, Copy)]
+#[derive(Clone, Copy, Debug)]
 pub enum Found {
     /// A word.
     Word,
@@ -56,6 +55,7 @@ pub struct Scanner {
 
 impl Model for Scanner {
     ghost use Rattle.std.specs.Prelude.{◌≤◌, ◌+◌, ◌^◌, slice_range};
+    ghost use Rattle.pop_text.specs.declared.scanner.TheConstants.{WINDOW};
     ghost use Rattle.pop_text.specs.ties.Reading.{Reading};
 
     ghost Value = { Reading };
@@ -67,7 +67,7 @@ impl Model for Scanner {
       end = s.end;
     } };
 
-    ghost invariant = { λ s. (s.start ≤ s.stop) × (s.stop ≤ 4096) × (s.used ≤ 2 ^ 30)
+    ghost invariant = { λ s. (s.start ≤ s.stop) × (s.stop ≤ WINDOW) × (s.used ≤ 2 ^ 30)
         × (s.line ≤ s.used + 1) };
 }
 
@@ -96,10 +96,10 @@ impl Scanner {
     // Fills the window if it is empty and the source may have more.
     #[tactic(auto, unfolding(crate::specs::Words::limit))]
     fn refill<S: Source>(&mut self, source: &mut S)
-        requires { self.old.end ≡ End.Open → S.failures source.old < greatest_count }
+        requires { MayCall self.old.end (S.failures source.old) }
         ensures uses { Uses self.old self.new (S.remaining source.old) (S.remaining source.new) [] }
         ensures known { self.new.window ≡ [] → self.new.end ≢ End.Open }
-        ensures waits { length self.new.window ≤ 4096 }
+        ensures waits { length self.new.window ≤ WINDOW }
         ensures calls_source { CallsSource self.old.end self.new.end (S.remaining source.old)
             (S.remaining source.new) (S.failures source.old) (S.failures source.new) }
         ensures kept { self.old.end ≢ End.Open ⊎ 0 < length self.old.window → self.new ≡ self.old }
@@ -122,14 +122,13 @@ impl Scanner {
     // Returns the next byte without using it, or `None` at the end of the input.
     #[tactic(auto, unfolding(crate::specs::Words::limit))]
     fn peek<S: Source>(&mut self, source: &mut S) -> Result<Option<u8>, ReadFault>
-        requires { self.old.end ≡ End.Open → S.failures source.old < greatest_count }
+        requires { MayCall self.old.end (S.failures source.old) }
         ensures uses { Uses self.old self.new (S.remaining source.old) (S.remaining source.new) [] }
         ensures at { ComesNext self.new result }
-        ensures waits { length self.new.window ≤ 4096 }
+        ensures waits { length self.new.window ≤ WINDOW }
         ensures calls_source { CallsSource self.old.end self.new.end (S.remaining source.old)
             (S.remaining source.new) (S.failures source.old) (S.failures source.new) }
-        ensures stuck { (fault : ReadFault) → ComesNext self.old (Err fault)
-            → (result ≡ Err fault) × (self.new ≡ self.old) }
+        ensures stuck { FailsAgain self.old self.new result }
     {
         self.refill(source);
         if self.start < self.stop {
@@ -211,16 +210,15 @@ impl Scanner {
 
     // Uses blanks and line ends, and returns the next byte without using it.
     fn skip_gap<S: Source>(&mut self, source: &mut S) -> Result<Option<u8>, ReadFault>
-        requires { self.old.end ≡ End.Open → S.failures source.old < greatest_count }
+        requires { MayCall self.old.end (S.failures source.old) }
         ensures uses { UsesAll is_gap self.old self.new (S.remaining source.old)
             (S.remaining source.new) }
         ensures at { ComesNext self.new result }
         ensures other { IfOk result (λ o. IfSome o (λ b. is_gap b ≡ false)) }
-        ensures waits { length self.new.window ≤ 4096 }
+        ensures waits { length self.new.window ≤ WINDOW }
         ensures calls_source { CallsSource self.old.end self.new.end (S.remaining source.old)
             (S.remaining source.new) (S.failures source.old) (S.failures source.new) }
-        ensures stuck { (fault : ReadFault) → ComesNext self.old (Err fault)
-            → (result ≡ Err fault) × (self.new ≡ self.old) }
+        ensures stuck { FailsAgain self.old self.new result }
     {
         loop {
             match self.peek(source) {
@@ -234,13 +232,13 @@ impl Scanner {
     fn take_run<S: Source>(
         &mut self,
         source: &mut S,
-        word: &mut ArrayVec<u8, 160>,
+        word: &mut ArrayVec<u8, LONGEST_WORD>,
     ) -> Result<bool, ReadFault>
-        requires failures { self.old.end ≡ End.Open → S.failures source.old < greatest_count }
+        requires failures { MayCall self.old.end (S.failures source.old) }
         requires empty { word.old.items ≡ [] }
         ensures run { RunsTo self.old self.new (S.remaining source.old) (S.remaining source.new)
             word.new.items result }
-        ensures waits { length self.new.window ≤ 4096 }
+        ensures waits { length self.new.window ≤ WINDOW }
         ensures calls_source { CallsSource self.old.end self.new.end (S.remaining source.old)
             (S.remaining source.new) (S.failures source.old) (S.failures source.new) }
     {
@@ -272,23 +270,19 @@ impl Scanner {
     ///
     /// # Errors
     ///
-    /// `TooLong` if the word has more than 160 bytes. `InputTooLong` or `Device` if the limit of the input or a failure
+    /// `TooLong` if the word has more than `LONGEST_WORD` bytes. `InputTooLong` or `Device` if the limit of the input or a failure
     /// of the source comes before the end of the word; every later call then returns that fault.
     pub fn next_word<S: Source>(&mut self, source: &mut S) -> Result<Option<Word>, ReadFault>
-        requires { self.old.end ≡ End.Open → S.failures source.old < greatest_count }
+        requires { MayCall self.old.end (S.failures source.old) }
         ensures word { NextWord self.old self.new (S.remaining source.old) (S.remaining source.new)
             result }
         ensures used { UsesWord self.old self.new (S.remaining source.old) (S.remaining source.new)
             result }
         ensures sticks { IfErr result (Sticks self.new) }
-        ensures waits { length self.new.window ≤ 4096 }
-        ensures seen { IsEndSeen self.old.end (S.remaining source.old)
-            → IsEndSeen self.new.end (S.remaining source.new) }
-        ensures ends { self.old.end ≡ End.Open ⊎ self.new.end ≡ self.old.end }
-        ensures counted { S.failures source.new
-            ≡ failures_after self.old.end self.new.end (S.failures source.old) }
-        ensures stuck { (fault : ReadFault) → ComesNext self.old (Err fault)
-            → (result ≡ Err fault) × (self.new ≡ self.old) }
+        ensures waits { length self.new.window ≤ WINDOW }
+        ensures calls_source { CallsSource self.old.end self.new.end (S.remaining source.old)
+            (S.remaining source.new) (S.failures source.old) (S.failures source.new) }
+        ensures stuck { FailsAgain self.old self.new result }
     {
         let mut word = Word::new();
         match self.read_word(source, &mut word) {
@@ -308,20 +302,16 @@ impl Scanner {
         source: &mut S,
         word: &mut Word,
     ) -> Result<Found, ReadFault>
-        requires { self.old.end ≡ End.Open → S.failures source.old < greatest_count }
+        requires { MayCall self.old.end (S.failures source.old) }
         ensures word { NextWord self.old self.new (S.remaining source.old) (S.remaining source.new)
             (found_by word.new result) }
         ensures used { UsesWord self.old self.new (S.remaining source.old) (S.remaining source.new)
             (found_by word.new result) }
         ensures sticks { IfErr result (Sticks self.new) }
-        ensures waits { length self.new.window ≤ 4096 }
-        ensures seen { IsEndSeen self.old.end (S.remaining source.old)
-            → IsEndSeen self.new.end (S.remaining source.new) }
-        ensures ends { self.old.end ≡ End.Open ⊎ self.new.end ≡ self.old.end }
-        ensures counted { S.failures source.new
-            ≡ failures_after self.old.end self.new.end (S.failures source.old) }
-        ensures stuck { (fault : ReadFault) → ComesNext self.old (Err fault)
-            → (result ≡ Err fault) × (self.new ≡ self.old) }
+        ensures waits { length self.new.window ≤ WINDOW }
+        ensures calls_source { CallsSource self.old.end self.new.end (S.remaining source.old)
+            (S.remaining source.new) (S.failures source.old) (S.failures source.new) }
+        ensures stuck { FailsAgain self.old self.new result }
     {
         match self.skip_gap(source) {
             Ok(None) => Ok(Found::Nothing),
@@ -336,7 +326,7 @@ impl Scanner {
         }
     }
 
-    /// Returns the rest of the line: its first 200 bytes after leading blanks, without trailing blanks. Uses the line
+    /// Returns the rest of the line: its first `LONGEST_TEXT` bytes after leading blanks, without trailing blanks. Uses the line
     /// end too.
     ///
     /// # Errors
@@ -344,21 +334,17 @@ impl Scanner {
     /// `InputTooLong` or `Device` if the limit of the input or a failure of the source comes before the end of the
     /// line. Never `TooLong`.
     pub fn rest_of_line<S: Source>(&mut self, source: &mut S) -> Result<Text, ReadFault>
-        requires { self.old.end ≡ End.Open → S.failures source.old < greatest_count }
+        requires { MayCall self.old.end (S.failures source.old) }
         ensures text { (keyword : List ℕ)
             → RestOfLine keyword self.old self.new (S.remaining source.old) (S.remaining source.new)
             result }
         ensures used { UsesLine self.old self.new (S.remaining source.old) (S.remaining source.new)
             result }
         ensures sticks { IfErr result (Sticks self.new) }
-        ensures waits { length self.new.window ≤ 4096 }
-        ensures seen { IsEndSeen self.old.end (S.remaining source.old)
-            → IsEndSeen self.new.end (S.remaining source.new) }
-        ensures ends { self.old.end ≡ End.Open ⊎ self.new.end ≡ self.old.end }
-        ensures counted { S.failures source.new
-            ≡ failures_after self.old.end self.new.end (S.failures source.old) }
-        ensures stuck { (fault : ReadFault) → ComesNext self.old (Err fault)
-            → (result ≡ Err fault) × (self.new ≡ self.old) }
+        ensures waits { length self.new.window ≤ WINDOW }
+        ensures calls_source { CallsSource self.old.end self.new.end (S.remaining source.old)
+            (S.remaining source.new) (S.failures source.old) (S.failures source.new) }
+        ensures stuck { FailsAgain self.old self.new result }
     {
         let mut kept = ArrayVec::new();
         loop {
@@ -400,9 +386,9 @@ fn line_after(line: u64, line_ends: usize) -> u64
 }
 
 // Appends the bytes that fit, and returns whether all fit.
-fn extend_word(word: &mut ArrayVec<u8, 160>, part: &[u8]) -> bool
-    ensures kept { word.new.items ≡ take 160 (word.old.items ++ part.now) }
-    ensures fits { result ≡ nat_lt (length (word.old.items ++ part.now)) 161 }
+fn extend_word(word: &mut ArrayVec<u8, LONGEST_WORD>, part: &[u8]) -> bool
+    ensures kept { word.new.items ≡ take LONGEST_WORD (word.old.items ++ part.now) }
+    ensures fits { result ≡ nat_lt (length (word.old.items ++ part.now)) (LONGEST_WORD + 1) }
 {
     let room = word.remaining_capacity();
     if part.len() <= room {
@@ -414,8 +400,8 @@ fn extend_word(word: &mut ArrayVec<u8, 160>, part: &[u8]) -> bool
     }
 }
 
-fn extend(word: &mut ArrayVec<u8, 160>, part: &[u8])
-    requires { length word.old.items + length part.now ≤ 160 }
+fn extend(word: &mut ArrayVec<u8, LONGEST_WORD>, part: &[u8])
+    requires { length word.old.items + length part.now ≤ LONGEST_WORD }
     ensures { word.new.items ≡ word.old.items ++ part.now }
 {
     match word.try_extend_from_slice(part) {

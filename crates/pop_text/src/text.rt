@@ -6,10 +6,13 @@ ghost use Rattle.pop_text.specs.ties.Texts.{with_byte};
 use arrayvec::ArrayVec;
 use std::marker::Model;
 
-/// A text of at most 200 bytes, stored in place. Contracts see the bytes.
+/// The greatest number of bytes of a text (own).
+pub const LONGEST_TEXT: usize = 200;
+
+/// A text of at most `LONGEST_TEXT` bytes, stored in place. Contracts see the bytes.
 #[derive(Clone, Copy)]
 pub struct Text {
-    cells: [u8; 200],
+    cells: [u8; LONGEST_TEXT],
     size: u8,
 }
 
@@ -37,7 +40,7 @@ impl Text {
         ensures { result ≡ [] }
     {
         Text {
-            cells: [0; 200],
+            cells: [0; LONGEST_TEXT],
             size: 0,
         }
     }
@@ -45,13 +48,13 @@ impl Text {
     /// Returns the bytes of the text.
     pub fn bytes(&self) -> &[u8]
         ensures bytes { result.now ≡ self.now }
-        ensures short { length result.now ≤ 200 }
+        ensures short { length result.now ≤ LONGEST_TEXT }
     {
         &self.cells[..self.size as usize]
     }
 
     /// Returns the text of the kept bytes of a line, without trailing blanks.
-    pub(crate) fn of_line(mut kept: ArrayVec<u8, 200>) -> Text
+    pub(crate) fn of_line(mut kept: ArrayVec<u8, LONGEST_TEXT>) -> Text
         ensures { result ≡ without_trailing kept.items }
     {
         while let Some(&byte) = kept.as_slice().last() {
@@ -63,10 +66,10 @@ impl Text {
         Text::of(&kept)
     }
 
-    fn of(bytes: &ArrayVec<u8, 200>) -> Text
+    fn of(bytes: &ArrayVec<u8, LONGEST_TEXT>) -> Text
         ensures { result ≡ bytes.now.items }
     {
-        let mut cells = [0; 200];
+        let mut cells = [0; LONGEST_TEXT];
         let size = bytes.len();
         cells[..size].copy_from_slice(bytes.as_slice());
         Text {
@@ -77,8 +80,8 @@ impl Text {
 }
 
 /// Appends the next bytes of a line, without leading blanks, until the text is full.
-pub(crate) fn extend_kept(kept: &mut ArrayVec<u8, 200>, bytes: &[u8])
-    ensures { kept.new.items ≡ fold (with_byte 200) kept.old.items bytes.now }
+pub(crate) fn extend_kept(kept: &mut ArrayVec<u8, LONGEST_TEXT>, bytes: &[u8])
+    ensures { kept.new.items ≡ fold (with_byte LONGEST_TEXT) kept.old.items bytes.now }
 {
     for &byte in bytes {
         if kept.is_full() {
@@ -89,8 +92,8 @@ pub(crate) fn extend_kept(kept: &mut ArrayVec<u8, 200>, bytes: &[u8])
 }
 
 // Appends a byte, unless the text is full or the byte is a leading blank.
-fn keep(kept: &mut ArrayVec<u8, 200>, byte: u8)
-    ensures { kept.new.items ≡ with_byte 200 kept.old.items byte }
+fn keep(kept: &mut ArrayVec<u8, LONGEST_TEXT>, byte: u8)
+    ensures { kept.new.items ≡ with_byte LONGEST_TEXT kept.old.items byte }
 {
     if !kept.is_full() && !(kept.is_empty() && is_blank_byte(byte)) {
         kept.push(byte);

@@ -3,10 +3,13 @@ ghost use Rattle.std.specs.Prelude.{◌≡◌, []};
 
 use arrayvec::ArrayVec;
 
-/// A word of at most 160 bytes, as written, and the number of its line, counted from 1.
+/// The greatest number of bytes of a word (own).
+pub const LONGEST_WORD: usize = 160;
+
+/// A word of at most `LONGEST_WORD` bytes, as written, and the number of its line, counted from 1.
 #[derive(Drop)]
 pub struct Word {
-    pub bytes: ArrayVec<u8, 160>,
+    pub bytes: ArrayVec<u8, LONGEST_WORD>,
     pub line: u64,
 }
 

@@ -2,13 +2,14 @@
 ghost use Rattle.std.specs.Prelude.{◌≡◌, ◌<◌, None, Some, MatchBool};
 ghost use Rattle.chess_core.specs.Castling.{mark_unmoved};
 ghost use Rattle.chess_core.specs.Diagrams.{position_of};
+ghost use Rattle.chess_core.specs.Position.{other};
 ghost use Rattle.chess_core.specs.WellFormed.{IsWellFormed};
 ghost use Rattle.chess_attacks.specs.Attacks.{in_check};
 ghost use Rattle.pop_input.specs.Posed.{rule_of};
 ghost use Rattle.pop_input.specs.Ends.{has_castling_rights, diagram_fault, diagram_of, position_fault, castling_rights_of};
 ghost use Rattle.pop_input.specs.Blocks.{posed_entry};
 ghost use Rattle.pop_input.specs.ties.Closings.{item_of};
-ghost use Rattle.pop_stipulation.specs.Stipulations.{has_king_to_mate};
+ghost use Rattle.pop_stipulation.specs.Stipulations.{has_king_to_mate, starting_side};
 
 use crate::condition::Condition;
 use crate::draft::Draft;
@@ -76,10 +77,7 @@ impl Draft {
         if !self.is_well_formed(diagram, stipulation.form) {
             return Some(FaultKind::EnPassantImpossible);
         }
-        let board = Board::of(diagram);
-        let has_king = has_king_to_mate(stipulation, &board);
-        let in_check = is_in_check(&board, condition, stipulation.form.starting_side().other());
-        position_fault(has_king, in_check)
+        position_fault(stipulation, condition, &Board::of(diagram))
     }
 
     // Returns whether the diagram that `diagram_for` returned is well formed. Only its en passant square can be wrong.
@@ -120,14 +118,19 @@ impl Draft {
     }
 }
 
-// Returns the fault of a position. `has_king` says whether the king to be mated is on the board, `in_check` whether the
-// side that isn't to move is in check.
-fn position_fault(has_king: bool, in_check: bool) -> Option<FaultKind>
-    ensures { result ≡ position_fault has_king in_check }
+// Returns the fault of a position: the king to be mated is missing, or the side that isn't to move is in check.
+fn position_fault(
+    stipulation: Stipulation,
+    condition: Option<Condition>,
+    board: &Board,
+) -> Option<FaultKind>
+    ensures { result ≡ position_fault (has_king_to_mate stipulation board.now.men)
+        (in_check (rule_of condition) board.now.men (other (starting_side stipulation.form))) }
 {
-    if !has_king {
+    let waiting = stipulation.form.starting_side().other();
+    if !has_king_to_mate(stipulation, board) {
         Some(FaultKind::KingMissing)
-    } else if in_check {
+    } else if is_in_check(board, condition, waiting) {
         Some(FaultKind::WaitingSideInCheck)
     } else {
         None

@@ -1,8 +1,7 @@
 //! The words of the section Condition.
 ghost use Rattle.std.specs.Prelude.{◌≡◌, ◌≤◌, ◌<◌, length, None, Some};
-ghost use Rattle.pop_input.specs.Drafts.{draft_by};
+ghost use Rattle.pop_input.specs.Drafts.{Within, draft_by};
 ghost use Rattle.pop_input.specs.WordFaults.{role_fault};
-ghost use Rattle.pop_input.specs.declared.context.Role.TheVariants.{Within};
 ghost use Rattle.pop_input.specs.declared.names.Section.TheVariants.{Condition as Conditions};
 
 use crate::draft::Draft;

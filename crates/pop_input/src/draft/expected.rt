@@ -2,16 +2,15 @@
 ghost use Rattle.std.specs.Prelude.{◌≡◌, ◌≤◌, ◌<◌, length, None, Some, fold, if◌then◌else◌};
 ghost use Rattle.std.specs.List.{list_all};
 ghost use Rattle.chess_core.specs.Castling.{is_castling_square, with_unmoved};
-ghost use Rattle.pop_input.specs.Values.{squares_named};
-ghost use Rattle.pop_input.specs.Drafts.{draft_by};
-ghost use Rattle.pop_input.specs.WordFaults.{role_fault};
-ghost use Rattle.pop_input.specs.declared.context.Role.TheVariants.{ForbiddenSquares, EnPassantSquare, Limit};
+ghost use Rattle.pop_input.specs.Drafts.{EnPassantSquare, Limit, draft_by};
+ghost use Rattle.pop_input.specs.WordFaults.{forbidden_fault, role_fault};
+ghost use Rattle.pop_input.specs.declared.names.ExpectedValue.TheVariants.{MoreSquares};
 
 use crate::draft::Draft;
 use crate::fault_kind::FaultKind;
 use crate::names::ExpectedValue;
 use crate::short_word::ShortWord;
-use crate::values::{limit_of, square_of, squares_named};
+use crate::values::{limit_of, square_of};
 use chess_core::man::Unmoved;
 use chess_core::square::Square;
 
@@ -46,21 +45,21 @@ impl Draft {
         }
     }
 
-    /// Reads squares after NoCastling, as one word. More words with squares may follow.
-    pub(crate) fn take_forbidden(&mut self, word: &ShortWord<'_>) -> Option<FaultKind>
-        ensures fault { result ≡ role_fault self.old ForbiddenSquares word.now }
-        ensures draft { result ≡ None → self.new ≡ draft_by ForbiddenSquares self.old word.now }
+    /// Adds the squares of a word after NoCastling. More words with squares may follow.
+    pub(crate) fn forbid(&mut self, squares: &[Square]) -> Option<FaultKind>
+        ensures fault { result ≡ forbidden_fault (Some squares.now) }
+        ensures draft { result ≡ None → self.new ≡ record self.old {
+          context = record { section = self.old.context.section; expected = Some MoreSquares };
+          castling_forbidden = fold with_unmoved self.old.castling_forbidden squares.now;
+        } }
     {
-        match squares_named(word.bytes()) {
-            Some(squares) => match forbidden_with(self.castling_forbidden, squares.as_slice()) {
-                Some(castling_forbidden) => {
-                    self.castling_forbidden = castling_forbidden;
-                    self.context.expected = Some(ExpectedValue::MoreSquares);
-                    None
-                }
-                None => Some(FaultKind::NoneCastlesThere),
-            },
-            None => Some(FaultKind::SquareMissing),
+        match forbidden_with(self.castling_forbidden, squares) {
+            Some(castling_forbidden) => {
+                self.castling_forbidden = castling_forbidden;
+                self.context.expected = Some(ExpectedValue::MoreSquares);
+                None
+            }
+            None => Some(FaultKind::NoneCastlesThere),
         }
     }
 }

@@ -1,8 +1,7 @@
 //! The words of the section Option.
 ghost use Rattle.std.specs.Prelude.{◌≡◌, ◌≤◌, ◌<◌, length, None, Some};
-ghost use Rattle.pop_input.specs.Drafts.{expected_by, draft_by, switches_with};
+ghost use Rattle.pop_input.specs.Drafts.{Within, expected_by, draft_by, switches_with};
 ghost use Rattle.pop_input.specs.WordFaults.{role_fault};
-ghost use Rattle.pop_input.specs.declared.context.Role.TheVariants.{Within};
 ghost use Rattle.pop_input.specs.declared.names.Section.TheVariants.{Options};
 
 use crate::draft::Draft;

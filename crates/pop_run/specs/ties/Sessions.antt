@@ -87,6 +87,6 @@ is_problem (Ok (Finished status)) = false
 is_problem (Err fault) = false
 
 -- the result of a step that printed an item, by the result of printing
-abbrev pub step_of : {A : Type 0} → Result A SinkFault → Bool → Result Step SinkFault
-step_of (Ok done) sound = Ok (Problem sound)
-step_of (Err fault) sound = Err fault
+abbrev pub step_of : {A : Type 0} → Result A SinkFault → Step → Result Step SinkFault
+step_of (Ok done) step = Ok step
+step_of (Err fault) step = Err fault

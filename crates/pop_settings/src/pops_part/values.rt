@@ -9,7 +9,7 @@ use crate::pops_part::wanted::PhaseName;
 const GREATEST_NUMBER: u64 = 999_999_999_999_999_999;
 
 /// The numbers from `first` to `last`.
-#[derive(Clone, Copy)]
+#[derive(Clone, Copy, Debug)]
 pub struct Range {
     pub first: u64,
     pub last: u64,

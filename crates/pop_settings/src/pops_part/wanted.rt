@@ -1,14 +1,14 @@
 //! The settings of `pops-part`.
 
 /// The name of a phase: set play or the play.
-#[derive(Clone, Copy)]
+#[derive(Clone, Copy, Debug)]
 pub enum PhaseName {
     Set,
     Play,
 }
 
 /// The parts with the numbers from `first` to `last` of an item's phase. Items and parts are counted from 1.
-#[derive(Clone, Copy)]
+#[derive(Clone, Copy, Debug)]
 pub struct NamedParts {
     pub item: u64,
     pub phase: PhaseName,
@@ -19,7 +19,7 @@ pub struct NamedParts {
 }
 
 /// What to report of the input.
-#[derive(Clone, Copy)]
+#[derive(Clone, Copy, Debug)]
 pub enum Wanted {
     /// The number of parts of each item's phases. A part of help play fixes `depth` first moves, 1 to 4.
     List { depth: usize },

@@ -16,7 +16,7 @@ module _ {P M : Type 0} (game : Game P M) where
   pub self_wins_within_more : (k n : ℕ) (p : P) → k ≤ n → self_wins game k p ≡ true → self_wins game n p ≡ true
   self_wins_within_more k n p le h = climbs (λ k. self_wins game k p) (λ k. self_wins-more game k p) k n le h
 
-  -- If a move forces the other side to reach the goal within j moves, it does so within any greater number.
+  -- If the other side is forced to reach the goal within j further moves, it is so within any greater number.
   pub self_lost_within_more : (j n : ℕ) (q : P) → j ≤ n → is_self_lost game j q ≡ true → is_self_lost game n q ≡ true
   self_lost_within_more j n q le h = climbs (λ k. is_self_lost game k q) (λ k. is_self_lost-more game k q) j n le h
 

@@ -9,6 +9,7 @@ use Rattle.pop_text.specs.declared.scanner.Found.{Found}
 use Rattle.pop_text.specs.declared.scanner.Found.TheVariants.{Word as AWord, Nothing}
 use Rattle.pop_text.specs.declared.read_fault.ReadFault.{ReadFault}
 use Rattle.pop_text.specs.declared.read_fault.ReadFault.TheVariants.{TooLong, InputTooLong, Device}
+use Rattle.pop_text.specs.declared.word.TheConstants.{LONGEST_WORD}
 use Rattle.pop_text.specs.declared.word.Word.{Word as Read}
 use Rattle.pop_text.specs.declared.text.Text.{Text}
 
@@ -112,7 +113,7 @@ NextWord old new had left (Ok None) = Takes (among old) (among new) had left [] 
     × WithinLimit old new
 NextWord old new had left (Ok (Some word)) = TakesWord (is_text_word word.bytes.items) old new had
     left word.line word.bytes.items × (0 < length word.bytes.items) × Advances old new
-NextWord old new had left (Err (TooLong line)) = (text : List ℕ) × (160 < length text)
+NextWord old new had left (Err (TooLong line)) = (text : List ℕ) × (LONGEST_WORD < length text)
     × Takes (among old) (among new) had left (Word line text ∷ []) × Advances old new
 NextWord old new had left (Err (InputTooLong line)) = TakesNone (among old) new had left
     (InputTooLong line)

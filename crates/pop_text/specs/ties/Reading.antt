@@ -2,7 +2,7 @@
 use Rattle.std.specs.Prelude.{◌≡◌, ◌≤◌, ◌<◌, ℕ, ◌+◌, ◌-◌, List, [], ◌∷◌, ◌++◌, take, length, count_by, Option, Bool, true, ◌⊎◌}
 use Rattle.std.specs.List.{list_all}
 use Rattle.pop_text.specs.Words.{is_line_end, limit}
-use Rattle.pop_text.specs.Bytes.{Consumes, IsAtEnd}
+use Rattle.pop_text.specs.Bytes.{Consumes, IsAtEnd, greatest_count}
 use Rattle.pop_text.specs.declared.scanner.End.{End}
 use Rattle.pop_text.specs.declared.scanner.End.TheVariants.{Open, Ended, Broken}
 
@@ -73,6 +73,10 @@ IsEndSeen Broken left = Unit {0}
 abbrev pub failures_after : End → End → ℕ → ℕ
 failures_after Open Broken n = n + 1
 failures_after _ _ n = n
+
+-- a call is allowed: if the end isn't known, the source may be called, and its count of failures may still grow
+abbrev pub MayCall : End → ℕ → Type 0
+MayCall end failures = end ≡ Open → failures < greatest_count
 
 -- Between two states the source is called only if its end isn't known: a known end stays, an end that was seen is still
 -- the end of the source, and a failure is counted.

@@ -7,6 +7,7 @@ use Rattle.pop_text.specs.declared.scanner.End.TheVariants.{Ended, Broken}
 use Rattle.pop_text.specs.declared.read_fault.ReadFault.{ReadFault}
 use Rattle.pop_text.specs.declared.read_fault.ReadFault.TheVariants.{TooLong, InputTooLong, Device}
 use Rattle.pop_text.specs.declared.text.Text.{Text}
+use Rattle.pop_text.specs.declared.word.TheConstants.{LONGEST_WORD}
 use Rattle.pop_text.specs.declared.word.Word.{Word}
 
 -- what comes next: a byte, the end of the input, or a fault
@@ -25,6 +26,11 @@ Sticks new (TooLong line) = Unit {0}
 Sticks new (InputTooLong line) = ComesNext new (Err (InputTooLong line))
 Sticks new (Device line) = ComesNext new (Err (Device line))
 
+-- if a fault comes next, the call returns it and changes nothing
+abbrev pub FailsAgain : {A : Type 0} → Reading → Reading → Result A ReadFault → Type 0
+FailsAgain old new result = (fault : ReadFault) → ComesNext old (Err fault)
+    → (result ≡ Err fault) × (new ≡ old)
+
 -- a run is over: a gap follows it, or nothing does
 abbrev pub IsRunOver : Reading → Type 0
 IsRunOver new = ((b : ℕ) × (rest : List ℕ) × (new.window ≡ b ∷ rest) × (is_gap b ≡ true)
@@ -39,7 +45,7 @@ pub record UsesSolid (old new : Reading) (had left : Option (List ℕ)) (run : L
 abbrev pub RunsTo : Reading → Reading → Option (List ℕ) → Option (List ℕ) → List ℕ
     → Result Bool ReadFault → Type 0
 RunsTo old new had left kept (Ok true) = UsesSolid old new had left kept × IsRunOver new
-RunsTo old new had left kept (Ok false) = (run : List ℕ) × (160 < length run)
+RunsTo old new had left kept (Ok false) = (run : List ℕ) × (LONGEST_WORD < length run)
     × UsesSolid old new had left run × IsRunOver new
 RunsTo old new had left kept (Err fault) = (run : List ℕ) × UsesSolid old new had left run
     × ComesNext new (Err fault)
@@ -60,7 +66,7 @@ abbrev pub UsesWord : Reading → Reading → Option (List ℕ) → Option (List
 UsesWord old new had left (Ok None) = UsesAll is_gap old new had left × ComesNext new (Ok None)
 UsesWord old new had left (Ok (Some word)) = UsesRun old new had left word.line word.bytes.items
     × IsRunOver new
-UsesWord old new had left (Err (TooLong line)) = (run : List ℕ) × (160 < length run)
+UsesWord old new had left (Err (TooLong line)) = (run : List ℕ) × (LONGEST_WORD < length run)
     × UsesRun old new had left line run × IsRunOver new
 UsesWord old new had left (Err (InputTooLong line)) = (run : List ℕ)
     × UsesRun old new had left line run

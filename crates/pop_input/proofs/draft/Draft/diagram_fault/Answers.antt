@@ -1,3 +1,4 @@
+use Rattle.std.proofs.Common.{ap₂}
 use Rattle.pop_input.proofs.Words.{ArePut, ap, has_king_to_mate, in_check, other, rule_of, starting_side, sym, ◌∙◌, ◌≡◌}
 use Rattle.pop_input.proofs.Posing.{ill_fault, position_reported, shown_men}
 use Rattle.pop_input.proofs.draft.Draft.diagram_fault.Goals as goal
@@ -11,11 +12,8 @@ returns-then-not-is_well_formed-clause-fault c =
 pub returns-clause-fault : goal.returns-clause-fault
 returns-clause-fault c =
     let put : ArePut c.args.self.now.men = rw (← c.self.view_is) c.self.invariant.0 in
-    let men = ap (λ p. p.men) c.of-board.ensures ∙ shown_men c.args.diagram.now in
+    let men = ap (λ p. p.men) c.of.ensures ∙ shown_men c.args.diagram.now in
     let condition = ap (λ s. s.condition) c.self.view_is in
-    let king : c.has_king_to_mate-has_king.result ≡ has_king_to_mate c.args.stipulation c.args.diagram.now.men = rw (← men)
-    c.has_king_to_mate-has_king.ensures in
-    let check : c.is_in_check-in_check.result ≡ in_check (rule_of c.args.self.now.condition) c.args.diagram.now.men
-    (other (starting_side c.args.stipulation.form)) = rw (← condition, ← men, ← c.starting_side.ensures, ← c.other.ensures) c.is_in_check-in_check.ensures in
     c.position_fault.ensures ∙ position_reported c.args.self.now c.args.stipulation c.args.diagram.now c.requires put
-    (sym c.has_men.ensures ∙ c.if-not-has_men.false) c.if-not-is_well_formed.ensures c.has_king_to_mate-has_king.result c.is_in_check-in_check.result king check
+    (sym c.has_men.ensures ∙ c.if-not-has_men.false) c.if-not-is_well_formed.ensures _ _ (ap (has_king_to_mate c.args.stipulation) men)
+    (ap₂ (λ known here. in_check (rule_of known) here (other (starting_side c.args.stipulation.form))) condition men)
