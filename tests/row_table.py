@@ -3,10 +3,11 @@
 
     tests/row_table.py FOLDER   writes the rows as files: NAME.in, NAME.out, NAME.status and NAME.options, one option per line
 """
+
 import re
 import sys
 from pathlib import Path
-from typing import List, NamedTuple, Optional, Tuple
+from typing import NamedTuple, Optional
 
 FOLDER = Path(__file__).resolve().parent / "rows"
 OPTIONS = ("--check", "--no-board")
@@ -22,12 +23,12 @@ class Row(NamedTuple):
     """An input of `pops`, its options, and the report and status that it must give."""
 
     name: str
-    options: Tuple[str, ...]
+    options: tuple[str, ...]
     input: bytes
     report: bytes
     status: int
     # The least and the most positions that its search may try, if known.
-    opened: Optional[Tuple[int, int]]
+    opened: Optional[tuple[int, int]]
 
 
 class Subject(NamedTuple):
@@ -35,7 +36,7 @@ class Subject(NamedTuple):
 
     name: str
     about: str
-    rows: List[Row]
+    rows: list[Row]
 
 
 def _unescaped(escape: "re.Match[str]") -> str:
@@ -49,13 +50,13 @@ def _unescaped(escape: "re.Match[str]") -> str:
     raise TableError(f"\\{other} stands for nothing")
 
 
-def _input(lines: List[str]) -> bytes:
+def _input(lines: list[str]) -> bytes:
     """Returns the bytes of an input: a backslash at the end of a line removes its line end."""
     text = "".join(line[:-1] if line.endswith("\\") else line + "\n" for line in lines)
     return ESCAPE.sub(_unescaped, text).encode("latin-1")
 
 
-def _field(head: List[str], name: str) -> Optional[str]:
+def _field(head: list[str], name: str) -> Optional[str]:
     """Returns the value of a field in the head of a row, or None."""
     found = [line[len(name) + 2 :] for line in head if line.startswith(f"{name}: ")]
     if len(found) > 1:
@@ -63,7 +64,7 @@ def _field(head: List[str], name: str) -> Optional[str]:
     return found[0] if found else None
 
 
-def _opened(field: Optional[str]) -> Optional[Tuple[int, int]]:
+def _opened(field: Optional[str]) -> Optional[tuple[int, int]]:
     if field is None:
         return None
     bounds = re.fullmatch(r"(\d+) to (\d+)", field)
@@ -72,7 +73,7 @@ def _opened(field: Optional[str]) -> Optional[Tuple[int, int]]:
     return int(bounds[1]), int(bounds[2])
 
 
-def _row(name: str, lines: List[str]) -> Row:
+def _row(name: str, lines: list[str]) -> Row:
     if lines.count("-- input") != 1 or lines.count("-- report") != 1:
         raise TableError("needs one input and one report")
     begins, ends = lines.index("-- input"), lines.index("-- report")
@@ -99,17 +100,17 @@ def subject(path: Path) -> Subject:
     return Subject(path.stem, about.strip(), rows)
 
 
-def subjects() -> List[Subject]:
+def subjects() -> list[Subject]:
     """Reads the whole table, by subject."""
     return [subject(path) for path in sorted(FOLDER.glob("*.txt"))]
 
 
-def rows() -> List[Row]:
+def rows() -> list[Row]:
     """Reads all rows."""
     return [row for one in subjects() for row in one.rows]
 
 
-def write_files(folder: Path) -> List[Path]:
+def write_files(folder: Path) -> list[Path]:
     """Writes the rows as files. Returns the paths of their inputs."""
     paths = []
     for row in rows():

@@ -8,7 +8,7 @@ from pops_companions.explain.mending import further_faults, mend
 from pops_companions.explain.notices import notices
 from pops_companions.input.pieces import cut
 from tests import run_here, support
-from tests.test_explain import slips
+from tests.slips import slips
 
 PIECES = "Pieces White Kg6 Ra1 Black Kg8"
 

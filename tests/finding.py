@@ -1,0 +1,23 @@
+"""Finds what the scripts of this folder try: the repository, and its programs."""
+
+import os
+import subprocess
+import sys
+from pathlib import Path
+
+ROOT = Path(__file__).resolve().parent.parent
+
+
+def argument_or_said(place: int, *words: str) -> str:
+    """Returns the script's argument at this place, or else what a command of the repository prints, which may be nothing."""
+    if len(sys.argv) > place:
+        return sys.argv[place]
+    return subprocess.run(words, cwd=ROOT, stdout=subprocess.PIPE, text=True, check=False).stdout.strip()
+
+
+def program(place: int, name: str) -> str:
+    """Returns the path of a program: the script's argument at this place, or else the program of these sources."""
+    found = argument_or_said(place, "./find-program", name)
+    if not found:
+        sys.exit(f"{sys.argv[0]}: there is no {name} of these sources: ./build builds it, or name it as an argument")
+    return os.path.abspath(found)
