@@ -1,6 +1,8 @@
 //! Where men move and what they attack: attack, paralysis and check in orthodox chess, Circe and Madrasi.
 //! `in_check` is the main call.
 //!
+//! For example, in a test with the parameter `rt: HostRuntime`:
+//!
 //! ```rust
 //! use chess_attacks::{Orthodox, Rules, in_check};
 //! use chess_core::{Board, Colour, Diagram, Kind, Man, Square};

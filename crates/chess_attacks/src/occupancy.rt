@@ -16,8 +16,8 @@ use chess_core::square::{Square, Squares};
 pub struct Occupancy {
     /// The occupied squares.
     pub occupied: Squares,
-    /// The squares whose men on the board still count. Men on other squares have been captured or
-    /// lifted.
+    /// The squares whose men on the board still count. Men on other squares have moved, been captured or
+    /// been lifted.
     pub standing: Squares,
 }
 

@@ -1,8 +1,10 @@
 //! Finds mating moves, and moves after which no reply can mate, mostly without playing them. The crate
 //! exists for speed only: `chess_rules` alone would find the same moves.
 //!
+//! For example, in a test with the parameter `rt: HostRuntime`:
+//!
 //! ```rust
-//! use chess_core::{Board, Colour, Diagram, Kind, Man, Square};
+//! use chess_core::{Board, Colour, Diagram, Kind, Man, Move, Square};
 //! use chess_mates::MateCursor;
 //! use chess_rules::Orthodox;
 //!
@@ -18,9 +20,14 @@
 //! if diagram.is_well_formed() {
 //!     let mut board = Board::of(&diagram);
 //!     let mut mates = MateCursor::<Orthodox>::of(&board);
-//!     while let Some(m) = mates.next(&mut board) {
-//!         // Once: Ra1-a8.
-//!     }
+//!     let mate = Move {
+//!         from: Square::numbered(0),
+//!         to: Square::numbered(56),
+//!         promo: None,
+//!     };
+//!     // Ra1-a8 is the only mate.
+//!     assert!(rt; mates.next(&mut board) == Some(mate));
+//!     assert!(rt; mates.next(&mut board).is_none());
 //! }
 //! ```
 //!

@@ -10,8 +10,8 @@ use Rattle.chess_core.specs.declared.man.Man.{Man}
 use Rattle.chess_attacks.specs.ties.Lines.{occupied_squares}
 use Rattle.chess_attacks.specs.declared.occupancy.Occupancy.{Occupancy}
 
--- v describes `men`: its occupied squares are theirs, and of the men of colour c `before`, exactly the
--- ones on standing squares are among them
+-- v describes `men`: v.occupied holds their squares, and the men of colour c among them are exactly the
+-- men of `before` on squares of v.standing
 pub record DescribesMen (before men : List (Option Man)) (c : Colour) (v : Occupancy) : Type 0 where
   pub occupied : v.occupied ≡ occupied_squares men
   pub standing : (k : Kind) → bit_and (squares_of before c k) v.standing ≡ squares_of men c k
