@@ -58,7 +58,7 @@ pub(crate) fn half_moves(problem: &Problem) -> usize
     problem.stipulation().half_moves()
 }
 
-/// Runs a search, and stops after `most` events.
+/// Runs a search up to `most` events, and then calls it three more times.
 fn run<R: Rules, const N: usize>(problem: &Problem, most: u64) -> Given
     requires rule { R.rule ≡ rule_of problem.now.condition }
     requires room { half_moves problem.now.stipulation < N }

@@ -72,7 +72,7 @@ HoldsAtStage rule problem (Within walk count) frames board =
 HoldsAtStage rule problem After frames board = (frames ≡ []) × (board ≡ play_start problem)
 
 -- what the walk to the next path of a phase leaves, if at most `limit` solutions may still begin;
--- `given`: a path is left, and it is emitted
+-- `given`: a next path exists and is emitted
 pub record Walks (rule : RuleSet) (plan : Plan) (help : Bool) (h : ℕ) (p : Position) (limit : ℕ)
     (old new : List Frame) (board : Position) (given : Bool) : Type 0 where
   pub walking : IsWalking rule h p new board
