@@ -1,5 +1,5 @@
 //! What the search does on the board: next moves, mates, goals, and moves as they are shown.
-ghost use Rattle.std.specs.Prelude.{◌≡◌, ◌∷◌, [], ◌&&◌, IfSome, MatchOption, is_some, false, true, Some};
+ghost use Rattle.std.specs.Prelude.{[], ◌&&◌, ◌∷◌, ◌≡◌, IfSome, MatchOption, Some, false, is_some, true};
 ghost use Rattle.chess_core.specs.Diagrams.{position_of};
 ghost use Rattle.chess_core.specs.Position.{Position};
 ghost use Rattle.chess_core.specs.WellFormed.{IsWellFormed};
@@ -9,13 +9,13 @@ ghost use Rattle.chess_rules.specs.ties.Places.{IsPlaceIn, moves_after, moves_be
 ghost use Rattle.chess_mates.specs.ties.Mates.{IsNextMate, mates_after};
 ghost use Rattle.pop_stipulation.specs.declared.stipulation.Goal.{Goal};
 ghost use Rattle.pop_stipulation.specs.declared.stipulation.Goal.TheVariants.{Mate};
-ghost use Rattle.pop_battle.specs.ties.Calls.{Finds, IsOnMate};
-ghost use Rattle.pop_battle.specs.Chess.{chess, is_impossible, set_start};
 ghost use Rattle.pop_events.specs.Shown.{castling_side, mark_of, reborn_man, shown_of};
-ghost use Rattle.pop_battle.specs.ties.Marks.{is_for_mate};
-ghost use Rattle.pop_battle.specs.declared.chess.Reached.TheVariants.{Surely};
-ghost use Rattle.pop_battle.specs.ties.Frames.{CameBy};
+ghost use Rattle.pop_battle.specs.Chess.{chess, is_impossible, set_start};
 ghost use Rattle.pop_battle.specs.Game.{can_move as has_move, every_move, some_move};
+ghost use Rattle.pop_battle.specs.declared.chess.Reached.TheVariants.{Surely};
+ghost use Rattle.pop_battle.specs.ties.Calls.{Finds, IsOnMate};
+ghost use Rattle.pop_battle.specs.ties.Frames.{CameBy};
+ghost use Rattle.pop_battle.specs.ties.Marks.{is_for_mate};
 
 use chess_core::board::Board;
 use chess_core::diagram::Diagram;

@@ -1,10 +1,10 @@
 //! The moves that decided tests, and the threats of one position.
-ghost use Rattle.std.specs.Prelude.{◌≡◌, ◌==◌, ◌<◌, ◌∷◌, [], IfSome, true, if◌then◌else◌, slice_index_or, slice_set};
 ghost use Rattle.std.specs.List.{copy_within, repeat};
+ghost use Rattle.std.specs.Prelude.{[], ◌<◌, ◌==◌, ◌∷◌, ◌≡◌, if◌then◌else◌, IfSome, slice_index_or, slice_set, true};
 ghost use Rattle.chess_core.specs.WellFormed.{IsWellFormed};
-ghost use Rattle.chess_mates.specs.ties.Mates.{mates_after};
 ghost use Rattle.chess_rules.specs.Legal.{is_legal};
 ghost use Rattle.chess_rules.specs.Play.{position_after};
+ghost use Rattle.chess_mates.specs.ties.Mates.{mates_after};
 ghost use Rattle.chess_mates.specs.ties.Threats.{AreThreatsOf};
 ghost use Rattle.pop_battle.specs.declared.aim.Battle.TheVariants.{Direct};
 

@@ -1,19 +1,19 @@
 //! Black's last defence in a direct mate, after which White must mate at once.
-ghost use Rattle.std.specs.Prelude.{◌≡◌, ◌+◌, ◌-◌, ◌≤◌, IfSome, None, Some, false, true};
+ghost use Rattle.std.specs.Prelude.{◌+◌, ◌-◌, ◌≡◌, ◌≤◌, IfSome, None, Some, false, true};
 ghost use Rattle.chess_core.specs.Position.{king_square};
 ghost use Rattle.chess_core.specs.WellFormed.{IsWellFormed};
-ghost use Rattle.chess_mates.specs.ties.Mates.{allows_mate};
+ghost use Rattle.chess_attacks.specs.RuleSet.{captures_do_more};
 ghost use Rattle.chess_rules.specs.Legal.{is_legal, moves as legal_moves};
 ghost use Rattle.chess_rules.specs.Play.{position_after};
-ghost use Rattle.chess_attacks.specs.RuleSet.{captures_do_more};
-ghost use Rattle.chess_rules.specs.ties.Places.{IsPlaceIn};
 ghost use Rattle.chess_rules.specs.ties.Filtering.{SomeFails};
+ghost use Rattle.chess_rules.specs.ties.Places.{IsPlaceIn};
+ghost use Rattle.chess_mates.specs.ties.Mates.{allows_mate};
 ghost use Rattle.pop_stipulation.specs.declared.stipulation.Goal.TheVariants.{Mate};
 ghost use Rattle.pop_battle.specs.Chess.{chess};
+ghost use Rattle.pop_battle.specs.Walks.{walk_count};
 ghost use Rattle.pop_battle.specs.declared.aim.Battle.TheVariants.{Direct};
 ghost use Rattle.pop_battle.specs.declared.frame.MoveStage.TheVariants.{Killer};
 ghost use Rattle.pop_battle.specs.ties.Calls.{Finds};
-ghost use Rattle.pop_battle.specs.Walks.{walk_count};
 ghost use Rattle.pop_battle.specs.ties.Counts.{HasCounted, smallest_tree};
 ghost use Rattle.pop_battle.specs.ties.Frames.{moves_ahead, moves_unlooked};
 ghost use Rattle.pop_battle.specs.ties.Values.{value};

@@ -1,17 +1,17 @@
 //! White's last move in a selfmate for mate, after which Black must mate.
-ghost use Rattle.std.specs.Prelude.{◌≡◌, ◌+◌, ◌≤◌, [], length, true};
+ghost use Rattle.std.specs.Prelude.{[], ◌+◌, ◌≡◌, ◌≤◌, length, true};
 ghost use Rattle.chess_core.specs.WellFormed.{IsWellFormed};
-ghost use Rattle.chess_mates.specs.ties.QuietSteps.{must_reply_with_mate};
 ghost use Rattle.chess_rules.specs.Legal.{is_legal, moves as legal_moves};
 ghost use Rattle.chess_rules.specs.Play.{position_after};
 ghost use Rattle.chess_rules.specs.ties.Places.{IsPlaceIn, moves_after};
+ghost use Rattle.chess_mates.specs.ties.QuietSteps.{must_reply_with_mate};
 ghost use Rattle.pop_stipulation.specs.declared.stipulation.Goal.TheVariants.{Mate};
 ghost use Rattle.pop_battle.specs.Chess.{chess};
-ghost use Rattle.pop_battle.specs.declared.aim.Battle.TheVariants.{Selfmate};
 ghost use Rattle.pop_battle.specs.Walks.{walk_count};
+ghost use Rattle.pop_battle.specs.declared.aim.Battle.TheVariants.{Selfmate};
 ghost use Rattle.pop_battle.specs.ties.Counts.{HasCounted, smallest_below, smallest_tree};
-ghost use Rattle.pop_battle.specs.ties.Values.{joined_value, value};
 ghost use Rattle.pop_battle.specs.ties.Passing.{IsNextLeft};
+ghost use Rattle.pop_battle.specs.ties.Values.{joined_value, value};
 
 use crate::chess::{is_reached_without_move, must_mate, next_after, retract};
 use crate::killers::Killers;

@@ -1,12 +1,12 @@
 //! White's last move but one in a direct mate, after which White must mate against each last defence.
-ghost use Rattle.std.specs.Prelude.{◌≡◌, ◌+◌, ◌≤◌, true};
+ghost use Rattle.std.specs.Prelude.{◌+◌, ◌≡◌, ◌≤◌, true};
 ghost use Rattle.chess_core.specs.WellFormed.{IsWellFormed};
 ghost use Rattle.chess_rules.specs.Legal.{is_legal, moves as legal_moves};
 ghost use Rattle.chess_rules.specs.Play.{position_after};
 ghost use Rattle.pop_stipulation.specs.declared.stipulation.Goal.TheVariants.{Mate};
 ghost use Rattle.pop_battle.specs.Chess.{chess};
-ghost use Rattle.pop_battle.specs.declared.aim.Battle.TheVariants.{Direct};
 ghost use Rattle.pop_battle.specs.Walks.{walk_count};
+ghost use Rattle.pop_battle.specs.declared.aim.Battle.TheVariants.{Direct};
 ghost use Rattle.pop_battle.specs.ties.Counts.{HasCounted, smallest_tree};
 ghost use Rattle.pop_battle.specs.ties.Values.{value};
 

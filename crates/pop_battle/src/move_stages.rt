@@ -1,13 +1,13 @@
 //! The order in which a test tries the moves of a position: killers first, then, if White has two or more
 //! moves left to mate, the moves that give check or attack next to the king.
+ghost use Rattle.std.specs.Prelude.{[], ◌++◌, ◌<◌, ◌==◌, ◌||◌, ◌≡◌, IfSome, MatchOption, Some, filter};
 ghost use Rattle.chess_core.specs.Position.{Position};
 ghost use Rattle.chess_core.specs.WellFormed.{IsWellFormed};
 ghost use Rattle.chess_rules.specs.ties.Places.{IsPlaceIn, moves_after, place_of};
 ghost use Rattle.pop_battle.specs.declared.frame.Early.TheVariants.{AimedMoves};
 ghost use Rattle.pop_battle.specs.declared.frame.MoveStage.TheVariants.{Aimed};
 ghost use Rattle.pop_battle.specs.ties.Calls.{Finds};
-ghost use Rattle.pop_battle.specs.ties.Frames.{all_moves_of, belongs, comes_early, moves_ahead, moves_here, moves_later, move_stages_after};
-ghost use Rattle.std.specs.Prelude.{◌≡◌, ◌==◌, ◌||◌, ◌<◌, [], ◌++◌, filter, IfSome, MatchOption, Some};
+ghost use Rattle.pop_battle.specs.ties.Frames.{all_moves_of, belongs, comes_early, move_stages_after, moves_ahead, moves_here, moves_later};
 
 use crate::aim::Battle;
 use crate::chess::{next_after, next_until};

@@ -1,9 +1,9 @@
 //! The text of events.
-ghost use Rattle.std.specs.Prelude.{◌≡◌, ◌<◌, ◌≤◌, ◌+◌, ◌++◌, [], ◌∷◌, ◌^◌, length, replicate, codes, true};
+ghost use Rattle.std.specs.Prelude.{◌++◌, ◌+◌, ◌<◌, ◌^◌, ◌≡◌, ◌≤◌, codes, length, replicate, true};
 ghost use Rattle.pop_text.specs.Bytes.{Writes, count_after, greatest_count};
+ghost use Rattle.pop_print.specs.Events.{event_text, line_text, move_number_text, moves_text, node_text, prefix_text, stopped_text as text_of_stopped, total_text};
 ghost use Rattle.pop_print.specs.Moves.{move_text};
 ghost use Rattle.pop_print.specs.Notation.{blank};
-ghost use Rattle.pop_print.specs.Events.{event_text, move_number_text, line_text, moves_text, node_text, prefix_text, stopped_text as text_of_stopped, total_text};
 
 use crate::line::{LONGEST, LineBuffer};
 use crate::moves::MOVE;

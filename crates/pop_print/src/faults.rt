@@ -1,5 +1,5 @@
 //! The text of faults.
-ghost use Rattle.std.specs.Prelude.{◌≡◌, ◌<◌, ◌≤◌, ◌+◌, ◌++◌, length};
+ghost use Rattle.std.specs.Prelude.{◌++◌, ◌+◌, ◌<◌, ◌≡◌, ◌≤◌, length};
 ghost use Rattle.pop_text.specs.Bytes.{Writes, count_after, greatest_count};
 ghost use Rattle.pop_print.specs.Faults.{fault_text, message_of as text_of_kind};
 

@@ -1,8 +1,8 @@
 //! The text of a sound problem's head.
-ghost use Rattle.std.specs.Prelude.{◌≡◌, ◌<◌, ◌≤◌, ◌+◌, ◌++◌, ◌||◌, List, ℕ, [], length, codes, if◌then◌else◌};
+ghost use Rattle.std.specs.Prelude.{[], ◌++◌, ◌+◌, ◌<◌, ◌||◌, ◌≡◌, ◌≤◌, if◌then◌else◌, length};
 ghost use Rattle.chess_core.specs.Position.{man_on};
 ghost use Rattle.pop_text.specs.Bytes.{Writes, count_after, greatest_count};
-ghost use Rattle.pop_print.specs.Heads.{board_text, cell_of as letter_on, condition_text as text_of_condition, form_text as text_of_form, goal_text as text_of_goal, checked_text, half_text as text_of_half, head_text, item_line, labelled_text, names_text, rank_text, stipulation_text, stipulation_line};
+ghost use Rattle.pop_print.specs.Heads.{board_text, cell_of as letter_on, checked_text, condition_text as text_of_condition, form_text as text_of_form, goal_text as text_of_goal, half_text as text_of_half, head_text, item_line, labelled_text, names_text, rank_text, stipulation_line, stipulation_text};
 
 use crate::line::{LONGEST, LineBuffer};
 use crate::notation::letter_of;

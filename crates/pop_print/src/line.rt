@@ -1,5 +1,5 @@
 //! A buffer of fixed size for lines.
-ghost use Rattle.std.specs.Prelude.{◌≡◌, ◌<◌, ◌≤◌, ◌+◌, ◌++◌, [], ◌∷◌, length, decimal};
+ghost use Rattle.std.specs.Prelude.{[], ◌++◌, ◌+◌, ◌<◌, ◌∷◌, ◌≡◌, ◌≤◌, decimal, length};
 ghost use Rattle.pop_text.specs.Bytes.{Writes, count_after, greatest_count};
 
 use arrayvec::ArrayVec;

@@ -1,10 +1,10 @@
 //! Sessions: runs that report one item a call.
-ghost use Rattle.std.specs.Prelude.{◌≡◌, ◌==◌, ◌<◌, ◌≤◌, ◌+◌, ◌⊎◌, ◌||◌, IsErr, false, true, is_err, length};
-ghost use Rattle.pop_text.specs.Words.{limit};
+ghost use Rattle.std.specs.Prelude.{◌+◌, ◌<◌, ◌==◌, ◌||◌, ◌≡◌, ◌≤◌, ◌⊎◌, IsErr, false, is_err, length, true};
 ghost use Rattle.pop_text.specs.Bytes.{count_after, greatest_count};
-ghost use Rattle.pop_text.specs.ties.Reading.{IsEndSeen, failures_after};
+ghost use Rattle.pop_text.specs.Words.{limit};
 ghost use Rattle.pop_text.specs.declared.scanner.End.{End};
 ghost use Rattle.pop_text.specs.declared.scanner.TheConstants.{WINDOW};
+ghost use Rattle.pop_text.specs.ties.Reading.{IsEndSeen, failures_after};
 ghost use Rattle.pop_input.specs.FaultKinds.{is_device_failure};
 ghost use Rattle.pop_input.specs.ties.ReaderState.{work_left};
 ghost use Rattle.pop_run.specs.Report.{choice_of};

@@ -1,5 +1,5 @@
 //! Whole runs.
-ghost use Rattle.std.specs.Prelude.{◌<◌, ◌≤◌, ◌+◌, ◌^◌, IfSome, length};
+ghost use Rattle.std.specs.Prelude.{◌+◌, ◌<◌, ◌^◌, ◌≤◌, IfSome, length};
 ghost use Rattle.pop_text.specs.Bytes.{greatest_count};
 ghost use Rattle.pop_text.specs.declared.scanner.TheConstants.{WINDOW};
 ghost use Rattle.pop_run.specs.Report.{choice_of};

@@ -1,6 +1,6 @@
 //! Stipulations.
 ghost use Rattle.std.specs.Prelude.{◌≡◌};
-ghost use Rattle.pop_stipulation.specs.Stipulations.{first_half, half_moves, is_for_stalemate, is_help, goal_side, starting_side};
+ghost use Rattle.pop_stipulation.specs.Stipulations.{first_half, goal_side, half_moves, is_for_stalemate, is_help, starting_side};
 
 use chess_core::man::Colour;
 

@@ -1,9 +1,9 @@
 //! Prefixes of a view: gaps (blanks and line ends), runs (bytes between gaps), plain words and lines.
-ghost use Rattle.std.specs.Prelude.{◌≡◌, ◌<◌, ◌+◌, ◌^◌, [], ◌∷◌, List, ℕ, count_by, drop, length, slice_index, take, false, true, ◌≤◌};
 ghost use Rattle.std.specs.List.{list_all};
+ghost use Rattle.std.specs.Prelude.{◌+◌, ◌<◌, ◌^◌, ◌∷◌, ◌≡◌, ◌≤◌, List, ℕ, count_by, false, length, slice_index, take, true};
 ghost use Rattle.pop_text.specs.Words.{is_gap, is_in_line, is_in_word, is_line_end};
-ghost use Rattle.pop_text.specs.ties.Reading.{AreFirst, Leads};
 ghost use Rattle.pop_text.specs.ties.Plain.{ArePlain, is_named, is_named_front};
+ghost use Rattle.pop_text.specs.ties.Reading.{AreFirst, Leads};
 
 use memchr::memchr;
 

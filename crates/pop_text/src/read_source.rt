@@ -1,7 +1,6 @@
 //! Readers of the standard library as sources.
-ghost use Rattle.std.specs.Prelude.{◌≡◌, ℕ, List, ◌<◌, ◌+◌, ◌^◌, ◌-◌, Option, IfOk, IsOk, IsErr, OnErr};
-ghost use Rattle.std.specs.Io.{ReadsAtMost};
-ghost use Rattle.pop_text.specs.Bytes.{Keeps, Consumes, ReadConsumes, PassesOnRead, count_after, greatest_count};
+ghost use Rattle.std.specs.Prelude.{◌+◌, ◌-◌, ◌<◌, ◌≡◌};
+ghost use Rattle.pop_text.specs.Bytes.{PassesOnRead, count_after, greatest_count};
 
 use crate::source::{Device, Source};
 use std::io;

@@ -1,12 +1,11 @@
 //! The scanner: cuts an input into words and text lines.
-ghost use Rattle.std.specs.Prelude.{◌≡◌, ◌<◌, ◌+◌, ◌-◌, ◌^◌, ◌++◌, ◌⊎◌, ◌≢◌, [], ◌∷◌, List, ℕ, count_by, drop, length, nat_lt, slice_index, Some, None, Ok, take, Option, Err, IfErr, IfOk, IfSome, false, true, ◌≤◌};
-ghost use Rattle.std.specs.List.{list_all};
-ghost use Rattle.pop_text.specs.Words.{limit, is_gap, is_in_line, is_in_word, is_line_end};
+ghost use Rattle.std.specs.Prelude.{[], ◌++◌, ◌+◌, ◌-◌, ◌<◌, ◌^◌, ◌∷◌, ◌≡◌, ◌≢◌, ◌≤◌, ◌⊎◌, Err, IfErr, IfOk, IfSome, List, None, Ok, Option, Some, ℕ, count_by, drop, false, length, nat_lt, take, true};
+ghost use Rattle.pop_text.specs.Words.{is_gap, is_in_line, is_in_word, is_line_end, limit};
+ghost use Rattle.pop_text.specs.declared.read_fault.ReadFault.{ReadFault};
+ghost use Rattle.pop_text.specs.ties.Left.{NextWord, RestOfLine, found_by, found_of};
+ghost use Rattle.pop_text.specs.ties.Plain.{Skips};
 ghost use Rattle.pop_text.specs.ties.Reading.{CallsSource, IsFront, IsView, MayCall, Uses, UsesAll, first_reading};
 ghost use Rattle.pop_text.specs.ties.Runs.{ComesNext, FailsAgain, RunsTo, Sticks, UsesLine, UsesWord};
-ghost use Rattle.pop_text.specs.ties.Plain.{ArePlain, Skips, is_named, is_named_front};
-ghost use Rattle.pop_text.specs.ties.Left.{NextWord, RestOfLine, found_by, found_of};
-ghost use Rattle.pop_text.specs.declared.read_fault.ReadFault.{ReadFault};
 
 use crate::front::{gap_prefix, in_gap, line_front, plain_prefix, run_length};
 use crate::read_fault::ReadFault;

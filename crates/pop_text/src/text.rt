@@ -1,5 +1,5 @@
 //! The text after a text word.
-ghost use Rattle.std.specs.Prelude.{◌≡◌, ◌≤◌, ℕ, List, [], fold, length};
+ghost use Rattle.std.specs.Prelude.{[], ◌≡◌, ◌≤◌, List, ℕ, fold, length};
 ghost use Rattle.pop_text.specs.Words.{is_blank, without_trailing};
 ghost use Rattle.pop_text.specs.ties.Texts.{with_byte};
 

@@ -1,6 +1,6 @@
 //! Sources for tests.
-ghost use Rattle.std.specs.Prelude.{◌≡◌, ◌≢◌, ℕ, List, [], ◌<◌, ◌≤◌, ◌+◌, ◌-◌, Some, drop, length, option_map};
 ghost use Rattle.std.specs.Io.{ReadsAtMost};
+ghost use Rattle.std.specs.Prelude.{[], ◌+◌, ◌-◌, ◌<◌, ◌≡◌, ◌≢◌, ◌≤◌, Some, ℕ, length, option_map};
 ghost use Rattle.pop_text.specs.Bytes.{ReadConsumes, count_after, greatest_count};
 ghost use Rattle.pop_text.specs.ties.Trials.{Gives, bytes_handed_out, cycled_bytes, repeated_bytes, round_of};
 

@@ -1,5 +1,5 @@
 //! Words of an input.
-ghost use Rattle.std.specs.Prelude.{◌≡◌, []};
+ghost use Rattle.std.specs.Prelude.{[], ◌≡◌};
 
 use arrayvec::ArrayVec;
 

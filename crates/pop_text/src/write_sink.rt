@@ -1,7 +1,6 @@
 //! Writers of the standard library as sinks.
-ghost use Rattle.std.specs.Prelude.{◌≡◌, ℕ, List, ◌<◌, ◌≤◌, ◌+◌, ◌^◌, ◌-◌, Option, IfOk, IsOk, IsErr, OnErr, OnOk, length};
-ghost use Rattle.std.specs.Io.{WritesAtMost};
-ghost use Rattle.pop_text.specs.Bytes.{Keeps, Appends, PassesOnWrite, WriteAppends, count_after, greatest_count, Writes};
+ghost use Rattle.std.specs.Prelude.{◌+◌, ◌-◌, ◌<◌, ◌≡◌, length};
+ghost use Rattle.pop_text.specs.Bytes.{PassesOnWrite, count_after, greatest_count};
 
 use crate::sink::{Sink, SinkFault};
 use std::io;
