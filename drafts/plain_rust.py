@@ -1,115 +1,27 @@
 #!/usr/bin/env python3
-"""Turns crates/*/src/*.rt of a tree into one plain Rust crate. strip.py TREE OUT"""
-import re, sys, os, pathlib
-TREE, OUT = pathlib.Path(sys.argv[1]), pathlib.Path(sys.argv[2])
-CRATES = ['chess_core','chess_attacks','chess_rules','chess_mates','pop_text','pop_input','pop_events','pop_battle','pop_solve','pop_print','run_settings','pop_run']
-CRATES = [c for c in CRATES if (TREE/'crates'/c).exists()]
-EXT = ['arrayvec','memchr','itoa']
+"""Makes one crate of plain Rust from the crates of a tree, to measure its speed: plain_rust.py TREE OUT"""
 
-def balanced(t, i, o='{', c='}'):
-    # Returns the index after the bracket that closes the one at i
-    d = 0
-    while True:
-        ch = t[i]
-        if ch == o: d += 1
-        elif ch == c:
-            d -= 1
-            if d == 0: return i+1
-        i += 1
+import re
+import sys
+from pathlib import Path
 
-def strip(t, crate):
-    out, i = [], 0
-    # ghost items and clauses begin a line
-    pat = re.compile(r'(?m)^[ \t]*(?:(?P<ghost>ghost )|(?P<clause>(?:requires|ensures|decreases)\b)|(?P<model>impl(?:<[^{]*?>)? Model for )|(?P<tactic>#!?\[tactic\())')
-    while True:
-        m = pat.search(t, i)
-        if not m:
-            out.append(t[i:]); break
-        out.append(t[i:m.start()])
-        j = m.end()
-        if m.group('ghost'):
-            d = 0
-            while True:
-                ch = t[j]
-                if ch in '{(': d += 1
-                elif ch in '})': d -= 1
-                elif ch == ';' and d == 0: break
-                j += 1
-            i = j+1
-        elif m.group('clause'):
-            j = t.index('{', j)
-            i = balanced(t, j)
-            if t[i:i+1] == ';':
-                pass
-        elif m.group('model'):
-            j = t.index('{', j)
-            i = balanced(t, j)
-        else:
-            j = t.index('[', m.start())
-            i = balanced(t, j, '[', ']')
-    t = ''.join(out)
-    t = re.sub(r'\bfinal fn\b', 'fn', t)
-    t = re.sub(r'use std::alloc::AllocError;\n', '', t)
-    t = re.sub(r'use std::marker::Model;\n', '', t)
-    t = re.sub(r'use std::marker::\{Model, PhantomData\};', 'use std::marker::PhantomData;', t)
-    # Clone by hand
-    def clone(m): return m.group(1) + '{\n    #[inline(always)]\n    fn clone(&self) -> Self { *self }\n}'
-    k = 0
-    while True:
-        m = re.compile(r'(impl(?:<[^{]*?>)? Clone for [^{]*)\{').search(t, k)
-        if not m: break
-        e = balanced(t, m.end()-1)
-        s = clone(m)
-        t = t[:m.start()] + s + t[e:]
-        k = m.start() + len(s)
-    # derives
-    def where(m):
-        traits = [x.strip() for x in m.group(1).split(',')]
-        name = re.match(r'((?:\s*#\[.*\]\n|\s*//.*\n)*)\s*pub(?:\(crate\))? (?:struct|enum) (\w+)(<[^>{]*>)?', t2[m.end():])
-        return ''
-    t2 = t
-    extra = []
-    for m in re.finditer(r'#\[derive_where\(([^)]*)\)\]\n((?:\s*#\[.*\]\n|\s*//.*\n)*)\s*pub(?:\(crate\))? (?:struct|enum) (\w+)<([^>]*)>', t):
-        gen = m.group(4)
-        names = ', '.join(g.split(':')[0].strip() for g in gen.split(','))
-        for tr in [x.strip() for x in m.group(1).split(',')]:
-            if tr == 'Copy': extra.append(f'impl<{gen}> Copy for {m.group(3)}<{names}> {{}}\n')
-            elif tr == 'Clone': extra.append(f'impl<{gen}> Clone for {m.group(3)}<{names}> {{ #[inline(always)] fn clone(&self) -> Self {{ *self }} }}\n')
-    t = re.sub(r'#\[derive_where\([^)]*\)\]\n', '', t)
-    def der(m):
-        l = [x.strip() for x in m.group(1).split(',') if x.strip() and x.strip() != 'Drop']
-        return f'#[derive({", ".join(l)})]' if l else ''
-    t = re.sub(r'#\[derive\(([^)]*)\)\]', der, t)
-    t = re.sub(r'(?<![:\w])crate::', f'crate::{crate}::', t)
-    t = re.sub(r'(?<![:\w])(' + '|'.join(CRATES+EXT) + r')::', r'crate::\1::', t)
-    t = t.replace('crate::crate::', 'crate::')
-    t = re.sub(r': Drop\b', '', t); t = re.sub(r' \+ Drop\b', '', t)
-    t = re.sub(r'#!?\[rattlefmt::skip\]\n', '', t)
-    t = t + ''.join(extra)
-    t = re.sub(r'\n[ \t]*\n([ \t]*\n)+', '\n\n', t)
-    return t
-
-src = OUT/'src'
-src.mkdir(parents=True, exist_ok=True)
-for c in CRATES:
-    base = TREE/'crates'/c/'src'
-    for f in base.rglob('*.rt'):
-        r = f.relative_to(base)
-        if 'tests' in str(r) or r.name in ('trial_source.rt','trial_sink.rt','read_source.rt','write_sink.rt'): continue
-        t = f.read_text()
-        t = strip(t, c)
-        if str(r) == 'lib.rt':
-            t = re.sub(r'(?m)^(pub )?(mod|use) [^;]*(trial_source|trial_sink|read_source|write_sink)[^;]*;\n', '', t)
-            t = re.sub(r'(?m)^//!.*\n', '', t)
-            o = src/c/'mod.rs'
-        else:
-            o = src/c/r.with_suffix('.rs')
-        o.parent.mkdir(parents=True, exist_ok=True)
-        t = t.replace('#[cfg(test)]\nmod tests;\n','')
-        if c == 'chess_core' and r.name == 'square.rt':
-            t = re.sub(r'(pub (?:const )?fn index\(self\) -> u8\s*)\{', r'\1{\n        unsafe { std::hint::assert_unchecked(self.number < 64) };', t)
-        o.write_text(t)
-(src/'arrayvec.rs').write_text('''//! Fixed room.
+CRATES = [
+    "chess_core", "chess_attacks", "chess_rules", "chess_mates", "pop_text", "pop_input", "pop_events", "pop_battle", "pop_solve",
+    "pop_print", "run_settings", "pop_run",
+]
+STAND_INS = ["arrayvec", "memchr", "itoa"]
+# Files that only tests and the proved program use.
+LEFT_OUT = ("trial_source.rt", "trial_sink.rt", "read_source.rt", "write_sink.rt")
+# Ghost items and clauses: each begins a line.
+GHOST = re.compile(
+    r"(?m)^[ \t]*(?:(?P<ghost>ghost )|(?P<clause>(?:requires|ensures|decreases)\b)"
+    r"|(?P<model>impl(?:<[^{]*?>)? Model for )|(?P<tactic>#!?\[tactic\())"
+)
+CLONE = re.compile(r"(impl(?:<[^{]*?>)? Clone for [^{]*)\{")
+DERIVED = re.compile(
+    r"#\[derive_where\(([^)]*)\)\]\n((?:\s*#\[.*\]\n|\s*//.*\n)*)\s*pub(?:\(crate\))? (?:struct|enum) (\w+)<([^>]*)>"
+)
+ARRAYVEC = '''//! Fixed room.
 use std::mem::MaybeUninit;
 pub struct CapacityError;
 pub struct ArrayVec<T, const N: usize> { n: usize, cells: [MaybeUninit<T>; N] }
@@ -133,10 +45,12 @@ impl<T: Copy, const N: usize> std::ops::Deref for ArrayVec<T, N> { type Target =
 impl<T: Copy, const N: usize> std::ops::DerefMut for ArrayVec<T, N> { #[inline(always)] fn deref_mut(&mut self) -> &mut [T] { self.as_mut_slice() } }
 impl<T: Copy, const N: usize> Clone for ArrayVec<T, N> { fn clone(&self) -> Self { let mut v = Self::new(); for &x in self.as_slice() { v.push(x); } v } }
 impl<'a, T: Copy, const N: usize> IntoIterator for &'a ArrayVec<T, N> { type Item = &'a T; type IntoIter = std::slice::Iter<'a, T>; fn into_iter(self) -> Self::IntoIter { self.as_slice().iter() } }
-''')
-(src/'memchr.rs').write_text('pub fn memchr(b: u8, s: &[u8]) -> Option<usize> { s.iter().position(|&x| x == b) }\n')
-(src/'itoa.rs').write_text('pub struct Buffer(String);\nimpl Buffer { pub fn new() -> Self { Buffer(String::new()) } pub fn format<T: std::fmt::Display>(&mut self, x: T) -> &str { self.0 = x.to_string(); &self.0 } }\n')
-(src/'main.rs').write_text('#![allow(warnings)]\n' + ''.join(f'mod {c};\n' for c in CRATES+EXT) + '''
+'''
+MEMCHR = "pub fn memchr(b: u8, s: &[u8]) -> Option<usize> { s.iter().position(|&x| x == b) }\n"
+ITOA = """pub struct Buffer(String);
+impl Buffer { pub fn new() -> Self { Buffer(String::new()) } pub fn format<T: std::fmt::Display>(&mut self, x: T) -> &str { self.0 = x.to_string(); &self.0 } }
+"""
+MAIN = '''
 use std::io::{Read, Write};
 use pop_text::source::{Device, Source};
 use pop_text::sink::{Sink, SinkFault};
@@ -154,7 +68,139 @@ fn main() {
     use pop_run::status::Status;
     std::process::exit(match status { Status::Sound => 0, Status::Faulty => 1, _ => 3 });
 }
-''')
-(OUT/'Cargo.toml').write_text('[package]\nname = "plain"\nversion = "0.1.0"\nedition = "2021"\n[features]\n[profile.release]\nopt-level = 3\ncodegen-units = 1\npanic = "abort"\nlto = "fat"\ndebug = 1\n[workspace]\n')
-(OUT/'.cargo').mkdir(exist_ok=True)
-(OUT/'.cargo/config.toml').write_text('[build]\nrustflags = ["-Ctarget-cpu=x86-64-v2"]\n')
+'''
+CARGO = """[package]
+name = "plain"
+version = "0.1.0"
+edition = "2021"
+[features]
+[profile.release]
+opt-level = 3
+codegen-units = 1
+panic = "abort"
+lto = "fat"
+debug = 1
+[workspace]
+"""
+CARGO_CONFIG = '[build]\nrustflags = ["-Ctarget-cpu=x86-64-v2"]\n'
+
+
+def after_closing(text: str, at: int, opening: str = "{", closing: str = "}") -> int:
+    """Returns the place after the bracket that closes the one at this place."""
+    depth = 0
+    while True:
+        depth += (text[at] == opening) - (text[at] == closing)
+        at += 1
+        if depth == 0 and text[at - 1] == closing:
+            return at
+
+
+def after_ghost(text: str, at: int) -> int:
+    """Returns the place after a ghost item: after its semicolon outside of brackets."""
+    depth = 0
+    while text[at] != ";" or depth:
+        depth += (text[at] in "{(") - (text[at] in "})")
+        at += 1
+    return at + 1
+
+
+def without_ghosts(text: str) -> str:
+    """Removes ghost items, clauses, models and tactics."""
+    kept, at = [], 0
+    while (found := GHOST.search(text, at)) is not None:
+        kept.append(text[at : found.start()])
+        if found["ghost"]:
+            at = after_ghost(text, found.end())
+        elif found["tactic"]:
+            at = after_closing(text, text.index("[", found.start()), "[", "]")
+        else:
+            at = after_closing(text, text.index("{", found.end()))
+    return "".join([*kept, text[at:]])
+
+
+def with_plain_clones(text: str) -> str:
+    """Replaces the body of each written clone by a copy."""
+    at = 0
+    while (found := CLONE.search(text, at)) is not None:
+        end = after_closing(text, found.end() - 1)
+        body = found[1] + "{\n    #[inline(always)]\n    fn clone(&self) -> Self { *self }\n}"
+        text = text[: found.start()] + body + text[end:]
+        at = found.start() + len(body)
+    return text
+
+
+def derived(text: str) -> str:
+    """Writes what `derive_where` derives for each type."""
+    written = []
+    for traits, _, name, parameters in DERIVED.findall(text):
+        names = ", ".join(it.split(":")[0].strip() for it in parameters.split(","))
+        for it in (trait.strip() for trait in traits.split(",")):
+            if it == "Copy":
+                written.append(f"impl<{parameters}> Copy for {name}<{names}> {{}}\n")
+            elif it == "Clone":
+                clone = "#[inline(always)] fn clone(&self) -> Self { *self }"
+                written.append(f"impl<{parameters}> Clone for {name}<{names}> {{ {clone} }}\n")
+    return "".join(written)
+
+
+def without_drop(derive: "re.Match[str]") -> str:
+    """Returns a list of derived traits without Drop."""
+    traits = [it.strip() for it in derive[1].split(",") if it.strip() and it.strip() != "Drop"]
+    return f"#[derive({', '.join(traits)})]" if traits else ""
+
+
+def plain(text: str, crate: str, crates: list[str]) -> str:
+    """Turns a file of a crate into plain Rust within one crate."""
+    text = re.sub(r"\bfinal fn\b", "fn", without_ghosts(text))
+    text = text.replace("use std::alloc::AllocError;\n", "").replace("use std::marker::Model;\n", "")
+    text = text.replace("use std::marker::{Model, PhantomData};", "use std::marker::PhantomData;")
+    text = with_plain_clones(text)
+    more = derived(text)
+    text = re.sub(r"#\[derive_where\([^)]*\)\]\n", "", text)
+    text = re.sub(r"#\[derive\(([^)]*)\)\]", without_drop, text)
+    text = re.sub(r"(?<![:\w])crate::", f"crate::{crate}::", text)
+    text = re.sub(r"(?<![:\w])(" + "|".join([*crates, *STAND_INS]) + r")::", r"crate::\1::", text)
+    text = text.replace("crate::crate::", "crate::")
+    text = re.sub(r" \+ Drop\b", "", re.sub(r": Drop\b", "", text))
+    text = re.sub(r"#!?\[rattlefmt::skip\]\n", "", text) + more
+    return re.sub(r"\n[ \t]*\n([ \t]*\n)+", "\n\n", text)
+
+
+def write_crate(base: Path, crate: str, crates: list[str], folder: Path) -> None:
+    """Writes the files of a crate as a module."""
+    for file in base.rglob("*.rt"):
+        name = file.relative_to(base)
+        if "tests" in str(name) or name.name in LEFT_OUT:
+            continue
+        text = plain(file.read_text(), crate, crates)
+        path = folder / name.with_suffix(".rs")
+        if str(name) == "lib.rt":
+            text = re.sub(r"(?m)^(pub )?(mod|use) [^;]*(trial_source|trial_sink|read_source|write_sink)[^;]*;\n", "", text)
+            text = re.sub(r"(?m)^//!.*\n", "", text)
+            path = folder / "mod.rs"
+        path.parent.mkdir(parents=True, exist_ok=True)
+        text = text.replace("#[cfg(test)]\nmod tests;\n", "")
+        if crate == "chess_core" and name.name == "square.rt":
+            head = r"(pub (?:const )?fn index\(self\) -> u8\s*)\{"
+            text = re.sub(head, r"\1{\n        unsafe { std::hint::assert_unchecked(self.number < 64) };", text)
+        path.write_text(text)
+
+
+def main() -> None:
+    tree, out = Path(sys.argv[1]), Path(sys.argv[2])
+    crates = [it for it in CRATES if (tree / "crates" / it).exists()]
+    source = out / "src"
+    source.mkdir(parents=True, exist_ok=True)
+    for crate in crates:
+        write_crate(tree / "crates" / crate / "src", crate, crates, source / crate)
+    for name, text in (("arrayvec", ARRAYVEC), ("memchr", MEMCHR), ("itoa", ITOA)):
+        (source / f"{name}.rs").write_text(text)
+    modules = "".join(f"mod {it};\n" for it in [*crates, *STAND_INS])
+    (source / "main.rs").write_text(f"#![allow(warnings)]\n{modules}{MAIN}")
+    (out / "Cargo.toml").write_text(CARGO)
+    (out / ".cargo").mkdir(exist_ok=True)
+    (out / ".cargo/config.toml").write_text(CARGO_CONFIG)
+
+
+if __name__ == "__main__":
+    main()
