@@ -2,6 +2,7 @@
 
 import importlib.metadata
 import shutil
+import sys
 from pathlib import Path
 
 # The folder of the commands: in a clone, or PREFIX/share/pops/companions.
@@ -20,6 +21,8 @@ def version() -> str:
 
 
 def command(name: str) -> str:
-    """Returns the path of another companion."""
-    beside = COMPANIONS / name
-    return str(beside) if beside.is_file() else shutil.which(name) or name
+    """Returns the path of another companion: in their folder, or where pip installed this one."""
+    for folder in (COMPANIONS, Path(sys.argv[0]).resolve().parent):
+        if (folder / name).is_file():
+            return str(folder / name)
+    return shutil.which(name) or name

@@ -3,7 +3,6 @@
 import importlib
 import importlib.util
 import os
-import shutil
 import subprocess
 import sys
 import tempfile
@@ -49,11 +48,6 @@ class Outcome(NamedTuple):
 def needs_module(name: str) -> Callable[[Test], Test]:
     """Leaves a test out, with a line that says so, where this module isn't installed."""
     return unittest.skipUnless(importlib.util.find_spec(name), f"{name} isn't installed")
-
-
-def needs_program(name: str) -> Callable[[Test], Test]:
-    """Leaves a test out, with a line that says so, where this program isn't installed."""
-    return unittest.skipUnless(shutil.which(name), f"{name} isn't installed")
 
 
 def pops() -> str:

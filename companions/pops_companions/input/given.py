@@ -2,11 +2,12 @@
 
 import re
 from dataclasses import dataclass
-from typing import Optional
+from typing import NamedTuple, Optional
 
 from pops_companions.chess.stipulation import Stipulation
 from pops_companions.input.pieces import Piece, cut
-from pops_companions.input.words import TextLine, TextWord, Word, is_short_for
+from pops_companions.input.reading import SECTIONS, Section
+from pops_companions.input.words import TextLine, TextWord, Word, is_short_for, named
 
 # The most bytes of a title or an author in a report, and what is cut off at both ends.
 LONGEST_TEXT = 200
@@ -14,6 +15,13 @@ _BLANKS = b" \t\v\f\r"
 _WANTED = re.compile(
     rb"\s*(?:solutions?\s*:?\s*([0-9]{1,9})|([0-9]{1,9})\s+solutions?)\s*\.?\s*", re.IGNORECASE
 )
+
+
+class GivenSection(NamedTuple):
+    """A command with the words after it; words before the first command make a section of none."""
+
+    command: Optional[Section]
+    words: list[bytes]
 
 
 @dataclass(frozen=True)
@@ -56,13 +64,27 @@ class GivenProblem:
     @property
     def stipulation(self) -> Optional[Stipulation]:
         """Its stipulation; None where pops would find a fault in it."""
-        for word, following in zip(self.words, self.words[1:]):
-            if is_short_for(word, "Stipulation"):
+        for section in self.sections:
+            if section.command is Section.STIPULATION and len(section.words) > 1:
                 try:
-                    return Stipulation.of_text(following.decode("latin-1").lower())
+                    return Stipulation.of_text(section.words[1].decode("latin-1").lower())
                 except ValueError:
                     return None
         return None
+
+    @property
+    def sections(self) -> list[GivenSection]:
+        """Its sections, in order."""
+        sections: list[GivenSection] = []
+        for word in self.words:
+            command = named(word, SECTIONS)
+            if command is not None:
+                sections.append(GivenSection(Section(command), [word]))
+            elif sections:
+                sections[-1].words.append(word)
+            else:
+                sections.append(GivenSection(None, [word]))
+        return sections
 
     @property
     def wanted(self) -> Optional[int]:

@@ -158,6 +158,7 @@ class Reading:
     stipulation_word: Optional[Word] = None
     condition: Optional[Condition] = None
     condition_word: Optional[Word] = None
+    limit: Optional[int] = None
     crossed: Optional[Square] = None
     crossed_word: Optional[Word] = None
     openers: list[Word] = field(default_factory=list)
@@ -248,6 +249,8 @@ def _value(reading: Reading, word: Word, squares: list[Square]) -> Optional[Faul
         reading.crossed, reading.crossed_word = squares[0], word
     elif not is_number(word.bytes) or not 1 <= int(word.bytes) <= MOST_SOLUTIONS:
         return FaultKind.BAD_NUMBER
+    else:
+        reading.limit = int(word.bytes)
     reading.awaited = reading.option = None
     return None
 

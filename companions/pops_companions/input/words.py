@@ -109,9 +109,3 @@ def tokens_in(text: bytes, start: int, stop: int, line: int) -> Iterator[Token]:
         end = stop if end < 0 else end
         yield TextLine(word, TextWord(name), text[place:end])
         place = end
-
-
-def words_of(text: bytes) -> list[bytes]:
-    """Returns the words of a text without its text lines."""
-    tokens = tokens_in(text, 0, len(text), 1)
-    return [token.bytes for token in tokens if isinstance(token, Word)]

@@ -8,7 +8,8 @@ import re
 from collections.abc import Iterable, Iterator
 from typing import NamedTuple, Optional
 
-from pops_companions.input.words import is_short_for, words_of
+from pops_companions.input.pieces import cut
+from pops_companions.input.reading import FaultKind, read_piece
 from pops_companions.many.tasks import Task
 from pops_companions.report import lines
 
@@ -78,18 +79,11 @@ def phases_listed(listed: bytes) -> list[Phase]:
 
 
 def limit_of(text: bytes) -> Optional[int]:
-    """Returns the limit of the last MaxSolutions of a sound problem, where it has one.
-
-    Its number is the next word; text lines may stand before it.
-    """
-    limit = None
-    words = words_of(text)
-    for word, number in zip(words, words[1:]):
-        if is_short_for(word, "MaxSolutions"):
-            if not number.isdigit():
-                raise PartsError("no number after MaxSolutions")
-            limit = int(number)
-    return limit
+    """Returns the limit of the last MaxSolutions of a sound problem, where it has one."""
+    reading = read_piece(text, cut(text)[0])
+    if reading.number is FaultKind.BAD_NUMBER:
+        raise PartsError("no number after MaxSolutions")
+    return reading.limit
 
 
 def head_of(checked: bytes) -> bytes:

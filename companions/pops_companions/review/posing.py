@@ -7,10 +7,10 @@ from typing import Optional
 
 from pops_companions.chess.stipulation import Condition, Play, Stipulation
 from pops_companions.input.given import GivenProblem
+from pops_companions.input.reading import Section
 from pops_companions.input.words import is_short_for
 from pops_companions.report.items import AnyItem, Board, HelpLine, PhaseKind, SoundItem
 
-_SECTIONS = ("pieces", "stipulation", "condition", "option")
 _OPTIONS_LEFT_OUT = ("setplay", "variation")
 _TITLE = re.compile(rb"(\S+) of problem ([1-9][0-9]{0,8})")
 
@@ -43,22 +43,22 @@ def posed_problems(problems: Iterable[GivenProblem]) -> Iterator[list[str]]:
             continue
         for stipulation in shorter(asked):
             title = f"Title {stipulation.text} of problem {problem.number}"
-            yield [title, *_sections(problem.words, stipulation)]
+            yield [title, *_sections(problem, stipulation)]
 
 
-def _sections(words: Iterable[bytes], stipulation: Stipulation) -> list[str]:
-    sections: list[list[str]] = []
-    for word in words:
-        if any(is_short_for(word, option) for option in _OPTIONS_LEFT_OUT):
-            continue
-        text = word.decode("utf-8", "surrogateescape")
-        if any(is_short_for(word, section) for section in _SECTIONS) or not sections:
-            sections.append([text])
-        elif is_short_for(sections[-1][0].encode("utf-8", "surrogateescape"), "stipulation"):
-            sections[-1].append(stipulation.text)
-        else:
-            sections[-1].append(text)
-    return [" ".join(section) for section in sections if len(section) > 1]
+def _sections(problem: GivenProblem, stipulation: Stipulation) -> Iterator[str]:
+    """Yields its sections with another stipulation, each on a line; those left empty are left out."""
+    for section in problem.sections:
+        kept = (it for it in section.words if not _is_left_out(it))
+        words = [word.decode("utf-8", "surrogateescape") for word in kept]
+        if section.command is Section.STIPULATION:
+            words[1:] = [stipulation.text for _ in words[1:]]
+        if len(words) > 1:
+            yield " ".join(words)
+
+
+def _is_left_out(word: bytes) -> bool:
+    return any(is_short_for(word, option) for option in _OPTIONS_LEFT_OUT)
 
 
 @dataclass(frozen=True)
