@@ -2,7 +2,7 @@
 """Turns crates/*/src/*.rt of a tree into one plain Rust crate. strip.py TREE OUT"""
 import re, sys, os, pathlib
 TREE, OUT = pathlib.Path(sys.argv[1]), pathlib.Path(sys.argv[2])
-CRATES = ['chess_core','chess_attacks','chess_rules','chess_mates','pop_text','pop_input','pop_events','pop_battle','pop_solve','pop_print','run_settings','pop_run']
+CRATES = ['chess_core','chess_attacks','chess_rules','chess_mates','pop_text','pop_stipulation','pop_input','pop_events','pop_battle','pop_solve','pop_print','run_settings','pop_run']
 CRATES = [c for c in CRATES if (TREE/'crates'/c).exists()]
 EXT = ['arrayvec','memchr','itoa']
 
