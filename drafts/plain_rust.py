@@ -6,7 +6,7 @@ import sys
 from pathlib import Path
 
 CRATES = [
-    "chess_core", "chess_attacks", "chess_rules", "chess_mates", "pop_text", "pop_input", "pop_events", "pop_battle", "pop_solve",
+    "chess_core", "chess_attacks", "chess_rules", "chess_mates", "pop_text", "pop_stipulation", "pop_input", "pop_events", "pop_battle", "pop_solve",
     "pop_print", "run_settings", "pop_run",
 ]
 STAND_INS = ["arrayvec", "memchr", "itoa"]

@@ -11,7 +11,6 @@ ghost use Rattle.chess_rules.specs.ties.Places.{moves_between, per_origin};
 ghost use Rattle.chess_rules.specs.ties.Blockers.{may_expose};
 ghost use Rattle.chess_rules.specs.ties.Targets.{AreCandidates};
 
-use crate::blockers::fairy_lines;
 use crate::evasions::rebirth_captures;
 use crate::legal::is_legal;
 use crate::legal_moves::LegalityMasks;
@@ -49,17 +48,18 @@ fn count_from(word: Squares, from: u8) -> u16
     (word >> from).count_ones() as u16
 }
 
-// Returns the squares where a move of this man, not a king, needs a test of its own: the squares on
-// fairy lines of its king, the en passant square, and the squares of captures with rebirth and of
-// promotion.
+// Returns the squares where a move of this man, not a king, needs a test of its own: the squares of en
+// passant, rebirth and promotion, and `blocker_squares`, from which a move may expose the mover's king. They
+// hold the king's fairy lines.
 #[tactic(auto, using(crate::proofs::listing_moves::SurelyLegal::unsure_word))]
-fn untested_squares<R: Rules>(board: &Board, man: Man) -> Squares
+fn untested_squares<R: Rules>(board: &Board, man: Man, blocker_squares: Squares) -> Squares
+    requires { blocker_squares ≡ word (may_expose board.now.men board.now.turn) }
     ensures { result ≡ word (is_untested R.rule board.now man) }
 {
-    fairy_lines(board, board.turn())
-        | only(board.crossed())
+    only(board.crossed())
         | rebirth_captures::<R>(board)
         | promoting_squares(man)
+        | blocker_squares
 }
 
 // Returns whether all moves of the man on `from` to `squares` are certainly legal and none promotes.
@@ -90,7 +90,7 @@ fn are_surely_legal<R: Rules>(
     if contains(blocker_squares, from) {
         return false;
     }
-    squares & untested_squares::<R>(board, man) == 0
+    squares & untested_squares::<R>(board, man, blocker_squares) == 0
 }
 
 // Returns whether all moves of the man on `from` to the squares of `given` are certainly legal. Needs no

@@ -6,11 +6,16 @@ use Rattle.chess_rules.proofs.listing_moves.Targeting.{no_pawn_arrives}
 use Rattle.chess_rules.proofs.listing_moves.Walks.{off_second}
 use Rattle.chess_attacks.proofs.Bits.{off_zero}
 
+-- the king's fairy lines are among the squares from which a move may expose it
+off_lines : (p : Position) (t : ℕ) → may_expose p.men p.turn t ≡ false → may_be_hurdle p.men p.turn t ≡ false
+unfolding may_expose may_be_hurdle
+off_lines p t off = search (rules, or_parts)
+
 -- a move to a square that is sure changes nothing else, and uncovers no king
 sure_unexposed : (rule : RuleSet) (p : Position) (x : Man) (m : Move) → man_on p.men m.from ≡ Some x → same_kind x.kind King ≡ false
     → may_expose p.men p.turn m.from ≡ false → is_untested rule p x m.to ≡ false → (cannot_expose rule p p.turn m ≡ true) × (is_promoting x m.to ≡ false)
 unfolding cannot_expose is_plain is_untested
-sure_unexposed rule p x m here piece from sure = search (rules, and_from, and_left, or_parts)
+sure_unexposed rule p x m here piece from sure = search (rules, and_from, and_left, off_lines, or_parts)
 
 -- each move to a sure square by a man that isn't the king and blocks no line to it is legal
 pub surely_legal : (rule : RuleSet) (p : Position) (x : Man) (s w v u : ℕ) → IsWellFormed p → man_on p.men s ≡ Some x → s < 64
@@ -36,13 +41,13 @@ surely_legal rule p x s w v u well here small are piece blockers unblocking unsu
 reborn_word : (b : Bool) (test : ℕ → Bool) → (if b then word test else 0) ≡ word (λ t. b && test t)
 reborn_word b test = search (rules, word_empty)
 
--- the word of the squares that aren't sure: those on the lines of fairy men, the en passant square, those
--- with men that may be reborn, and a pawn's last rank
-pub unsure_word : (rule : RuleSet) (p : Position) (x : Man) (f c r l : ℕ) → f ≡ word (may_be_hurdle p.men p.turn) → c ≡ word (λ t. is_square p.crossed t)
+-- the word of the squares that aren't sure: the en passant square, those with men that may be reborn, a
+-- pawn's last rank, and those from which a move may expose the king
+pub unsure_word : (rule : RuleSet) (p : Position) (x : Man) (c r l v : ℕ) → c ≡ word (λ t. is_square p.crossed t)
     → r ≡ (if captures_do_more rule then word (λ t. is_some (man_on p.men t)) else 0) → l ≡ word (is_promoting x)
-    → bit_or (bit_or (bit_or f c) r) l ≡ word (is_untested rule p x)
+    → v ≡ word (may_expose p.men p.turn) → bit_or (bit_or (bit_or c r) l) v ≡ word (is_untested rule p x)
 unfolding is_untested
-unsure_word rule p x f c r l hf hc hr hl = joined _ _ _ _ (joined _ _ _ _ (joined _ _ _ _ hf hc) (hr ∙ reborn_word _ _)) hl
+unsure_word rule p x c r l v hc hr hl hv = joined _ _ _ _ (joined _ _ _ _ (joined _ _ _ _ hc (hr ∙ reborn_word _ _)) hl) hv
 
 -- the squares on which a pawn is promoted
 pub promoting_word : (x : Man) (n : ℕ) → same_kind x.kind Pawn ≡ true → n ≡ word (λ t. rank_of t == last_rank x.colour) → n ≡ word (is_promoting x)

@@ -11,7 +11,7 @@ use Rattle.chess_rules.specs.declared.counting.Candidates.{Candidates}
 use Rattle.chess_rules.specs.declared.counting.Legality.TheVariants.{Sure}
 use Rattle.chess_rules.specs.declared.legal_moves.LegalityMasks.{LegalityMasks}
 use Rattle.chess_rules.specs.ties.Evasions.{AreEvasions}
-use Rattle.chess_rules.specs.ties.Blockers.{may_expose, may_be_hurdle}
+use Rattle.chess_rules.specs.ties.Blockers.{may_expose}
 use Rattle.chess_rules.specs.ties.Targets.{AreCandidates, is_promoting}
 
 -- the masks k belong to position p
@@ -19,12 +19,12 @@ pub record IsKnownIn (rule : RuleSet) (p : Position) (k : LegalityMasks) : Type 
   pub blocker_squares : k.blocker_squares ≡ word (may_expose p.men p.turn)
   pub evasion_squares : AreEvasions rule p.men p.turn k.evasion_squares
 
--- the arrival of x, not a king, on t may do more than change its two squares: it is on a fairy line of its
--- king, captures en passant, captures a man that is reborn, or promotes
+-- the arrival of x, not a king, on t may do more than change its two squares: it captures en passant,
+-- captures a man that is reborn, or promotes; or a move from t may expose the king, as from its fairy lines
 unfoldable pub is_untested : RuleSet → Position → Man → ℕ → Bool
 is_untested rule p x t =
-    may_be_hurdle p.men p.turn t || is_square p.crossed t
-    || (captures_do_more rule && is_some (man_on p.men t)) || is_promoting x t
+    is_square p.crossed t || (captures_do_more rule && is_some (man_on p.men t)) || is_promoting x t
+    || may_expose p.men p.turn t
 
 -- each move of the man on s to a square of the bitboard w is legal and doesn't promote
 pub record AreLegal (rule : RuleSet) (p : Position) (s w : ℕ) : Type 0 where
