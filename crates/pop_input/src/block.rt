@@ -29,13 +29,23 @@ pub struct Block {
 }
 
 impl Block {
-    /// Returns a block before its first token. `first` says whether it is the first block of the input.
-    pub(crate) fn new(first: bool) -> Block
-        ensures { IsNew first result }
+    /// Returns the first block of the input, before its first token.
+    pub(crate) fn first() -> Block
+        ensures { IsNew true result }
+    {
+        Block {
+            begun: false,
+            ..Block::later()
+        }
+    }
+
+    /// Returns a later block of the input, before its first token.
+    pub(crate) fn later() -> Block
+        ensures { IsNew false result }
     {
         Block {
             fault: None,
-            begun: !first,
+            begun: true,
             draft: Draft::new(),
             title: Text::empty(),
             author: Text::empty(),
