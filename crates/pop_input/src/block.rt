@@ -1,5 +1,5 @@
 //! A block while it is read. A block is one problem's words, up to NextProblem or EndProblem.
-ghost use Rattle.std.specs.Prelude.{◌≡◌, ℕ, List, [], None, Some, not, true};
+ghost use Rattle.std.specs.Prelude.{◌≡◌, None, Some, false, true};
 ghost use Rattle.pop_input.specs.Names.{or_else};
 ghost use Rattle.pop_input.specs.FaultKinds.{at_line, fault_at};
 ghost use Rattle.pop_input.specs.ties.Closings.{IsNew, ReadsWord, TakesLine, ended_item, entry_now, item_of, draft_of_next};
