@@ -29,7 +29,8 @@ module _ (rule : RuleSet) (p : Position) (well : IsWellFormed p) (e : SomeFails 
   before = place_of (Some e.move) - 1
 
   cut : moves rule p ≡ moves_between rule p 0 before ++ e.move ∷ moves_after rule p (place_of (Some e.move))
-  cut = sym (after_start rule p) ∙ after_cut rule p 0 before (omega arith) ∙ ap (λ ms. moves_between rule p 0 before ++ ms) (after_back rule p e.move well e.legal)
+  cut = sym (after_start rule p) ∙ after_cut rule p 0 before (omega arith)
+      ∙ ap (λ ms. moves_between rule p 0 before ++ ms) (after_back rule p e.move well e.legal)
 
   many : 1 ≤ length (moves rule p)
   many = rw (cut, length-append (moves_between rule p 0 before)) (omega arith)

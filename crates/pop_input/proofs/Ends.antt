@@ -18,6 +18,12 @@ abbrev pub block_of : Bool → Next
 block_of true = First
 block_of false = Later
 
+-- whether the first block is next
+abbrev pub is_first : Next → Bool
+is_first First = true
+is_first Later = false
+is_first Nothing = false
+
 -- an entry that was read is the next item
 read_item : (old new : ReaderState) (had left : Option (List ℕ)) (entry : Entry) (last : Last) → new.next ≡ next_after last
     → Reads old new had left (entry ∷ []) → NextItem old new had left (item_of entry last)

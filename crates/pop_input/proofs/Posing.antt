@@ -14,7 +14,8 @@ module _ (men : List (Option Man)) (castling_forbidden : Unmoved) where
 well_formed_by : (draft : Draft) (form : Form) → ArePut draft.men → is_en_passant_square_right draft.men (starting_side form) draft.crossed ≡ true
     → IsWellFormed (position_of (diagram_of draft form))
 unfolding position_of
-well_formed_by draft form put right = record { size = put.size; kings = put.kings; pawns = put.pawns; homes = homes draft.men draft.castling_forbidden; crossed = right }
+well_formed_by draft form put right =
+    record { size = put.size; kings = put.kings; pawns = put.pawns; homes = homes draft.men draft.castling_forbidden; crossed = right }
 
 -- without an en passant square the position is well formed
 pub well_formed_without : (draft : Draft) (form : Form) (setup : Diagram) → setup ≡ diagram_of draft form → ArePut draft.men → draft.crossed ≡ None

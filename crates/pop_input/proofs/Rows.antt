@@ -93,8 +93,8 @@ ends : (items (codes "BeginProblem\nEndProblem\n") ≡ only_fault StipulationMis
     ≡ only_fault EnPassantImpossible 5) × (items (codes "BeginProblem\nPieces White Kg6 Ra1\nStipulation #1\nEndProblem\n") ≡ only_fault KingMissing 4)
     × (items (codes "BeginProblem\nPieces White Kg6 Rh1 Black Kh8\nStipulation #1\nEndProblem\n") ≡ only_fault WaitingSideInCheck 4)
 unfolding limit expected_of colour_of command_of condition_of kind_of option_of section_of text_word_of limit_of squares_named stipulation_of is_man_on has_man
-    some_square squares posed_entry is_taken castling_rights_of has_unmoved mark_unmoved none_unmoved is_home is_en_passant_square_right king_square is_attacked attacks_like
-    is_attacked_by_like in_check is_paralysed is_attacker hops is_clear leaps reaches reaches_as rides along
+    some_square squares posed_entry is_taken castling_rights_of has_unmoved mark_unmoved none_unmoved is_home is_en_passant_square_right king_square is_attacked
+    attacks_like is_attacked_by_like in_check is_paralysed is_attacker hops is_clear leaps reaches reaches_as rides along
 ends = (refl, refl, refl, refl, refl)
 
 abbrev man : Colour → Kind → Man
@@ -119,8 +119,8 @@ sound_problem : items
       author = codes "A. B.";
     }) ∷ []
 unfolding limit expected_of colour_of command_of condition_of kind_of option_of section_of text_word_of limit_of squares_named stipulation_of is_man_on has_man
-    some_square squares posed_entry is_taken castling_rights_of has_unmoved mark_unmoved none_unmoved is_home is_en_passant_square_right king_square is_attacked attacks_like
-    is_attacked_by_like in_check is_paralysed is_attacker hops is_clear leaps reaches reaches_as rides along
+    some_square squares posed_entry is_taken castling_rights_of has_unmoved mark_unmoved none_unmoved is_home is_en_passant_square_right king_square is_attacked
+    attacks_like is_attacked_by_like in_check is_paralysed is_attacker hops is_clear leaps reaches reaches_as rides along
 sound_problem = refl
 
 -- sections twice and in any order, small letters, short forms, options with their values
@@ -137,6 +137,6 @@ sound_options : items (codes "beg\nopt set max 5 max 007 noc h1a1\nsti H=12\ncon
       author = [];
     }) ∷ only_fault EndProblemMissing 9
 unfolding limit expected_of colour_of command_of condition_of kind_of option_of section_of text_word_of limit_of squares_named stipulation_of is_man_on has_man
-    some_square squares posed_entry is_taken castling_rights_of has_unmoved mark_unmoved none_unmoved is_home is_en_passant_square_right king_square is_attacked attacks_like
-    is_attacked_by_like in_check is_paralysed is_attacker hops is_clear leaps reaches reaches_as rides along
+    some_square squares posed_entry is_taken castling_rights_of has_unmoved mark_unmoved none_unmoved is_home is_en_passant_square_right king_square is_attacked
+    attacks_like is_attacked_by_like in_check is_paralysed is_attacker hops is_clear leaps reaches reaches_as rides along
 sound_options = refl

@@ -1,5 +1,5 @@
 //! A block while it is read. A block is one problem's words, up to NextProblem or EndProblem.
-ghost use Rattle.std.specs.Prelude.{◌≡◌, ℕ, List, [], None, Some, not, true};
+ghost use Rattle.std.specs.Prelude.{◌≡◌, None, Some, false, true};
 ghost use Rattle.pop_input.specs.Names.{or_else};
 ghost use Rattle.pop_input.specs.FaultKinds.{at_line, fault_at};
 ghost use Rattle.pop_input.specs.ties.Closings.{IsNew, ReadsWord, TakesLine, ended_item, entry_now, item_of, draft_of_next};
@@ -29,13 +29,23 @@ pub struct Block {
 }
 
 impl Block {
-    /// Returns a block before its first token. `first` says whether it is the first block of the input.
-    pub(crate) fn new(first: bool) -> Block
-        ensures { IsNew first result }
+    /// Returns the first block of the input, before its first token.
+    pub(crate) fn first() -> Block
+        ensures { IsNew true result }
+    {
+        Block {
+            begun: false,
+            ..Block::later()
+        }
+    }
+
+    /// Returns a later block of the input, before its first token.
+    pub(crate) fn later() -> Block
+        ensures { IsNew false result }
     {
         Block {
             fault: None,
-            begun: !first,
+            begun: true,
             draft: Draft::new(),
             title: Text::empty(),
             author: Text::empty(),

@@ -107,12 +107,11 @@ impl Reader {
         ensures failed { HasFailed self.new.at result }
         ensures less { is_item result ≡ true → work_left self.new < work_left self.old }
     {
-        let first = match self.next_block {
-            Next::First => true,
-            Next::Later => false,
+        let mut block = match self.next_block {
+            Next::First => Block::first(),
+            Next::Later => Block::later(),
             Next::Nothing => return Item::End,
         };
-        let mut block = Block::new(first);
         let mut word = Word::new();
         let mut text = Text::empty();
         loop {

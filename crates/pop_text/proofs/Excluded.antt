@@ -25,14 +25,16 @@ same_gap : (g h : List ℕ) (c : ℕ) (run following : List ℕ) → list_all is
 same_gap [] [] c run following p q w e = (refl, no_more (c ∷ run) following e)
 same_gap [] (b ∷ h) c run following p q w e = let is : b ≡ c = cc in absurd (gap_or_word b (all_parts is_gap b h q).0 (rw is w))
 same_gap (b ∷ g) [] c run following p q w e = let is : c ≡ b = cc in absurd (gap_or_word b (all_parts is_gap b g p).0 (rw (← is) w))
-same_gap (b ∷ g) (d ∷ h) c run following p q w e = grind (arith, all_parts, same_gap g h c run following (all_parts is_gap b g p).1 (all_parts is_gap d h q).1 w cc)
+same_gap (b ∷ g) (d ∷ h) c run following p q w e =
+    grind (arith, all_parts, same_gap g h c run following (all_parts is_gap b g p).1 (all_parts is_gap d h q).1 w cc)
 
 -- a call that used a gap, a run and more bytes: there are no more bytes, and the number is the run's line
 pub nothing_after_word : (old new : Reading) (had left : List ℕ) (number : ℕ) (gap : List ℕ) (c : ℕ) (run following : List ℕ) → list_all is_gap gap ≡ true
     → is_in_word c ≡ true → Uses old new (Some had) (Some left) ((gap ++ c ∷ run) ++ following)
     → UsesRun old new (Some had) (Some left) number (c ∷ run) → (following ≡ []) × (number ≡ old.line + count_by is_line_end gap)
 nothing_after_word old new had left number gap c run following blank solid used u =
-    let same = same_gap gap u.gap c run following blank u.blank solid (same_bytes old new had left (u.gap ++ c ∷ run) ((gap ++ c ∷ run) ++ following) u.uses used) in
+    let same = same_gap gap u.gap c run following blank u.blank solid
+    (same_bytes old new had left (u.gap ++ c ∷ run) ((gap ++ c ∷ run) ++ following) u.uses used) in
     (same.1, u.line ∙ ap (λ g. old.line + count_by is_line_end g) (sym same.0))
 
 -- no word is over before a byte that belongs to it

@@ -118,14 +118,33 @@ fn line_ends_in(block: &[u8]) -> u8
     ends
 }
 
-// Returns the length of the run at the front. `is_long` says that the run is already long, and so probably goes on.
-pub(crate) fn run_length(view: &[u8], is_long: bool) -> usize
+/// How far a run has come.
+#[derive(Clone, Copy)]
+pub enum RunSoFar {
+    /// It fits a word.
+    Short,
+    /// It is too long for a word, and so likely goes on.
+    Long,
+}
+
+impl RunSoFar {
+    /// Returns how far a run has come, by whether it fits a word.
+    pub(crate) fn of(fits: bool) -> RunSoFar {
+        if fits {
+            RunSoFar::Short
+        } else {
+            RunSoFar::Long
+        }
+    }
+}
+
+// Returns the length of the rest of a run at the front.
+pub(crate) fn run_length(view: &[u8], so_far: RunSoFar) -> usize
     ensures { Leads is_in_word view.now result }
 {
-    if is_long {
-        far_run(view)
-    } else {
-        run_front(view)
+    match so_far {
+        RunSoFar::Short => run_front(view),
+        RunSoFar::Long => far_run(view),
     }
 }
 

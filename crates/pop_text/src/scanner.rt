@@ -7,7 +7,7 @@ ghost use Rattle.pop_text.specs.ties.Plain.{Skips};
 ghost use Rattle.pop_text.specs.ties.Reading.{CallsSource, IsFront, IsView, MayCall, Uses, UsesAll, first_reading};
 ghost use Rattle.pop_text.specs.ties.Runs.{ComesNext, FailsAgain, RunsTo, Sticks, UsesLine, UsesWord};
 
-use crate::front::{gap_prefix, in_gap, line_front, plain_prefix, run_length};
+use crate::front::{RunSoFar, gap_prefix, in_gap, line_front, plain_prefix, run_length};
 use crate::read_fault::ReadFault;
 use crate::source::Source;
 use crate::text::{Text, extend_kept};
@@ -186,12 +186,12 @@ impl Scanner {
         &view[..line_front(view)]
     }
 
-    // Returns the bytes of the view that belong to the run at its front. `is_long` says that the run is long already.
-    fn run_part(&self, is_long: bool) -> &[u8]
+    // Returns the bytes of the view that belong to the run at its front, of which `so_far` came before.
+    fn run_part(&self, so_far: RunSoFar) -> &[u8]
         ensures { IsFront is_in_word self.now result.now }
     {
         let view = self.view();
-        &view[..run_length(view, is_long)]
+        &view[..run_length(view, so_far)]
     }
 
     // Uses blanks and line ends at the front of the view.
@@ -245,7 +245,7 @@ impl Scanner {
         loop {
             match self.peek(source)? {
                 Some(byte) if !in_gap(byte) => {
-                    let part = self.run_part(!fits);
+                    let part = self.run_part(RunSoFar::of(fits));
                     let more = part.len();
                     fits = extend_word(word, part);
                     self.advance(more, 0);

@@ -6,8 +6,8 @@ use Rattle.pop_battle.proofs.mate_in_two.mates_in_two.Goals as goal
 pub loop-by-init : goal.loop-by-init
 loop-by-init g c =
     let free = free_moves Direct (chess Mate g.R.Rules.rule) 3 c.args.board.now (omega arith) refl in
-    let b = begins_ordered Direct g.R.Rules.rule c.args.board.now 2 c.order_of-order.result c.args.search_state.now.opened c.saturating_add-search_state.result free
-    (omega arith) (omega arith) in
+    let b = begins_ordered Direct g.R.Rules.rule c.args.board.now 2 c.order_of-order.result c.args.search_state.now.opened
+    c.saturating_add-search_state.result free (omega arith) (omega arith) in
     search (rules, b)
 
 pub returns-then-leaves_no_defence : goal.returns-then-leaves_no_defence

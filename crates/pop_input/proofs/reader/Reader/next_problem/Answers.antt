@@ -1,4 +1,4 @@
-use Rattle.pop_input.proofs.Words.{None, Nothing, ReaderState, ap, calls_none, calls_then, command_of, inl, inr, last_of, next_after, refl, rules, sym, ◌∙◌, ◌≡◌}
+use Rattle.pop_input.proofs.Words.{None, Nothing, ReaderState, ap, calls_none, calls_then, command_of, false, inl, inr, last_of, next_after, refl, rules, sym, true, ◌∙◌, ◌≡◌}
 use Rattle.pop_input.proofs.Items.{block_starts, line_read, long_read, open_read, not_closing}
 use Rattle.pop_input.proofs.Skipping.{skip_read}
 use Rattle.pop_input.proofs.Ends.{word_closes, input_ends, cut_read}
@@ -9,9 +9,12 @@ use Rattle.pop_input.proofs.reader.Reader.next_problem.Goals.{in-First, in-Later
 
 pub loop-keyword-init : goal.loop-keyword-init
 loop-keyword-init g c = rw (← c.self.view_is) (record {
-  block = block_starts c.match-self.first c.self.inside.scanner (g.S.Source.remaining c.args.source.now) c.new-block.result c.new-block.ensures;
+  block = elim c.match-self.branch [
+    | in-First w ↦ rw (w.block-is, w.in-First.is) (block_starts true c.self.inside.scanner (g.S.Source.remaining c.args.source.now) w.first-block.result w.first-block.ensures)
+    | in-Later w ↦ rw (w.block-is, w.in-Later.is) (block_starts false c.self.inside.scanner (g.S.Source.remaining c.args.source.now) w.later-block.result w.later-block.ensures)
+  ];
   used = some_none c.self.inside.scanner (g.S.Source.remaining c.args.source.now);
-  starts = elim c.match-self.branch [ in-First w ↦ rw w.first-is w.in-First.is | in-Later w ↦ rw w.first-is w.in-Later.is ];
+  starts = elim c.match-self.branch [ in-First w ↦ rw w.in-First.is refl | in-Later w ↦ rw w.in-Later.is refl ];
   calls_source = calls_none c.self.inside.scanner.end (g.S.Source.remaining c.args.source.now) (g.S.Source.failures c.args.source.now);
 })
 

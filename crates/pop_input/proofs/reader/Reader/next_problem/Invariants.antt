@@ -1,14 +1,14 @@
 use Rattle.pop_input.proofs.Words.{CallsSource, UsesSome, limit, ◌-◌, ◌≡◌}
 use Rattle.pop_input.proofs.Items.{BlockSoFar}
-use Rattle.pop_input.proofs.Ends.{block_of}
+use Rattle.pop_input.proofs.Ends.{block_of, is_first}
 use Rattle.pop_input.proofs.reader.Reader.next_problem.Given as goal
 
 -- the tokens of the block so far are read
 abbrev pub invariant-loop-keyword : goal.invariant-loop-keyword
 invariant-loop-keyword g l = record {
-  block : BlockSoFar l.first l.fn.self.at l.self-inside.scanner (g.S.Source.remaining l.fn.source) (g.S.Source.remaining l.source) l.block;
+  block : BlockSoFar (is_first l.fn.self.next) l.fn.self.at l.self-inside.scanner (g.S.Source.remaining l.fn.source) (g.S.Source.remaining l.source) l.block;
   used : UsesSome l.fn.self.at l.self-inside.scanner (g.S.Source.remaining l.fn.source) (g.S.Source.remaining l.source);
-  starts : l.fn.self.next ≡ block_of l.first;
+  starts : l.fn.self.next ≡ block_of (is_first l.fn.self.next);
   calls_source : CallsSource l.fn.self.at.end l.self-inside.scanner.end (g.S.Source.remaining l.fn.source) (g.S.Source.remaining l.source)
       (g.S.Source.failures l.fn.source) (g.S.Source.failures l.source);
 }

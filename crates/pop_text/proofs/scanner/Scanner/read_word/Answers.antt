@@ -12,7 +12,8 @@ returns-in-Ok-None-clause-word g c =
 
 pub returns-in-Ok-Some-clause-used : goal.returns-in-Ok-Some-clause-used
 returns-in-Ok-Some-clause-used g c =
-    rw c.found_of_run.ensures (found_uses _ _ _ _ _ _ _ c.take_run-run.result c.skip_gap.ensures.uses (ap (λ p. p.line) c.self.view_is) c.take_run-run.ensures.run)
+    rw c.found_of_run.ensures (found_uses _ _ _ _ _ _ _ c.take_run-run.result c.skip_gap.ensures.uses (ap (λ p. p.line) c.self.view_is)
+    c.take_run-run.ensures.run)
 
 pub returns-in-Ok-Some-clause-word : goal.returns-in-Ok-Some-clause-word
 returns-in-Ok-Some-clause-word g c =
