@@ -164,8 +164,8 @@ pub lifted_off : (a w s : ℕ) (o : Option ℕ) → w ≡ word (λ t. is_square 
 lifted_off a w s o only fits small e = search (rules, false_by, off_denied, word_has)
 
 -- the man on a square is of its colour and kind
-there : (men : List (Option Man)) (s : ℕ) (x : Man) (c : Colour) → man_on men s ≡ Some x → x.colour ≡ c → is_man (man_on men s) c x.kind ≡ true
-there men s x c here mine = grind (arith, eq-eqb)
+pub man_there : (men : List (Option Man)) (s : ℕ) (x : Man) (c : Colour) → man_on men s ≡ Some x → x.colour ≡ c → is_man (man_on men s) c x.kind ≡ true
+man_there men s x c here mine = grind (arith, eq-eqb)
 
 -- the men of the board
 pub attackers_are : (men : List (Option Man)) (a : Attackers) → a.kings ≡ squares_of men a.colour King → a.queens ≡ squares_of men a.colour Queen
@@ -173,7 +173,7 @@ pub attackers_are : (men : List (Option Man)) (a : Attackers) → a.kings ≡ sq
     → a.pawns ≡ squares_of men a.colour Pawn → a.grasshoppers ≡ squares_of men a.colour Grasshopper
     → a.nightriders ≡ squares_of men a.colour Nightrider → AreAttackers men a
 unfolding squares_of
-attackers_are men a kings queens rooks bishops knights pawns grasshoppers nightriders = grind (arith, man_is, man_of_word, there, word_has)
+attackers_are men a kings queens rooks bishops knights pawns grasshoppers nightriders = grind (arith, man_is, man_of_word, man_there, word_has)
 
 -- for `castling_square`: one side, by numbers
 pub shut_on : (p : Position) (c : Colour) (own w corner next a b : ℕ) → own ≡ side_of p.men c → next < 64

@@ -18,6 +18,7 @@ pub mod LastingFlights
 pub mod Promotions
 pub mod KindByKind
 pub mod Hurdles
+pub mod Aside
 pub mod Risks
 pub mod HomeSquares
 pub mod Springboards

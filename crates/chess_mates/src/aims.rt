@@ -1,5 +1,5 @@
 //! Moves whose man arrives where it would attack the enemy king.
-ghost use Rattle.std.specs.Prelude.{◌≡◌, ◌<◌, ◌∷◌, [], filter, IfSome, MatchOption, true};
+ghost use Rattle.std.specs.Prelude.{◌≡◌, ◌<◌, ◌∷◌, [], false, filter, IfSome, MatchOption, true};
 ghost use Rattle.chess_core.specs.Position.{man_on};
 ghost use Rattle.chess_core.specs.WellFormed.{IsWellFormed};
 ghost use Rattle.chess_core.specs.ties.Words.{word};
@@ -9,9 +9,10 @@ ghost use Rattle.chess_rules.specs.ties.Places.{IsPlaceIn, moves_after, place_of
 
 use crate::checks::check_squares_of;
 use chess_attacks::rules::Rules;
+use chess_attacks::unblocked::unblocked_reach;
 use chess_attacks::words::contains;
 use chess_core::board::Board;
-use chess_core::man::Move;
+use chess_core::man::{Man, Move};
 use chess_core::square::{Square, Squares};
 use chess_rules::legal_moves::{LegalCursor, LegalityMasks};
 use chess_rules::move_filter::{MoveFilter, next_passing};
@@ -30,6 +31,29 @@ fn aimed_squares(board: &Board, from: Square) -> Squares
     }
 }
 
+// Returns whether the moving man is no fairy man and would attack the enemy king from its arrival on no
+// board; `false` says nothing. This test is cheap and usually enough.
+#[inline(always)]
+fn never_aims(board: &Board, m: &Move) -> bool
+    ensures { result ≡ true → aims_at_king board.now m.now ≡ false }
+{
+    // For the proof: a square's number is below 64.
+    let _small = m.to.index();
+    let Some(man) = board.man_at(m.from) else {
+        return false;
+    };
+    let Some(king) = board.king_of(board.turn().other()) else {
+        return false;
+    };
+    // For the proof: a square's number is below 64.
+    let _low = king.index();
+    let own = Man {
+        colour: board.turn(),
+        kind: man.kind,
+    };
+    !man.kind.is_fairy() && !contains(unblocked_reach(own, m.to), king)
+}
+
 /// Returns whether the moving man arrives where it would attack the enemy king on the board as it was
 /// before the move. A search uses this only to order moves.
 #[tactic(auto, using(chess_attacks::proofs::Bits::word_has), unfolding(crate::specs::ties::Aims::aims_at_king))]
@@ -38,6 +62,9 @@ pub fn aims_at_king(board: &Board, m: &Move) -> bool
 {
     // For the proof: a square's number is below 64.
     let _small = m.to.index();
+    if never_aims(board, m) {
+        return false;
+    }
     contains(aimed_squares(board, m.from), m.to)
 }
 

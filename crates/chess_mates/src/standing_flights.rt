@@ -6,16 +6,16 @@ ghost use Rattle.chess_core.specs.WellFormed.{IsWellFormed};
 ghost use Rattle.chess_core.specs.declared.man.Move.{Move};
 ghost use Rattle.chess_mates.specs.ties.Mates.{mates};
 ghost use Rattle.chess_mates.specs.ties.LastingFlights.{IsLeft};
-ghost use Rattle.chess_mates.specs.ties.StandingFlights.{AreStandingFlights, NoneHops};
+ghost use Rattle.chess_mates.specs.ties.StandingFlights.{AreStandingFlights, IsBeside, IsFlightBut, NoneHops};
 
 use crate::attackers::attackers_on;
 use crate::guards::{leapt_squares, rider_reach};
 use crate::quiet_steps::{barring_squares, free_steps, none_hops, unsimple_squares};
-use chess_attacks::lines::occupied;
+use chess_attacks::lines::{diagonal_lines, occupied, straight_lines};
 use chess_attacks::rules::Rules;
 use chess_attacks::words::{contains, highest, next_bit, only};
 use chess_core::board::Board;
-use chess_core::man::Man;
+use chess_core::man::{Kind, Man};
 use chess_core::square::{Square, Squares};
 
 // The most men of the mover against which flights are looked for. Against more, a king seldom has
@@ -23,7 +23,7 @@ use chess_core::square::{Square, Squares};
 const MOST_MEN: u32 = 12;
 
 /// The flights, and the squares that the mover's riders reach (`ridden`). A man that leaves any other
-/// square opens no line.
+/// square opens no line. From each square a man opens none to flights that are on no line with it.
 #[derive(Clone, Copy)]
 pub(crate) struct StandingFlights {
     flights: Squares,
@@ -83,6 +83,32 @@ fn taking_squares(flights: Squares, man: Man) -> Squares
 }
 
 impl StandingFlights {
+    // Returns the flights on no queen's line with `from`; none if the mover has a nightrider.
+    fn flights_beside(&self, board: &Board, from: Square) -> Squares
+        ensures { (f : ℕ) → f < 64 → (bit_at result f == 1) ≡ true
+            → ((bit_at self.now.flights f == 1) ≡ true) × IsBeside board.now from f }
+    {
+        if board.squares(board.turn(), Kind::Nightrider) == 0 {
+            return self.flights & !(straight_lines(from) | diagonal_lines(from));
+        }
+        0
+    }
+
+    // Returns the flights that remain if the man leaves `from`: all, unless a rider reaches it; then those
+    // to which it opens no line.
+    fn lasting_flights<R: Rules>(&self, board: &Board, from: Square) -> Squares
+        requires flights { AreStandingFlights R.rule board.now self.now }
+        ensures { (f : ℕ) → f < 64 → (bit_at result f == 1) ≡ true
+            → IsFlightBut R.rule board.now from f }
+    {
+        // For the proof: a square's number is below 64.
+        let _small = from.index();
+        if contains(self.ridden, from) {
+            return self.flights_beside(board, from);
+        }
+        self.flights
+    }
+
     /// Returns a superset of the squares to which the man on `from` must go to mate: elsewhere one of the
     /// flights remains.
     pub(crate) fn mating_squares<R: Rules>(&self, board: &Board, from: Square) -> Squares
@@ -93,13 +119,12 @@ impl StandingFlights {
     {
         // For the proof: a square's number is below 64.
         let _small = from.index();
-        if self.flights == 0 || contains(self.ridden, from) {
+        let flights = self.lasting_flights::<R>(board, from);
+        if flights == 0 {
             return !0;
         }
         match board.man_at(from) {
-            Some(man) => {
-                taking_squares(self.flights, man) | unsimple_squares::<R>(board, man, from)
-            }
+            Some(man) => taking_squares(flights, man) | unsimple_squares::<R>(board, man, from),
             None => !0,
         }
     }
