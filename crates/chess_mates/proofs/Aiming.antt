@@ -6,7 +6,7 @@ use Rattle.chess_rules.proofs.Chess.{second_fails}
 use Rattle.chess_rules.proofs.listing_moves.Places.{place_of_none, place_of_triple}
 use Rattle.chess_rules.proofs.listing_moves.Filtering.{filtered_missing, wanted-none}
 
--- a man that isn't a fairy man doesn't aim at the king from where it wouldn't reach it on any board
+-- a man that isn't a fairy man attacks the king from nowhere that it wouldn't reach it from on any board
 pub never_aimed : (p : Position) (m : Move) (x : Man) (k w : ℕ) → man_on p.men m.from ≡ Some x → king_square p.men (other p.turn) ≡ Some k → k < 64
     → AreReached (record { colour = p.turn; kind = x.kind }) m.to w → is_fairy x.kind ≡ false → (bit_at w k == 1) ≡ false → aims_at_king p m ≡ false
 unfolding aims_at_king may_check_from
