@@ -164,9 +164,17 @@ fn keeps_flight<R: Rules>(board: &mut Board, king: Square) -> bool
         || known.has_filtered(&mut flights, board, kings)
 }
 
-// The most men of White with which kept flights are computed before any defence is tried. The limit affects
-// speed only.
+// The most attackers and the most defenders with which kept flights are computed before any defence is
+// tried. The limits affect speed only.
 const MOST_ATTACKERS: u32 = 5;
+const MOST_DEFENDERS: u32 = 5;
+
+// Returns whether there are so few men that computing kept flights is worth its time.
+fn are_few_men(board: &Board) -> bool {
+    let defenders = board.side(board.turn());
+    let attackers = board.side(board.turn().other());
+    attackers.count_ones() <= MOST_ATTACKERS && defenders.count_ones() <= MOST_DEFENDERS
+}
 
 /// Returns whether Black surely has a defence after which its king keeps a flight; `false` proves nothing.
 #[inline(always)]
@@ -176,8 +184,7 @@ fn surely_escapes<R: Rules>(board: &mut Board) -> bool
     ensures defence { result ≡ true
         → SomeFails R.rule board.old (allows_mate R.rule board.old) }
 {
-    let attackers = board.side(board.turn().other());
-    if R::captures_do_more() || attackers.count_ones() > MOST_ATTACKERS {
+    if R::captures_do_more() || !are_few_men(board) {
         return false;
     }
     let Some(king) = board.king_of(board.turn()) else {
