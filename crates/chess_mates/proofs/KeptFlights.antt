@@ -81,14 +81,16 @@ pub lines_beside : (p : Position) (a w s b n : ℕ) → s ≡ word (is_on_some s
 unfolding squares_of
 lines_beside p a w s b n straight diagonal riders none low high f small on =
     let off = off_denied w (bit_or s b) f (or_lt 64 s b low high) small on in
-    let nobody : (q : ℕ) → (bit_at n q == 1) ≡ false = λ q. rw none (off_zero q) in
-    (on_first w (bit_not w64 (bit_or s b)) f on, record {
-      riders = λ q x lt here mine. false_from_ne_true _ (λ y.
-          let stands : is_man (man_on p.men q) p.turn Nightrider ≡ true = rw (same_kind-true x.kind Nightrider y) at (man_there p.men q x p.turn here mine) in
-          false≢true (sym (nobody q) ∙ word_has (λ t. is_man (man_on p.men t) p.turn Nightrider) n q riders lt ∙ stands));
-      straight = sym (word_has (is_on_some straight_steps a) s f straight small) ∙ off_left s b f off;
-      diagonal = sym (word_has (is_on_some diagonal_steps a) b f diagonal small) ∙ off_right s b f off;
-    })
+    let nobody : (q : ℕ) → (bit_at n q == 1) ≡ false = λ q. rw none (off_zero q) in (
+      on_first w (bit_not w64 (bit_or s b)) f on,
+      record {
+        riders = λ q x lt here mine. false_from_ne_true _ (λ y.
+            let stands : is_man (man_on p.men q) p.turn Nightrider ≡ true = rw (same_kind-true x.kind Nightrider y) at (man_there p.men q x p.turn here mine) in
+            false≢true (sym (nobody q) ∙ word_has (λ t. is_man (man_on p.men t) p.turn Nightrider) n q riders lt ∙ stands));
+        straight = sym (word_has (is_on_some straight_steps a) s f straight small) ∙ off_left s b f off;
+        diagonal = sym (word_has (is_on_some diagonal_steps a) b f diagonal small) ∙ off_right s b f off;
+      },
+    )
 
 -- the highest bit of a word
 pub on_highest : (w s : ℕ) → 2 ^ s ≤ w → w < 2 * 2 ^ s → (bit_at w s == 1) ≡ true

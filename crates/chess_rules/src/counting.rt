@@ -56,10 +56,7 @@ fn untested_squares<R: Rules>(board: &Board, man: Man, blocker_squares: Squares)
     requires { blocker_squares ≡ word (may_expose board.now.men board.now.turn) }
     ensures { result ≡ word (is_untested R.rule board.now man) }
 {
-    only(board.crossed())
-        | rebirth_captures::<R>(board)
-        | promoting_squares(man)
-        | blocker_squares
+    only(board.crossed()) | rebirth_captures::<R>(board) | promoting_squares(man) | blocker_squares
 }
 
 // Returns whether all moves of the man on `from` to `squares` are certainly legal and none promotes.

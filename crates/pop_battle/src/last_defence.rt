@@ -167,6 +167,7 @@ fn keeps_flight<R: Rules>(board: &mut Board, king: Square) -> bool
 // The most attackers and the most defenders with which kept flights are computed before any defence is
 // tried. The limits affect speed only.
 const MOST_ATTACKERS: u32 = 5;
+
 const MOST_DEFENDERS: u32 = 5;
 
 // Returns whether there are so few men that computing kept flights is worth its time.

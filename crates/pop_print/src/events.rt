@@ -17,8 +17,11 @@ const NODE: usize = 128;
 // The most bytes of a half-move's number, of what comes before a move of a line, of the longest line's moves, and of a
 // total (own).
 const PREFIX: usize = 23;
+
 const MOVE_NUMBER: usize = PREFIX + 1;
+
 const MOVES: usize = 32 * (MOVE_NUMBER + MOVE);
+
 const TOTAL: usize = 41;
 
 /// Writes an event as one line.

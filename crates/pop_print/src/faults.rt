@@ -10,6 +10,7 @@ use pop_text::sink::{Sink, SinkFault};
 
 // The most bytes of a fault's message, and of the text of a faulty item (own).
 const MESSAGE: usize = 40;
+
 const FAULT: usize = 140;
 
 /// Writes a faulty item: its number, the fault with its line, and an empty line. Passes the text to the sink in one

@@ -17,12 +17,19 @@ use pop_text::text::{LONGEST_TEXT, Text};
 
 // The most bytes of each part of a head, and of the head of a problem that is only tested (own).
 pub(crate) const ITEM_LINE: usize = 29;
+
 const NAMES: usize = 15 + 2 * (LONGEST_TEXT + 1);
+
 const RANK: usize = 11;
+
 const BOARD: usize = 9 * RANK;
+
 const STIPULATION: usize = 24;
+
 const STIPULATION_LINE: usize = STIPULATION + 9;
+
 const HEAD: usize = 600;
+
 const CHECKED: usize = 700;
 
 /// Writes the head of a sound item: its number, its title and author if there are any, the board unless the problem or

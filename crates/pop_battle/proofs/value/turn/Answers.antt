@@ -39,7 +39,7 @@ returns-in_default-next_tried-clause-next g c = λ p r.
     ∙ ap (λ (f : Frame). attacker_to_move c.args.aim.battle f.left) c.top.view_is in
     let same = ap (λ (f : Frame). untried_moves g.R.Rules.rule c.args.board.now f) c.top.view_is in
     let u : (c.args.answer.now ≡ None) ⊎ (c.args.answer.now ≡ Some (not (attacker_to_move c.args.aim.battle c.in-Some.top.left))) =
-        rw (← seek) c.if-is_decided.ensures in
+    rw (← seek) c.if-is_decided.ensures in
     test.close_turns g.R.Rules.rule c.args.aim _ _ _ _ c.in-Some.ensures.items c.requires.above _ _ _ _ _ _ _ c.len-depth.ensures.value
     c.close-in_default-next_tried.ensures.lowest c.close-in_default-next_tried.ensures.above c.close-in_default-next_tried.ensures.before _ p
     (test.testing_same _ _ _ _ _ r c.next_tried.ensures.unchanged)
