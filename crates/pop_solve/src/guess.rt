@@ -118,7 +118,7 @@ fn choose_killer<R: Rules>(aim: Aim, left: usize, board: &Board, killers: &mut K
 /// found may take long to refute, also with more half-moves left. In help play and selfmates the killers
 /// stay unchanged.
 #[tactic(auto, using(chess_rules::proofs::listing_moves::Calls::playing))]
-pub fn guess_killers<R: Rules>(
+pub(crate) fn guess_killers<R: Rules>(
     plan: Plan,
     left: usize,
     by: Move,

@@ -22,7 +22,8 @@
 //! plans and steps of the walk. No call allocates.
 #![tactic(auto)]
 
-pub mod guess;
+pub mod beginning;
+mod guess;
 pub mod laws;
 pub mod phases;
 pub mod plan;
