@@ -7,7 +7,8 @@ use Rattle.pop_solve.proofs.Outcomes.{CameFrom-deep, walking-close, walking-lear
 use Rattle.pop_battle.specs.ties.Frames.{learned, moved, opened_frame}
 use Rattle.pop_solve.proofs.Walking.{popped}
 use Rattle.pop_solve.proofs.ToCome.{map-path, steps-start, work_after-next}
-use Rattle.pop_parts.specs.ties.Beginnings.{FindsNumbered, IsSeeking, Seeks, are_idle, beginnings_by, beginnings_to_come}
+use Rattle.pop_parts.specs.ties.Beginnings.{FindsNumbered, IsSeeking, Seeks, beginnings_by, beginnings_to_come}
+use Rattle.pop_solve.specs.ties.Beginnings.{are_idle}
 
 deeper : (L : List Move) (m : Move) (xs ys rest : List (List Move))
     → map (λ line. L ++ line) (map (λ line. m ∷ line) xs ++ ys) ++ rest ≡ map (λ line. (L ++ m ∷ []) ++ line) xs ++ (map (λ line. L ++ line) ys ++ rest)

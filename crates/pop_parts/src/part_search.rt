@@ -1,69 +1,21 @@
 //! The search of one part of a phase.
-ghost use Rattle.std.specs.Prelude.{◌≡◌, ◌+◌, ◌-◌, ◌<◌, ◌≤◌, ◌==◌, ◌^◌, ℕ, [], ◌∷◌, ◌++◌, length, reverse, true, false, min};
+ghost use Rattle.std.specs.Prelude.{◌≡◌, ◌<◌, [], ◌∷◌, ◌++◌, reverse};
 ghost use Rattle.arrayvec.specs.ArrayVec.{array_vec_len};
-ghost use Rattle.chess_core.specs.WellFormed.{IsWellFormed};
-ghost use Rattle.chess_rules.specs.Legal.{is_legal, is_mate};
-ghost use Rattle.chess_rules.specs.Play.{position_after};
-ghost use Rattle.pop_input.specs.Posed.{IsSound};
-ghost use Rattle.pop_stipulation.specs.Stipulations.{half_moves, is_help};
-ghost use Rattle.pop_solve.specs.Events.{Path, event_of, path_event, phase_half_moves as half_moves_of_phase, phase_start, play_start};
-ghost use Rattle.pop_parts.specs.PhaseParts.{part_events};
-ghost use Rattle.pop_parts.specs.ties.Beginnings.{IsSeeking};
-ghost use Rattle.pop_battle.specs.ties.Marks.{is_for_mate};
-ghost use Rattle.pop_parts.specs.ties.PartStages.{IsPartOpened, part_left, StandsInPart};
-ghost use Rattle.pop_solve.specs.ties.Phases.{Gives};
-ghost use Rattle.pop_solve.specs.ties.Walk.{IsMatedAtLast, path, seeks_last};
-ghost use Rattle.pop_parts.specs.declared.part_search.PartStage.TheVariants.{First, Within, After};
+ghost use Rattle.pop_solve.specs.ties.Walk.{path};
 
 use crate::parts_left::RemainingParts;
 use arrayvec::ArrayVec;
 use chess_core::board::Board;
 use chess_core::man::Move;
-use chess_rules::{Rules, play};
-use pop_battle::chess::{reaches_goal, retract};
+use chess_rules::Rules;
 use pop_battle::frame::Frame;
 use pop_battle::killers::Killers;
 use pop_battle::search_state::SearchState;
 use pop_events::event::{Event, Phase};
 use pop_input::problem::Problem;
-use pop_solve::guess::guess_killers;
-use pop_solve::phases::{Walk, count_with, end, event_at, phase_half_moves, total, walk_on};
-use pop_solve::plan::Plan;
-use pop_solve::walk::{ends_with_mate, enter};
+use pop_solve::beginning::begin_after;
+use pop_solve::phases::{Stage, advance};
 use std::marker::Model;
-
-/// How far the search of a part has come.
-#[derive(Clone, Copy)]
-pub enum PartStage {
-    /// Before the path of the part's first moves.
-    First,
-    /// After that path; `count` solutions of the part have begun.
-    Within { count: u32 },
-    /// After the total.
-    After,
-}
-
-/// Returns whether a path may begin with this legal move, after which `left` half-moves are left. A move
-/// that ends every path and must mate may only if it mates.
-#[tactic(auto, using(chess_rules::proofs::listing_moves::Calls::playing))]
-fn may_lead<R: Rules>(plan: Plan, left: usize, by: Move, board: &mut Board) -> bool
-    requires well_formed { IsWellFormed board.old }
-    requires few { left ≤ 32 }
-    requires legal { is_legal R.rule board.old by ≡ true }
-    ensures unchanged { board.new ≡ board.old }
-    ensures mated { result ≡ true → IsMatedAtLast R.rule plan left
-        (position_after R.rule board.old by) }
-    ensures fails { result ≡ false → (is_for_mate plan.goal ≡ true) × (seeks_last plan.play ≡ true)
-        × (left ≡ 0) × (is_mate R.rule (position_after R.rule board.old by) ≡ false) }
-{
-    if !ends_with_mate(plan, left + 1) {
-        return true;
-    }
-    let undo = play::<R>(board, by);
-    let mates = reaches_goal::<R>(plan.goal, board);
-    retract::<R>(board, by, undo);
-    mates
-}
 
 /// Returns the moves that lead to the top frame, followed by `by`.
 fn front_of<R: Rules, const N: usize>(frames: &ArrayVec<Frame<R>, N>, by: Move) -> ArrayVec<Move, N>
@@ -81,107 +33,6 @@ fn front_of<R: Rules, const N: usize>(frames: &ArrayVec<Frame<R>, N>, by: Move) 
     front
 }
 
-/// Begins the part whose first moves lead to the top frame and end with `by`. Returns the next stage.
-fn begin<R: Rules, const N: usize>(
-    problem: &Problem,
-    phase: Phase,
-    by: Move,
-    board: &mut Board,
-    frames: &mut ArrayVec<Frame<R>, N>,
-    search_state: &mut SearchState<R>,
-) -> PartStage
-    requires sound { IsSound problem.now }
-    requires room { half_moves problem.now.stipulation < N }
-    requires open { 0 < array_vec_len frames.old }
-    requires seeking { (d : ℕ) × (IsSeeking R.rule (half_moves_of_phase problem.now phase) d
-        (phase_start problem.now phase) (reverse frames.old.items) board.old)
-        × (array_vec_len frames.old ≡ d) }
-    requires legal { is_legal R.rule board.old by ≡ true }
-    requires battle { is_help problem.now.stipulation.form ≡ false → array_vec_len frames.old ≡ 1 }
-    requires opened { search_state.old.opened ≡ 0 }
-    ensures stands { StandsInPart R.rule problem.now phase
-        (path (reverse frames.old.items) ++ by ∷ []) result (reverse frames.new.items) board.new }
-    ensures left { part_left R.rule problem.now phase result (reverse frames.new.items)
-        ≡ part_events R.rule problem.now phase (path (reverse frames.old.items) ++ by ∷ []) }
-    ensures opens { IsPartOpened R.rule problem.now phase
-        (path (reverse frames.old.items) ++ by ∷ []) (reverse frames.new.items) search_state.new.opened }
-{
-    let plan = Plan::of(problem);
-    let depth = frames.len();
-    let left = phase_half_moves(problem, phase) - depth;
-    if !may_lead::<R>(plan, left, by, board) {
-        return PartStage::Within { count: 0 };
-    }
-    guess_killers::<R>(plan, left, by, board, &mut search_state.killers);
-    if enter::<R, N>(plan, left, by, board, frames, search_state) {
-        return PartStage::First;
-    }
-    PartStage::Within { count: 0 }
-}
-
-/// Returns the event of the path of the part's first moves, with the stage after it.
-fn first_event<R: Rules>(
-    problem: &Problem,
-    phase: Phase,
-    frames: &[Frame<R>],
-    board: &mut Board,
-) -> (PartStage, Event)
-    requires sound { IsSound problem.now }
-    requires stands { (front : Path) × StandsInPart R.rule problem.now phase front First
-        (reverse frames.now) board.old }
-    ensures stands { (front : Path) → StandsInPart R.rule problem.now phase front First
-        (reverse frames.now) board.old
-        → StandsInPart R.rule problem.now phase front result.0 (reverse frames.now) board.new }
-    ensures gives { Gives R.rule problem.now
-        (part_left R.rule problem.now phase First (reverse frames.now))
-        (part_left R.rule problem.now phase result.0 (reverse frames.now))
-        result.1 board.new (length frames.now) }
-{
-    let stage = PartStage::Within {
-        count: count_with(problem, frames.len(), 0),
-    };
-    let walk = Walk::of(problem, phase);
-    (stage, event_at::<R>(problem, walk, frames, board))
-}
-
-/// Returns the next event of a part, of which `count` solutions have begun, with the stage after it.
-fn next_event_in_part<R: Rules, const N: usize>(
-    problem: &Problem,
-    phase: Phase,
-    count: u32,
-    board: &mut Board,
-    frames: &mut ArrayVec<Frame<R>, N>,
-    search_state: &mut SearchState<R>,
-) -> (PartStage, Event)
-    requires sound { IsSound problem.now }
-    requires room { half_moves problem.now.stipulation < N }
-    requires stands { (front : Path) × StandsInPart R.rule problem.now phase front
-        (Within count) (reverse frames.old.items) board.old }
-    ensures stands { (front : Path) → StandsInPart R.rule problem.now phase front
-        (Within count) (reverse frames.old.items) board.old
-        → StandsInPart R.rule problem.now phase front result.0 (reverse frames.new.items)
-        board.new }
-    ensures gives { Gives R.rule problem.now
-        (part_left R.rule problem.now phase (Within count) (reverse frames.old.items))
-        (part_left R.rule problem.now phase result.0 (reverse frames.new.items))
-        result.1 board.new (array_vec_len frames.new) }
-    ensures opens { (front : Path) → StandsInPart R.rule problem.now phase front
-        (Within count) (reverse frames.old.items) board.old
-        → IsPartOpened R.rule problem.now phase front (reverse frames.old.items) search_state.old.opened
-        → IsPartOpened R.rule problem.now phase front
-        (reverse frames.new.items) search_state.new.opened }
-    ensures grows { min search_state.old.opened (2 ^ 64 - 1) ≤ search_state.new.opened }
-{
-    let walk = Walk::of(problem, phase);
-    if walk_on::<R, N>(problem, walk, count, board, frames, search_state) {
-        let count = count_with(problem, frames.len(), count);
-        let event = event_at::<R>(problem, walk, frames.as_slice(), board);
-        return (PartStage::Within { count }, event);
-    }
-    end::<R, N>(problem, phase, board, frames);
-    (PartStage::After, total(problem, count))
-}
-
 /// A search for the solutions of one part of a phase, the solutions that begin with the part's first
 /// moves. It returns their events one by one, as `Search` does for a whole problem. Contracts see the
 /// record `PartSeen`.
@@ -190,7 +41,7 @@ pub struct PartSearch<R: Rules, const N: usize> {
     problem: Problem,
     phase: Phase,
     front: ArrayVec<Move, N>,
-    stage: PartStage,
+    stage: Stage,
     board: Board,
     frames: ArrayVec<Frame<R>, N>,
     search_state: SearchState<R>,
@@ -201,8 +52,8 @@ impl<R: Rules, const N: usize> Model for PartSearch<R, N> {
     ghost use Rattle.arrayvec.specs.ArrayVec.{array_vec_len};
     ghost use Rattle.pop_input.specs.Posed.{IsSound};
     ghost use Rattle.pop_stipulation.specs.Stipulations.{half_moves};
-    ghost use Rattle.pop_parts.specs.ties.PartsSeen.{PartSeen};
-    ghost use Rattle.pop_parts.specs.ties.PartStages.{IsPartOpened, part_left, StandsInPart};
+    ghost use Rattle.pop_solve.specs.ties.Phases.{left_of, HoldsAtStage};
+    ghost use Rattle.pop_parts.specs.ties.PartsSeen.{PartSeen, IsPartOpened};
 
     ghost Value = { PartSeen R };
 
@@ -210,7 +61,7 @@ impl<R: Rules, const N: usize> Model for PartSearch<R, N> {
       problem = s.problem;
       phase = s.phase;
       front = s.front.items;
-      left = part_left R.rule s.problem s.phase s.stage (reverse s.frames.items);
+      left = left_of R.rule s.problem s.stage (reverse s.frames.items);
       board = s.board;
       depth = array_vec_len s.frames;
       opened = s.search_state.opened;
@@ -219,10 +70,9 @@ impl<R: Rules, const N: usize> Model for PartSearch<R, N> {
 
     ghost invariant = { λ s. IsSound s.problem
         × (half_moves s.problem.stipulation < N)
-        × StandsInPart R.rule s.problem s.phase s.front.items s.stage (reverse s.frames.items)
-        s.board
-        × IsPartOpened R.rule s.problem s.phase s.front.items
-        (reverse s.frames.items) s.search_state.opened };
+        × HoldsAtStage R.rule s.problem s.stage (reverse s.frames.items) s.board
+        × IsPartOpened R.rule s.problem s.phase s.front.items s.stage (reverse s.frames.items)
+        s.search_state.opened };
 }
 
 impl<R: Rules, const N: usize> PartSearch<R, N> {
@@ -293,7 +143,7 @@ impl<R: Rules, const N: usize> PartSearch<R, N> {
     {
         let front = front_of::<R, N>(&frames, by);
         let mut search_state = SearchState::with(killers);
-        let stage = begin::<R, N>(
+        let stage = begin_after::<R, N>(
             problem,
             phase,
             by,
@@ -328,31 +178,16 @@ impl<R: Rules, const N: usize> PartSearch<R, N> {
     {
         // For the proof: the count is below 2^64.
         let _count = self.search_state.opened;
-        match self.stage {
-            PartStage::First => {
-                let (stage, event) = first_event::<R>(
-                    &self.problem,
-                    self.phase,
-                    self.frames.as_slice(),
-                    &mut self.board,
-                );
-                self.stage = stage;
-                Some(event)
-            }
-            PartStage::Within { count } => {
-                let (stage, event) = next_event_in_part::<R, N>(
-                    &self.problem,
-                    self.phase,
-                    count,
-                    &mut self.board,
-                    &mut self.frames,
-                    &mut self.search_state,
-                );
-                self.stage = stage;
-                Some(event)
-            }
-            PartStage::After => None,
-        }
+        let mut event = None;
+        advance::<R, N>(
+            &self.problem,
+            &mut self.stage,
+            &mut self.board,
+            &mut self.frames,
+            &mut self.search_state,
+            &mut event,
+        );
+        event
     }
 
     /// Returns the moves that last decided tests, for the search of another part.

@@ -13,6 +13,7 @@ pub mod Sound
 pub mod Events
 pub mod Solved
 pub mod Opened
+pub mod Beginnings
 pub mod Longer
 pub mod HelpPlay
 pub mod Nodes

@@ -1,9 +1,13 @@
 -- How many positions a search counts.
-use Rattle.pop_solve.proofs.Words.{BareEvent, Before, After, Frame, IsCounted, IsCountedUpTo, IsKeys, IsNarrow, IsOpened, IsSound, are_whites, List, Opens, OpensOn, Phase, Plan, Play, Posed, RuleSet, Stage, Tries, Within, [], arith, cond, drop, eqb, false, fewest_left, inl, inr, HelpPlay, Walk, walk_of, and_parts, is_impossible_phase, is_set, is_stop, is_unstopped, min, not, phase_half_moves, phase_start, phase_walk, plan_of, play_of, position, rest_fewest, rest_open, rules, suc, to_open, total, true, zero, ℕ, ◌+◌, ◌-◌, ◌<◌, ◌^◌, ◌∷◌, ◌≡◌, ◌≤◌, ◌⊎◌}
+use Rattle.pop_solve.proofs.Words.{BareEvent, Barred, Set, Before, ◌++◌, After, Frame, IsCounted, IsCountedUpTo, IsKeys, IsNarrow, IsOpened, IsSound, are_whites, List, Opens, OpensOn, Phase, Plan, Play, Posed, RuleSet, Stage, Tries, First, Whole, Within, goes_on, left_of, refl, phase_events, [], arith, cond, drop, eqb, false, fewest_left, inl, inr, HelpPlay, Walk, walk_of, and_parts, is_impossible_phase, is_stop, is_unstopped, min, not, phase_half_moves, phase_start, phase_walk, plan_of, play_of, position, rest_fewest, rest_open, rules, suc, to_open, total, true, zero, ℕ, ◌+◌, ◌-◌, ◌<◌, ◌^◌, ◌∷◌, ◌≡◌, ◌≤◌, ◌⊎◌}
 use Rattle.pop_battle.proofs.Boards.{after_start}
 use Rattle.pop_solve.proofs.Sound.{some_way}
 use Rattle.pop_solve.proofs.ToCome.{one, walk_count-start}
 use Rattle.pop_solve.proofs.Outcomes.{counted_by}
+
+some-event : (xs : List BareEvent) (y : BareEvent) (ys : List BareEvent) → (xs ++ y ∷ ys) ≡ [] → ⊥
+some-event [] y ys e = cc
+some-event (x ∷ xs) y ys e = cc
 
 counted-along : (walk later opened rest : ℕ) → later ≤ walk → IsCounted (walk - later) opened rest → IsCounted walk opened (rest + later)
 counted-along walk later opened rest l c = search rules
@@ -27,7 +31,7 @@ module _ (rule : RuleSet) (problem : Posed) where
 
     -- the root of a phase is counted
     pub opens-begun : (old : List Frame) (count count2 : ℕ) (left : List BareEvent) → (0 < f.left → count2 ≡ min (count + 1) (2 ^ 64 - 1))
-        → (f.left ≡ 0 → count2 ≡ count) → OpensOn rule problem (Before phase) (Within (walk_of problem phase) 0) old (f ∷ []) count count2 left
+        → (f.left ≡ 0 → count2 ≡ count) → OpensOn rule problem (Before phase) (Within (walk_of problem phase Whole) 0) old (f ∷ []) count count2 left
     unfolding rest_open rest_fewest IsNarrow fewest_left position
     opens-begun old count count2 left more same = search (rules, counted_by, narrow-begun, after_start, root-open)
 
@@ -49,11 +53,27 @@ module _ (rule : RuleSet) (problem : Posed) where
     opens-given next left last kept = rw kept (search (rules, counted-along, narrowed))
 
     -- what it opens that ends the phase
-    pub opens-ended : (stage : Stage) (last : List Frame) (left : List BareEvent) → stage ≡ cond (is_set walk.phase) (Before Play) After
+    pub opens-ended : (stage : Stage) (last : List Frame) (left : List BareEvent) → stage ≡ cond (goes_on walk) (Before Play) After
         → count ≤ problem.max_solutions → (new ≡ []) ⊎ (problem.max_solutions - count ≡ 0)
         → OpensOn rule problem (Within walk count) stage old last before after (total count (eqb count problem.max_solutions) ∷ left)
     unfolding rest_open rest_fewest IsNarrow to_open fewest_left
     opens-ended stage last left at most over = search (rules, counted-along)
+
+  -- nothing is tried between the path of a beginning and the paths after it
+  pub opens-first : (walk : Walk) (stage : Stage) (is : (n : ℕ) × (stage ≡ Within walk n)) (frames : List Frame) (opened : ℕ) (left : List BareEvent)
+      → OpensOn rule problem (First walk) stage frames frames opened opened left
+  unfolding rest_open rest_fewest IsNarrow
+  opens-first walk stage is frames opened left = rw is.1 (search rules)
+
+  -- where no event is to come nothing is still to be tried
+  pub none-left : (stage : Stage) (frames : List Frame) → left_of rule problem stage frames ≡ [] → rest_open rule problem stage frames ≡ 0
+  unfolding left_of rest_open phase_events
+  none-left (Before Set) frames e = absurd cc
+  none-left (Before Play) frames e = absurd cc
+  none-left Barred frames e = absurd cc
+  none-left (First walk) frames e = absurd (some-event _ _ _ e)
+  none-left (Within walk count) frames e = absurd (some-event _ _ _ e)
+  none-left After frames e = refl
 
   -- a call that walked again from the phase's first position would count what had been opened before twice
   pub no_second_walk : (old new : Stage) (frames last : List Frame) (before after again walk : ℕ) (left : List BareEvent)

@@ -1,3 +1,4 @@
+pub mod Beginnings
 pub mod Calls
 pub mod Phases
 pub mod Plans

@@ -119,7 +119,7 @@ fn choose_killer<R: Rules>(aim: Aim, left: usize, board: &Board, killers: &mut K
 /// first defence found may take many positions to confirm, and more still with more half-moves left. In
 /// help play and selfmates the killers stay unchanged.
 #[tactic(auto, using(chess_rules::proofs::listing_moves::Calls::playing))]
-pub fn guess_killers<R: Rules>(
+pub(crate) fn guess_killers<R: Rules>(
     plan: Plan,
     left: usize,
     by: Move,

@@ -27,7 +27,8 @@
 //! phases, plans and steps of the walk. No call allocates.
 #![tactic(auto)]
 
-pub mod guess;
+pub mod beginning;
+mod guess;
 pub mod laws;
 pub mod phases;
 pub mod plan;

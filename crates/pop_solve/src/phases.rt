@@ -1,16 +1,16 @@
-//! The phases of a search: set play and the play.
+//! The phases of a search: set play and the play, each walked whole or after a beginning of moves.
 ghost use Rattle.std.specs.Prelude.{◌≡◌, ◌+◌, ◌<◌, ◌≤◌, ℕ, [], ◌∷◌, length, reverse, true, false, if◌then◌else◌, MatchOption, Some, None, not, ◌&&◌, ◌||◌, ◌==◌, ◌-◌};
 ghost use Rattle.arrayvec.specs.ArrayVec.{array_vec_len};
 ghost use Rattle.chess_core.specs.Position.{Position};
 ghost use Rattle.pop_input.specs.Posed.{IsSound};
 ghost use Rattle.pop_stipulation.specs.Stipulations.{half_moves, is_help};
-ghost use Rattle.pop_solve.specs.Events.{first_phase, moves_shown, play_start, phase_half_moves as half_moves_of_phase, phase_start, phase_half as half_of_phase, event_of, is_impossible_phase, path_event, is_set, opening};
+ghost use Rattle.pop_solve.specs.Events.{first_phase, moves_shown, play_start, phase_half_moves as half_moves_of_phase, phase_start, phase_half as half_of_phase, event_of, is_impossible_phase, path_event, opening};
 ghost use Rattle.pop_solve.specs.ties.Walk.{IsEnded, IsWalking, Opens, Tries, path};
-ghost use Rattle.pop_solve.specs.ties.Plans.{is_help_play, plan_of, walk_of};
+ghost use Rattle.pop_solve.specs.ties.Plans.{goes_on, is_help_play, plan_of, walk_of};
 ghost use Rattle.pop_solve.specs.ties.Phases.{left_of, HoldsAtStage, Walks, Gives, OpensOn};
 ghost use Rattle.pop_events.specs.declared.event.Event.TheVariants.{Line, Total};
 ghost use Rattle.pop_events.specs.declared.event.Phase.TheVariants.{Play};
-ghost use Rattle.pop_solve.specs.declared.phases.Stage.TheVariants.{Before, Within, After};
+ghost use Rattle.pop_solve.specs.declared.phases.Stage.TheVariants.{Before, First, Within, After};
 
 use crate::plan::Plan;
 use crate::showing::{last_shown, line};
@@ -25,12 +25,22 @@ use pop_battle::search_state::SearchState;
 use pop_events::event::{Event, Phase};
 use pop_input::problem::Problem;
 
-/// How a phase is walked: the phase, its plan, and its number of half-moves.
+/// What a search covers.
+#[derive(Clone, Copy)]
+pub enum Scope {
+    /// A whole problem: the play follows set play.
+    Whole,
+    /// One phase after a beginning of moves.
+    Part,
+}
+
+/// How a phase is walked: the phase, its plan, its number of half-moves, and what the search covers.
 #[derive(Clone, Copy)]
 pub struct Walk {
     pub phase: Phase,
     pub plan: Plan,
     pub half_moves: usize,
+    pub scope: Scope,
 }
 
 /// How far a search has come in its phases, set play and the play.
@@ -40,6 +50,8 @@ pub enum Stage {
     Before { phase: Phase },
     /// After the `Phase` event of a set play that isn't possible.
     Barred,
+    /// In a phase, before the event of the path of its beginning.
+    First { walk: Walk },
     /// In a phase, `count` of whose solutions have begun.
     Within { walk: Walk, count: u32 },
     /// After the last phase.
@@ -70,13 +82,24 @@ pub fn phase_half_moves(problem: &Problem, phase: Phase) -> usize
 
 impl Walk {
     /// Returns how to walk a phase of a problem.
-    pub fn of(problem: &Problem, phase: Phase) -> Walk
-        ensures { result ≡ walk_of problem.now phase }
+    pub(crate) fn of(problem: &Problem, phase: Phase, scope: Scope) -> Walk
+        ensures { result ≡ walk_of problem.now phase scope }
     {
         Walk {
             phase,
             plan: Plan::of(problem),
             half_moves: phase_half_moves(problem, phase),
+            scope,
+        }
+    }
+
+    /// Returns the stage after the last event of the phase.
+    fn stage_after(self) -> Stage
+        ensures { result ≡ (if goes_on self then Before Play else After) }
+    {
+        match self.scope {
+            Scope::Whole if self.phase == Phase::Set => Stage::Before { phase: Phase::Play },
+            _ => Stage::After,
         }
     }
 }
@@ -102,7 +125,7 @@ fn is_full(plan: Plan, depth: usize, limit: u32) -> bool
 
 /// Walks to the next path to emit, in a phase of which `count` solutions have begun. Returns whether there
 /// is one.
-pub fn walk_on<R: Rules, const N: usize>(
+fn walk_on<R: Rules, const N: usize>(
     problem: &Problem,
     walk: Walk,
     count: u32,
@@ -167,7 +190,7 @@ fn line_at<R: Rules>(plan: Plan, half: u32, frames: &[Frame<R>], board: &mut Boa
 }
 
 /// Returns the event of the path to the top frame, whose position the board has.
-pub fn event_at<R: Rules>(
+fn event_at<R: Rules>(
     problem: &Problem,
     walk: Walk,
     frames: &[Frame<R>],
@@ -238,7 +261,7 @@ fn begin<R: Rules, const N: usize>(
     if !set_up::<R>(problem, phase, board) {
         return Stage::Barred;
     }
-    let walk = Walk::of(problem, phase);
+    let walk = Walk::of(problem, phase, Scope::Whole);
     let left = walk.half_moves;
     frames.push(Frame {
         place: Moves::start(),
@@ -252,31 +275,28 @@ fn begin<R: Rules, const N: usize>(
 
 /// Ends a phase: closes its frames and puts the first position of the play on the board. Returns the next
 /// stage.
-pub fn end<R: Rules, const N: usize>(
+fn end<R: Rules, const N: usize>(
     problem: &Problem,
-    phase: Phase,
+    walk: Walk,
     board: &mut Board,
     frames: &mut ArrayVec<Frame<R>, N>,
 ) -> Stage
     requires sound { IsSound problem.now }
-    requires walking { (h : ℕ) × IsWalking R.rule h (phase_start problem.now phase)
+    requires walking { (h : ℕ) × IsWalking R.rule h (phase_start problem.now walk.phase)
         (reverse frames.old.items) board.old }
-    ensures stage { result ≡ (if is_set phase then Before Play else After) }
+    ensures stage { result ≡ (if goes_on walk then Before Play else After) }
     ensures none { frames.new.items ≡ [] }
     ensures board { board.new ≡ play_start problem.now }
 {
     close_all::<R, N>(board, frames);
-    match phase {
-        Phase::Set => {
-            turn_back(board, &problem.diagram());
-            Stage::Before { phase: Phase::Play }
-        }
-        Phase::Play => Stage::After,
+    if walk.phase == Phase::Set {
+        turn_back(board, &problem.diagram());
     }
+    walk.stage_after()
 }
 
 /// Returns how many solutions of a phase may still begin after `count`.
-pub fn still_to_begin(problem: &Problem, count: u32) -> u32
+fn still_to_begin(problem: &Problem, count: u32) -> u32
     requires { count ≤ problem.now.max_solutions }
     ensures { result ≡ problem.now.max_solutions - count }
 {
@@ -284,7 +304,7 @@ pub fn still_to_begin(problem: &Problem, count: u32) -> u32
 }
 
 /// Returns the event that ends a phase with `count` solutions. It says `stopped` if `count` is the limit.
-pub fn total(problem: &Problem, count: u32) -> Event
+fn total(problem: &Problem, count: u32) -> Event
     ensures { result ≡ Total count (count == problem.now.max_solutions) }
 {
     Event::Total {
@@ -295,7 +315,7 @@ pub fn total(problem: &Problem, count: u32) -> Event
 
 /// Returns the count of solutions after the path to the top of `depth` frames is emitted: one more if
 /// this path begins a solution.
-pub fn count_with(problem: &Problem, depth: usize, count: u32) -> u32
+fn count_with(problem: &Problem, depth: usize, count: u32) -> u32
     requires sound { IsSound problem.now }
     requires begins { (if is_help problem.now.stipulation.form || (depth == 2) then 1 else 0)
         ≤ problem.now.max_solutions - count }
@@ -310,10 +330,33 @@ pub fn count_with(problem: &Problem, depth: usize, count: u32) -> u32
     }
 }
 
+/// Returns the event of the path of a phase's beginning, with the stage after it.
+#[tactic(auto, unfolding(crate::specs::ties::Phases::HoldsAtStage, crate::specs::ties::Phases::left_of))]
+fn first_event<R: Rules>(
+    problem: &Problem,
+    walk: Walk,
+    frames: &[Frame<R>],
+    board: &mut Board,
+) -> (Stage, Event)
+    requires sound { IsSound problem.now }
+    requires standing { HoldsAtStage R.rule problem.now (First walk) (reverse frames.now)
+        board.old }
+    ensures standing { HoldsAtStage R.rule problem.now result.0 (reverse frames.now) board.new }
+    ensures gives { Gives R.rule problem.now
+        (left_of R.rule problem.now (First walk) (reverse frames.now))
+        (left_of R.rule problem.now result.0 (reverse frames.now))
+        result.1 board.new (length frames.now) }
+    ensures stage { (count : ℕ) × (result.0 ≡ Within walk count) }
+{
+    let count = count_with(problem, frames.len(), 0);
+    let event = event_at::<R>(problem, walk, frames, board);
+    (Stage::Within { walk, count }, event)
+}
+
 /// Writes the next event of a search to `event`, or `None` after the last, and updates the stage. Takes
 /// `event` by reference, since each caller would copy a returned event.
 #[tactic(auto, unfolding(crate::specs::ties::Phases::HoldsAtStage, crate::specs::ties::Phases::left_of))]
-pub(crate) fn advance<R: Rules, const N: usize>(
+pub fn advance<R: Rules, const N: usize>(
     problem: &Problem,
     stage: &mut Stage,
     board: &mut Board,
@@ -349,6 +392,11 @@ pub(crate) fn advance<R: Rules, const N: usize>(
             *stage = Stage::Before { phase: Phase::Play };
             *event = Some(Event::Impossible);
         }
+        Stage::First { walk } => {
+            let (next, first) = first_event::<R>(problem, walk, frames.as_slice(), board);
+            *stage = next;
+            *event = Some(first);
+        }
         Stage::Within { walk, count } => {
             if walk_on::<R, N>(problem, walk, count, board, frames, search_state) {
                 let count = count_with(problem, frames.len(), count);
@@ -356,7 +404,7 @@ pub(crate) fn advance<R: Rules, const N: usize>(
                 *event = Some(event_at::<R>(problem, walk, frames.as_slice(), board));
                 return;
             }
-            *stage = end::<R, N>(problem, walk.phase, board, frames);
+            *stage = end::<R, N>(problem, walk, board, frames);
             *event = Some(total(problem, count));
         }
         Stage::After => *event = None,

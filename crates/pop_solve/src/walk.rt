@@ -155,7 +155,7 @@ fn seeks_last(play: Play) -> bool
 
 /// Returns whether the next half-move ends every path and must mate: it is the last half-move of play for
 /// mate, by a side that wants mate.
-pub fn ends_with_mate(plan: Plan, left: usize) -> bool
+pub(crate) fn ends_with_mate(plan: Plan, left: usize) -> bool
     ensures { IsTrue result ↔ ((is_for_mate plan.goal ≡ true) × (seeks_last plan.play ≡ true)
         × (left ≡ 1)) }
 {
@@ -218,7 +218,7 @@ pub(crate) fn opened_after(opened: u64, tried: usize, tested: bool) -> u64
 /// by hand: it is called for each move, and the compiler wouldn't inline it.
 #[tactic(auto, using(chess_rules::proofs::listing_moves::Calls::playing), unfolding(crate::specs::ties::Walk::is_followed, crate::specs::ties::Walk::walk_length))]
 #[inline(always)]
-pub fn enter<R: Rules, const N: usize>(
+pub(crate) fn enter<R: Rules, const N: usize>(
     plan: Plan,
     left: usize,
     by: Move,

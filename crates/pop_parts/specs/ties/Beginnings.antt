@@ -1,7 +1,7 @@
 -- What the frames of the walk over the parts' first moves mean (own): no half-move is left at any of them.
-use Rattle.std.specs.Prelude.{◌≡◌, ℕ, ◌-◌, ◌≤◌, ◌<◌, ◌==◌, Bool, true, false, List, [], ◌∷◌, ◌++◌, drop, map, length, Option, Some, None, IfSome, slice_get}
+use Rattle.std.specs.Prelude.{◌≡◌, ℕ, ◌-◌, ◌≤◌, ◌<◌, true, false, List, [], ◌∷◌, ◌++◌, drop, map, length, Option, Some, None, IfSome, slice_get}
 use Rattle.std.specs.Option.{option_map}
-use Rattle.std.specs.List.{flat_map, list_all}
+use Rattle.std.specs.List.{flat_map}
 use Rattle.chess_core.specs.Position.{Position}
 use Rattle.chess_core.specs.declared.man.Move.{Move}
 use Rattle.chess_rules.specs.Legal.{is_legal}
@@ -16,11 +16,8 @@ use Rattle.pop_battle.specs.Chess.{chess}
 use Rattle.pop_solve.specs.Events.{Path, phase_half_moves, phase_start}
 use Rattle.pop_parts.specs.PhaseParts.{beginnings}
 use Rattle.pop_battle.specs.ties.Frames.{Frame, position}
+use Rattle.pop_solve.specs.ties.Beginnings.{are_idle}
 use Rattle.pop_solve.specs.ties.Walk.{IsWalking, path, walk_work}
-
--- nothing is tried from these frames
-unfoldable pub are_idle : List Frame → Bool
-are_idle frames = list_all (λ f. f.left == 0) frames
 
 -- the lists of moves from p that begin with one of these moves and have k moves after it
 unfoldable pub beginnings_by : Goal → RuleSet → ℕ → Position → List Move → List Path

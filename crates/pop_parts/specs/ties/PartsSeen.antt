@@ -1,12 +1,18 @@
 -- What contracts see of a search of one part and of the parts still to come, and how many positions a
 -- part's walk has (own).
-use Rattle.std.specs.Prelude.{ℕ, ◌-◌, ◌==◌, Bool, true, ◌&&◌, List, [], ◌∷◌, length}
+use Rattle.std.specs.Prelude.{◌≡◌, ℕ, ◌-◌, ◌==◌, Bool, true, false, ◌&&◌, List, [], ◌∷◌, length}
 use Rattle.chess_core.specs.Position.{Position}
 use Rattle.chess_rules.specs.Legal.{is_legal, moves as legal_moves}
 use Rattle.chess_rules.specs.Play.{position_after}
 use Rattle.chess_attacks.specs.RuleSet.{RuleSet}
 use Rattle.pop_input.specs.Posed.{Posed}
+use Rattle.pop_stipulation.specs.Stipulations.{is_help}
 use Rattle.pop_solve.specs.Events.{BareEvent, Path, phase_half_moves, phase_start}
+use Rattle.pop_solve.specs.Walks.{is_unstopped}
+use Rattle.pop_solve.specs.declared.phases.Stage.{Stage}
+use Rattle.pop_solve.specs.ties.Phases.{left_of, rest_open}
+use Rattle.pop_solve.specs.ties.Walk.{IsCounted}
+use Rattle.pop_battle.specs.ties.Frames.{Frame}
 use Rattle.pop_battle.specs.Game.{path_end}
 use Rattle.pop_parts.specs.PhaseParts.{part_count}
 use Rattle.pop_events.specs.declared.event.Phase.{Phase}
@@ -44,6 +50,14 @@ part_walk rule problem phase front =
 abbrev pub is_part_stopped : RuleSet → Posed → Phase → Path → Bool
 is_part_stopped rule problem phase front =
     part_count rule problem phase front == problem.max_solutions
+
+-- in help play, if no limit stops the part, no event to come says that one does, and exactly the positions
+-- of its walk that aren't still to be tried have counted
+abbrev pub IsPartOpened : RuleSet → Posed → Phase → Path → Stage → List Frame → ℕ → Type 0
+IsPartOpened rule problem phase front stage frames opened =
+    is_help problem.stipulation.form ≡ true → is_part_stopped rule problem phase front ≡ false
+    → (is_unstopped (left_of rule problem stage frames) ≡ true)
+    × IsCounted (part_walk rule problem phase front) opened (rest_open rule problem stage frames)
 
 -- each of the moves, played from p on, is legal
 unfoldable pub are_legal : RuleSet → Position → Path → Bool

@@ -16,9 +16,10 @@ use Rattle.pop_events.specs.declared.event.Event.{Event}
 use Rattle.pop_events.specs.declared.event.Phase.{Phase}
 use Rattle.pop_events.specs.declared.event.Phase.TheVariants.{Play}
 use Rattle.pop_solve.specs.declared.phases.Stage.{Stage}
-use Rattle.pop_solve.specs.declared.phases.Stage.TheVariants.{Before, Barred, Within, After}
+use Rattle.pop_solve.specs.declared.phases.Stage.TheVariants.{Before, Barred, First, Within, After}
+use Rattle.pop_solve.specs.declared.phases.Walk.{Walk}
 use Rattle.pop_solve.specs.declared.plan.Plan.{Plan}
-use Rattle.pop_solve.specs.ties.Plans.{plan_of, walk_of}
+use Rattle.pop_solve.specs.ties.Plans.{goes_on, plan_of, walk_of}
 
 module _ {M : Type 0} where
   -- the path begins a solution: it is a line, or a node with no node above it
@@ -48,27 +49,43 @@ phase_paths rule problem phase frames =
     to_come rule (plan_of problem) (phase_half_moves problem phase) (phase_start problem phase)
     frames
 
+-- the events of some paths of a phase, after `count` solutions have begun, and then these events
+abbrev pub events_along : Posed → Phase → ℕ → List Path → List BareEvent → List BareEvent
+events_along problem phase count paths rest =
+    let limit = problem.max_solutions - count in
+    let all = count + beginning_count (is_help problem.stipulation.form) limit paths in
+    map (path_event problem phase) (kept_paths (is_help problem.stipulation.form) limit paths)
+    ++ total all (all == problem.max_solutions) ∷ rest
+
+-- the events after a walk
+abbrev pub events_after : RuleSet → Posed → Walk → List BareEvent
+events_after rule problem walk = if goes_on walk then events_from rule problem Play else []
+
 -- the events still to come
 unfoldable pub left_of : RuleSet → Posed → Stage → List Frame → List BareEvent
 left_of rule problem (Before phase) frames = events_from rule problem phase
 left_of rule problem Barred frames = impossible ∷ events_from rule problem Play
+left_of rule problem (First walk) frames =
+    events_along problem walk.phase 0 (path frames ∷ phase_paths rule problem walk.phase frames)
+    (events_after rule problem walk)
 left_of rule problem (Within walk count) frames =
-    let paths = phase_paths rule problem walk.phase frames in
-    let limit = problem.max_solutions - count in
-    let all = count + beginning_count (is_help problem.stipulation.form) limit paths in
-    map (path_event problem walk.phase) (kept_paths (is_help problem.stipulation.form) limit paths)
-    ++ total all (all == problem.max_solutions)
-    ∷ (if is_set walk.phase then events_from rule problem Play else [])
+    events_along problem walk.phase count (phase_paths rule problem walk.phase frames)
+    (events_after rule problem walk)
 left_of rule problem After frames = []
 
 -- what holds of board and frames at a stage
 unfoldable pub HoldsAtStage : RuleSet → Posed → Stage → List Frame → Position → Type 0
 HoldsAtStage rule problem (Before phase) frames board = (frames ≡ []) × (board ≡ play_start problem)
 HoldsAtStage rule problem Barred frames board = (frames ≡ []) × (board ≡ play_start problem)
+HoldsAtStage rule problem (First walk) frames board =
+    IsWalking rule (phase_half_moves problem walk.phase) (phase_start problem walk.phase) frames
+    board
+    × (walk ≡ walk_of problem walk.phase walk.scope) × (2 ≤ length frames)
+    × IsEnded rule (plan_of problem) frames board
 HoldsAtStage rule problem (Within walk count) frames board =
     IsWalking rule (phase_half_moves problem walk.phase) (phase_start problem walk.phase) frames
     board
-    × (count ≤ problem.max_solutions) × (walk ≡ walk_of problem walk.phase)
+    × (count ≤ problem.max_solutions) × (walk ≡ walk_of problem walk.phase walk.scope)
 HoldsAtStage rule problem After frames board = (frames ≡ []) × (board ≡ play_start problem)
 
 -- what the walk to the next path of a phase leaves, if at most `limit` solutions may still begin;
@@ -103,19 +120,26 @@ pub record Gives (rule : RuleSet) (problem : Posed) (old new : List BareEvent) (
 unfoldable pub rest_open : RuleSet → Posed → Stage → List Frame → ℕ
 rest_open rule problem (Before phase) frames = walk_from rule problem phase
 rest_open rule problem Barred frames = walk_from rule problem Play
+rest_open rule problem (First walk) frames =
+    to_open rule (phase_start problem walk.phase) frames
+    + (if goes_on walk then walk_from rule problem Play else 0)
 rest_open rule problem (Within walk count) frames =
     to_open rule (phase_start problem walk.phase) frames
-    + (if is_set walk.phase then walk_from rule problem Play else 0)
+    + (if goes_on walk then walk_from rule problem Play else 0)
 rest_open rule problem After frames = 0
 
 -- the fewest positions that have still to be tried
 unfoldable pub rest_fewest : RuleSet → Posed → Stage → List Frame → ℕ
 rest_fewest rule problem (Before phase) frames = fewest_from rule problem phase
 rest_fewest rule problem Barred frames = fewest_from rule problem Play
+rest_fewest rule problem (First walk) frames =
+    fewest_left rule (plan_of problem) (phase_half_moves problem walk.phase)
+    (phase_start problem walk.phase) frames
+    + (if goes_on walk then fewest_from rule problem Play else 0)
 rest_fewest rule problem (Within walk count) frames =
     fewest_left rule (plan_of problem) (phase_half_moves problem walk.phase)
     (phase_start problem walk.phase) frames
-    + (if is_set walk.phase then fewest_from rule problem Play else 0)
+    + (if goes_on walk then fewest_from rule problem Play else 0)
 rest_fewest rule problem After frames = 0
 
 -- the phase is the play of a battle, and only keys are shown
@@ -130,6 +154,9 @@ unfoldable pub IsNarrow : Posed → Stage → List Frame → Type 0
 IsNarrow problem (Before phase) frames = (play_of problem.stipulation.form ≡ HelpPlay)
     ⊎ IsKeys problem phase
 IsNarrow problem Barred frames = play_of problem.stipulation.form ≡ HelpPlay
+IsNarrow problem (First walk) frames =
+    (play_of problem.stipulation.form ≡ HelpPlay)
+    ⊎ ((keys : IsKeys problem walk.phase) × (are_whites keys.battle frames ≡ true))
 IsNarrow problem (Within walk count) frames =
     (play_of problem.stipulation.form ≡ HelpPlay)
     ⊎ ((keys : IsKeys problem walk.phase) × (are_whites keys.battle frames ≡ true))

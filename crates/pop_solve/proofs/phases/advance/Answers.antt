@@ -12,6 +12,13 @@ pub returns-in-Barred-clause-gives : goal.returns-in-Barred-clause-gives
 unfolding HoldsAtStage left_of
 returns-in-Barred-clause-gives g c = search rules
 
+pub returns-in-First : goal.returns-in-First
+returns-in-First g c = record {
+  standing = search rules;
+  gives = rw c.in-First.is (search rules);
+  opens = rw c.in-First.is (opened.opens-first g.R.Rules.rule c.args.problem.now c.in-First.walk _ c.first_event-next.ensures.stage _ _ _);
+}
+
 pub count_with-count-requires-clause-begins : goal.count_with-count-requires-clause-begins
 unfolding HoldsAtStage
 count_with-count-requires-clause-begins g c =
@@ -51,7 +58,7 @@ returns-else-walk_on g c =
     let half_moves = events.half_moves-are c.args.problem.now walk stands.2 in
     record {
       standing = search rules;
-      gives = rw c.in-Within.is (search (rules, w));
+      gives = rw c.in-Within.is (events.ended-gives g.R.Rules.rule c.args.problem.now walk _ _ _ _ w _ c.end.ensures.stage _ _ c.total.ensures _ _);
       opens = rw (c.in-Within.is, events.left-ended g.R.Rules.rule c.args.problem.now walk _ _ _ _ w) (opened.opens-ended g.R.Rules.rule
           c.args.problem.now walk _ _ _ _ _ (rw plan at c.walk_on.ensures.opens) (rw (plan, half_moves) at c.walk_on.ensures.tries) _ _ _ c.end.ensures.stage
           stands.1 (w.over refl));

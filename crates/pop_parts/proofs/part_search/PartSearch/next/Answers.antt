@@ -1,19 +1,19 @@
-use Rattle.pop_parts.proofs.Words.{StandsInPart, part_left, rules}
+use Rattle.pop_parts.proofs.PartEvents as events
 use Rattle.pop_parts.proofs.part_search.PartSearch.next.Goals as goal
 
-pub invariant_of-self-in-Within : goal.invariant_of-self-in-Within
-invariant_of-self-in-Within g c =
-    let s = rw c.in-Within.is at c.self.invariant.2 in
-    search (rules, s, c.next_event_in_part-stage.ensures.stands, c.next_event_in_part-stage.ensures.opens)
+pub invariant_of-self : goal.invariant_of-self
+invariant_of-self g c = (
+  c.self.invariant.0,
+  c.self.invariant.1,
+  c.advance.ensures.standing,
+  events.opened-on g.R.Rules.rule _ _ _ _ _ _ _ _ _ _ _ _ c.advance.ensures.gives c.advance.ensures.opens c.self.invariant.3,
+)
 
-pub returns-in-After-clause-event : goal.returns-in-After-clause-event
-unfolding part_left
-returns-in-After-clause-event g c = search rules
+pub returns-clause-event : goal.returns-clause-event
+returns-clause-event g c = rw (← c.self.view_is) (events.event-is g.R.Rules.rule _ _ _ _ _ _ c.advance.ensures.gives)
 
-pub returns-in-After-clause-left : goal.returns-in-After-clause-left
-unfolding part_left
-returns-in-After-clause-left g c = search rules
+pub returns-clause-left : goal.returns-clause-left
+returns-clause-left g c = rw (← c.self.view_is) (events.left-is g.R.Rules.rule _ _ _ _ _ _ c.advance.ensures.gives)
 
-pub returns-in-After-clause-board : goal.returns-in-After-clause-board
-unfolding part_left StandsInPart
-returns-in-After-clause-board g c = search rules
+pub returns-clause-board : goal.returns-clause-board
+returns-clause-board g c = rw (← c.self.view_is) (events.board-is g.R.Rules.rule _ _ _ _ _ _ c.advance.ensures.gives)
