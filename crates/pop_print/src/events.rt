@@ -14,14 +14,16 @@ use pop_text::sink::{Sink, SinkFault, put_all};
 // The room in bytes for a total, or for a node of battle play with at most 64 blanks before it (own).
 const NODE: usize = 128;
 
-// The most bytes of a half-move's number, of what comes before a move of a line, of the longest line's moves, and of a
-// total (own).
+// The most bytes of a half-move's number.
 const PREFIX: usize = 23;
 
+// The most bytes before a move of a line.
 const MOVE_NUMBER: usize = PREFIX + 1;
 
+// The most bytes of a line's moves: 32, each with its number.
 const MOVES: usize = 32 * (MOVE_NUMBER + MOVE);
 
+// The most bytes of a total.
 const TOTAL: usize = 41;
 
 /// Writes an event as one line.

@@ -8,9 +8,10 @@ use pop_input::fault_kind::FaultKind;
 use pop_input::item::Fault;
 use pop_text::sink::{Sink, SinkFault};
 
-// The most bytes of a fault's message, and of the text of a faulty item (own).
+// The most bytes of a fault's message (own).
 const MESSAGE: usize = 40;
 
+// The most bytes of a faulty item (own).
 const FAULT: usize = 140;
 
 /// Writes a faulty item: its number, the fault with its line, and an empty line. Passes the text to the sink in one

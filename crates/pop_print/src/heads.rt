@@ -15,21 +15,28 @@ use pop_stipulation::stipulation::{Form, Goal, Stipulation};
 use pop_text::sink::{Sink, SinkFault};
 use pop_text::text::{LONGEST_TEXT, Text};
 
-// The most bytes of each part of a head, and of the head of a problem that is only tested (own).
+// The most bytes of the line with an item's number.
 pub(crate) const ITEM_LINE: usize = 29;
 
+// The most bytes of the lines of title and author: two labels, two texts, two line ends.
 const NAMES: usize = 15 + 2 * (LONGEST_TEXT + 1);
 
+// The bytes of a rank's line.
 const RANK: usize = 11;
 
+// The bytes of the board: eight ranks, and the line of the files.
 const BOARD: usize = 9 * RANK;
 
+// The most bytes of a stipulation.
 const STIPULATION: usize = 24;
 
+// The most bytes of the stipulation's line: a condition and the line end follow.
 const STIPULATION_LINE: usize = STIPULATION + 9;
 
+// The room for a head (own).
 const HEAD: usize = 600;
 
+// The room for the head of a problem that is only tested (own).
 const CHECKED: usize = 700;
 
 /// Writes the head of a sound item: its number, its title and author if there are any, the board unless the problem or
