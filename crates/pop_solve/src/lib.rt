@@ -18,8 +18,8 @@
 //! }
 //! ```
 //!
-//! The items re-exported at the root are the interface. The public modules serve `pop_parts` only: phases,
-//! plans and steps of the walk. No call allocates.
+//! The items re-exported at the root are the interface. The other public modules serve `pop_parts` only: it
+//! begins the search of a phase after given moves (`beginning`) and lets `phases` walk it. No call allocates.
 #![tactic(auto)]
 
 pub mod beginning;
