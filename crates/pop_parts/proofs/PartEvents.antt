@@ -1,5 +1,5 @@
 -- What a call of `PartSearch::next` returns, and what it counts.
-use Rattle.pop_parts.proofs.Words.{BareEvent, Frame, Gives, IsAtPathOf, IsPartOpened, List, MatchOption, Move, None, OpensOn, Option, Phase, Posed, Position, RuleSet, Some, Stage, [], and_parts, ap, drop, event_of, help-play, is_stop, is_unstopped, left_of, not, play_start, refl, slice_get, true, ℕ, ◌∷◌, ◌≡◌}
+use Rattle.pop_parts.proofs.Words.{BareEvent, Frame, Gives, IsAtPathOf, IsPartOpened, List, MatchOption, Move, None, OpensOn, Option, Phase, Posed, Position, RuleSet, Some, Stage, [], and_parts, ap, drop, event_of, help-play, is_stop, is_unstopped, left_of, not, play_start, refl, slice_get, true, ℕ, ◌≡◌}
 use Rattle.pop_events.specs.declared.event.Event.{Event}
 use Rattle.std.specs.Option.{option_map}
 

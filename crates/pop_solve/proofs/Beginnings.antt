@@ -1,5 +1,5 @@
 -- How the search of a phase after a beginning of moves begins.
-use Rattle.pop_solve.proofs.Words.{AreKnown, Bool, Counts, Frame, Game, HoldsAtStage, First, IsCounted, IsLinked, IsRoomy, IsWalking, List, Move, Part, Phase, Plan, Posed, Position, RuleSet, Stage, Within, [], after_well_formed, ap, append-nil, arith, eqb, events_along, false, false≢true, game_of, has_variations, inl, inr, is_emitted, is_followed, is_for_mate, is_help, is_legal, is_mate, is_pseudo_legal-from_legal, left_of, legal_moves, length, length-reverse, map, moves_after, nat_tests, opened_frame, path, phase_half_moves, phase_paths, phase_start, plan_of, position, position_after, refl, rest_open, reverse, rules, seeks_last, shown_paths, suc, sym, to_come, to_open, true, undo_of, walk_count, walk_length, walk_of, zero, ℕ, ◌++◌, ◌+◌, ◌-◌, ◌<◌, ◌∙◌, ◌∷◌, ◌≡◌, ◌≤◌}
+use Rattle.pop_solve.proofs.Words.{AreKnown, Bool, Counts, Frame, Game, HoldsAtStage, First, IsCounted, IsLinked, IsRoomy, IsWalking, List, Move, Part, Phase, Plan, Posed, Position, RuleSet, Stage, Within, [], after_well_formed, ap, append-nil, arith, eqb, events_along, false, false≢true, game_of, has_variations, inl, inr, is_emitted, is_followed, is_for_mate, is_help, is_legal, is_mate, is_pseudo_legal-from_legal, left_of, legal_moves, length, map, moves_after, nat_tests, opened_frame, path, phase_half_moves, phase_paths, phase_start, plan_of, position, position_after, refl, rest_open, reverse, rules, seeks_last, shown_paths, sym, to_come, to_open, true, undo_of, walk_count, walk_length, walk_of, ℕ, ◌++◌, ◌+◌, ◌-◌, ◌<◌, ◌∙◌, ◌∷◌, ◌≡◌, ◌≤◌}
 use Rattle.pop_battle.proofs.Boards.{after_start, for_mate}
 use Rattle.pop_solve.proofs.GoingOn.{cases, ended-reached, follows-help, walk_length-help, walk_length-most}
 use Rattle.pop_solve.proofs.Outcomes.{counted_by}

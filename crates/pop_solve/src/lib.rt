@@ -23,8 +23,8 @@
 //! assert!(rt; keys == 1);
 //! ```
 //!
-//! The items re-exported at the root are the interface. The public modules serve only `pop_parts`:
-//! phases, plans and steps of the walk. No call allocates.
+//! The items re-exported at the root are the interface. The other public modules serve `pop_parts` only: it
+//! begins the search of a phase after given moves (`beginning`) and lets `phases` walk it. No call allocates.
 #![tactic(auto)]
 
 pub mod beginning;

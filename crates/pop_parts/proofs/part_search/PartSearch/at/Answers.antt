@@ -1,4 +1,4 @@
-use Rattle.pop_parts.proofs.Words.{ap, rules, sym, ◌∙◌}
+use Rattle.pop_parts.proofs.Words.{rules, ◌∙◌}
 use Rattle.pop_parts.proofs.PartBegins as part
 use Rattle.pop_parts.proofs.part_search.PartSearch.at.Goals as goal
 
