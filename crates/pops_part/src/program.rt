@@ -22,7 +22,7 @@ use std::io::{Read, Write};
 use std::rt::Files;
 
 /// How a run ends.
-#[derive(Clone, Copy, Debug)]
+#[derive(Clone, Copy)]
 pub enum Ending {
     /// All is written: the parts, or a list in which every item is sound.
     Done,
