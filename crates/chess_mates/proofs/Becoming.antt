@@ -1,5 +1,5 @@
 -- What a man may be after its arrival.
-use Rattle.chess_mates.proofs.Chess.{Bishop, Bool, Colour, Grasshopper, IsLeft, Kind, List, Man, Move, None, Option, Pawn, Position, Rook, RuleSet, Some, and_parts, arith, arriving_man, false, false_by, false≢true, is_promoting, is_promotion_right, list_any-append, man_on, not-true, or_left, or_right, position_after, position_after_by, reaches_as, refl, rules, same_kind, sym, true, ℕ, ◌∙◌, ◌≡◌}
+use Rattle.chess_mates.proofs.Chess.{Bishop, Bool, Colour, Grasshopper, IsLeft, Kind, List, Man, Move, None, Option, Pawn, Position, Rook, RuleSet, Some, and_parts, arith, arriving_man, false, false_by, false≢true, is_promoting, is_promotion_right, list_any-append, man_on, not-true, or_left, or_right, position_after, position_after_by, reaches_as, refl, same_kind, sym, true, ℕ, ◌∙◌, ◌≡◌}
 use Rattle.chess_mates.proofs.KindByKind.{man_is}
 use Rattle.chess_mates.specs.ties.Attackers.{is_promotion}
 use Rattle.chess_mates.specs.ties.LastingFlights.{MayBecome, counts_as}

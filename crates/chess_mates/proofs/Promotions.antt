@@ -1,6 +1,6 @@
 -- Promoting pawns: where they may give check, and what they leave.
-use Rattle.chess_mates.proofs.Chess.{AreApproached, Attackers, Bishop, Bool, Colour, Kind, King, Knight, LeavesOne, LeavesUntaken, List, Man, Option, Pawn, Queen, Rook, and_parts, arith, bit_and, bit_at, bit_or, cases_Bool, eqb-true, false, false_by, false≢true, inl, inr, is_promoting, off_left, off_right, on_left, on_right, reaches_as, refl, rules, same_kind, subst, sym, true, ℕ, ◌<◌, ◌==◌, ◌∙◌, ◌≡◌, RuleSet, Position, CheckSquares, captures_do_more}
-use Rattle.chess_mates.proofs.Becoming.{counted_left, piece_stays, reaches_counted, unchanged}
+use Rattle.chess_mates.proofs.Chess.{AreApproached, Bishop, Bool, Colour, Kind, Knight, LeavesOne, LeavesUntaken, List, Man, Option, Queen, Rook, and_parts, bit_and, bit_at, bit_or, cases_Bool, false, false≢true, inl, inr, is_promoting, off_left, off_right, on_left, on_right, reaches_as, refl, rules, subst, sym, true, ℕ, ◌<◌, ◌==◌, ◌∙◌, ◌≡◌, RuleSet, Position, CheckSquares, captures_do_more}
+use Rattle.chess_mates.proofs.Becoming.{counted_left, reaches_counted, unchanged}
 use Rattle.chess_mates.proofs.CheckTargets.{last_rank_on}
 use Rattle.chess_mates.proofs.KindByKind.{man_is}
 use Rattle.chess_mates.proofs.LastingFlights.{no_last_rank, on_both}

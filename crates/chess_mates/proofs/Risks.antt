@@ -1,5 +1,5 @@
 -- Bitboards of risks: where a defender's arrival might allow mate.
-use Rattle.chess_mates.proofs.Chess.{AreApproached, AreApproaches, AreArrivals, AreGuardsWithout, AreWeak, Bishop, Colour, KingZone, Grasshopper, IsCheckWord, IsHarmless, IsNear, IsNoCheck, IsReached, IsUnguarded, IsWeak, Kind, King, Knight, List, Man, Nightrider, Option, Pawn, Position, Queen, Risk, Rook, KingAttack, and_parts, ap, arith, bit_and, bit_at, bit_at-lt, bit_at_not, bit_not, bit_or, eq-eqb, eqb-true, false, false_by, false≢true, gait_of, inl, is_hopper, king_is_no_pawn, may_arrive, no_pawn_arrives, not, occupied_squares, off_left, off_right, off_zero, other, reaches_as, refl, rules, same_kind, same_kind-true, squares, squares_for, sym, true, true_from_ne_false, w64, word, ℕ, IsArrival, ◌<◌, ◌==◌, ◌^◌, ◌∙◌, ◌≡◌}
+use Rattle.chess_mates.proofs.Chess.{AreApproached, AreApproaches, AreArrivals, AreGuardsWithout, AreWeak, Bishop, Colour, KingZone, Grasshopper, IsCheckWord, IsHarmless, IsNear, IsNoCheck, IsReached, IsUnguarded, IsWeak, Kind, King, Knight, List, Man, Nightrider, Option, Pawn, Position, Queen, Risk, Rook, KingAttack, ap, arith, bit_and, bit_at, bit_at-lt, bit_at_not, bit_not, bit_or, eq-eqb, eqb-true, false, false_by, false≢true, gait_of, inl, is_hopper, king_is_no_pawn, may_arrive, no_pawn_arrives, not, occupied_squares, off_left, off_right, off_zero, other, reaches_as, refl, rules, same_kind, same_kind-true, squares, squares_for, sym, true, true_from_ne_false, w64, word, ℕ, IsArrival, ◌<◌, ◌==◌, ◌^◌, ◌∙◌, ◌≡◌}
 use Rattle.chess_mates.specs.declared.guards.Guards.{Guards}
 use Rattle.chess_mates.proofs.Hurdles.{on_one, reached_is}
 use Rattle.chess_mates.proofs.KindByKind.{man_is, of_all}

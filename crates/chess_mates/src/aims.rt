@@ -54,18 +54,28 @@ fn never_aims(board: &Board, m: &Move) -> bool
     !man.kind.is_fairy() && !contains(unblocked_reach(own, m.to), king)
 }
 
-/// Returns whether the moving man arrives where it would attack the enemy king on the board as it was
-/// before the move. A search uses this only to order moves.
+// Returns whether the moving man would attack the enemy king from its arrival, on the board as it was before
+// the move. Out of line: `never_aims` is usually enough.
+#[inline(never)]
 #[tactic(auto, using(chess_attacks::proofs::Bits::word_has), unfolding(crate::specs::ties::Aims::aims_at_king))]
-pub fn aims_at_king(board: &Board, m: &Move) -> bool
+fn aims_from_arrival(board: &Board, m: &Move) -> bool
     ensures { result ≡ aims_at_king board.now m.now }
 {
     // For the proof: a square's number is below 64.
     let _small = m.to.index();
+    contains(aimed_squares(board, m.from), m.to)
+}
+
+/// Returns whether the moving man arrives where it would attack the enemy king on the board as it was
+/// before the move. A search uses this only to order moves.
+#[inline(always)]
+pub fn aims_at_king(board: &Board, m: &Move) -> bool
+    ensures { result ≡ aims_at_king board.now m.now }
+{
     if never_aims(board, m) {
         return false;
     }
-    contains(aimed_squares(board, m.from), m.to)
+    aims_from_arrival(board, m)
 }
 
 // What the search for aimed moves, for which `aims_at_king` holds, knows of a position.

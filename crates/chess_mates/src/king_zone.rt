@@ -6,20 +6,19 @@ ghost use Rattle.chess_core.specs.declared.man.Kind.TheVariants.{Nightrider};
 ghost use Rattle.chess_core.specs.declared.man.Colour.{Colour};
 ghost use Rattle.chess_mates.specs.declared.king_attack.KingAttack.{KingAttack};
 ghost use Rattle.chess_mates.specs.ties.LastingFlights.{AreOpenTargets};
-ghost use Rattle.chess_mates.specs.ties.KingAttack.{AreAdjacent, AreFree, AreNeeded, ArePromotions, AreSpringboards, AreHopTargets, IsCastlingHarmless, IsField, IsReached, IsUnhopped, AreCaptureSquares};
+ghost use Rattle.chess_mates.specs.ties.KingAttack.{AreAdjacent, AreFree, AreNeeded, AreSpringboards, AreHopTargets, IsCastlingHarmless, IsField, IsReached, IsUnhopped, AreCaptureSquares};
 
+use crate::approach_squares::promotion_squares;
 use crate::attackers::{Attackers, MOST_ATTACKERS};
 use crate::guards::reach_of;
 use crate::king_attack::KingAttack;
-use crate::lasting_flights::{
-    LAST_RANKS, OpenTargets, all_open_targets, keeps_one, open_approaches,
-};
+use crate::lasting_flights::{OpenTargets, all_open_targets, keeps_one};
 use chess_attacks::leaps::king_leaps;
 use chess_attacks::lines::{diagonal_lines, straight_lines};
 use chess_attacks::reach::reach_over;
 use chess_attacks::rules::Rules;
 use chess_attacks::words::{highest, next_bit, only, pop_first};
-use chess_core::man::{Colour, Kind, Man};
+use chess_core::man::{Colour, Kind};
 use chess_core::square::{Square, Squares};
 
 // A king zone: the king's square (`king`); the squares next to it to which it might go, attacked or not
@@ -190,22 +189,6 @@ pub(crate) fn no_hop_targets(king_attack: &KingAttack, king: Square) -> HopTarge
         own: 0,
         all: 0,
     }
-}
-
-// Returns a superset of the squares on which a pawn of the colour may promote to a man that checks a
-// king on `king`, on any board.
-#[tactic(auto, using(crate::proofs::Promotions::any_rank, crate::proofs::Promotions::queen_or_knight))]
-pub(crate) fn promotion_squares(colour: Colour, fairy_promotions: bool, king: Square) -> Squares
-    ensures { ArePromotions colour fairy_promotions king result }
-{
-    if fairy_promotions {
-        return LAST_RANKS;
-    }
-    let kind = Kind::Queen;
-    let queens = open_approaches(Man { colour, kind }, king);
-    let kind = Kind::Knight;
-    let knights = open_approaches(Man { colour, kind }, king);
-    LAST_RANKS & (queens | knights)
 }
 
 // Returns the king zone of a defender's king on `king`. `riders` are the squares that a nightrider there

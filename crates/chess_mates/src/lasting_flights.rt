@@ -5,16 +5,17 @@ ghost use Rattle.std.specs.Int.{bit_at};
 ghost use Rattle.chess_core.specs.SquareNames.{e1, e8};
 ghost use Rattle.chess_core.specs.declared.man.Man.{Man};
 ghost use Rattle.chess_mates.specs.declared.attackers.Attackers.{Attackers};
-ghost use Rattle.chess_mates.specs.ties.LastingFlights.{AreApproached, AreOpenTargets, AreTargets, IsLeft, KeepsOne, LeaveOne};
+ghost use Rattle.chess_mates.specs.ties.LastingFlights.{AreOpenTargets, AreTargets, IsLeft, KeepsOne, LeaveOne};
 ghost use Rattle.chess_rules.specs.ties.Exposure.{king_after};
 ghost use Rattle.chess_attacks.specs.ties.Lines.{AreReached};
 
+use crate::approach_squares::open_approaches;
 use crate::attackers::Attackers;
 use chess_attacks::unblocked::unblocked_reach;
 use chess_attacks::words::{highest, next_bit, only, pop_first};
 use chess_core::board::Board;
 use chess_core::man::{Colour, Kind, Man, Move};
-use chess_core::square::{Square, Squares};
+use chess_core::square::{LAST_RANKS, Square, Squares};
 use chess_rules::targets::unblocked_targets;
 
 // Supersets of the squares where each kind of a side's men may be after one move on an otherwise empty
@@ -140,9 +141,6 @@ fn first_left(squares: Squares, man: Man, to: Square) -> Option<Square>
     next_bit(squares & !(unblocked_reach(man, to) | only(Some(to))), 0)
 }
 
-// The first rank and the last.
-pub(crate) const LAST_RANKS: Squares = 0xff00_0000_0000_00ff;
-
 // The squares e1 and e8.
 const KINGS_HOMES: Squares = 0x1000_0000_0000_0010;
 
@@ -154,23 +152,6 @@ fn never_castle(men: &Attackers) -> bool
         → (s ≢ e1) × (s ≢ e8) }
 {
     men.kings & KINGS_HOMES == 0
-}
-
-// Returns a superset of the squares from which the man reaches `to` on some board; for a grasshopper a
-// queen's lines.
-#[tactic(auto, using(crate::proofs::LastingFlights::come_back, crate::proofs::LastingFlights::hop_back))]
-pub(crate) fn open_approaches(man: Man, to: Square) -> Squares
-    ensures { AreApproached man to result }
-{
-    // For the proof: a square's number is below 64.
-    let _small = to.index();
-    let colour = man.colour.other();
-    if man.kind.is(Kind::Grasshopper) {
-        let kind = Kind::Queen;
-        return unblocked_reach(Man { colour, kind }, to);
-    }
-    let kind = man.kind;
-    unblocked_reach(Man { colour, kind }, to)
 }
 
 // Returns the squares where the man takes this flight: the flight itself, and the squares from which it

@@ -36,10 +36,12 @@
 #![tactic(auto)]
 
 pub mod aims;
+mod approach_squares;
 mod attackers;
 mod checks;
 pub mod every_move;
 mod flights;
+mod free_steps;
 mod guards;
 mod homes;
 mod hopped_flights;

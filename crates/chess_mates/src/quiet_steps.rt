@@ -6,23 +6,24 @@ ghost use Rattle.std.specs.List.{list_all};
 ghost use Rattle.chess_core.specs.Position.{king_square, other};
 ghost use Rattle.chess_core.specs.WellFormed.{IsWellFormed};
 ghost use Rattle.chess_core.specs.declared.man.Move.{Move};
-ghost use Rattle.chess_mates.specs.ties.Flights.{AreOpen, IsQuietTo, IsSeenFrom, sight_stepped};
-ghost use Rattle.chess_mates.specs.ties.LastingFlights.{IsLeft};
+ghost use Rattle.chess_mates.specs.ties.Flights.{IsQuietTo, IsSeenFrom, sight_stepped};
 ghost use Rattle.chess_mates.specs.ties.Mates.{is_mating};
-ghost use Rattle.chess_mates.specs.ties.QuietSteps.{AreQuiet, GoesSimply, IsStepLeft, must_reply_with_mate, sight_without};
+ghost use Rattle.chess_mates.specs.ties.QuietSteps.{AreQuiet, IsStepLeft, must_reply_with_mate, sight_without};
 ghost use Rattle.chess_mates.specs.ties.StandingFlights.{NoneHops};
 ghost use Rattle.chess_rules.specs.Legal.{is_legal, moves};
-ghost use Rattle.chess_rules.specs.Play.{capture_square, is_castling, position_after};
+ghost use Rattle.chess_rules.specs.Play.{capture_square, position_after};
 ghost use Rattle.chess_rules.specs.ties.Counting.{AreExact};
-ghost use Rattle.chess_rules.specs.ties.Targets.{AreCandidates, is_promoting};
+ghost use Rattle.chess_rules.specs.ties.Targets.{AreCandidates};
 
+use crate::approach_squares::barring_squares;
 use crate::attackers::attackers_on;
 use crate::flights::{
     covered_squares, first_safe, held_squares, open_squares, sight_lifted, sight_with,
 };
+use crate::free_steps::{free_steps, none_hops, unsimple_squares};
 use crate::guards::{leapt_squares, rider_reach};
 use crate::king_attack::king_attack_of;
-use crate::lasting_flights::{LAST_RANKS, king_after, open_approaches};
+use crate::lasting_flights::king_after;
 use crate::steps::exact_steps;
 use chess_attacks::attacks_on::has_attacker_in;
 use chess_attacks::leaps::king_leaps;
@@ -31,7 +32,7 @@ use chess_attacks::occupancy::Occupancy;
 use chess_attacks::rules::Rules;
 use chess_attacks::words::{only, pop_first};
 use chess_core::board::Board;
-use chess_core::man::{Colour, Kind, Man, Move};
+use chess_core::man::{Kind, Man, Move};
 use chess_core::square::{Square, Squares};
 use chess_rules::exposure::is_simple;
 use chess_rules::filter_moves::FilteredMoves;
@@ -99,16 +100,6 @@ fn steps_now(board: &Board, king: Square) -> Squares {
     near & !(rider_reach(hurdles, &men, near) | leapt_squares(hurdles, &men, near))
 }
 
-// Returns whether no grasshopper is on the board.
-#[tactic(auto, using(crate::proofs::QuietFilter::no_grasshopper))]
-pub(crate) fn none_hops(board: &Board) -> bool
-    ensures { result ≡ true → NoneHops board.now.men }
-{
-    board.squares(Colour::White, Kind::Grasshopper)
-        | board.squares(Colour::Black, Kind::Grasshopper)
-        == 0
-}
-
 // Returns the occupancy without the men on `from` and `king`.
 fn sight_without(board: &Board, from: Square, king: Square) -> Occupancy
     ensures { result ≡ sight_without board.now.men from king }
@@ -118,50 +109,6 @@ fn sight_without(board: &Board, from: Square, king: Square) -> Occupancy
         occupied: occupied(board) & !gone,
         standing: !gone,
     }
-}
-
-// Returns the squares to which the enemy king on `king` may step, attacked or not: the squares next to
-// it without a man of its side and without a king, and in Circe without any man.
-#[tactic(auto, using(crate::proofs::QuietFilter::open_in_circe, crate::proofs::QuietFilter::open_elsewhere))]
-pub(crate) fn free_steps<R: Rules>(board: &Board, king: Square) -> Squares
-    ensures { AreOpen R.rule board.now.men (other board.now.turn) king result }
-{
-    let near = king_leaps(king);
-    if R::captures_do_more() {
-        return near & !occupied(board);
-    }
-    let mover = board.turn();
-    near & !(board.side(mover.other()) | board.squares(mover, Kind::King))
-}
-
-// Returns the squares to which the man on `from` goes by castling or with promotion, if at all.
-fn special_arrivals(man: Man, from: Square) -> Squares
-    ensures { (m : Move) → m.from ≡ from → m.to < 64 → (bit_at result m.to == 1) ≡ false
-        → (is_castling man m ≡ false) × (is_promoting man m.to ≡ false) }
-{
-    // For the proof: a square's number is below 64.
-    let _small = from.index();
-    if man.kind.is(Kind::Pawn) {
-        return LAST_RANKS;
-    }
-    if man.kind.is(Kind::King) {
-        return !king_leaps(from);
-    }
-    0
-}
-
-// Returns the squares to which the man's move may be more than simple: by castling, promotion or en
-// passant, and in Circe by any capture.
-pub(crate) fn unsimple_squares<R: Rules>(board: &Board, man: Man, from: Square) -> Squares
-    ensures { (m : Move) → m.from ≡ from → m.to < 64 → (bit_at result m.to == 1) ≡ false
-        → GoesSimply R.rule board.now man m }
-{
-    let captures = if R::captures_do_more() {
-        occupied(board)
-    } else {
-        0
-    };
-    only(board.crossed()) | special_arrivals(man, from) | captures
 }
 
 // Returns whether no step of the enemy king from `king` uncovers a check after this man has left: no
@@ -178,18 +125,6 @@ fn are_quiet<R: Rules>(board: &Board, occupancy: Occupancy, man: Man, king: Squa
         Some(own) => !has_attacker_in(board, occupancy, own, enemy),
         None => false,
     }
-}
-
-// Returns the squares where the man's arrival may bar the king from `to`: `to` itself, and those from which
-// the man could reach `to` on some board.
-#[tactic(auto, using(crate::proofs::QuietFilter::step_left))]
-pub(crate) fn barring_squares(man: Man, to: Square) -> Squares
-    ensures { (w t : ℕ) → (bit_at w to == 1) ≡ true → t < 64 → (bit_at result t == 1) ≡ false
-        → IsLeft w man t to }
-{
-    // For the proof: a square's number is below 64.
-    let _small = to.index();
-    open_approaches(man, to) | only(Some(to))
 }
 
 // Returns the squares where the lifted man's arrival may stop the enemy king's step to `to`; all squares if

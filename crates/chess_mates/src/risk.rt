@@ -11,6 +11,7 @@ ghost use Rattle.chess_mates.specs.ties.Attackers.{IsAttacker};
 ghost use Rattle.chess_mates.specs.ties.LastingFlights.{IsLeft, MayBecome};
 ghost use Rattle.chess_mates.specs.ties.KingAttack.{AreArrivals, AreLaterHurdles, AreHopTargets, AreThreats, AreWeak, IsCheckWord, IsField, IsHarmless, IsMet, IsNoCheck, IsOff, IsReached, IsRiskAt, IsRiskAfterLeaving, IsSafeMove, IsKingAttack, IsWeak, IsWhole, LeavesOne, LeavesUntaken};
 
+use crate::approach_squares::open_approaches;
 use crate::attackers::Attackers;
 use crate::guards::{Guards, guards_without, reach_from, rider_reach};
 use crate::hopped_flights::{critical_of_hops, later_hurdles};
@@ -19,13 +20,12 @@ use crate::king_zone::{
     HopTargets, KingZone, are_free, castling_is_harmless, field_of, hop_targets_of,
     nightrider_lines, no_hop_targets,
 };
-use crate::lasting_flights::{LAST_RANKS, open_approaches};
 use crate::pawn_approaches::pawns_before;
 use chess_attacks::reach::reach_over;
 use chess_attacks::unblocked::unblocked_reach;
 use chess_attacks::words::{contains, next_bit, only, pop_first};
 use chess_core::man::{Colour, Kind, Man};
-use chess_core::square::{Square, Squares};
+use chess_core::square::{LAST_RANKS, Square, Squares};
 use chess_rules::targets::unblocked_targets;
 
 // The squares where a defender's arrival might allow mate (`critical`), and the squares of all lines on

@@ -8,9 +8,10 @@ ghost use Rattle.chess_mates.specs.ties.Mates.{mates};
 ghost use Rattle.chess_mates.specs.ties.LastingFlights.{IsLeft};
 ghost use Rattle.chess_mates.specs.ties.StandingFlights.{AreStandingFlights, IsBeside, IsFlightBut, NoneHops};
 
+use crate::approach_squares::barring_squares;
 use crate::attackers::attackers_on;
+use crate::free_steps::{free_steps, none_hops, unsimple_squares};
 use crate::guards::{leapt_squares, rider_reach};
-use crate::quiet_steps::{barring_squares, free_steps, none_hops, unsimple_squares};
 use chess_attacks::lines::{diagonal_lines, occupied, straight_lines};
 use chess_attacks::rules::Rules;
 use chess_attacks::words::{contains, highest, next_bit, only};

@@ -16,7 +16,7 @@ ghost use Rattle.chess_rules.specs.ties.Targets.{may_arrive};
 
 use crate::king_attack::{KingAttack, is_of, king_attack_of};
 use crate::king_zone::{compute_targets, needed_squares};
-use crate::lasting_flights::{LAST_RANKS, OpenTargets};
+use crate::lasting_flights::OpenTargets;
 use crate::pawn_approaches::capturers_before;
 use crate::risk::{Risk, RiskAfterLeaving, cached_risk, critical_from};
 use crate::steps::{StepCache, cached_risky_steps, exact_steps};
@@ -25,7 +25,7 @@ use chess_attacks::rules::Rules;
 use chess_attacks::words::only;
 use chess_core::board::Board;
 use chess_core::man::{Colour, Kind, Man, Move};
-use chess_core::square::{Square, Squares};
+use chess_core::square::{LAST_RANKS, Square, Squares};
 use chess_rules::filter_moves::FilteredMoves;
 use std::marker::Model;
 

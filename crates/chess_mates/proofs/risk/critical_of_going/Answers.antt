@@ -1,5 +1,5 @@
 use Rattle.chess_mates.proofs.Becoming.{hopper_is_no_pawn, piece_stays}
-use Rattle.chess_mates.proofs.Chess.{false, rules, sym, ◌∙◌}
+use Rattle.chess_mates.proofs.Chess.{false, sym, ◌∙◌}
 use Rattle.chess_mates.proofs.Promotions.{leaves_untaken}
 use Rattle.chess_mates.proofs.risk.critical_of_going.Goals as goal
 

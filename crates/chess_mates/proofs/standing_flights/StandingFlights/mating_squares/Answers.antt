@@ -1,4 +1,4 @@
-use Rattle.chess_mates.proofs.Chess.{arith, off_left, off_right, rules}
+use Rattle.chess_mates.proofs.Chess.{off_left, off_right, rules}
 use Rattle.chess_mates.proofs.KeptFlights.{no_mate_left}
 use Rattle.chess_mates.proofs.QuietFilter.{all_left}
 use Rattle.chess_mates.proofs.standing_flights.StandingFlights.mating_squares.Goals as goal

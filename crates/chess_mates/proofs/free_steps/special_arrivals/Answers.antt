@@ -1,7 +1,7 @@
 use Rattle.chess_mates.proofs.Chess.{and_left, and_parts, arith, false_by, false≢true, no_pawn_arrives, pawn_is_no_king, rules}
 use Rattle.chess_mates.proofs.CheckTargets.{last_rank_on}
 use Rattle.chess_mates.proofs.QuietFilter.{king_arrivals}
-use Rattle.chess_mates.proofs.quiet_steps.special_arrivals.Goals as goal
+use Rattle.chess_mates.proofs.free_steps.special_arrivals.Goals as goal
 
 pub returns-then-is : goal.returns-then-is
 returns-then-is c = λ m from small off.

@@ -1,6 +1,6 @@
 use Rattle.chess_mates.proofs.Chess.{rules}
 use Rattle.chess_mates.proofs.QuietFilter.{goes_simply}
-use Rattle.chess_mates.proofs.quiet_steps.unsimple_squares.Goals as goal
+use Rattle.chess_mates.proofs.free_steps.unsimple_squares.Goals as goal
 
 pub returns : goal.returns
 returns g c = λ m from small off.
