@@ -45,14 +45,14 @@ all_guard a k q r b n p g y kings queens rooks bishops knights pawns grasshopper
     let words = bit_or (bit_or (bit_or (bit_or (bit_or (bit_or (bit_or k q) r) b) n) p) g) y in
     record { guards = search (rules, of_all a (λ x s. AreReached x s words), reached_left, reached_right) depth 12 }
 
--- the targets, from what each kind reaches and the squares to which kings and pawns go
+-- the targets, from what each kind reaches and the squares to which kings, knights and pawns go
 abbrev reported : ℕ → ℕ → ℕ → ℕ → ℕ → ℕ → ℕ → ℕ → ℕ → ℕ → OpenTargets
-reported k q r b n p g y f w = record {
+reported k q r b h p g y f w = record {
   kings = k;
   queens = bit_or q (bit_and p 18374686479671623935);
   rooks = r;
   bishops = b;
-  knights = bit_or n (bit_and p 18374686479671623935);
+  knights = h;
   pawns = p;
   grasshoppers = bit_or g f;
   nightriders = bit_or y f;
@@ -75,14 +75,15 @@ module _ (a : Attackers) where
   }
 
   -- for `all_open_targets`: the squares of the last ranks to which pawns go also count for what they become
-  pub are_open_targets : (k q r b n p g y f w : ℕ) → AreGuarded a w → HoldsOf a (λ x s. AreTargets x s k) King → HoldsOf a (λ x s. AreReached x s q) Queen
+  pub are_open_targets : (k q r b n h p g y f w : ℕ) → AreGuarded a w → HoldsOf a (λ x s. AreTargets x s k) King → HoldsOf a (λ x s. AreReached x s q) Queen
       → HoldsOf a (λ x s. AreReached x s r) Rook → HoldsOf a (λ x s. AreReached x s b) Bishop → HoldsOf a (λ x s. AreReached x s n) Knight
       → HoldsOf a (λ x s. AreTargets x s p) Pawn → HoldsOf a (λ x s. AreReached x s g) Grasshopper → HoldsOf a (λ x s. AreReached x s y) Nightrider
-      → (a.fairy_promotions ≡ true → f ≡ bit_and p 18374686479671623935) → AreOpenTargets a (reported k q r b n p g y f w)
-  are_open_targets k q r b n p g y f w guards kings queens rooks bishops knights pawns grasshoppers nightriders fairies = record {
+      → h ≡ bit_or n (bit_and p 18374686479671623935) → (a.fairy_promotions ≡ true → f ≡ bit_and p 18374686479671623935)
+      → AreOpenTargets a (reported k q r b h p g y f w)
+  are_open_targets k q r b n h p g y f w guards kings queens rooks bishops knights pawns grasshoppers nightriders knights_too fairies = record {
     guards = guards;
-    targets = of_all a (λ x s. AreTargets x s (targets_for (reported k q r b n p g y f w) x.kind)) kings (piece_targets_of Queen q _ refl refl queens)
-        (plain_targets_of Rook r refl refl rooks) (plain_targets_of Bishop b refl refl bishops) (piece_targets_of Knight n _ refl refl knights) pawns
+    targets = of_all a (λ x s. AreTargets x s (targets_for (reported k q r b h p g y f w) x.kind)) kings (piece_targets_of Queen q _ refl refl queens)
+        (plain_targets_of Rook r refl refl rooks) (plain_targets_of Bishop b refl refl bishops) knights_go pawns
         (piece_targets_of Grasshopper g f refl refl grasshoppers) (piece_targets_of Nightrider y f refl refl nightriders);
     promoted = λ s x i. record {
       inside = λ v z t low may last become.
@@ -91,12 +92,15 @@ module _ (a : Attackers) where
           by z.kind t (on_both p 18374686479671623935 t goes (last_rank_on x.colour t low (and_parts _ _ last).1)) (become.promoted last);
     };
   } where
+    knights_go : HoldsOf a (λ x s. AreTargets x s h) Knight
+    knights_go = rw knights_too (piece_targets_of Knight n _ refl refl knights)
+
     by : (j : Kind) (t : ℕ) → (bit_at (bit_and p 18374686479671623935) t == 1) ≡ true → is_promotion a.fairy_promotions j ≡ true
-        → (bit_at (targets_for (reported k q r b n p g y f w) (counts_as j)) t == 1) ≡ true
+        → (bit_at (targets_for (reported k q r b h p g y f w) (counts_as j)) t == 1) ≡ true
     by Queen t on may = on_right q _ t on
     by Rook t on may = on_right q _ t on
     by Bishop t on may = on_right q _ t on
-    by Knight t on may = on_right n _ t on
+    by Knight t on may = let here : (bit_at h t == 1) ≡ true = rw knights_too (on_right n _ t on) in here
     by Grasshopper t on may = on_right g f t (rw (fairies may) on)
     by Nightrider t on may = on_right y f t (rw (fairies may) on)
     by _ t on may = absurd (false≢true may)

@@ -12,7 +12,7 @@ use Rattle.chess_core.specs.declared.man.Colour.{Colour}
 use Rattle.chess_core.specs.declared.man.Kind.{Kind}
 use Rattle.chess_core.specs.declared.man.Kind.TheVariants.{King}
 use Rattle.chess_core.specs.declared.man.Man.{Man}
-use Rattle.pop_text.specs.declared.word.TheConstants.{LONGEST_WORD}
+use Rattle.pop_text.specs.Words.{longest_word}
 use Rattle.pop_input.specs.Letters.{mate_sign, stalemate_sign}
 use Rattle.pop_input.specs.Names.{command_of, colour_of, kind_of, condition_of, option_of, or_else}
 use Rattle.pop_input.specs.Values.{squares_named, only_square, is_digit, limit_of, stipulation_of}
@@ -107,7 +107,7 @@ role_fault draft ForbiddenSquares text = forbidden_fault (squares_named text)
 role_fault draft (Control command) text = control_fault command
 role_fault draft (Within section) text = section_fault draft section text
 
--- the fault of a word of at most `LONGEST_WORD` bytes in a problem
+-- the fault of a word of at most `longest_word` bytes in a problem
 abbrev pub fault_in : Draft → List ℕ → Option FaultKind
 fault_in draft text = role_fault draft (role_of draft.context text) text
 
@@ -122,5 +122,5 @@ begin_fault None = Some BeginProblemMissing
 -- the fault of a word, in a problem that has begun or before the first problem
 abbrev pub fault_of : Bool → Draft → List ℕ → Option FaultKind
 fault_of begun draft text =
-    if nat_lt LONGEST_WORD (length text) then Some WordTooLong
+    if nat_lt longest_word (length text) then Some WordTooLong
     else (if begun then fault_in draft text else begin_fault (command_of text))

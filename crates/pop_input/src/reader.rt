@@ -1,11 +1,10 @@
 //! The reader of problems.
 ghost use Rattle.std.specs.Prelude.{◌≡◌, ◌≢◌, ◌<◌, ◌≤◌, ◌⊎◌, None, length, true};
 ghost use Rattle.pop_text.specs.Bytes.{greatest_count};
-ghost use Rattle.pop_text.specs.Words.{limit};
+ghost use Rattle.pop_text.specs.Words.{limit, window_size};
 ghost use Rattle.pop_text.specs.ties.Reading.{IsEndSeen, failures_after};
 ghost use Rattle.pop_text.specs.ties.Plain.{Skips};
 ghost use Rattle.pop_text.specs.declared.scanner.End.{End};
-ghost use Rattle.pop_text.specs.declared.scanner.TheConstants.{WINDOW};
 ghost use Rattle.pop_input.specs.declared.reader.Next.{Next};
 ghost use Rattle.pop_input.specs.ties.ReaderState.{HasFailed, NextItem, initial_state, is_item, next_after as following, work_left};
 ghost use Rattle.pop_input.specs.ties.Used.{UsesItem};
@@ -51,12 +50,11 @@ impl Model for Reader {
     ghost Value = { ReaderState };
 
     ghost use Rattle.std.specs.Prelude.{◌≤◌, length};
-    ghost use Rattle.pop_text.specs.Words.{limit};
-    ghost use Rattle.pop_text.specs.declared.scanner.TheConstants.{WINDOW};
+    ghost use Rattle.pop_text.specs.Words.{limit, window_size};
 
     ghost view = { λ r. record { next = r.next_block; at = r.scanner } };
 
-    ghost invariant = { λ r. (r.scanner.used ≤ limit) × (length r.scanner.window ≤ WINDOW) };
+    ghost invariant = { λ r. (r.scanner.used ≤ limit) × (length r.scanner.window ≤ window_size) };
 }
 
 impl Reader {
@@ -98,7 +96,7 @@ impl Reader {
         ensures used { UsesItem self.old self.new (S.remaining source.old) (S.remaining source.new)
             result }
         ensures within { self.new.at.used ≤ limit }
-        ensures waits { length self.new.at.window ≤ WINDOW }
+        ensures waits { length self.new.at.window ≤ window_size }
         ensures seen { IsEndSeen self.old.at.end (S.remaining source.old)
             → IsEndSeen self.new.at.end (S.remaining source.new) }
         ensures ends { self.old.at.end ≡ End.Open ⊎ self.new.at.end ≡ self.old.at.end }

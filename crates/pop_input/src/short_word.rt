@@ -1,7 +1,7 @@
 //! A word of the input, with its command.
 ghost use Rattle.std.specs.Prelude.{◌≡◌, ◌≤◌, length};
 ghost use Rattle.pop_input.specs.Names.{command_of};
-ghost use Rattle.pop_text.specs.declared.word.TheConstants.{LONGEST_WORD};
+ghost use Rattle.pop_text.specs.Words.{longest_word};
 
 use crate::names::{Command, command_of};
 use pop_text::word::Word;
@@ -16,14 +16,14 @@ pub(crate) struct ShortWord<'a> {
 
 impl<'a> Model for ShortWord<'a> {
     ghost use Rattle.std.specs.Prelude.{◌≡◌, ◌≤◌, ℕ, List, length};
-    ghost use Rattle.pop_text.specs.declared.word.TheConstants.{LONGEST_WORD};
+    ghost use Rattle.pop_text.specs.Words.{longest_word};
     ghost use Rattle.pop_input.specs.Names.{command_of};
 
     ghost Value = { List ℕ };
 
     ghost view = { λ w. w.letters.now };
 
-    ghost invariant = { λ w. (length w.letters.now ≤ LONGEST_WORD) × (w.named ≡ command_of w.letters.now) };
+    ghost invariant = { λ w. (length w.letters.now ≤ longest_word) × (w.named ≡ command_of w.letters.now) };
 }
 
 impl<'a> ShortWord<'a> {
@@ -41,7 +41,7 @@ impl<'a> ShortWord<'a> {
     /// Returns the bytes as written.
     pub(crate) fn bytes(&self) -> &'a [u8]
         ensures value { result.now ≡ self.now }
-        ensures short { length result.now ≤ LONGEST_WORD }
+        ensures short { length result.now ≤ longest_word }
     {
         self.letters
     }
@@ -49,7 +49,7 @@ impl<'a> ShortWord<'a> {
     /// Returns the command that the word is, if any.
     pub(crate) fn command(&self) -> Option<Command>
         ensures value { result ≡ command_of self.now }
-        ensures short { length self.now ≤ LONGEST_WORD }
+        ensures short { length self.now ≤ longest_word }
     {
         self.named
     }

@@ -1,8 +1,7 @@
 //! The tokens of an input: words and text lines.
 ghost use Rattle.std.specs.Prelude.{◌≤◌, length};
-ghost use Rattle.pop_text.specs.Words.{limit};
+ghost use Rattle.pop_text.specs.Words.{limit, window_size};
 ghost use Rattle.pop_text.specs.ties.Reading.{CallsSource, MayCall};
-ghost use Rattle.pop_text.specs.declared.scanner.TheConstants.{WINDOW};
 ghost use Rattle.pop_input.specs.ties.Tokens.{NextToken, UsesToken};
 
 use crate::names::{TextWord, text_word_of};
@@ -40,7 +39,7 @@ pub(crate) fn next_token<S: Source>(
     ensures used { UsesToken scanner.old scanner.new (S.remaining source.old)
         (S.remaining source.new) word.new result }
     ensures within { scanner.new.used ≤ limit }
-    ensures waits { length scanner.new.window ≤ WINDOW }
+    ensures waits { length scanner.new.window ≤ window_size }
     ensures calls_source { CallsSource scanner.old.end scanner.new.end (S.remaining source.old)
         (S.remaining source.new) (S.failures source.old) (S.failures source.new) }
 {

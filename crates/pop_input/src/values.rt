@@ -1,7 +1,7 @@
 //! Words that are values: squares, numbers and stipulations.
 ghost use Rattle.std.specs.Prelude.{◌≡◌, ◌≤◌, ℕ, IfSome, length, map, option_map, true};
 ghost use Rattle.std.specs.Char.{to_ascii_lowercase};
-ghost use Rattle.pop_text.specs.declared.word.TheConstants.{LONGEST_WORD};
+ghost use Rattle.pop_text.specs.Words.{longest_word};
 ghost use Rattle.pop_input.specs.Ends.{is_stated};
 ghost use Rattle.pop_input.specs.Values.{goal_of, is_digit, limit_of, most_solutions, one_digit, only_square, square_by, squares_named, stipulation_in_small_letters, stipulation_of, stipulation_with, two_digits};
 
@@ -25,7 +25,7 @@ fn square_by(letter: u8, digit: u8) -> Option<Square>
 /// Returns the squares of a word that is one or more squares and nothing else.
 #[tactic(auto, unfolding(crate::specs::Values::squares_named))]
 pub(crate) fn squares_named(word: &[u8]) -> Option<ArrayVec<Square, 80>>
-    requires { length word.now ≤ LONGEST_WORD }
+    requires { length word.now ≤ longest_word }
     ensures { option_map (λ squares. squares.items) result ≡ squares_named word.now }
 {
     if word.is_empty() {
@@ -48,7 +48,7 @@ pub(crate) fn squares_named(word: &[u8]) -> Option<ArrayVec<Square, 80>>
 
 /// Returns the square of a word that is one square and nothing else.
 pub(crate) fn square_of(word: &[u8]) -> Option<Square>
-    requires { length word.now ≤ LONGEST_WORD }
+    requires { length word.now ≤ longest_word }
     ensures { result ≡ only_square (squares_named word.now) }
 {
     match squares_named(word) {

@@ -2,8 +2,7 @@
 use Rattle.std.specs.Prelude.{◌≡◌, ◌≤◌, ℕ, ◌+◌, ◌-◌, List, [], ◌∷◌, ◌++◌, length, take, drop, count_by, Option, None, Some, Bool, true, false, nat_lt, ◌⊎◌}
 use Rattle.std.specs.List.{list_all}
 use Rattle.pop_text.specs.Bytes.{Appends, Begins}
-use Rattle.pop_text.specs.Words.{Input, Clean, Failed, Token, Word, Words, is_line_end, limit, words_from, words_of}
-use Rattle.pop_text.specs.declared.scanner.TheConstants.{WINDOW}
+use Rattle.pop_text.specs.Words.{Input, Clean, Failed, Token, Word, Words, is_line_end, limit, words_from, words_of, window_size}
 use Rattle.pop_input.specs.Blocks.{closing_of}
 use Rattle.pop_input.specs.Names.{closes, command_of}
 use Rattle.pop_input.specs.declared.names.Command.{Command}
@@ -76,7 +75,7 @@ pub record ReadsUpTo (input : Input) (taken : List ℕ) : Type 0 where
   pub used : List ℕ
   pub waiting : List ℕ
   pub whole : taken ≡ used ++ waiting
-  pub few : length waiting ≤ WINDOW
+  pub few : length waiting ≤ window_size
   pub tokens : List Token
   pub words : (words_of input).tokens ≡ tokens ++ (words_after used input).tokens
   pub stops : EndsWithItem used tokens ⊎ EndsWithInput input used tokens

@@ -1,9 +1,8 @@
 //! Sessions: runs that report one item a call.
 ghost use Rattle.std.specs.Prelude.{◌+◌, ◌<◌, ◌==◌, ◌||◌, ◌≡◌, ◌≤◌, ◌⊎◌, IsErr, false, is_err, length, true};
 ghost use Rattle.pop_text.specs.Bytes.{count_after, greatest_count};
-ghost use Rattle.pop_text.specs.Words.{limit};
+ghost use Rattle.pop_text.specs.Words.{limit, window_size};
 ghost use Rattle.pop_text.specs.declared.scanner.End.{End};
-ghost use Rattle.pop_text.specs.declared.scanner.TheConstants.{WINDOW};
 ghost use Rattle.pop_text.specs.ties.Reading.{IsEndSeen, failures_after};
 ghost use Rattle.pop_input.specs.FaultKinds.{is_device_failure};
 ghost use Rattle.pop_input.specs.ties.ReaderState.{work_left};
@@ -34,8 +33,7 @@ pub struct Session {
 
 impl Model for Session {
     ghost use Rattle.std.specs.Prelude.{◌≡◌, ◌≤◌, ◌+◌, ◌^◌, length};
-    ghost use Rattle.pop_text.specs.Words.{limit};
-    ghost use Rattle.pop_text.specs.declared.scanner.TheConstants.{WINDOW};
+    ghost use Rattle.pop_text.specs.Words.{limit, window_size};
     ghost use Rattle.pop_input.specs.ties.ReaderState.{work_left};
     ghost use Rattle.pop_run.specs.ties.Sessions.{RunState, ends, is_last};
 
@@ -50,7 +48,7 @@ impl Model for Session {
     } };
 
     ghost invariant = { λ s. (s.next_number + work_left s.reader ≤ 2 ^ 31)
-        × (s.reader.at.used ≤ limit) × (length s.reader.at.window ≤ WINDOW)
+        × (s.reader.at.used ≤ limit) × (length s.reader.at.window ≤ window_size)
         × (ends s.reader.next ≡ is_last s.last) };
 }
 
@@ -107,7 +105,7 @@ impl Session {
         ensures write_failures { self.old.stopped ≡ false
             → W.failures sink.new ≡ count_after result (W.failures sink.old) }
         ensures within { self.new.at.at.used ≤ limit }
-        ensures waits { length self.new.at.at.window ≤ WINDOW }
+        ensures waits { length self.new.at.at.window ≤ window_size }
         ensures less { is_problem result ≡ true → work_left self.new.at < work_left self.old.at }
     {
         if self.has_stopped {

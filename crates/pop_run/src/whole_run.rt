@@ -1,7 +1,7 @@
 //! Whole runs.
 ghost use Rattle.std.specs.Prelude.{◌+◌, ◌<◌, ◌^◌, ◌≤◌, IfSome, length};
 ghost use Rattle.pop_text.specs.Bytes.{greatest_count};
-ghost use Rattle.pop_text.specs.declared.scanner.TheConstants.{WINDOW};
+ghost use Rattle.pop_text.specs.Words.{window_size};
 ghost use Rattle.pop_run.specs.Report.{choice_of};
 ghost use Rattle.pop_run.specs.Run.{FailsOnce, ReadsUpTo, Runs, has_grown, input_met, taken_of};
 
@@ -34,7 +34,7 @@ pub fn run<S: Source, W: Sink>(settings: &Settings, source: &mut S, sink: &mut W
     ensures once { FailsOnce (S.failures source.old) (S.failures source.new)
         × FailsOnce (W.failures sink.old) (W.failures sink.new) }
     ensures taken { IfSome (S.remaining source.old)
-        (λ had. length (taken_of had (S.remaining source.new)) ≤ 2 ^ 30 + WINDOW) }
+        (λ had. length (taken_of had (S.remaining source.new)) ≤ 2 ^ 30 + window_size) }
 {
     report(Choice::of(settings), source, sink)
 }
@@ -55,7 +55,7 @@ pub fn report<S: Source, W: Sink>(choice: Choice, source: &mut S, sink: &mut W) 
     ensures once { FailsOnce (S.failures source.old) (S.failures source.new)
         × FailsOnce (W.failures sink.old) (W.failures sink.new) }
     ensures taken { IfSome (S.remaining source.old)
-        (λ had. length (taken_of had (S.remaining source.new)) ≤ 2 ^ 30 + WINDOW) }
+        (λ had. length (taken_of had (S.remaining source.new)) ≤ 2 ^ 30 + window_size) }
 {
     let mut session = Session::with(choice);
     loop {

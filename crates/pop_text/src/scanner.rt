@@ -1,6 +1,6 @@
 //! The scanner: cuts an input into words and text lines.
 ghost use Rattle.std.specs.Prelude.{[], ◌++◌, ◌+◌, ◌-◌, ◌<◌, ◌^◌, ◌∷◌, ◌≡◌, ◌≢◌, ◌≤◌, ◌⊎◌, Err, IfErr, IfOk, IfSome, List, None, Ok, Option, Some, ℕ, count_by, drop, false, length, nat_lt, take, true};
-ghost use Rattle.pop_text.specs.Words.{is_gap, is_in_line, is_in_word, is_line_end, limit};
+ghost use Rattle.pop_text.specs.Words.{is_gap, is_in_line, is_in_word, is_line_end, limit, longest_word, window_size};
 ghost use Rattle.pop_text.specs.declared.read_fault.ReadFault.{ReadFault};
 ghost use Rattle.pop_text.specs.ties.Left.{NextWord, RestOfLine, found_by, found_of};
 ghost use Rattle.pop_text.specs.ties.Plain.{Skips};
@@ -54,7 +54,7 @@ pub struct Scanner {
 
 impl Model for Scanner {
     ghost use Rattle.std.specs.Prelude.{◌≤◌, ◌+◌, ◌^◌, slice_range};
-    ghost use Rattle.pop_text.specs.declared.scanner.TheConstants.{WINDOW};
+    ghost use Rattle.pop_text.specs.Words.{window_size};
     ghost use Rattle.pop_text.specs.ties.Reading.{Reading};
 
     ghost Value = { Reading };
@@ -66,7 +66,7 @@ impl Model for Scanner {
       end = s.end;
     } };
 
-    ghost invariant = { λ s. (s.start ≤ s.stop) × (s.stop ≤ WINDOW) × (s.used ≤ 2 ^ 30)
+    ghost invariant = { λ s. (s.start ≤ s.stop) × (s.stop ≤ window_size) × (s.used ≤ 2 ^ 30)
         × (s.line ≤ s.used + 1) };
 }
 
@@ -98,7 +98,7 @@ impl Scanner {
         requires { MayCall self.old.end (S.failures source.old) }
         ensures uses { Uses self.old self.new (S.remaining source.old) (S.remaining source.new) [] }
         ensures known { self.new.window ≡ [] → self.new.end ≢ End.Open }
-        ensures waits { length self.new.window ≤ WINDOW }
+        ensures waits { length self.new.window ≤ window_size }
         ensures calls_source { CallsSource self.old.end self.new.end (S.remaining source.old)
             (S.remaining source.new) (S.failures source.old) (S.failures source.new) }
         ensures kept { self.old.end ≢ End.Open ⊎ 0 < length self.old.window → self.new ≡ self.old }
@@ -124,7 +124,7 @@ impl Scanner {
         requires { MayCall self.old.end (S.failures source.old) }
         ensures uses { Uses self.old self.new (S.remaining source.old) (S.remaining source.new) [] }
         ensures at { ComesNext self.new result }
-        ensures waits { length self.new.window ≤ WINDOW }
+        ensures waits { length self.new.window ≤ window_size }
         ensures calls_source { CallsSource self.old.end self.new.end (S.remaining source.old)
             (S.remaining source.new) (S.failures source.old) (S.failures source.new) }
         ensures stuck { FailsAgain self.old self.new result }
@@ -214,7 +214,7 @@ impl Scanner {
             (S.remaining source.new) }
         ensures at { ComesNext self.new result }
         ensures other { IfOk result (λ o. IfSome o (λ b. is_gap b ≡ false)) }
-        ensures waits { length self.new.window ≤ WINDOW }
+        ensures waits { length self.new.window ≤ window_size }
         ensures calls_source { CallsSource self.old.end self.new.end (S.remaining source.old)
             (S.remaining source.new) (S.failures source.old) (S.failures source.new) }
         ensures stuck { FailsAgain self.old self.new result }
@@ -237,7 +237,7 @@ impl Scanner {
         requires empty { word.old.items ≡ [] }
         ensures run { RunsTo self.old self.new (S.remaining source.old) (S.remaining source.new)
             word.new.items result }
-        ensures waits { length self.new.window ≤ WINDOW }
+        ensures waits { length self.new.window ≤ window_size }
         ensures calls_source { CallsSource self.old.end self.new.end (S.remaining source.old)
             (S.remaining source.new) (S.failures source.old) (S.failures source.new) }
     {
@@ -278,7 +278,7 @@ impl Scanner {
         ensures used { UsesWord self.old self.new (S.remaining source.old) (S.remaining source.new)
             result }
         ensures sticks { IfErr result (Sticks self.new) }
-        ensures waits { length self.new.window ≤ WINDOW }
+        ensures waits { length self.new.window ≤ window_size }
         ensures calls_source { CallsSource self.old.end self.new.end (S.remaining source.old)
             (S.remaining source.new) (S.failures source.old) (S.failures source.new) }
         ensures stuck { FailsAgain self.old self.new result }
@@ -307,7 +307,7 @@ impl Scanner {
         ensures used { UsesWord self.old self.new (S.remaining source.old) (S.remaining source.new)
             (found_by word.new result) }
         ensures sticks { IfErr result (Sticks self.new) }
-        ensures waits { length self.new.window ≤ WINDOW }
+        ensures waits { length self.new.window ≤ window_size }
         ensures calls_source { CallsSource self.old.end self.new.end (S.remaining source.old)
             (S.remaining source.new) (S.failures source.old) (S.failures source.new) }
         ensures stuck { FailsAgain self.old self.new result }
@@ -340,7 +340,7 @@ impl Scanner {
         ensures used { UsesLine self.old self.new (S.remaining source.old) (S.remaining source.new)
             result }
         ensures sticks { IfErr result (Sticks self.new) }
-        ensures waits { length self.new.window ≤ WINDOW }
+        ensures waits { length self.new.window ≤ window_size }
         ensures calls_source { CallsSource self.old.end self.new.end (S.remaining source.old)
             (S.remaining source.new) (S.failures source.old) (S.failures source.new) }
         ensures stuck { FailsAgain self.old self.new result }
@@ -386,8 +386,8 @@ fn line_after(line: u64, line_ends: usize) -> u64
 
 // Appends the bytes that fit, and returns whether all fit.
 fn extend_word(word: &mut ArrayVec<u8, LONGEST_WORD>, part: &[u8]) -> bool
-    ensures kept { word.new.items ≡ take LONGEST_WORD (word.old.items ++ part.now) }
-    ensures fits { result ≡ nat_lt (length (word.old.items ++ part.now)) (LONGEST_WORD + 1) }
+    ensures kept { word.new.items ≡ take longest_word (word.old.items ++ part.now) }
+    ensures fits { result ≡ nat_lt (length (word.old.items ++ part.now)) (longest_word + 1) }
 {
     let room = word.remaining_capacity();
     if part.len() <= room {
@@ -400,7 +400,7 @@ fn extend_word(word: &mut ArrayVec<u8, LONGEST_WORD>, part: &[u8]) -> bool
 }
 
 fn extend(word: &mut ArrayVec<u8, LONGEST_WORD>, part: &[u8])
-    requires { length word.old.items + length part.now ≤ LONGEST_WORD }
+    requires { length word.old.items + length part.now ≤ longest_word }
     ensures { word.new.items ≡ word.old.items ++ part.now }
 {
     match word.try_extend_from_slice(part) {

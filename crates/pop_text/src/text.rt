@@ -1,6 +1,6 @@
 //! The text after a text word.
 ghost use Rattle.std.specs.Prelude.{[], ◌≡◌, ◌≤◌, List, ℕ, fold, length};
-ghost use Rattle.pop_text.specs.Words.{is_blank, without_trailing};
+ghost use Rattle.pop_text.specs.Words.{is_blank, longest_text, without_trailing};
 ghost use Rattle.pop_text.specs.ties.Texts.{with_byte};
 
 use arrayvec::ArrayVec;
@@ -48,7 +48,7 @@ impl Text {
     /// Returns the bytes of the text.
     pub fn bytes(&self) -> &[u8]
         ensures bytes { result.now ≡ self.now }
-        ensures short { length result.now ≤ LONGEST_TEXT }
+        ensures short { length result.now ≤ longest_text }
     {
         &self.cells[..self.size as usize]
     }
@@ -81,7 +81,7 @@ impl Text {
 
 /// Appends the next bytes of a line, without leading blanks, until the text is full.
 pub(crate) fn extend_kept(kept: &mut ArrayVec<u8, LONGEST_TEXT>, bytes: &[u8])
-    ensures { kept.new.items ≡ fold (with_byte LONGEST_TEXT) kept.old.items bytes.now }
+    ensures { kept.new.items ≡ fold (with_byte longest_text) kept.old.items bytes.now }
 {
     for &byte in bytes {
         if kept.is_full() {
@@ -93,7 +93,7 @@ pub(crate) fn extend_kept(kept: &mut ArrayVec<u8, LONGEST_TEXT>, bytes: &[u8])
 
 // Appends a byte, unless the text is full or the byte is a leading blank.
 fn keep(kept: &mut ArrayVec<u8, LONGEST_TEXT>, byte: u8)
-    ensures { kept.new.items ≡ with_byte LONGEST_TEXT kept.old.items byte }
+    ensures { kept.new.items ≡ with_byte longest_text kept.old.items byte }
 {
     if !kept.is_full() && !(kept.is_empty() && is_blank_byte(byte)) {
         kept.push(byte);

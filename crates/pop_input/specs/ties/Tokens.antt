@@ -1,6 +1,6 @@
 -- What `next_token` does (own).
 use Rattle.std.specs.Prelude.{◌≡◌, ◌<◌, ◌≤◌, ℕ, List, [], ◌∷◌, length, Option, Some, None, Ok, Err}
-use Rattle.pop_text.specs.Words.{Token, Word, TextLine, Tail, End as AtEnd, Long, Broken as Failing, text_of_line}
+use Rattle.pop_text.specs.Words.{Token, Word, TextLine, Tail, End as AtEnd, Long, Broken as Failing, text_of_line, longest_word}
 use Rattle.pop_text.specs.ties.Reading.{Reading, Uses}
 use Rattle.pop_text.specs.ties.Runs.{IsRunOver, ComesNext, UsesRun}
 use Rattle.pop_text.specs.ties.Left.{Takes, among, IsOver, Advances, WithinLimit}
@@ -8,7 +8,6 @@ use Rattle.pop_text.specs.declared.read_fault.ReadFault.{ReadFault}
 use Rattle.pop_text.specs.declared.scanner.End.TheVariants.{Broken}
 use Rattle.pop_text.specs.declared.read_fault.ReadFault.TheVariants.{TooLong as LongWord, InputTooLong, Device}
 use Rattle.pop_input.specs.Names.{text_word_of}
-use Rattle.pop_text.specs.declared.word.TheConstants.{LONGEST_WORD}
 use Rattle.pop_text.specs.declared.word.Word.{Word as Room}
 use Rattle.pop_input.specs.declared.token.ReadToken.{ReadToken}
 use Rattle.pop_input.specs.declared.token.ReadToken.TheVariants.{Word as AWord, TooLong, Line, Ended, Cut}
@@ -50,9 +49,9 @@ abbrev pub NextToken : Reading → Reading → Option (List ℕ) → Option (Lis
     → ReadToken
     → Type 0
 NextToken old new had left word text AWord = TakesPart old new had left
-    (Word word.line word.bytes.items) × (length word.bytes.items ≤ LONGEST_WORD)
+    (Word word.line word.bytes.items) × (length word.bytes.items ≤ longest_word)
 NextToken old new had left word text (TooLong line) = (long : List ℕ)
-    × TakesPart old new had left (Word line long) × (LONGEST_WORD < length long)
+    × TakesPart old new had left (Word line long) × (longest_word < length long)
 NextToken old new had left word text (Line keyword) = (line : ℕ) × (name : List ℕ) × (rest : List ℕ)
     × TakesPart old new had left (TextLine line name rest) × (text_word_of name ≡ Some keyword)
     × (text ≡ text_of_line rest)

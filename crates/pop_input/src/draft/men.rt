@@ -2,7 +2,7 @@
 ghost use Rattle.std.specs.Prelude.{◌≡◌, ◌≤◌, ◌<◌, [], length, None, Some, Ok, Err, unwrap_or};
 ghost use Rattle.std.specs.List.{list_any};
 ghost use Rattle.chess_core.specs.Position.{with_man};
-ghost use Rattle.pop_text.specs.declared.word.TheConstants.{LONGEST_WORD};
+ghost use Rattle.pop_text.specs.Words.{longest_word};
 ghost use Rattle.pop_input.specs.Names.{kind_of};
 ghost use Rattle.pop_input.specs.Values.{is_digit, squares_named};
 ghost use Rattle.pop_input.specs.Drafts.{Within, put_kind, put_men, draft_by};
@@ -38,7 +38,7 @@ impl Draft {
 
     // Reads a letter, and the text after it as squares.
     fn take_men(&mut self, letter: u8, text: &[u8]) -> Option<FaultKind>
-        requires { length text.now ≤ LONGEST_WORD }
+        requires { length text.now ≤ longest_word }
         ensures fault { result ≡ letter_fault self.old (kind_of letter) text.now }
         ensures draft { result ≡ None → self.new
             ≡ record self.old {
@@ -54,7 +54,7 @@ impl Draft {
 
     // Reads the squares of men of this kind.
     fn take_kind(&mut self, kind: Kind, text: &[u8]) -> Option<FaultKind>
-        requires { length text.now ≤ LONGEST_WORD }
+        requires { length text.now ≤ longest_word }
         ensures fault { result ≡ letter_fault self.old (Some kind) text.now }
         ensures draft { result ≡ None → self.new
             ≡ record self.old {

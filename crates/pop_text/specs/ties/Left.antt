@@ -1,7 +1,7 @@
 -- The words still to come, and which of them a call of the scanner takes (own).
 use Rattle.std.specs.Prelude.{◌≡◌, ◌<◌, ◌≤◌, ℕ, ◌+◌, ◌-◌, List, [], ◌∷◌, ◌++◌, length, Option, None, Some, Result, Ok, Err, Bool, true, false}
 use Rattle.pop_text.specs.Bytes.{Consumes}
-use Rattle.pop_text.specs.Words.{Input, Clean, Failed, Words, Token, Word, TextLine, Tail, End as AtEnd, Long, Broken as Failing, limit, words_from, is_text_word, text_of_line}
+use Rattle.pop_text.specs.Words.{Input, Clean, Failed, Words, Token, Word, TextLine, Tail, End as AtEnd, Long, Broken as Failing, limit, words_from, is_text_word, text_of_line, longest_word}
 use Rattle.pop_text.specs.ties.Reading.{Reading}
 use Rattle.pop_text.specs.declared.scanner.End.{End}
 use Rattle.pop_text.specs.declared.scanner.End.TheVariants.{Open, Ended, Broken}
@@ -9,7 +9,6 @@ use Rattle.pop_text.specs.declared.scanner.Found.{Found}
 use Rattle.pop_text.specs.declared.scanner.Found.TheVariants.{Word as AWord, Nothing}
 use Rattle.pop_text.specs.declared.read_fault.ReadFault.{ReadFault}
 use Rattle.pop_text.specs.declared.read_fault.ReadFault.TheVariants.{TooLong, InputTooLong, Device}
-use Rattle.pop_text.specs.declared.word.TheConstants.{LONGEST_WORD}
 use Rattle.pop_text.specs.declared.word.Word.{Word as Read}
 use Rattle.pop_text.specs.declared.text.Text.{Text}
 
@@ -113,7 +112,7 @@ NextWord old new had left (Ok None) = Takes (among old) (among new) had left [] 
     × WithinLimit old new
 NextWord old new had left (Ok (Some word)) = TakesWord (is_text_word word.bytes.items) old new had
     left word.line word.bytes.items × (0 < length word.bytes.items) × Advances old new
-NextWord old new had left (Err (TooLong line)) = (text : List ℕ) × (LONGEST_WORD < length text)
+NextWord old new had left (Err (TooLong line)) = (text : List ℕ) × (longest_word < length text)
     × Takes (among old) (among new) had left (Word line text ∷ []) × Advances old new
 NextWord old new had left (Err (InputTooLong line)) = TakesNone (among old) new had left
     (InputTooLong line)

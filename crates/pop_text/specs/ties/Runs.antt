@@ -2,12 +2,11 @@
 use Rattle.std.specs.Prelude.{◌≡◌, ◌<◌, ◌≤◌, ℕ, ◌+◌, List, [], ◌∷◌, ◌++◌, length, count_by, Option, Some, None, Result, Ok, Err, Bool, true, false, ◌⊎◌}
 use Rattle.std.specs.List.{list_all}
 use Rattle.pop_text.specs.ties.Reading.{Reading, Uses, UsesAll}
-use Rattle.pop_text.specs.Words.{is_line_end, is_gap, is_in_line, is_in_word, limit, text_of_line}
+use Rattle.pop_text.specs.Words.{is_line_end, is_gap, is_in_line, is_in_word, limit, text_of_line, longest_word}
 use Rattle.pop_text.specs.declared.scanner.End.TheVariants.{Ended, Broken}
 use Rattle.pop_text.specs.declared.read_fault.ReadFault.{ReadFault}
 use Rattle.pop_text.specs.declared.read_fault.ReadFault.TheVariants.{TooLong, InputTooLong, Device}
 use Rattle.pop_text.specs.declared.text.Text.{Text}
-use Rattle.pop_text.specs.declared.word.TheConstants.{LONGEST_WORD}
 use Rattle.pop_text.specs.declared.word.Word.{Word}
 
 -- what comes next: a byte, the end of the input, or a fault
@@ -45,7 +44,7 @@ pub record UsesSolid (old new : Reading) (had left : Option (List ℕ)) (run : L
 abbrev pub RunsTo : Reading → Reading → Option (List ℕ) → Option (List ℕ) → List ℕ
     → Result Bool ReadFault → Type 0
 RunsTo old new had left kept (Ok true) = UsesSolid old new had left kept × IsRunOver new
-RunsTo old new had left kept (Ok false) = (run : List ℕ) × (LONGEST_WORD < length run)
+RunsTo old new had left kept (Ok false) = (run : List ℕ) × (longest_word < length run)
     × UsesSolid old new had left run × IsRunOver new
 RunsTo old new had left kept (Err fault) = (run : List ℕ) × UsesSolid old new had left run
     × ComesNext new (Err fault)
@@ -66,7 +65,7 @@ abbrev pub UsesWord : Reading → Reading → Option (List ℕ) → Option (List
 UsesWord old new had left (Ok None) = UsesAll is_gap old new had left × ComesNext new (Ok None)
 UsesWord old new had left (Ok (Some word)) = UsesRun old new had left word.line word.bytes.items
     × IsRunOver new
-UsesWord old new had left (Err (TooLong line)) = (run : List ℕ) × (LONGEST_WORD < length run)
+UsesWord old new had left (Err (TooLong line)) = (run : List ℕ) × (longest_word < length run)
     × UsesRun old new had left line run × IsRunOver new
 UsesWord old new had left (Err (InputTooLong line)) = (run : List ℕ)
     × UsesRun old new had left line run

@@ -11,14 +11,14 @@ use pop_text::trial_source::TrialSource;
 use std::alloc::AllocError;
 use std::test::Fail;
 
-const PROBLEM: &[u8] = crate::tests::rows::MATE_IN_ONE_INPUT;
+const PROBLEM: &[u8] = crate::tests::rows::orthodox::MATE_IN_ONE_INPUT;
 
-const REPORT: &[u8] = crate::tests::rows::MATE_IN_ONE_REPORT;
+const REPORT: &[u8] = crate::tests::rows::orthodox::MATE_IN_ONE_REPORT;
 
 // A faulty problem, a sound one, and one in which the input ends.
-const THREE: &[u8] = crate::tests::rows::THREE_PROBLEMS_INPUT;
+const THREE: &[u8] = crate::tests::rows::several::THREE_PROBLEMS_INPUT;
 
-const THREE_REPORT: &[u8] = crate::tests::rows::THREE_PROBLEMS_REPORT;
+const THREE_REPORT: &[u8] = crate::tests::rows::several::THREE_PROBLEMS_REPORT;
 
 // The size of a sink, more than any report of these tests.
 const ROOM: usize = 1024;

@@ -1,0 +1,86 @@
+//! Faults of values and of whole problems. Written from `tests/rows/problem_faults.txt`.
+use crate::report::Row;
+use pop_run::Status;
+
+pub(crate) const ROWS: [Row; 10] = [
+    Row {
+        name: "limit_0",
+        input: b"BeginProblem\nPieces White Kg6 Ra1 Black Kg8\nStipulation #1\nOption MaxSolutions 0\nEndProblem\n",
+        check: false,
+        no_board: false,
+        report: b"problem 1\nline 4: fault 13: number expected or out of range\n\n",
+        status: Status::Faulty,
+    },
+    Row {
+        name: "limit_too_large",
+        input: b"BeginProblem\nPieces White Kg6 Ra1 Black Kg8\nStipulation #1\nOption MaxSolutions 4000000001\nEndProblem\n",
+        check: false,
+        no_board: false,
+        report: b"problem 1\nline 4: fault 13: number expected or out of range\n\n",
+        status: Status::Faulty,
+    },
+    Row {
+        name: "square_missing",
+        input: b"BeginProblem\nPieces White Kg6 Ra1 Black Kg8\nStipulation #1\nOption EnPassant\nEndProblem\n",
+        check: false,
+        no_board: false,
+        report: b"problem 1\nline 5: fault 14: square expected\n\n",
+        status: Status::Faulty,
+    },
+    Row {
+        name: "no_castling_square",
+        input: b"BeginProblem\nPieces White Kg6 Ra1 Black Kg8\nStipulation #1\nOption NoCastling a2\nEndProblem\n",
+        check: false,
+        no_board: false,
+        report: b"problem 1\nline 4: fault 16: NoCastling square is none of the six\n\n",
+        status: Status::Faulty,
+    },
+    Row {
+        name: "no_stipulation",
+        input: b"BeginProblem\nEndProblem\n",
+        check: false,
+        no_board: false,
+        report: b"problem 1\nline 2: fault 10: stipulation missing\n\n",
+        status: Status::Faulty,
+    },
+    Row {
+        name: "no_men",
+        input: b"BeginProblem\nStipulation #1\nEndProblem\n",
+        check: false,
+        no_board: false,
+        report: b"problem 1\nline 3: fault 11: no men\n\n",
+        status: Status::Faulty,
+    },
+    Row {
+        name: "no_king_to_mate",
+        input: b"BeginProblem\nPieces White Kg6 Ra1\nStipulation #1\nEndProblem\n",
+        check: false,
+        no_board: false,
+        report: b"problem 1\nline 4: fault 17: side to be mated has no king\n\n",
+        status: Status::Faulty,
+    },
+    Row {
+        name: "selfmate_without_white_king",
+        input: b"BeginProblem\nPieces White Re8 Black Kh8\nStipulation s#1\nEndProblem\n",
+        check: false,
+        no_board: false,
+        report: b"problem 1\nline 4: fault 17: side to be mated has no king\n\n",
+        status: Status::Faulty,
+    },
+    Row {
+        name: "side_not_to_move_in_check",
+        input: b"BeginProblem\nPieces White Kg6 Rh1 Black Kh8\nStipulation #1\nEndProblem\n",
+        check: false,
+        no_board: false,
+        report: b"problem 1\nline 4: fault 18: side not to move is in check\n\n",
+        status: Status::Faulty,
+    },
+    Row {
+        name: "check_without_madrasi",
+        input: b"BeginProblem\nPieces White Kg6 Rh1 Black Kh8 Ra1\nStipulation #1\nEndProblem\n",
+        check: false,
+        no_board: false,
+        report: b"problem 1\nline 4: fault 18: side not to move is in check\n\n",
+        status: Status::Faulty,
+    },
+];
