@@ -1,9 +1,10 @@
 -- King attacks, castling squares and the king zone.
-use Rattle.chess_mates.proofs.Chess.{AreAdjacent, AreAttackers, AreCaptureSquares, AreCastlingSquares, AreClosed, AreFree, AreHurdles, AreReached, AreSpringboards, AreHopTargets, AreThreats, AreWeak, Attackers, Bishop, Colour, KingZone, Grasshopper, IsAttacker, IsCastlingHarmless, IsField, IsHurdle, IsReached, IsRiskAt, IsShut, IsKingAttack, IsKingAttackOf, IsUnhopped, IsWellFormed, IsWhole, Kind, King, Knight, List, Man, MayRide, Nightrider, None, Option, Pawn, Position, Queen, Risk, Rook, RuleSet, KingAttack, Some, White, and_parts, arith, bit_and, bit_at, bit_not, bit_or, corner, eq-eqb, eqb-true, every_square_on, false, false_by, false≢true, find_no, has_unmoved, inl, inr, is_fairy, is_man, is_on_some, is_rider, is_square, king_square, king_there, leaps, list_any, list_any-append, man_on, men_on, ne_eqb, occupied_squares, off_left, off_right, on_first, on_left, on_right, or_cases, other, queen_steps, reached_over, reaches_as, refl, rules, side_of, square_is, squares, squares_for, squares_of, straight_steps, true, w64, word, word_has, ℕ, KeepsOne, ◌&&◌, ◌+◌, ◌-◌, ◌<◌, ◌==◌, ◌^◌, ◌||◌, ◌∙◌, ◌≡◌, ◌≢◌, ◌⊎◌}
+use Rattle.chess_mates.proofs.Chess.{AreAdjacent, AreAttackers, AreCaptureSquares, AreCastlingSquares, AreClosed, AreFree, AreHurdles, AreReached, AreSpringboards, AreHopTargets, AreThreats, AreWeak, Attackers, Bishop, Bool, Colour, KingZone, Grasshopper, IsAttacker, IsCastlingHarmless, IsField, IsHurdle, IsReached, IsRiskAt, IsShut, IsKingAttack, IsKingAttackOf, IsUnhopped, IsWellFormed, IsWhole, Kind, King, Knight, List, Man, MayRide, Nightrider, None, Option, Pawn, Position, Queen, Risk, Rook, RuleSet, KingAttack, Some, White, and_parts, arith, bit_and, bit_at, bit_not, bit_or, corner, eq-eqb, eqb-true, every_square_on, false, false_by, false≢true, find_no, has_unmoved, inl, inr, is_fairy, is_man, is_on_some, is_rider, is_square, king_square, king_there, leaps, list_any, list_any-append, man_on, men_on, ne_eqb, occupied_squares, off_left, off_right, on_first, on_left, on_right, or_cases, other, queen_steps, reached_over, reaches_as, refl, rules, side_of, square_is, squares, squares_for, squares_of, straight_steps, true, w64, word, word_has, ℕ, KeepsOne, ◌&&◌, ◌+◌, ◌-◌, ◌<◌, ◌==◌, ◌^◌, ◌||◌, ◌∙◌, ◌≡◌, ◌≢◌, ◌⊎◌}
 use Rattle.chess_core.specs.Position.{may_promote}
 use Rattle.chess_mates.specs.ties.Attackers.{is_promotion}
 use Rattle.chess_mates.specs.ties.KingAttack.{AreNeeded, ArePromotions}
 use Rattle.chess_mates.specs.declared.king_zone.HopTargets.{HopTargets}
+use Rattle.std.proofs.Math.Bool.{beq}
 use Rattle.chess_mates.proofs.Hurdles.{on_one, reached_is, reached_left, reached_right}
 use Rattle.chess_mates.proofs.FarMen.{man_of_word, off_denied}
 use Rattle.chess_mates.proofs.KindByKind.{man_is}
@@ -217,3 +218,7 @@ pub king_attack_fits : (rule : RuleSet) (p : Position) (v : KingAttack) → v.me
     → ((k : Kind) → may_promote p k ≡ true → is_promotion v.men.fairy_promotions k ≡ true) → IsKingAttackOf rule p v
 unfolding squares_of
 king_attack_fits rule p v colour king own enemies men kings castled closed promotions = search (rules, word_has)
+
+-- for `is_of`: the promotions agree, by the last but two of its tests
+pub promotions_agree : (before castled closed b c : Bool) → (((before && beq b c) && castled) && closed) ≡ true → b ≡ c
+promotions_agree before castled closed b c all = grind (arith, and_parts)

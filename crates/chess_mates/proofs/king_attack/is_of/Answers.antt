@@ -1,5 +1,5 @@
-use Rattle.chess_mates.proofs.Chess.{King, and_parts, ap, arith, other, rules, same_colour-true, side_of, squares_of, sym, ◌∙◌, ◌≡◌}
-use Rattle.chess_mates.proofs.KingAttacks.{attackers_are, king_attack_fits}
+use Rattle.chess_mates.proofs.Chess.{King, ap, arith, other, rules, same_colour-true, side_of, squares_of, sym, ◌∙◌, ◌≡◌}
+use Rattle.chess_mates.proofs.KingAttacks.{attackers_are, king_attack_fits, promotions_agree}
 use Rattle.chess_mates.proofs.king_attack.is_of.Goals as goal
 
 pub returns : goal.returns
@@ -9,8 +9,7 @@ returns g c = λ yes.
     let kings : v.men.kings ≡ squares_of p.men v.men.colour King = grind (arith, yes, c.squares.ensures.word) in
     let castled : v.castled ≡ c.castling_squares.result = grind (arith, yes) in
     let closed : v.closed ≡ c.closed_squares.result = grind (arith, yes) in
-    let promotions : v.men.fairy_promotions ≡ c.has_fairy_promotions.result =
-    grind (arith, (and_parts _ _ (and_parts _ _ (and_parts _ _ yes).0).0).1) in
+    let promotions : v.men.fairy_promotions ≡ c.has_fairy_promotions.result = search (promotions_agree, yes) in
     king_attack_fits g.R.Rules.rule p v (same_colour-true _ _ (sym c.is.ensures ∙ c.if-not-is.false) ∙ c.other.ensures ∙ ap other c.turn.ensures)
     (search (rules, c.king_of.ensures, c.if-ne.false, c.turn-else-not-is.ensures))
     (grind (arith, yes, c.side.ensures, ap (side_of p.men) c.turn-2.ensures)) (grind (arith, yes, c.side-2.ensures))
