@@ -162,6 +162,7 @@ def plain(text: str, crate: str, crates: list[str]) -> str:
     text = re.sub(r"(?<![:\w])(" + "|".join([*crates, *STAND_INS]) + r")::", r"crate::\1::", text)
     text = text.replace("crate::crate::", "crate::")
     text = re.sub(r" \+ Drop\b", "", re.sub(r": Drop\b", "", text))
+    text = text.replace("fn fmt<W: fmt::Write>(", "fn fmt(").replace("fmt::Formatter<W>", "fmt::Formatter<'_>")
     text = re.sub(r"#!?\[rattlefmt::skip\]\n", "", text) + more
     return re.sub(r"\n[ \t]*\n([ \t]*\n)+", "\n\n", text)
 

@@ -35,6 +35,7 @@ pub mod Parrying
 pub mod Promoting
 pub mod Barring
 pub mod ExactSteps
+pub mod SafeSteps
 pub mod Ways
 pub mod Aiming
 pub mod Excluded

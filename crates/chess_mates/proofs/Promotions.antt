@@ -11,7 +11,7 @@ use Rattle.chess_mates.specs.ties.CheckSquares.{ArePromotionTargets}
 use Rattle.chess_mates.specs.ties.KingAttack.{ArePromotions}
 
 -- a pawn is promoted on the last ranks
-promotes_on : (x : Man) (t : ℕ) → t < 64 → is_promoting x t ≡ true → (bit_at 18374686479671623935 t == 1) ≡ true
+pub promotes_on : (x : Man) (t : ℕ) → t < 64 → is_promoting x t ≡ true → (bit_at 18374686479671623935 t == 1) ≡ true
 promotes_on x t small goes = last_rank_on x.colour t small (and_parts _ _ goes).1
 
 -- for `promotion_squares`: all squares of the last ranks

@@ -203,7 +203,12 @@ fn leaves_one_among(squares: Squares, man: Man, targets: Squares) -> bool
 // without targets.
 #[tactic(auto, using(crate::proofs::Risks::none_on))]
 #[inline(always)]
-fn kind_leaves_one(squares: Squares, colour: Colour, kind: Kind, targets: Squares) -> bool
+pub(crate) fn kind_leaves_one(
+    squares: Squares,
+    colour: Colour,
+    kind: Kind,
+    targets: Squares,
+) -> bool
     ensures { result ≡ true → (t : ℕ) → t < 64 → (bit_at targets t == 1) ≡ true
         → (f : ℕ) × IsLeft squares (record { colour = colour; kind = kind }) t f }
 {

@@ -55,6 +55,7 @@ mod parries;
 mod pawn_approaches;
 pub mod quiet_steps;
 mod risk;
+mod safe_steps;
 mod standing_flights;
 mod steps;
 pub mod threats;

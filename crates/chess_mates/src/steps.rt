@@ -4,7 +4,7 @@ ghost use Rattle.std.specs.Int.{bit_at};
 ghost use Rattle.chess_core.specs.Steps.{gait_of, is_hopper};
 ghost use Rattle.chess_mates.specs.declared.king_attack.KingAttack.{KingAttack};
 ghost use Rattle.chess_mates.specs.ties.LastingFlights.{AreOpenTargets};
-ghost use Rattle.chess_mates.specs.ties.KingAttack.{AreExactSteps, AreReached, IsStepCacheOf, AreUnhopping, IsAttackedOver, IsBarred, IsPlainStep, IsDecidedStep, IsSparedStep, KeepsFlight};
+ghost use Rattle.chess_mates.specs.ties.KingAttack.{AreExactSteps, AreReached, IsStepCacheOf, AreUnhopping, IsAttackedOver, IsBarred, IsPlainStep, IsDecidedStep, IsSafeStep, IsSparedStep, KeepsFlight};
 
 use crate::attackers::MOST_ATTACKERS;
 use crate::guards::{leapt_squares, rider_reach};
@@ -12,9 +12,10 @@ use crate::king_attack::KingAttack;
 use crate::king_zone::adjacent_squares;
 use crate::lasting_flights::{OpenTargets, keeps_one};
 use crate::risk::risk_at;
+use crate::safe_steps::doubtful_steps;
 use chess_attacks::leaps::king_leaps;
 use chess_attacks::rules::Rules;
-use chess_attacks::words::{contains, only, pop_first};
+use chess_attacks::words::{only, pop_first};
 use chess_core::square::{Square, Squares};
 
 // Steps of the king (`steps`), the steps among them after which a reply might mate (`risky`), and the
@@ -52,39 +53,46 @@ fn keeps_flight_at<R: Rules>(king_attack: &KingAttack, targets: &OpenTargets, to
         && keeps_one(&king_attack.men, targets, adjacent_squares(king_attack, to))
 }
 
-// Returns `to` if the king's step there might allow mate, otherwise no square. It might if the king may
-// keep no flight, and a man is on `to` or `to` is critical.
+// Returns `to` if it is critical for a king there, otherwise no square.
 #[tactic(auto, using(crate::proofs::Sparing::one_square))]
-fn risky_step<R: Rules>(king_attack: &KingAttack, targets: &OpenTargets, to: Square) -> Squares
-    requires { AreOpenTargets king_attack.now.men targets.now }
-    ensures { (bit_at result to == 1) ≡ false → IsSparedStep R.rule king_attack.now to }
+fn critical_step(king_attack: &KingAttack, to: Square) -> Squares
+    ensures { (bit_at result to == 1) ≡ false → (bit_at king_attack.now.hurdles to == 1) ≡ false
+        → IsSafeStep king_attack.now to }
 {
     // For the proof: a square's number is below 64.
     let _small = to.index();
-    if keeps_flight_at::<R>(king_attack, targets, to) {
-        return 0;
-    }
-    let step = only(Some(to));
-    if contains(king_attack.hurdles, to) {
-        return step;
-    }
-    step & risk_at(king_attack, to).critical
+    only(Some(to)) & risk_at(king_attack, to).critical
 }
 
-// Returns which of the steps might allow mate.
+// Returns which of the steps to empty squares might allow mate, by the risk of each.
 #[tactic(auto, using(chess_attacks::proofs::HoldTaken::taken_all, chess_attacks::proofs::HoldTaken::taken_none, chess_attacks::proofs::HoldTaken::rest_falls))]
+fn critical_steps(king_attack: &KingAttack, steps: Squares) -> Squares
+    ensures { (t : ℕ) → t < 64 → (bit_at steps t == 1) ≡ true → (bit_at result t == 1) ≡ false
+        → (bit_at king_attack.now.hurdles t == 1) ≡ false → IsSafeStep king_attack.now t }
+{
+    let mut critical = 0u64;
+    let mut rest = steps;
+    while let Some(to) = pop_first(&mut rest) {
+        let more = critical_step(king_attack, to);
+        critical |= more;
+    }
+    critical
+}
+
+// Returns which of the steps might allow mate: those after which the king may keep no flight, and a man is
+// on the square or it is critical there.
 fn risky_among<R: Rules>(king_attack: &KingAttack, targets: &OpenTargets, steps: Squares) -> Squares
     requires { AreOpenTargets king_attack.now.men targets.now }
     ensures { (t : ℕ) → t < 64 → (bit_at steps t == 1) ≡ true → (bit_at result t == 1) ≡ false
         → IsSparedStep R.rule king_attack.now t }
 {
-    let mut risky = 0u64;
-    let mut rest = steps;
-    while let Some(to) = pop_first(&mut rest) {
-        let more = risky_step::<R>(king_attack, targets, to);
-        risky |= more;
+    let flightless = flightless_steps::<R>(king_attack, targets, steps);
+    let empty = flightless & !king_attack.hurdles;
+    if empty == 0 {
+        return flightless;
     }
-    risky
+    let doubtful = doubtful_steps(king_attack, targets, empty);
+    flightless & king_attack.hurdles | critical_steps(king_attack, doubtful)
 }
 
 // The fewest steps for which it is worth finding out which are legal.

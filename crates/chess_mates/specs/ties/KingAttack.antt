@@ -2,7 +2,7 @@
 -- king (own).
 use Rattle.std.specs.Prelude.{◌≡◌, ◌≢◌, ◌<◌, ◌==◌, ◌⊎◌, ◌+◌, ◌-◌, ℕ, Bool, true, false, List, Option, Some, is_some}
 use Rattle.std.specs.Int.{bit_at}
-use Rattle.std.specs.Int.Bits.{bit_and}
+use Rattle.std.specs.Int.Bits.{bit_and, bit_or}
 use Rattle.std.specs.List.{list_any}
 use Rattle.chess_core.specs.Castling.{has_unmoved}
 use Rattle.chess_core.specs.Position.{Position, is_fairy, is_man, is_of_colour, king_square, man_on, may_promote, other, same_kind}
@@ -21,7 +21,8 @@ use Rattle.chess_mates.specs.declared.king_attack.KingAttack.{KingAttack}
 use Rattle.chess_mates.specs.declared.king_zone.HopTargets.{HopTargets}
 use Rattle.chess_mates.specs.declared.steps.StepCache.{StepCache}
 use Rattle.chess_mates.specs.ties.Attackers.{AreAttackers, IsAttacker, is_promotion}
-use Rattle.chess_mates.specs.ties.LastingFlights.{AreApproached, IsLeft, KeepsOne, MayBecome}
+use Rattle.chess_mates.specs.declared.lasting_flights.OpenTargets.{OpenTargets}
+use Rattle.chess_mates.specs.ties.LastingFlights.{AreApproached, IsLeft, KeepsOne, MayBecome, targets_for}
 use Rattle.chess_rules.specs.Play.{rebirth}
 use Rattle.chess_attacks.specs.Reaches.{leaps, reaches_as}
 use Rattle.chess_attacks.specs.RuleSet.{RuleSet, captures_do_more, like_men_paralyse}
@@ -464,6 +465,40 @@ pub record IsBarred (rule : RuleSet) (v : KingAttack) (t : ℕ) : Type 0 where
   pub able : like_men_paralyse rule ≡ false
   pub free : (bit_at v.hurdles t == 1) ≡ false
   pub attacked : IsAttackedOver v.hurdles v.men t
+
+-- the attackers may not castle, are no hoppers and promote to no fairy man
+pub record ArePlainAttackers (v : KingAttack) : Type 0 where
+  pub castled : v.castled ≡ 0
+  pub grasshoppers : v.men.grasshoppers ≡ 0
+  pub promotions : v.men.fairy_promotions ≡ false
+
+-- w holds the squares that the attackers reach over hurdles none of which is an attacker
+pub record AreGuardsThrough (v : KingAttack) (w : ℕ) : Type 0 where
+  pub hurdles : ℕ
+  pub kept : (e : ℕ) → e < 64 → (bit_at hurdles e == 1) ≡ true → (bit_at v.hurdles e == 1) ≡ true
+  pub off : (s : ℕ) (x : Man) → IsAttacker v.men x s → (bit_at hurdles s == 1) ≡ false
+  pub guards : (s : ℕ) (x : Man) → IsAttacker v.men x s → is_hopper (gait_of x.kind) ≡ false
+      → IsReached hurdles x s w
+
+-- wherever an attacker that is neither king nor hopper arrives on a target and on some board checks a king
+-- on k, a square of w remains
+pub record AreChecksMet (a : Attackers) (o : OpenTargets) (w k : ℕ) : Type 0 where
+  pub left : (j : Kind) → same_kind j King ≡ false → is_hopper (gait_of j) ≡ false → (t : ℕ)
+      → t < 64 → (bit_at (targets_for o j) t == 1) ≡ true → (men : List (Option Man))
+      → reaches_as men a.colour j t k ≡ true
+      → (f : ℕ) × IsLeft w (record { colour = a.colour; kind = j }) t f
+
+-- where a pawn of colour c promotes on one of the targets, neither it nor what it becomes checks a king on
+-- k, or a square of w remains of a queen's and of a knight's arrival
+pub record IsPromotionMet (w : ℕ) (c : Colour) (targets k : ℕ) : Type 0 where
+  pub promotions : ℕ
+  pub are : ArePromotions c false k promotions
+  pub pawns : ℕ
+  pub approached : AreApproached (record { colour = c; kind = Pawn }) k pawns
+  pub left : (x : Man) (t : ℕ) → x.colour ≡ c → t < 64 → (bit_at targets t == 1) ≡ true
+      → is_promoting x t ≡ true → (bit_at (bit_or promotions pawns) t == 1) ≡ true
+      → ((f : ℕ) × IsLeft w (record { colour = c; kind = Queen }) t f)
+      × ((f : ℕ) × IsLeft w (record { colour = c; kind = Knight }) t f)
 
 -- except in Circe, the king keeps a flight after its step to t, whatever is played next
 pub record KeepsFlight (rule : RuleSet) (v : KingAttack) (t : ℕ) : Type 0 where

@@ -7,10 +7,13 @@ use std::process::Abort;
 
 // A name, the rule, the family, the number of its positions compared, and the least number of moves after
 // which threats must rule out a mate.
-const FAMILIES: [(&str, Rule, Family, u64, u32); 11] = [
+const FAMILIES: [(&str, Rule, Family, u64, u32); 14] = [
     ("flights", Circe, Family::Flights, 500, 300),
     ("rebirths before mates", Circe, Family::Nets, 900, 3_000),
     ("discovered checks", Circe, Family::Batteries, 400, 1_200),
+    ("batteries", Orthodox, Family::Batteries, 200, 300),
+    ("kings shut in", Orthodox, Family::Nooks, 200, 100),
+    ("castling on the king's rank", Orthodox, Family::HomeRanks, 150, 100),
     ("springboards", Orthodox, Family::Hurdles, 400, 1_200),
     ("reborn hurdles", Circe, Family::RebornHurdles, 500, 1_000),
     ("nightriders", Madrasi, Family::NightriderLines, 300, 1_000),

@@ -1,7 +1,11 @@
-use Rattle.chess_mates.proofs.Chess.{off_left, off_right, rules, taken_map, taken_on}
+use Rattle.chess_mates.proofs.Chess.{arith, inr}
+use Rattle.chess_mates.proofs.SafeSteps.{spared_step}
 use Rattle.chess_mates.proofs.steps.risky_among.Goals as goal
 
-pub loop-to-preserved : goal.loop-to-preserved
-loop-to-preserved g c =
-    taken_on _ _ _ _ _ _ (taken_map _ _ _ _ (λ t h off. h (search (rules, off_left))) c.loop-to.invariant)
-    c.pop_first.ensures.taken c.in-Some.is (λ off. search (rules, off_right, c.risky_step-more.ensures))
+pub returns-then-empty-eq0 : goal.returns-then-empty-eq0
+returns-then-empty-eq0 g c = λ t small on off. inr (c.flightless_steps-flightless.ensures t small on off)
+
+pub returns : goal.returns
+returns g c = λ t small on off.
+    spared_step _ _ _ _ _ t (omega arith) small (c.flightless_steps-flightless.ensures t small on) (c.doubtful_steps-doubtful.ensures t small)
+    (c.critical_steps.ensures t small) off
