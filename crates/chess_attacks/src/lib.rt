@@ -23,8 +23,8 @@
 //! }
 //! ```
 //!
-//! The interface is what the root re-exports. The public modules serve only `chess_rules`, `chess_mates`
-//! and tests: bitboards of lines, leaps, rides and attackers. No call changes a board or allocates.
+//! The interface is what the root re-exports. The public modules serve only the chess crates above and
+//! tests: bitboards of lines, leaps, rides and attackers. No call changes a board or allocates.
 #![tactic(auto)]
 
 pub mod attacks_on;

@@ -1,5 +1,5 @@
 -- Aimed legal moves: walking from candidate to candidate passes over all others.
-use Rattle.chess_mates.proofs.Chess.{Man, Move, Position, Some, and_left, and_parts, arith, bit_at, cases_Bool, false, first_of_and, is_fairy, king_square, man_on, may_check_from, moves_after-here, not, off_second, off_zero, on_first, other, other_twice, second_of_and, true, word_has, ℕ, ◌&&◌, ◌<◌, ◌==◌, ◌≡◌}
+use Rattle.chess_mates.proofs.Chess.{Man, Move, Position, Some, and_left, arith, bit_at, cases_Bool, false, first_of_and, is_fairy, king_square, man_on, may_check_from, moves_after-here, off_second, off_zero, on_first, other, other_twice, second_of_and, word_has, ℕ, ◌<◌, ◌==◌, ◌≡◌}
 use Rattle.chess_attacks.specs.ties.Lines.{AreReached}
 use Rattle.chess_mates.specs.ties.Aims.{aims_at_king}
 use Rattle.chess_rules.proofs.Chess.{second_fails}

@@ -1,18 +1,36 @@
 -- A move that doesn't arrive where its man may give check gives none.
-use Rattle.chess_mates.proofs.Chess.{AreCastlingTargets, AreCheckSquares, AreCheckTargets, Black, CheckSquares, Colour, IsMade, IsWellFormed, King, Man, Move, Pawn, Position, Rook, RuleSet, Some, White, agree_below_at, and_parts, ap, are_rebirths_quiet, arith, arrival_needed, bit_at, bit_or, cannot_expose, captures_do_more, cases_Bool, castling_steps, check_squares_for, enemy, false, false_by, halfway, implied, in_check, inl, inr, is_castling, is_pseudo_legal, is_pseudo_legal-from_legal, is_some, is_square, is_two_files_aside, last_rank, made, man_on, may_check_from, may_expose, may_arrive, may_go_aimed, may_be_hurdle, not, off_left, off_right, other, position_after, rank_of, refl, rules, same_kind, steps_to, sym, true, word, word_has, ℕ, ◌+◌, ◌/◌, ◌<◌, ◌==◌, ◌||◌, ◌∙◌, ◌≡◌, List, Option, rule_of_checks, is_promoting, arriving_man, arrived, other_twice, false≢true}
+use Rattle.chess_mates.proofs.Chess.{AreCastlingTargets, AreCheckSquares, AreCheckTargets, CheckSquares, Colour, IsMade, IsWellFormed, King, Man, Move, Pawn, Position, Rook, RuleSet, Some, and_parts, ap, are_rebirths_quiet, arith, arrival_needed, bit_at, bit_or, cannot_expose, captures_do_more, cases_Bool, castling_steps, check_squares_for, enemy, false, false_by, halfway, in_check, inl, inr, is_castling, is_pseudo_legal, is_pseudo_legal-from_legal, is_some, is_square, is_two_files_aside, made, man_on, may_check_from, may_expose, may_arrive, may_go_aimed, may_be_hurdle, off_left, off_right, other, position_after, refl, rules, same_kind, steps_to, sym, true, word, word_has, ℕ, ◌+◌, ◌/◌, ◌<◌, ◌==◌, ◌∙◌, ◌≡◌, List, Option, rule_of_checks, is_promoting, arriving_man, arrived, other_twice, false≢true, Bool, Kind, along-is, bit_and, off_second, or_cases, ◌%◌, ◌*◌, ◌-◌, ◌^◌, ◌≢◌, ◌⊎◌}
 use Rattle.chess_rules.proofs.attacks.EvasionTargets.{plain_elsewhere}
-use Rattle.chess_mates.proofs.CastlingChecks.{castling_gives_no_check}
-use Rattle.chess_mates.proofs.Becoming.{becomes}
-use Rattle.chess_mates.proofs.KingsApart.{kings_apart}
+use Rattle.chess_flights.proofs.CastlingChecks.{castling_gives_no_check, small}
+use Rattle.chess_flights.proofs.Becoming.{becomes}
+use Rattle.chess_flights.proofs.KingsApart.{kings_apart}
 use Rattle.chess_mates.proofs.Promoting.{no_check_unreached}
 use Rattle.chess_mates.proofs.Rebirths.{no_check_by_rebirth}
-use Rattle.chess_mates.proofs.Standing.{not_mine_enemy, unnamed}
+use Rattle.chess_flights.proofs.Standing.{not_mine_enemy, unnamed}
 use Rattle.chess_mates.specs.ties.CheckSquares.{ArePromotionTargets}
+use Rattle.chess_flights.proofs.Approaches.{bit_down, bit_up}
+use Rattle.chess_flights.proofs.Promotions.{promotes_on}
+use Rattle.chess_flights.specs.ties.Attackers.{is_promotion}
+use Rattle.chess_core.specs.Position.{may_promote}
 
--- a pawn's last rank is in the word of both
-pub last_rank_on : (c : Colour) (t : ℕ) → t < 64 → (rank_of t == last_rank c) ≡ true → (bit_at 18374686479671623935 t == 1) ≡ true
-last_rank_on White t lt = implied _ _ (agree_below_at (λ n. not (rank_of n == 8) || bit_at 18374686479671623935 n == 1) (λ _. true) 64 t refl lt)
-last_rank_on Black t lt = implied _ _ (agree_below_at (λ n. not (rank_of n == 1) || bit_at 18374686479671623935 n == 1) (λ _. true) 64 t refl lt)
+-- for the word of castlings that may give check
+pub castling_targets_are : (v : CheckSquares) (s a : ℕ) → s < 64 → a ≡ word (is_two_files_aside s)
+    → AreCastlingTargets v s (bit_and a (bit_or (v.straight * 2 ^ 1 % 2 ^ 64) (v.straight / 2 ^ 1)))
+castling_targets_are v s a small are = record {
+  elsewhere = λ t lt aside off.
+      let both = off_second a _ t off (word_has (is_two_files_aside s) a t are lt ∙ aside) in
+      let far : (t ≡ s + 2) ⊎ (s ≡ t + 2) = search (rules, along-is, or_cases) in
+      grind (arith, far, bit_up v.straight 1 t, bit_down v.straight 1 t, off_left, off_right, both);
+}
+
+-- for `promotion_targets`: all squares of the last ranks
+pub any_target : (rule : RuleSet) (p : Position) (v : CheckSquares) → ArePromotionTargets rule p v 18374686479671623935
+any_target rule p v = record { elsewhere = λ x t small goes off. absurd (false≢true (sym off ∙ promotes_on x t small goes)) }
+
+-- for `promotion_targets`: the squares that `CheckSquares` holds
+pub target_known : (rule : RuleSet) (p : Position) (v : CheckSquares) (b : Bool) → ((k : Kind) → may_promote p k ≡ true → is_promotion b k ≡ true)
+    → b ≡ false → captures_do_more rule ≡ false → ArePromotionTargets rule p v v.promotions
+target_known rule p v b kinds none plain = record { elsewhere = λ x t small goes off. record { kinds = rw none at kinds; plain = plain; off = off } }
 
 -- where captures do no more, the rule set of checks is the rule set of play
 known_rule : (rule : RuleSet) (men : List (Option Man)) (e : Colour) → captures_do_more rule ≡ false → rule_of_checks rule men e ≡ rule

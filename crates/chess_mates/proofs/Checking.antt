@@ -1,11 +1,5 @@
 -- The squares from which a move may give check, by kinds.
-use Rattle.chess_mates.proofs.Chess.{AreCheckSquares, AreRides, Bishop, CheckSquares, Colour, IsWellFormed, Kind, King, List, Man, Move, None, Option, Position, Queen, Rook, RuleSet, Some, arith, bit_at, bit_or, cannot_expose, cannot_expose_parts, cases_Bool, check_squares_for, diagonal-back, diagonal_steps, enemy, false, false≢true, in_check, inl, is_attacked, is_man, is_pseudo_legal, king_square, king_there, list_any-append, made, man_on, may_check_from, on_board, or_parts, other, other_twice, plain_safe, position_after, reaches_as, rules, same_kind, squares_either, squares_same, straight-back, straight_steps, true, word, word_has, ℕ, ◌<◌, ◌==◌, ◌∙◌, ◌≡◌}
-
--- a king isn't in check, if no enemy attacks its square
-pub unchecked : (rule : RuleSet) (men : List (Option Man)) (c : Colour)
-    → ((k : ℕ) → k < 64 → is_man (man_on men k) c King ≡ true → is_attacked rule men k (other c) ≡ false) → in_check rule men c ≡ false
-unfolding in_check
-unchecked rule men c none = grind (arith, king_there)
+use Rattle.chess_mates.proofs.Chess.{AreCheckSquares, AreRides, Bishop, CheckSquares, Colour, IsWellFormed, Kind, King, List, Man, Move, None, Option, Position, Queen, Rook, RuleSet, Some, arith, bit_at, bit_or, cannot_expose, cannot_expose_parts, cases_Bool, check_squares_for, diagonal-back, diagonal_steps, enemy, false, false≢true, in_check, inl, is_pseudo_legal, king_square, king_there, list_any-append, made, man_on, may_check_from, on_board, or_parts, other, other_twice, plain_safe, position_after, reaches_as, rules, same_kind, squares_either, squares_same, straight-back, straight_steps, true, word, word_has, ℕ, ◌<◌, ◌==◌, ◌∙◌, ◌≡◌}
 
 -- a rook gives check from where it would get from the king's square
 pub rook_squares : (men : List (Option Man)) (c : Colour) (k w : ℕ) → king_square men c ≡ Some k → w ≡ word (may_check_from men c (enemy c Rook))

@@ -1,21 +1,12 @@
 -- Men that could reach no check square give no check.
-use Rattle.chess_mates.proofs.Chess.{AreApproaches, AreCheckOrigins, AreCheckTargets, Colour, Kind, King, Man, Move, None, Option, Position, RuleSet, Some, arith, bit_and, bit_at, bit_at-lt, bit_at_and, bit_at_not, bit_not, bit_or, cases_Bool, eq-eqb, eqb-true, false, false_by, false≢true, is_legal, is_pseudo_legal-from_legal, is_square, man_on, may_arrive, off_second, off_zero, on_first, own_man, own_moves, refl, rules, same_colour-true, same_kind, same_kind-true, side_of, squares_of, sym, true, w64, word, word_has, ℕ, ◌<◌, ◌==◌, ◌^◌, ◌∙◌, ◌≡◌}
-use Rattle.chess_mates.proofs.Hurdles.{on_either}
+use Rattle.chess_mates.proofs.Chess.{AreApproaches, AreCheckOrigins, AreCheckTargets, Colour, Kind, King, Man, Move, None, Option, Position, RuleSet, Some, arith, bit_and, bit_at, bit_not, bit_or, cases_Bool, eqb-true, false, false_by, false≢true, is_legal, is_pseudo_legal-from_legal, is_square, man_on, may_arrive, off_second, off_zero, on_first, own_man, own_moves, refl, same_kind, side_of, sym, true, w64, word, word_has, ℕ, ◌<◌, ◌==◌, ◌^◌, ◌∙◌, ◌≡◌}
+use Rattle.chess_flights.proofs.Hurdles.{on_either}
 use Rattle.chess_mates.proofs.CheckTargets.{targets_lack}
-
--- a square in the bitboard of a kind holds a man of the kind
-pub man_of_word : (men : _) (c : Colour) (k : Kind) (w s : ℕ) → w ≡ squares_of men c k → s < 64 → (bit_at w s == 1) ≡ true
-    → man_on men s ≡ Some (record { colour = c; kind = k })
-unfolding squares_of
-man_of_word men c k w s h small on = search (rules, same_colour-true, same_kind-true, word_has)
+use Rattle.chess_flights.proofs.Bitboards.{off_denied, on_denied}
 
 -- no man on a square of the word gives check by a legal move
 pub record AreFar (rule : RuleSet) (p : Position) (w : ℕ) : Type 0 where
   pub far : (s : ℕ) → s < 64 → (bit_at w s == 1) ≡ true → AreCheckTargets rule p s 0
-
--- a square of the first of two words, and not of the second
-pub off_denied : (a b i : ℕ) → b < 2 ^ 64 → i < 64 → (bit_at (bit_and a (bit_not w64 b)) i == 1) ≡ true → (bit_at b i == 1) ≡ false
-off_denied a b i fits small on = grind (arith, false_by, eqb-true _ _ on, eqb-true, bit_at_not w64 b i fits small, bit_at_and a (bit_not w64 b) i)
 
 -- to join words of far men
 pub far_either : (rule : RuleSet) (p : Position) (a b : ℕ) → AreFar rule p a → AreFar rule p b → AreFar rule p (bit_or a b)
@@ -50,10 +41,6 @@ module _ (rule : RuleSet) (p : Position) (j : Kind) (m h w : ℕ) (stands : (s :
   pub found : (s : ℕ) (king : Option ℕ) (c : Colour) → c ≡ p.turn → (s < 64) × ((bit_at m s == 1) ≡ true) → (same_kind j King ≡ true → king ≡ Some s)
       → AreTargetsOff rule p j king h w → (man_on p.men s ≡ Some (record { colour = c; kind = j })) × AreCheckTargets rule p s w
   found s king c turn here same targets = grind (arith, stands s, off s, targets s (own_man p j))
-
--- a square that isn't one of the others is one of the word
-pub on_denied : (w i : ℕ) → w < 2 ^ 64 → i < 64 → (bit_at (bit_not w64 w) i == 1) ≡ false → (bit_at w i == 1) ≡ true
-on_denied w i fits small off = grind (arith, bit_at_not w64 w i fits small, bit_at-lt w i, eq-eqb)
 
 -- a legal move goes from a square of its side
 from_own : (rule : _) (p : Position) (o : ℕ) (m : Move) → o ≡ side_of p.men p.turn → m.from < 64 → is_legal rule p m ≡ true → (bit_at o m.from == 1) ≡ true

@@ -1,9 +1,9 @@
 -- A king in check has no legal move if all its steps are guarded after a move.
 use Rattle.chess_mates.proofs.Chess.{AreSteps, AreUnsafe, Colour, IsFlightless, IsSeenFrom, IsWellFormed, King, List, Man, Move, None, Option, Position, RuleSet, Some, [], after_well_formed, and_left, and_parts, and_right, ap, arith, arriving_colour, arriving_man, attacked_plainly, bit_and, bit_at, bit_not, can_castle, capture_square, captures_do_more, cases_Bool, like_men_paralyse, false, false_from_ne_true, false≢true, filter, in_check, inl, inr, is_legal, is_mate, is_nil, is_open, is_pseudo_legal-from_legal, is_reached, king_is, king_is_no_pawn, king_square, legal_moves_are_triples, made, man_on, may_castle, moves, not, not-true, occupied_squares, other, position_after, reaches, reaches_as, refl, same_colour, same_colour-refl, same_kind, same_kind-true, sight_lifted, some_is, sym, triples, true, true_from_ne_false, w64, word, ℕ, ◌&&◌, ◌<◌, ◌==◌, ◌∙◌, ◌∷◌, ◌≡◌}
-use Rattle.chess_mates.proofs.Fleeing.{IsKingOn, arrived_strikes, is_made, king_on, king_seen, men_stepped, reached_alike, seen_bit, step_legal_is, step_seen, step_taken, step_to}
-use Rattle.chess_mates.proofs.Mating.{turn_after}
-use Rattle.chess_mates.proofs.Standing.{unnamed}
-use Rattle.chess_mates.proofs.Stepping.{occupied_lifted, seen_stepped}
+use Rattle.chess_flights.proofs.Fleeing.{IsKingOn, arrived_strikes, is_made, king_on, king_seen, men_stepped, reached_alike, seen_bit, step_legal_is, step_seen, step_taken, step_to}
+use Rattle.chess_flights.proofs.Mating.{turn_after}
+use Rattle.chess_flights.proofs.Standing.{unnamed}
+use Rattle.chess_flights.proofs.Stepping.{occupied_lifted, seen_stepped}
 use Rattle.chess_rules.specs.ties.Filtering.{is_of_others}
 use Rattle.chess_mates.specs.ties.Parries.{IsParriless}
 use Rattle.chess_rules.proofs.theorems.Moves.{mate_is}

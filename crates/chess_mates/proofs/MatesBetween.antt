@@ -1,7 +1,7 @@
 -- The mates between two cursors, and the walk that finds them.
 use Rattle.chess_mates.proofs.Chess.{NonePass, IsNextMate, Position, RuleSet, [], all_triples, append_cancel_right, arith, cases_lt, filter, filter-append, first_of_and, is_mating, mates, mates_after, mates_between, min, moves_after, moves_after-here, moves_between, place_of_triple, second_of_and, triple_at, true, ℕ, ◌++◌, ◌+◌, ◌<◌, ◌∷◌, ◌≡◌, ◌≤◌}
 use Rattle.chess_rules.proofs.listing_moves.Between.{after_cut, between-none, between-past}
-use Rattle.chess_mates.proofs.Mating.{mates_after-end, mates_after-none, mates_numbered}
+use Rattle.chess_flights.proofs.Mating.{mates_after-end, mates_after-none, mates_numbered}
 
 -- the first mating move after a cursor, by number
 pub next_mate_numbered : (rule : RuleSet) (p : Position) (start n : ℕ) → start ≤ n → n < all_triples → mates_after rule p n ≡ mates_after rule p start

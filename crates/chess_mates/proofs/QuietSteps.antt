@@ -1,8 +1,6 @@
 -- Steps of the king that give no check, found without playing them.
-use Rattle.chess_mates.proofs.Chess.{AreOpen, DescribesMen, Bool, Colour, IsUnreached, IsWellFormed, King, List, Man, Move, Position, RuleSet, Some, [], and_from, and_parts, ap, arith, bit_and, bit_at, capture_square, captures_do_more, cond-true, exposed_is, false, is_arrival, is_legal, is_mating, is_open, king_after, king_square, leaps, list_all, list_any, man_on, moves, moves_are_the_legal_moves, not, not_attacked, on_first, other, queen_steps, rules, same_colour, same_colour-true, same_kind, sight_after, subst, sym, true, word, word_has, ℕ, ◌<◌, ◌==◌, ◌∷◌, ◌≡◌}
-use Rattle.chess_mates.proofs.Fleeing.{IsKingStep, king_on, may_step, on_second, reached_near, simple_step, step_to}
-use Rattle.chess_rules.proofs.listing_moves.Members.{in_cases, none_in_nil}
-use Rattle.std.specs.List.{Contains}
+use Rattle.chess_mates.proofs.Chess.{AreOpen, DescribesMen, Colour, IsUnreached, IsWellFormed, King, Man, Position, RuleSet, Some, and_from, and_parts, ap, arith, bit_and, bit_at, capture_square, captures_do_more, cond-true, exposed_is, false, is_arrival, is_legal, is_open, king_after, king_square, leaps, list_any, man_on, not, not_attacked, on_first, other, queen_steps, rules, same_colour, same_colour-true, same_kind, sight_after, subst, sym, true, word, word_has, ℕ, ◌<◌, ◌==◌, ◌≡◌}
+use Rattle.chess_flights.proofs.Fleeing.{IsKingStep, king_on, may_step, on_second, reached_near, simple_step, step_to}
 
 -- for the word of a king's steps
 pub open_steps : (rule : RuleSet) (p : Position) (k n w : ℕ) → captures_do_more rule ≡ false → n ≡ word (λ t. list_any (leaps k t) queen_steps)
@@ -26,13 +24,3 @@ step_legal rule p x k t w well at here ways on u =
     and_from _ _ (may_step rule p x k t i) (ap not (sym (exposed_is rule p x (step_to k t) t false well (may_step rule p x k t i) on.0 here
     (grind (arith, parts.castling, parts.rebirth)) king (λ men are seen. sym (not_attacked rule men (other x.colour) t (rw mine (u.none men
     (subst (λ (c : Colour). DescribesMen p.men men (other c) (sight_after p.men k (capture_square p x (step_to k t)) t)) mine seen))))))))
-
--- where one move doesn't mate not all do
-fails_in : (test : Move → Bool) (ms : List Move) (m : Move) → Contains ms m → test m ≡ false → list_all test ms ≡ false
-fails_in test [] m c e = absurd (none_in_nil m c)
-fails_in test (x ∷ ms) m c e = grind (arith, in_cases x ms m c, fails_in test ms m)
-
--- for one quiet step: not every move mates
-pub one_fails : (rule : RuleSet) (p : Position) (m : Move) → IsWellFormed p → is_legal rule p m ≡ true → is_mating rule p m ≡ false
-    → list_all (is_mating rule p) (moves rule p) ≡ false
-one_fails rule p m well lawful none = fails_in (is_mating rule p) (moves rule p) m ((moves_are_the_legal_moves rule p m well).1 lawful) none

@@ -1,6 +1,8 @@
 -- A reborn man gives check to its own king only as a grasshopper's hurdle.
-use Rattle.chess_mates.proofs.Chess.{AreCheckSquares, AtMostOneKing, CheckSquares, Colour, Grasshopper, IsWellFormed, Kind, King, List, Man, Move, None, Option, Position, RuleSet, Some, Step, all_kept, along, and_from, and_parts, any_kept, are_rebirths_quiet, arith, arrived, bit_at, can_castle, cannot_expose, capture_square, captured_enemy, captured_mortal, cases_Bool, check_squares_for, circe, cond-false, cond-true, false, false_from_ne_true, false≢true, in_check, is_absent, is_attacked, is_attacker, is_castling, is_clear, is_man, is_man-without, is_paralysed, is_pseudo_legal, is_square, is_vacant_at, king_is, length, list_all, made, man_on, man_on-with_cases, man_on_at, man_there, may_castle, may_check_from, moved_men, moved_sound, not-true, on_board, orthodox, other, other_twice, position_after, position_after_by, put_at, range_with_len, reaches, reaches_as, reborn_square, refl, rides, rule_of_checks, rules, same_colour, same_kind, some_square_false, some_square_true, sym, true, unreborn_after, with_man, without_man, ℕ, ◌&&◌, ◌-◌, ◌<◌, ◌==◌, ◌∙◌, ◌≡◌}
-use Rattle.chess_mates.proofs.Checking.{no_check, unchecked}
+use Rattle.chess_mates.proofs.Chess.{AreCheckSquares, AtMostOneKing, CheckSquares, Colour, Grasshopper, IsWellFormed, Kind, King, List, Man, Move, None, Option, Position, RuleSet, Some, Step, all_kept, along, and_from, and_parts, any_kept, are_rebirths_quiet, arith, arrived, bit_at, can_castle, cannot_expose, capture_square, captured_enemy, captured_mortal, cases_Bool, check_squares_for, circe, cond-false, cond-true, false, false_from_ne_true, false≢true, in_check, is_absent, is_attacked, is_attacker, is_castling, is_clear, is_man, is_man-without, is_paralysed, is_pseudo_legal, is_square, is_vacant_at, king_is, length, list_all, made, man_on, man_on-with_cases, man_on_at, man_there, may_castle, may_check_from, moved_men, moved_sound, not-true, on_board, orthodox, other, other_twice, position_after, put_at, range_with_len, reaches, reaches_as, reborn_square, refl, rides, rule_of_checks, rules, same_colour, same_kind, some_square_false, some_square_true, sym, true, unreborn_after, with_man, without_man, ℕ, ◌&&◌, ◌-◌, ◌<◌, ◌==◌, ◌∙◌, ◌≡◌}
+use Rattle.chess_mates.proofs.Checking.{no_check}
+use Rattle.chess_flights.proofs.CastlingChecks.{unchecked}
+use Rattle.chess_flights.proofs.Standing.{after_is}
 
 -- no grasshopper of this colour stands there
 abbrev LacksGrasshopper : List (Option Man) → Colour → Type 0
@@ -63,12 +65,6 @@ moved_lacks p x m e here unpromoted none =
 absent_lacks : (men : _) (e : Colour) → length men ≡ 64 → is_absent men (record { colour = e; kind = Grasshopper }) ≡ true → LacksGrasshopper men e
 absent_lacks men e size absent = λ s. false_from_ne_true _ (λ h.
     search (rules, man_there (man_on men s) e Grasshopper h, false≢true, not-true _ absent, some_square_true, on_board))
-
--- the position after a move, by the man that makes it
-pub after_is : (rule : RuleSet) (p : Position) (x : Man) (m : Move) → man_on p.men m.from ≡ Some x
-    → (position_after rule p m).men ≡ put_at (moved_men p x m) (reborn_square rule p x m) (man_on_at p.men (capture_square p x m))
-unfolding position_after position_after_by
-after_is rule p x m here = rw here refl
 
 -- where the mover has no grasshopper, a move that gives no check in orthodox chess gives none in Circe, promotions apart
 rebirth_gives_no_check : (p : Position) (x : Man) (m : Move) → IsWellFormed p → is_pseudo_legal circe p m ≡ true → man_on p.men m.from ≡ Some x

@@ -1,12 +1,7 @@
 pub mod Aims
-pub mod Attackers
 pub mod CheckSquares
-pub mod Flights
 pub mod Idle
-pub mod LastingFlights
+pub mod KnownFlights
+pub mod MatingPlaces
 pub mod Parries
-pub mod QuietSteps
-pub mod KingAttack
 pub mod StandingFlights
-pub mod Threats
-pub mod Mates

@@ -6,16 +6,14 @@ ghost use Rattle.chess_core.specs.declared.man.Kind.TheVariants.{Bishop, King, P
 ghost use Rattle.chess_core.specs.WellFormed.{IsWellFormed};
 ghost use Rattle.chess_core.specs.ties.Words.{word};
 ghost use Rattle.chess_attacks.specs.Attacks.{in_check};
-ghost use Rattle.chess_mates.specs.ties.CheckSquares.{AreCastlingTargets, AreCheckSquares, ArePromotionTargets, AreCheckTargets, enemy, is_absent, may_check_from, check_squares_for, own_man, are_rebirths_quiet, rule_of_checks};
-ghost use Rattle.chess_mates.specs.ties.KingAttack.{ArePromotions};
+ghost use Rattle.chess_mates.specs.ties.CheckSquares.{AreCastlingTargets, AreCheckSquares, ArePromotionTargets, AreCheckTargets, check_squares_for, own_man, are_rebirths_quiet, rule_of_checks};
+ghost use Rattle.chess_flights.specs.ties.Checks.{enemy, is_absent, may_check_from};
+ghost use Rattle.chess_flights.specs.ties.Approaches.{ArePromotions};
 ghost use Rattle.chess_rules.specs.ties.Blockers.{cannot_expose, may_expose, may_be_hurdle};
 ghost use Rattle.chess_rules.specs.Legal.{is_legal, is_pseudo_legal};
 ghost use Rattle.chess_rules.specs.Play.{position_after};
 ghost use Rattle.chess_attacks.specs.RuleSet.{captures_do_more};
 
-use crate::approach_squares::promotion_squares;
-use crate::attackers::has_fairy_promotions;
-use crate::flights::covered_squares;
 use chess_attacks::attacks_on::reach_to;
 use chess_attacks::leaps::squares_aside;
 use chess_attacks::lines::occupied;
@@ -25,6 +23,9 @@ use chess_attacks::words::{contains, only};
 use chess_core::board::Board;
 use chess_core::man::{Colour, Kind, Man, Move};
 use chess_core::square::{LAST_RANKS, Square, Squares};
+use chess_flights::approach_squares::promotion_squares;
+use chess_flights::attackers::has_fairy_promotions;
+use chess_flights::flights::covered_squares;
 use chess_rules::blockers::{cannot_expose, fairy_lines, safety_from};
 use chess_rules::evasions::rebirth_captures;
 use chess_rules::targets::unblocked_targets;
@@ -57,7 +58,7 @@ fn is_absent(board: &Board, colour: Colour, kind: Kind) -> bool
 
 // Returns the squares from which an enemy of this kind may give check to the colour's king; all squares
 // for a fairy kind of which the enemy has no man.
-#[tactic(auto, using(chess_attacks::proofs::Bits::word_empty, chess_attacks::proofs::Bits::every_square, std::proofs::lemmas::Bool::or_left, chess_core::proofs::Words::squares_same), unfolding(crate::specs::ties::CheckSquares::may_check_from))]
+#[tactic(auto, using(chess_attacks::proofs::Bits::word_empty, chess_attacks::proofs::Bits::every_square, std::proofs::lemmas::Bool::or_left, chess_core::proofs::Words::squares_same), unfolding(chess_flights::specs::ties::Checks::may_check_from))]
 pub(crate) fn check_squares_of(board: &Board, colour: Colour, kind: Kind) -> Squares
     ensures { result ≡ word (may_check_from board.now.men colour (enemy colour kind)) }
 {
@@ -174,7 +175,7 @@ pub(crate) fn may_check_from_everywhere<R: Rules>(board: &Board, squares: &Check
 
 // Returns the squares to which a king on `from` castles with check by the rook, and perhaps more.
 #[inline(never)]
-#[tactic(auto, using(crate::proofs::CastlingChecks::castling_targets_are))]
+#[tactic(auto, using(crate::proofs::CheckTargets::castling_targets_are))]
 fn castling_targets(squares: &CheckSquares, from: Square) -> Squares
     ensures { AreCastlingTargets squares.now from result }
 {
@@ -185,7 +186,7 @@ fn castling_targets(squares: &CheckSquares, from: Square) -> Squares
 // Returns the squares on which a pawn may promote to a man that checks the king: all squares of the
 // first and the last rank in Circe, or if pawns may promote to a fairy man.
 #[inline(always)]
-#[tactic(auto, using(crate::proofs::Promotions::any_target, crate::proofs::Promotions::target_known))]
+#[tactic(auto, using(crate::proofs::CheckTargets::any_target, crate::proofs::CheckTargets::target_known))]
 fn promotion_targets<R: Rules>(board: &Board, squares: &CheckSquares) -> Squares
     ensures { ArePromotionTargets R.rule board.now squares.now result }
 {

@@ -7,9 +7,10 @@ ghost use Rattle.chess_core.specs.declared.man.Kind.TheVariants.{King};
 ghost use Rattle.chess_core.specs.declared.man.Man.{Man};
 ghost use Rattle.chess_core.specs.WellFormed.{IsWellFormed};
 ghost use Rattle.chess_mates.specs.ties.CheckSquares.{AreCheckSquares};
-ghost use Rattle.chess_mates.specs.ties.Flights.{AreOpen, IsUnreached};
+ghost use Rattle.chess_flights.specs.ties.Flights.{AreOpen};
+ghost use Rattle.chess_mates.specs.ties.KnownFlights.{IsUnreached};
 ghost use Rattle.chess_rules.specs.Legal.{is_legal, is_nil, moves};
-ghost use Rattle.chess_mates.specs.ties.Mates.{is_mating};
+ghost use Rattle.chess_flights.specs.ties.Mates.{is_mating};
 ghost use Rattle.chess_rules.specs.ties.Places.{IsPlaceIn, moves_after};
 
 use crate::checks::{CheckSquares, check_squares, may_check};
@@ -29,7 +30,7 @@ use chess_rules::targets::arrivals;
 
 /// Returns whether the side to move has a legal move and each of its legal moves mates. A move that
 /// can't give check decides this without being played. The board is unchanged.
-#[tactic(auto, using(crate::proofs::Mating::quietly))]
+#[tactic(auto, using(chess_flights::proofs::Mating::quietly))]
 pub fn every_move_mates<R: Rules>(board: &mut Board) -> bool
     requires { IsWellFormed board.old }
     ensures answer { result ≡ (not (is_nil (moves R.rule board.old))
@@ -61,7 +62,7 @@ fn step_squares<R: Rules>(board: &Board, king: Square) -> Squares
 }
 
 // Returns whether no enemy reaches the king after its step from `from` to `to`.
-#[tactic(auto, using(crate::proofs::Mating::quietly))]
+#[tactic(auto, using(chess_flights::proofs::Mating::quietly))]
 fn is_unreached(board: &Board, king: Man, from: Square, to: Square) -> bool
     ensures { result ≡ true → IsUnreached board.now king from to }
 {
@@ -79,7 +80,7 @@ fn is_unreached(board: &Board, king: Man, from: Square, to: Square) -> bool
 }
 
 // Returns the first of the squares where no enemy reaches the king after its step.
-#[tactic(auto, using(chess_attacks::proofs::HoldTaken::rest_falls, crate::proofs::Hurdles::rest_here, crate::proofs::Hurdles::rest_on))]
+#[tactic(auto, using(chess_attacks::proofs::HoldTaken::rest_falls, chess_flights::proofs::Hurdles::rest_here, chess_flights::proofs::Hurdles::rest_on))]
 fn first_unreached(board: &Board, king: Man, from: Square, squares: Squares) -> Option<Square>
     ensures within { IfSome result (λ t. (t < 64) × ((bit_at squares t == 1) ≡ true)) }
     ensures unreached { IfSome result (λ t. IsUnreached board.now king from t) }
@@ -146,7 +147,7 @@ fn has_quiet_move<R: Rules>(
 }
 
 // Returns whether the legal move certainly gives no check, so that it doesn't mate.
-#[tactic(auto, using(crate::proofs::Mating::quietly))]
+#[tactic(auto, using(chess_flights::proofs::Mating::quietly))]
 fn is_quiet<R: Rules>(board: &Board, squares: &CheckSquares, m: &Move) -> bool
     requires well_formed { IsWellFormed board.now }
     requires legal { is_legal R.rule board.now m.now ≡ true }

@@ -1,5 +1,5 @@
-//! Finds mating moves, and moves after which no reply can mate, mostly without playing them. The crate
-//! exists for speed only: `chess_rules` alone would find the same moves.
+//! Finds mating moves, mostly without playing them. The crate exists for speed only: `chess_rules` alone
+//! would find the same moves.
 //!
 //! For example, in a test with the parameter `rt: HostRuntime`:
 //!
@@ -31,34 +31,18 @@
 //! }
 //! ```
 //!
-//! The interface is what the root re-exports, and the modules `threats`, `quiet_steps` and `kept_flights`.
-//! No call allocates, none builds a list of moves, and each leaves the board unchanged.
+//! The interface is what the root re-exports. No call allocates, none builds a list of moves, and each
+//! leaves the board unchanged.
 #![tactic(auto)]
 
 pub mod aims;
-mod approach_squares;
-mod attackers;
 mod checks;
 pub mod every_move;
-mod flights;
-mod free_steps;
-mod guards;
-mod homes;
-mod hopped_flights;
-pub mod kept_flights;
-mod king_attack;
-mod king_zone;
-mod lasting_flights;
+mod flights_after;
 pub mod mating_moves;
 mod origins;
 mod parries;
-mod pawn_approaches;
-pub mod quiet_steps;
-mod risk;
-mod safe_steps;
 mod standing_flights;
-mod steps;
-pub mod threats;
 
 pub use crate::aims::{aims_at_king, next_aimed};
 pub use crate::every_move::every_move_mates;

@@ -4,18 +4,19 @@ ghost use Rattle.chess_core.specs.Position.{other};
 ghost use Rattle.chess_core.specs.WellFormed.{IsWellFormed};
 ghost use Rattle.chess_attacks.specs.Attacks.{in_check};
 ghost use Rattle.chess_mates.specs.ties.CheckSquares.{AreCheckSquares};
-ghost use Rattle.chess_mates.specs.ties.Flights.{IsKnown};
+ghost use Rattle.chess_mates.specs.ties.KnownFlights.{IsKnown};
 ghost use Rattle.chess_mates.specs.ties.Parries.{AreParries};
 ghost use Rattle.chess_rules.specs.Legal.{is_legal, is_mate, is_nil, is_pseudo_legal, moves};
 ghost use Rattle.chess_core.specs.declared.man.Move.{Move};
 ghost use Rattle.std.specs.Int.{bit_at};
-ghost use Rattle.chess_mates.specs.ties.Mates.{AreMateClues, IsMatingPlaceIn, IsNextMate, mates, mates_after, mates_between};
+ghost use Rattle.chess_mates.specs.ties.MatingPlaces.{AreMateClues, IsMatingPlaceIn, IsNextMate, mates_between};
+ghost use Rattle.chess_flights.specs.ties.Mates.{mates, mates_after};
 ghost use Rattle.chess_rules.specs.ties.Places.{NonePass, all_triples, place_of, cursor_onto, triple_at};
 ghost use Rattle.chess_rules.specs.Play.{position_after};
 ghost use Rattle.chess_rules.specs.ties.Targets.{AreCandidates, IsTargetCacheOf, AreOrigins, IsAimed};
 
 use crate::checks::{CheckSquares, check_squares, may_check, near_check_targets};
-use crate::flights::{Flights, flights_after};
+use crate::flights_after::{Flights, flights_after};
 use crate::origins::check_origins;
 use crate::parries::{Parries, parries_after};
 use crate::standing_flights::{StandingFlights, standing_flights};
@@ -52,7 +53,7 @@ pub struct MateCursor<R> {
 }
 
 impl<R> Model for MateCursor<R> {
-    ghost use Rattle.chess_mates.specs.ties.Mates.{MatingPlace};
+    ghost use Rattle.chess_mates.specs.ties.MatingPlaces.{MatingPlace};
 
     ghost Value = { MatingPlace };
 
@@ -119,7 +120,7 @@ impl<R: Rules> MateCursor<R> {
     /// Returns the next legal move after the cursor that mates, and moves the cursor to it. After the
     /// last one it returns `None` and moves the cursor to the end. The cursor must belong to the board's
     /// position. The board is unchanged.
-    #[tactic(auto, using(crate::proofs::MatesBetween::next_mates), unfolding(crate::specs::ties::Mates::mates, chess_rules::specs::ties::Places::place_of))]
+    #[tactic(auto, using(crate::proofs::MatesBetween::next_mates), unfolding(chess_flights::specs::ties::Mates::mates, chess_rules::specs::ties::Places::place_of))]
     pub fn next(&mut self, board: &mut Board) -> Option<Move>
         requires well_formed { IsWellFormed board.old }
         requires place { IsMatingPlaceIn R.rule board.old self.old }
@@ -150,7 +151,7 @@ impl<R: Rules> MateCursor<R> {
     /// Returns the next legal move between the cursor and `end` that mates, and moves the cursor to it.
     /// If there is none it returns `None` and the cursor stays. The cursor must belong to the board's
     /// position. The board is unchanged.
-    #[tactic(auto, using(crate::proofs::MatesBetween::until_mates), unfolding(crate::specs::ties::Mates::mates))]
+    #[tactic(auto, using(crate::proofs::MatesBetween::until_mates), unfolding(chess_flights::specs::ties::Mates::mates))]
     pub fn next_until(&mut self, end: Moves<R>, board: &mut Board) -> Option<Move>
         requires well_formed { IsWellFormed board.old }
         requires place { IsMatingPlaceIn R.rule board.old self.old }
@@ -222,7 +223,8 @@ pub(crate) fn next_mating<R: Rules>(
 }
 
 impl MoveFilter for MateClues {
-    ghost use Rattle.chess_mates.specs.ties.Mates.{AreMateClues, mates};
+    ghost use Rattle.chess_mates.specs.ties.MatingPlaces.{AreMateClues};
+    ghost use Rattle.chess_flights.specs.ties.Mates.{mates};
     ghost use Rattle.chess_mates.specs.ties.Idle.{mates-idle};
 
     ghost test = { mates };
@@ -247,7 +249,7 @@ impl MoveFilter for MateClues {
 }
 
 // Returns a superset of the squares from which a move mates: those from which a move may give check.
-#[tactic(auto, using(crate::proofs::Mating::no_mate_quietly))]
+#[tactic(auto, using(chess_flights::proofs::Mating::no_mate_quietly))]
 fn mating_origins<R: Rules>(board: &Board, squares: &CheckSquares) -> Squares
     requires well_formed { IsWellFormed board.now }
     requires squares { AreCheckSquares board.now.men (other board.now.turn) squares.now }
@@ -258,7 +260,7 @@ fn mating_origins<R: Rules>(board: &Board, squares: &CheckSquares) -> Squares
 
 // Returns a superset of the squares to which the man on `from` must go to mate: elsewhere it gives no
 // check, or a flight remains.
-#[tactic(auto, using(chess_attacks::proofs::Bits::off_zero, crate::proofs::Mating::no_mate_quietly))]
+#[tactic(auto, using(chess_attacks::proofs::Bits::off_zero, chess_flights::proofs::Mating::no_mate_quietly))]
 fn mate_targets<R: Rules>(board: &Board, clues: &MateClues, from: Square) -> Squares
     requires well_formed { IsWellFormed board.now }
     requires clues { AreMateClues R.rule board.now clues.now }
@@ -273,7 +275,7 @@ fn mate_targets<R: Rules>(board: &Board, clues: &MateClues, from: Square) -> Squ
 }
 
 // Returns the mate targets of the man on `from` to which it may go.
-#[tactic(auto, using(chess_rules::proofs::listing_moves::Walks::candidates, chess_rules::proofs::listing_moves::Walks::no_candidates, crate::proofs::Mating::not_mating))]
+#[tactic(auto, using(chess_rules::proofs::listing_moves::Walks::candidates, chess_rules::proofs::listing_moves::Walks::no_candidates, chess_flights::proofs::Mating::not_mating))]
 fn candidates<R: Rules>(board: &Board, clues: &MateClues, from: Square) -> Squares
     requires well_formed { IsWellFormed board.now }
     requires clues { AreMateClues R.rule board.now clues.now }
@@ -287,7 +289,7 @@ fn candidates<R: Rules>(board: &Board, clues: &MateClues, from: Square) -> Squar
 }
 
 // Returns whether the move is legal and mates. The board is unchanged.
-#[tactic(auto, using(crate::proofs::Mating::no_mate_quietly, crate::proofs::Mating::not_mating, crate::proofs::Fleeing::no_mate_with_flight, crate::proofs::Parrying::no_mate_with_parry))]
+#[tactic(auto, using(chess_flights::proofs::Mating::no_mate_quietly, chess_flights::proofs::Mating::not_mating, chess_flights::proofs::Fleeing::no_mate_with_flight, crate::proofs::Parrying::no_mate_with_parry))]
 fn is_mating<R: Rules>(board: &mut Board, squares: &CheckSquares, m: Move) -> bool
     requires well_formed { IsWellFormed board.old }
     requires aimed { IsAimed R.rule board.old m }
@@ -312,7 +314,7 @@ fn is_mating<R: Rules>(board: &mut Board, squares: &CheckSquares, m: Move) -> bo
 
 // Returns whether the pseudo-legal move is legal and mates; `flights` and `parries` are what is known of
 // the position after it. The board is unchanged.
-#[tactic(auto, unfolding(crate::specs::ties::Mates::mates, chess_rules::specs::Legal::is_legal))]
+#[tactic(auto, unfolding(chess_flights::specs::ties::Mates::mates, chess_rules::specs::Legal::is_legal))]
 fn gives_mate<R: Rules>(board: &mut Board, m: Move, flights: Flights, parries: Parries) -> bool
     requires well_formed { IsWellFormed board.old }
     requires pseudo { is_pseudo_legal R.rule board.old m ≡ true }

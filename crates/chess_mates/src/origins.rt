@@ -8,17 +8,17 @@ ghost use Rattle.chess_core.specs.declared.man.Kind.TheVariants.{King};
 ghost use Rattle.chess_mates.specs.ties.CheckSquares.{AreCheckOrigins, AreCheckSquares, AreCheckTargets, own_man};
 
 use crate::checks::{CheckSquares, may_check_from_everywhere, targets_off_blockers};
-use crate::pawn_approaches::pawns_before;
 use chess_attacks::rules::Rules;
 use chess_attacks::words::{next_bit, only, pop_first};
 use chess_core::board::Board;
 use chess_core::man::{Kind, Man};
 use chess_core::square::{Square, Squares};
+use chess_flights::pawn_approaches::pawns_before;
 use chess_rules::targets::unblocked_targets;
 
 // Returns the squares of the mover's men of this kind whose moves can't expose the enemy king.
 #[inline(always)]
-#[tactic(auto, using(crate::proofs::FarMen::man_of_word, crate::proofs::FarMen::off_denied, chess_rules::proofs::listing_moves::Walks::on_first))]
+#[tactic(auto, using(chess_flights::proofs::Bitboards::man_of_word, chess_flights::proofs::Bitboards::off_denied, chess_rules::proofs::listing_moves::Walks::on_first))]
 fn men_off_blockers(board: &Board, squares: &CheckSquares, kind: Kind) -> Squares
     ensures stands { (s : ℕ) → s < 64 → (bit_at result s == 1) ≡ true
         → man_on board.now.men s ≡ Some (own_man board.now kind) }
@@ -54,7 +54,7 @@ fn is_far<R: Rules>(board: &Board, man: Man, from: Square, targets: Squares) -> 
 // Returns the squares of the mover's men of this kind, other than king, that could reach no check square
 // on an empty board.
 #[inline(always)]
-#[tactic(auto, using(chess_attacks::proofs::HoldTaken::rest_falls, crate::proofs::Hurdles::rest_on, crate::proofs::FarMen::far_either, chess_attacks::proofs::Bits::off_zero, crate::proofs::FarMen::far_one))]
+#[tactic(auto, using(chess_attacks::proofs::HoldTaken::rest_falls, chess_flights::proofs::Hurdles::rest_on, crate::proofs::FarMen::far_either, chess_attacks::proofs::Bits::off_zero, crate::proofs::FarMen::far_one))]
 fn far_men<R: Rules>(board: &Board, squares: &CheckSquares, kind: Kind) -> Squares
     requires well_formed { IsWellFormed board.now }
     requires squares { AreCheckSquares board.now.men (other board.now.turn) squares.now }

@@ -11,11 +11,10 @@ ghost use Rattle.chess_core.specs.declared.man.Man.{Man};
 ghost use Rattle.chess_core.specs.ties.Words.{squares_of, word};
 ghost use Rattle.chess_mates.specs.ties.CheckSquares.{AreCheckSquares};
 ghost use Rattle.chess_mates.specs.ties.Parries.{AreBetween, AreParries, AreParriesKnown, IsShutBy, IsKnownBetween, IsUntaken, comes, is_unpinned};
-ghost use Rattle.chess_attacks.specs.Reaches.{forward};
+ghost use Rattle.chess_attacks.specs.Reaches.{forward, reaches, reaches_as};
 ghost use Rattle.chess_rules.specs.Legal.{is_pseudo_legal};
 ghost use Rattle.chess_rules.specs.Play.{position_after};
 ghost use Rattle.std.specs.Int.{bit_at};
-ghost use Rattle.chess_attacks.specs.Reaches.{reaches, reaches_as};
 ghost use Rattle.chess_attacks.specs.ties.Lines.{occupied_squares};
 ghost use Rattle.chess_attacks.specs.ties.Occupancy.{DescribesMen};
 
@@ -159,7 +158,7 @@ fn is_approached(
 
 // Returns what is known of parries by interposing between the man that arrives on `m.to` and the king on
 // `king`.
-#[tactic(auto, using(chess_attacks::proofs::HoldTaken::rest_falls, crate::proofs::Hurdles::rest_on))]
+#[tactic(auto, using(chess_attacks::proofs::HoldTaken::rest_falls, chess_flights::proofs::Hurdles::rest_on))]
 #[inline(always)]
 fn parries_between(
     board: &Board,

@@ -4,20 +4,21 @@ ghost use Rattle.std.specs.Int.{bit_at};
 ghost use Rattle.chess_core.specs.Position.{king_square, other};
 ghost use Rattle.chess_core.specs.WellFormed.{IsWellFormed};
 ghost use Rattle.chess_core.specs.declared.man.Move.{Move};
-ghost use Rattle.chess_mates.specs.ties.Mates.{mates};
-ghost use Rattle.chess_mates.specs.ties.LastingFlights.{IsLeft};
-ghost use Rattle.chess_mates.specs.ties.StandingFlights.{AreStandingFlights, IsBeside, IsFlightBut, NoneHops};
+ghost use Rattle.chess_flights.specs.ties.Mates.{mates};
+ghost use Rattle.chess_flights.specs.ties.Approaches.{IsLeft};
+ghost use Rattle.chess_mates.specs.ties.StandingFlights.{AreStandingFlights, IsBeside, IsFlightBut};
+ghost use Rattle.chess_flights.specs.ties.FreeSteps.{NoneHops};
 
-use crate::approach_squares::barring_squares;
-use crate::attackers::attackers_on;
-use crate::free_steps::{free_steps, none_hops, unsimple_squares};
-use crate::guards::{leapt_squares, rider_reach};
 use chess_attacks::lines::{diagonal_lines, occupied, straight_lines};
 use chess_attacks::rules::Rules;
 use chess_attacks::words::{contains, highest, next_bit, only};
 use chess_core::board::Board;
 use chess_core::man::{Kind, Man};
 use chess_core::square::{Square, Squares};
+use chess_flights::approach_squares::barring_squares;
+use chess_flights::attackers::attackers_on;
+use chess_flights::free_steps::{free_steps, none_hops, unsimple_squares};
+use chess_flights::guards::{leapt_squares, rider_reach};
 
 // The most men of the mover against which flights are looked for. Against more, a king seldom has
 // flights that remain.
@@ -55,7 +56,7 @@ fn are_sought(board: &Board) -> bool
 }
 
 /// Returns the flights of the enemy king in the board's position; none if they aren't looked for.
-#[tactic(auto, using(crate::proofs::KeptFlights::no_flights))]
+#[tactic(auto, using(crate::proofs::StandingFlights::no_flights))]
 pub(crate) fn standing_flights<R: Rules>(board: &Board) -> StandingFlights
     ensures { AreStandingFlights R.rule board.now result }
 {

@@ -7,8 +7,8 @@ use crate::draw::Draw;
 use crate::family::Family;
 use crate::plain::{Plain, Rule};
 use chess_core::{Board, Move};
-use chess_mates::threats::Threats;
 use chess_rules::{Circe, Madrasi, Moves, Orthodox, Rules};
+use chess_threats::threats::Threats;
 
 // The outcome for the positions of a family.
 #[derive(Clone, Copy)]

@@ -1,4 +1,4 @@
--- The contracts of the calls to chess_rules and chess_mates, in the terms of the search.
+-- The contracts of the calls to the chess crates, in the terms of the search.
 use Rattle.pop_battle.proofs.Words.{Battle, Bool, Goal, LegalPlace, List, MatchOption, Mate, Move, Option, Position, RuleSet, [], arith, can_move, chess, cut_mates, cut_moves, false, filter, is_for_mate, is_goal_reached, is_mate, is_mating, is_nil, is_some, is_stalemate, length, length-append, list_any, mates_after, mates_between, moves, moves_after, moves_between, nat_tests, not, refl, rules, sum_by, sum_by-cons, true, value, walk_count, ℕ, ◌++◌, ◌&&◌, ◌-◌, ◌<◌, ◌∷◌, ◌≡◌, ◌≤◌, Some}
 use Rattle.pop_battle.specs.Game.{some_move as some_good}
 use Rattle.pop_battle.specs.ties.Calls.{Finds}

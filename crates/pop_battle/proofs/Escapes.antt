@@ -4,7 +4,7 @@ use Rattle.pop_battle.proofs.Boards.{any_mating, after_start, each_one, unreache
 use Rattle.pop_battle.proofs.Passing.{after_back}
 use Rattle.pop_battle.proofs.SmallestTrees.{tree-one, trees-start}
 use Rattle.pop_battle.proofs.Values.{value-mates, value-open}
-use Rattle.chess_mates.specs.ties.Mates.{allows_mate}
+use Rattle.chess_flights.specs.ties.Mates.{allows_mate}
 use Rattle.chess_rules.specs.ties.Filtering.{SomeFails}
 
 module _ {M : Type 0} (m : M) (ys : List M) where

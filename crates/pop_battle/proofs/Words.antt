@@ -23,9 +23,10 @@ pub use Rattle.chess_attacks.specs.RuleSet.{RuleSet}
 pub use Rattle.chess_rules.specs.ties.Places.{IsPlaceIn, LegalPlace}
 unfoldable pub use Rattle.chess_rules.specs.ties.Places.{moves_after, moves_between}
 pub use Rattle.chess_rules.specs.ties.Filtering.{IsFiltered}
-pub use Rattle.chess_mates.specs.ties.Mates.{MatingPlace, is_mating, mates_between}
-pub use Rattle.chess_mates.specs.ties.QuietSteps.{must_reply_with_mate}
-unfoldable pub use Rattle.chess_mates.specs.ties.Mates.{mates_after}
+pub use Rattle.chess_mates.specs.ties.MatingPlaces.{MatingPlace, mates_between}
+pub use Rattle.chess_flights.specs.ties.Mates.{is_mating}
+pub use Rattle.chess_flights.specs.ties.QuietSteps.{must_reply_with_mate}
+unfoldable pub use Rattle.chess_flights.specs.ties.Mates.{mates_after}
 pub use Rattle.pop_stipulation.specs.declared.stipulation.Goal.{Goal}
 pub use Rattle.pop_stipulation.specs.declared.stipulation.Goal.TheVariants.{Mate}
 pub use Rattle.pop_battle.specs.Chess.{chess, is_goal_reached}

@@ -4,15 +4,15 @@ ghost use Rattle.std.specs.Prelude.{[], ◌<◌, ◌==◌, ◌∷◌, ◌≡◌,
 ghost use Rattle.chess_core.specs.WellFormed.{IsWellFormed};
 ghost use Rattle.chess_rules.specs.Legal.{is_legal};
 ghost use Rattle.chess_rules.specs.Play.{position_after};
-ghost use Rattle.chess_mates.specs.ties.Mates.{mates_after};
-ghost use Rattle.chess_mates.specs.ties.Threats.{AreThreatsOf};
+ghost use Rattle.chess_flights.specs.ties.Mates.{mates_after};
+ghost use Rattle.chess_threats.specs.ties.Threats.{AreThreatsOf};
 ghost use Rattle.pop_battle.specs.declared.aim.Battle.TheVariants.{Direct};
 
 use crate::aim::Battle;
 use chess_core::board::Board;
 use chess_core::man::Move;
-use chess_mates::threats::Threats;
 use chess_rules::{Moves, Rules};
+use chess_threats::threats::Threats;
 
 /// For each number of half-moves below 32, the last two moves that decided a position with that many
 /// half-moves left. A direct mate tries them first in the next position with as many half-moves left. A

@@ -7,7 +7,7 @@ ghost use Rattle.chess_rules.specs.Legal.{is_legal, moves as legal_moves};
 ghost use Rattle.chess_rules.specs.Play.{position_after};
 ghost use Rattle.chess_rules.specs.ties.Filtering.{SomeFails};
 ghost use Rattle.chess_rules.specs.ties.Places.{IsPlaceIn};
-ghost use Rattle.chess_mates.specs.ties.Mates.{allows_mate};
+ghost use Rattle.chess_flights.specs.ties.Mates.{allows_mate};
 ghost use Rattle.pop_stipulation.specs.declared.stipulation.Goal.TheVariants.{Mate};
 ghost use Rattle.pop_battle.specs.Chess.{chess};
 ghost use Rattle.pop_battle.specs.Walks.{walk_count};
@@ -27,8 +27,8 @@ use crate::search_state::SearchState;
 use chess_core::board::Board;
 use chess_core::man::{Kind, Move};
 use chess_core::square::Square;
-use chess_mates::kept_flights::KeptFlights;
 use chess_rules::{LegalCursor, Moves, Rules, play};
+use chess_threats::kept_flights::KeptFlights;
 use pop_stipulation::stipulation::Goal;
 
 /// Returns whether White, to move, mates at once. The mating move becomes the killer; without one the

@@ -4,7 +4,7 @@ ghost use Rattle.chess_core.specs.WellFormed.{IsWellFormed};
 ghost use Rattle.chess_rules.specs.Legal.{is_legal, moves as legal_moves};
 ghost use Rattle.chess_rules.specs.Play.{position_after};
 ghost use Rattle.chess_rules.specs.ties.Places.{IsPlaceIn, moves_after};
-ghost use Rattle.chess_mates.specs.ties.QuietSteps.{must_reply_with_mate};
+ghost use Rattle.chess_flights.specs.ties.QuietSteps.{must_reply_with_mate};
 ghost use Rattle.pop_stipulation.specs.declared.stipulation.Goal.TheVariants.{Mate};
 ghost use Rattle.pop_battle.specs.Chess.{chess};
 ghost use Rattle.pop_battle.specs.Walks.{walk_count};
@@ -18,8 +18,8 @@ use crate::killers::Killers;
 use crate::search_state::SearchState;
 use chess_core::board::Board;
 use chess_core::man::Move;
-use chess_mates::quiet_steps::QuietSteps;
 use chess_rules::{LegalCursor, Rules, play};
+use chess_threats::quiet_steps::QuietSteps;
 use pop_stipulation::stipulation::Goal;
 
 /// Returns whether Black must mate after this move by White. The move isn't played if Black's king has a

@@ -3,7 +3,7 @@ use Rattle.std.specs.Prelude.{ℕ, Bool, false, Option, Some, None}
 use Rattle.chess_core.specs.Position.{Position, man_on, other}
 use Rattle.chess_core.specs.declared.man.Man.{Man}
 use Rattle.chess_core.specs.declared.man.Move.{Move}
-use Rattle.chess_mates.specs.ties.CheckSquares.{enemy, may_check_from}
+use Rattle.chess_flights.specs.ties.Checks.{enemy, may_check_from}
 
 -- this man, if there is one, would attack the enemy king from t as a man of the side to move, on the
 -- board as it is

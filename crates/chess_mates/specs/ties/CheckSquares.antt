@@ -1,9 +1,8 @@
 -- Squares from which a move may give check (own).
-use Rattle.std.specs.Prelude.{◌≡◌, ℕ, ◌+◌, ◌/◌, ◌<◌, Bool, true, false, ◌&&◌, ◌||◌, ◌==◌, not, List, Option, Some, None, if◌then◌else◌}
+use Rattle.std.specs.Prelude.{◌≡◌, ℕ, ◌+◌, ◌/◌, ◌<◌, Bool, true, false, ◌&&◌, ◌==◌, List, Option, Some, if◌then◌else◌}
 use Rattle.std.specs.Int.{bit_at}
 use Rattle.std.specs.Int.Bits.{bit_or}
-use Rattle.chess_core.specs.Position.{Position, is_fairy, is_man, king_square, man_on, may_promote, other}
-use Rattle.chess_core.specs.Squares.{some_square}
+use Rattle.chess_core.specs.Position.{Position, king_square, may_promote, other}
 use Rattle.chess_core.specs.ties.Words.{word}
 use Rattle.chess_core.specs.declared.man.Man.{Man}
 use Rattle.chess_core.specs.declared.man.Move.{Move}
@@ -11,30 +10,16 @@ use Rattle.chess_core.specs.declared.man.Colour.{Colour}
 use Rattle.chess_core.specs.declared.man.Kind.{Kind}
 use Rattle.chess_core.specs.declared.man.Kind.TheVariants.{King, Queen, Rook, Bishop, Knight, Pawn, Grasshopper, Nightrider}
 use Rattle.chess_mates.specs.declared.checks.CheckSquares.{CheckSquares}
-use Rattle.chess_mates.specs.ties.Attackers.{is_promotion}
-use Rattle.chess_mates.specs.ties.KingAttack.{ArePromotions}
+use Rattle.chess_flights.specs.ties.Attackers.{is_promotion}
+use Rattle.chess_flights.specs.ties.Approaches.{ArePromotions}
 use Rattle.chess_attacks.specs.Attacks.{in_check}
 use Rattle.chess_rules.specs.Legal.{is_legal}
 use Rattle.chess_rules.specs.Play.{position_after}
-use Rattle.chess_attacks.specs.Reaches.{reaches_as}
 use Rattle.chess_attacks.specs.RuleSet.{RuleSet, captures_are_reborn, captures_do_more, orthodox}
 use Rattle.chess_attacks.specs.ties.Lines.{is_two_files_aside}
 use Rattle.chess_rules.specs.ties.Blockers.{may_expose, may_be_hurdle}
-use Rattle.chess_rules.specs.ties.Targets.{is_promoting, may_arrive}
-
--- x is a fairy man, and no man of its colour and kind is on the board
-abbrev pub is_absent : List (Option Man) → Man → Bool
-is_absent men x = is_fairy x.kind && not (some_square (λ q. is_man (man_on men q) x.colour x.kind))
-
--- x on t may give check to a king on this square, if there is one; a fairy man of an absent kind may from
--- everywhere
-abbrev pub may_check_from_at : List (Option Man) → Option ℕ → Man → ℕ → Bool
-may_check_from_at men None x t = false
-may_check_from_at men (Some k) x t = is_absent men x || reaches_as men x.colour x.kind t k
-
--- x on t may give check to the king of colour c
-unfoldable pub may_check_from : List (Option Man) → Colour → Man → ℕ → Bool
-may_check_from men c x t = may_check_from_at men (king_square men c) x t
+use Rattle.chess_rules.specs.ties.Targets.{is_promoting}
+use Rattle.chess_flights.specs.ties.Checks.{is_absent, enemy, may_check_from}
 
 -- a reborn man neither gives check nor uncovers one: in Circe, if colour e, which captures, has no
 -- grasshopper for which it could be a hurdle
@@ -45,10 +30,6 @@ are_rebirths_quiet rule men e =
 -- the rules that decide what moves of colour e uncover: the orthodox ones if rebirths are quiet
 abbrev pub rule_of_checks : RuleSet → List (Option Man) → Colour → RuleSet
 rule_of_checks rule men e = if are_rebirths_quiet rule men e then orthodox else rule
-
--- a man of this kind, an enemy of colour c
-abbrev pub enemy : Colour → Kind → Man
-enemy c j = record { colour = other c; kind = j }
 
 -- a man of this kind of the side to move
 abbrev pub own_man : Position → Kind → Man
@@ -109,8 +90,3 @@ pub record AreCheckOrigins (rule : RuleSet) (p : Position) (w : ℕ) : Type 0 wh
   pub elsewhere : (m : Move) → m.from < 64 → m.to < 64 → is_legal rule p m ≡ true
       → (bit_at w m.from == 1) ≡ false → in_check rule (position_after rule p m).men (other p.turn)
       ≡ false
-
--- w holds each square from which this man, on some board, may go to one of the targets
-pub record AreApproaches (x : Man) (targets w : ℕ) : Type 0 where
-  pub approach : (p : Position) (s t : ℕ) → s < 64 → t < 64 → may_arrive p x s t ≡ true
-      → (bit_at targets t == 1) ≡ true → (bit_at w s == 1) ≡ true

@@ -6,7 +6,7 @@ use Rattle.chess_core.specs.declared.man.Move.{Move}
 use Rattle.chess_rules.specs.Legal.{is_pseudo_legal}
 use Rattle.chess_attacks.specs.RuleSet.{RuleSet}
 use Rattle.chess_rules.specs.ties.Idle.{is_legal-idle}
-use Rattle.chess_mates.specs.ties.Mates.{mates}
+use Rattle.chess_flights.specs.ties.Mates.{mates}
 
 pub mates-idle : (rule : RuleSet) (p : Position) (m : Move) → is_pseudo_legal rule p m ≡ false
     → mates rule p m ≡ false

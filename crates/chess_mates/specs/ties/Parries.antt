@@ -7,7 +7,7 @@ use Rattle.chess_core.specs.Squares.{is_square, some_square}
 use Rattle.chess_mates.specs.declared.parries.Parries.{Parries}
 use Rattle.chess_mates.specs.declared.parries.Parries.TheVariants.{Impossible, Possible, Unknown}
 use Rattle.chess_attacks.specs.Attacks.{in_check}
-use Rattle.chess_attacks.specs.Reaches.{forward}
+use Rattle.chess_attacks.specs.Reaches.{forward, reaches, reaches_as}
 use Rattle.chess_rules.specs.Legal.{is_legal, is_mate}
 use Rattle.chess_core.specs.Steps.{along, diagonal_steps, straight_steps}
 use Rattle.chess_core.specs.declared.man.Colour.{Colour}
@@ -16,7 +16,6 @@ use Rattle.chess_core.specs.declared.man.Kind.TheVariants.{Bishop, King, Pawn, R
 use Rattle.chess_core.specs.declared.man.Man.{Man}
 use Rattle.chess_core.specs.declared.man.Move.{Move}
 use Rattle.chess_core.specs.ties.Words.{word}
-use Rattle.chess_attacks.specs.Reaches.{reaches, reaches_as}
 use Rattle.chess_attacks.specs.RuleSet.{RuleSet, captures_do_more, like_men_paralyse}
 use Rattle.chess_attacks.specs.ties.Lines.{is_advance, is_on_some, occupied_squares}
 use Rattle.chess_rules.specs.ties.Blockers.{cannot_expose, is_fairy, may_expose, may_be_hurdle}

@@ -1,20 +1,16 @@
 -- The flights that the enemy king has now, and the moves that leave them (own).
-use Rattle.std.specs.Prelude.{◌≡◌, ◌<◌, ◌==◌, ◌⊎◌, ℕ, true, false, List, Option, Some}
+use Rattle.std.specs.Prelude.{◌≡◌, ◌<◌, ◌==◌, ◌⊎◌, ℕ, true, false, Some}
 use Rattle.std.specs.Int.{bit_at}
 use Rattle.chess_core.specs.Position.{Position, king_square, man_on, other, same_kind, without_man}
-use Rattle.chess_core.specs.Steps.{diagonal_steps, gait_of, is_hopper, straight_steps}
+use Rattle.chess_core.specs.Steps.{diagonal_steps, straight_steps}
 use Rattle.chess_core.specs.declared.man.Kind.TheVariants.{Nightrider}
 use Rattle.chess_core.specs.declared.man.Man.{Man}
 use Rattle.chess_mates.specs.declared.standing_flights.StandingFlights.{StandingFlights}
-use Rattle.chess_mates.specs.ties.Flights.{is_open}
+use Rattle.chess_flights.specs.ties.Flights.{is_open}
 use Rattle.chess_attacks.specs.RuleSet.{RuleSet}
 use Rattle.chess_attacks.specs.ties.Lines.{is_on_some}
 use Rattle.chess_attacks.specs.ties.Outward.{is_reached}
-
--- no hopper is on the board
-pub record NoneHops (men : List (Option Man)) : Type 0 where
-  pub none : (s : ℕ) (x : Man) → s < 64 → man_on men s ≡ Some x
-      → is_hopper (gait_of x.kind) ≡ false
+use Rattle.chess_flights.specs.ties.FreeSteps.{NoneHops}
 
 -- no hopper is on the board, and the enemy king may step to f, attacked or not, where no man of the mover
 -- but the one on a reaches it

@@ -5,7 +5,7 @@ use Rattle.chess_rules.specs.Legal.{is_legal, moves as legal_moves}
 use Rattle.chess_rules.specs.Play.{position_after}
 use Rattle.chess_attacks.specs.RuleSet.{RuleSet}
 use Rattle.chess_rules.specs.ties.Places.{IsPlaceIn, LegalPlace, place_of}
-use Rattle.chess_mates.specs.ties.Mates.{mates}
+use Rattle.chess_flights.specs.ties.Mates.{mates}
 use Rattle.pop_battle.specs.Chess.{chess}
 use Rattle.pop_battle.specs.declared.aim.Aim.{Aim}
 use Rattle.pop_battle.specs.Walks.{walk_count}

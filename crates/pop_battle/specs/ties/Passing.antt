@@ -3,7 +3,7 @@ use Rattle.std.specs.Prelude.{◌≡◌, ℕ, ◌+◌, ◌-◌, ◌^◌, min, Bo
 use Rattle.chess_core.specs.Position.{Position}
 use Rattle.chess_core.specs.declared.man.Move.{Move}
 use Rattle.chess_rules.specs.ties.Places.{moves_after}
-use Rattle.chess_mates.specs.ties.Mates.{allows_mate}
+use Rattle.chess_flights.specs.ties.Mates.{allows_mate}
 use Rattle.chess_rules.specs.Legal.{is_legal}
 use Rattle.chess_attacks.specs.RuleSet.{RuleSet}
 

@@ -10,7 +10,7 @@ use Rattle.chess_core.specs.declared.man.Move.{Move}
 use Rattle.chess_core.specs.WellFormed.{IsWellFormed}
 use Rattle.chess_rules.specs.Play.{position_after}
 use Rattle.chess_rules.specs.ties.Places.{IsPlaceIn, LegalPlace, moves_after}
-use Rattle.chess_mates.specs.ties.Mates.{is_mating}
+use Rattle.chess_flights.specs.ties.Mates.{is_mating}
 use Rattle.chess_rules.specs.Legal.{is_legal, is_mate}
 use Rattle.chess_attacks.specs.RuleSet.{RuleSet}
 use Rattle.pop_battle.specs.declared.aim.Play.{Play}

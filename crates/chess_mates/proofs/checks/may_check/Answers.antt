@@ -1,6 +1,6 @@
 use Rattle.chess_mates.proofs.Chess.{Move, ap, arith, not-false, rules, ◌<◌}
 use Rattle.chess_mates.proofs.Rebirths.{no_check_by_rebirth}
-use Rattle.chess_mates.proofs.KingsApart.{kings_apart}
+use Rattle.chess_flights.proofs.KingsApart.{kings_apart}
 use Rattle.chess_mates.proofs.checks.may_check.Goals as goal
 
 pub returns-else-contains : goal.returns-else-contains

@@ -1,4 +1,4 @@
-use Rattle.chess_mates.proofs.Hurdles.{IsRest}
+use Rattle.chess_flights.proofs.Hurdles.{IsRest}
 use Rattle.chess_mates.proofs.every_move.first_unreached.Given as goal
 
 abbrev pub invariant-loop-to : goal.invariant-loop-to

@@ -1,6 +1,7 @@
 use Rattle.chess_mates.proofs.Chess.{rules}
-use Rattle.chess_mates.proofs.Fleeing.{step_to}
-use Rattle.chess_mates.proofs.QuietSteps.{one_fails, step_legal}
+use Rattle.chess_flights.proofs.Fleeing.{step_to}
+use Rattle.chess_flights.proofs.Mating.{one_fails}
+use Rattle.chess_mates.proofs.QuietSteps.{step_legal}
 use Rattle.chess_mates.proofs.every_move.steps_quietly.Goals as goal
 
 pub returns : goal.returns

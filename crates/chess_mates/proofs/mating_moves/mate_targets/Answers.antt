@@ -1,5 +1,5 @@
 use Rattle.chess_mates.proofs.Chess.{rules}
-use Rattle.chess_mates.proofs.KeptFlights.{no_mate_off}
+use Rattle.chess_mates.proofs.StandingFlights.{no_mate_off}
 use Rattle.chess_mates.proofs.mating_moves.mate_targets.Goals as goal
 
 pub returns : goal.returns

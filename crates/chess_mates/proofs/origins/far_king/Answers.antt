@@ -1,6 +1,6 @@
 use Rattle.chess_mates.proofs.Chess.{rules}
 use Rattle.chess_mates.proofs.FarMen.{found}
-use Rattle.chess_mates.proofs.Hurdles.{found_on}
+use Rattle.chess_flights.proofs.Hurdles.{found_on}
 use Rattle.chess_mates.proofs.origins.far_king.Goals as goal
 
 pub is_far-requires : goal.is_far-requires

@@ -1,6 +1,6 @@
 use Rattle.chess_mates.proofs.Chess.{rules}
 use Rattle.chess_mates.proofs.FarMen.{found}
-use Rattle.chess_mates.proofs.Hurdles.{rest_here}
+use Rattle.chess_flights.proofs.Hurdles.{rest_here}
 use Rattle.chess_mates.proofs.origins.far_men.Goals as goal
 
 pub is_far-requires : goal.is_far-requires

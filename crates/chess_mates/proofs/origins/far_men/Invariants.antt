@@ -1,5 +1,5 @@
 use Rattle.chess_mates.proofs.FarMen.{AreFar}
-use Rattle.chess_mates.proofs.Hurdles.{IsRest}
+use Rattle.chess_flights.proofs.Hurdles.{IsRest}
 use Rattle.chess_mates.proofs.origins.far_men.Given as goal
 
 abbrev pub invariant-loop-from : goal.invariant-loop-from

@@ -1,5 +1,5 @@
 use Rattle.chess_mates.proofs.Chess.{Pawn, ap, bit_and, rules, squares_both, taken_all, ℕ, ◌∙◌}
-use Rattle.chess_mates.proofs.Hurdles.{rest_here}
+use Rattle.chess_flights.proofs.Hurdles.{rest_here}
 use Rattle.chess_mates.proofs.Parrying.{interposed, nobody_between}
 use Rattle.chess_mates.proofs.parries.parries_between.Goals as goal
 

@@ -1,5 +1,5 @@
 use Rattle.chess_mates.proofs.Chess.{DescribesMen, HoldTaken, List, Man, Option, bit_and, false, some_square, true, ◌==◌, ◌≡◌}
-use Rattle.chess_mates.proofs.Hurdles.{IsRest}
+use Rattle.chess_flights.proofs.Hurdles.{IsRest}
 use Rattle.chess_mates.proofs.parries.parries_between.Given as goal
 use Rattle.chess_mates.specs.ties.Parries.{comes}
 

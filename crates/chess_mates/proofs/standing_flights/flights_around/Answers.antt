@@ -1,5 +1,5 @@
 use Rattle.chess_mates.proofs.Chess.{arith, rules}
-use Rattle.chess_mates.proofs.KeptFlights.{flights_are}
+use Rattle.chess_mates.proofs.StandingFlights.{flights_are}
 use Rattle.chess_mates.proofs.standing_flights.flights_around.Goals as goal
 
 pub returns : goal.returns

@@ -1,7 +1,7 @@
 use Rattle.chess_mates.proofs.Chess.{bit_at, cases_Bool, eqb-true, inl, inr, off_second, rules, sym, ◌==◌, ◌∙◌}
-use Rattle.chess_mates.proofs.Hurdles.{found_on}
-use Rattle.chess_mates.proofs.KeptFlights.{on_highest}
-use Rattle.chess_mates.proofs.QuietFilter.{all_left}
+use Rattle.chess_flights.proofs.Hurdles.{found_on}
+use Rattle.chess_mates.proofs.StandingFlights.{on_highest}
+use Rattle.chess_flights.proofs.QuietFilter.{all_left}
 use Rattle.chess_mates.proofs.standing_flights.taking_squares.Goals as goal
 use Rattle.chess_attacks.proofs.rays.Firsts.{has_bit}
 

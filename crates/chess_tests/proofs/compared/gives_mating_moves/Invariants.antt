@@ -1,5 +1,5 @@
 use Rattle.std.proofs.Common.{◌≡◌}
-use Rattle.chess_mates.specs.ties.Mates.{IsMatingPlaceIn}
+use Rattle.chess_mates.specs.ties.MatingPlaces.{IsMatingPlaceIn}
 use Rattle.chess_tests.proofs.compared.gives_mating_moves.Given as goal
 
 -- the board stays, and the place is one in its mating moves

@@ -1,5 +1,5 @@
 use Rattle.std.proofs.Common.{◌≡◌, length}
-use Rattle.chess_mates.specs.ties.Threats.{AreThreatsOf}
+use Rattle.chess_threats.specs.ties.Threats.{AreThreatsOf}
 use Rattle.chess_rules.specs.ties.Places.{moves_after}
 use Rattle.chess_tests.proofs.defended.rules_out_a_mate.Given as goal
 

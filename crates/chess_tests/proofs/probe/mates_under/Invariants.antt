@@ -1,6 +1,7 @@
 use Rattle.std.proofs.Common.{◌≡◌, length}
 use Rattle.chess_core.specs.Diagrams.{position_of}
-use Rattle.chess_mates.specs.ties.Mates.{IsMatingPlaceIn, mates_after}
+use Rattle.chess_mates.specs.ties.MatingPlaces.{IsMatingPlaceIn}
+use Rattle.chess_flights.specs.ties.Mates.{mates_after}
 use Rattle.chess_tests.proofs.probe.mates_under.Given as goal
 
 -- the board is the diagram's, and the place is one in its mating moves

@@ -1,5 +1,5 @@
 use Rattle.chess_mates.proofs.Chess.{arith, false≢true, off_zero, rules, sym, ◌∙◌}
-use Rattle.chess_mates.proofs.KeptFlights.{lines_beside}
+use Rattle.chess_mates.proofs.StandingFlights.{lines_beside}
 use Rattle.chess_mates.proofs.standing_flights.StandingFlights.flights_beside.Goals as goal
 
 pub returns-then-squares-eq0 : goal.returns-then-squares-eq0

@@ -1,6 +1,6 @@
 use Rattle.chess_mates.proofs.Chess.{off_left, off_right, rules}
-use Rattle.chess_mates.proofs.KeptFlights.{no_mate_left}
-use Rattle.chess_mates.proofs.QuietFilter.{all_left}
+use Rattle.chess_mates.proofs.StandingFlights.{no_mate_left}
+use Rattle.chess_flights.proofs.QuietFilter.{all_left}
 use Rattle.chess_mates.proofs.standing_flights.StandingFlights.mating_squares.Goals as goal
 
 pub returns-then-flights-eq0 : goal.returns-then-flights-eq0

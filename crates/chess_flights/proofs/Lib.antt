@@ -1,0 +1,15 @@
+pub mod Chess
+pub mod Approaches
+pub mod Becoming
+pub mod Bitboards
+pub mod CalmSteps
+pub mod CastlingChecks
+pub mod Fleeing
+pub mod Hurdles
+pub mod KindByKind
+pub mod KingsApart
+pub mod Mating
+pub mod Promotions
+pub mod QuietFilter
+pub mod Standing
+pub mod Stepping

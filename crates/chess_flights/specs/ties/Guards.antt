@@ -1,0 +1,62 @@
+-- What men reach over hurdles (own).
+use Rattle.std.specs.Prelude.{◌≡◌, ◌<◌, ◌==◌, ℕ, Bool, true, false, List, Option}
+use Rattle.std.specs.Int.{bit_at}
+use Rattle.chess_core.specs.declared.man.Kind.{Kind}
+use Rattle.chess_core.specs.declared.man.Kind.TheVariants.{King, Queen, Rook, Bishop, Knight, Pawn, Nightrider}
+use Rattle.chess_core.specs.declared.man.Man.{Man}
+use Rattle.chess_flights.specs.declared.attackers.Attackers.{Attackers}
+use Rattle.chess_flights.specs.ties.Attackers.{IsAttacker}
+use Rattle.chess_attacks.specs.Reaches.{reaches_as}
+use Rattle.chess_attacks.specs.ties.Lines.{men_on}
+
+-- x on s reaches t if exactly the squares of d are occupied
+unfoldable pub reached_over : ℕ → Man → ℕ → ℕ → Bool
+reached_over d x s t = reaches_as (men_on d) x.colour x.kind s t
+
+-- w holds each square that x on s reaches over the hurdles d
+pub record IsReached (d : ℕ) (x : Man) (s w : ℕ) : Type 0 where
+  pub inside : (t : ℕ) → t < 64 → reached_over d x s t ≡ true → (bit_at w t == 1) ≡ true
+
+-- men of this kind move along lines
+abbrev pub is_rider : Kind → Bool
+is_rider Nightrider = true
+is_rider Queen = true
+is_rider Rook = true
+is_rider Bishop = true
+is_rider _ = false
+
+-- men of this kind move by one step or leap
+abbrev pub is_leaper : Kind → Bool
+is_leaper King = true
+is_leaper Knight = true
+is_leaper Pawn = true
+is_leaper _ = false
+
+-- x on s could reach a square of the region on some board
+pub record IsNear (x : Man) (s region : ℕ) : Type 0 where
+  pub square : ℕ
+  pub small : square < 64
+  pub on : (bit_at region square == 1) ≡ true
+  pub men : List (Option Man)
+  pub reaches : reaches_as men x.colour x.kind s square ≡ true
+
+-- w holds each square that attackers of these kinds reach over the hurdles, if they could reach the
+-- region on some board
+pub record AreReached (d : ℕ) (a : Attackers) (region : ℕ) (kinds : Kind → Bool) (w : ℕ) : Type
+    0 where
+  pub reach : (s : ℕ) (x : Man) → IsAttacker a x s → kinds x.kind ≡ true → IsNear x s region
+      → IsReached d x s w
+
+-- x on one of the squares reaches t over the hurdles
+pub record IsReachedFrom (d : ℕ) (x : Man) (squares t : ℕ) : Type 0 where
+  pub from : ℕ
+  pub small : from < 64
+  pub on : (bit_at squares from == 1) ≡ true
+  pub reaches : reached_over d x from t ≡ true
+
+-- one of the attackers reaches t over the hurdles
+pub record IsAttackedOver (d : ℕ) (a : Attackers) (t : ℕ) : Type 0 where
+  pub from : ℕ
+  pub man : Man
+  pub stands : IsAttacker a man from
+  pub reaches : reached_over d man from t ≡ true

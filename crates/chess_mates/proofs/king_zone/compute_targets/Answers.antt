@@ -1,5 +1,0 @@
-use Rattle.chess_mates.proofs.Chess.{rules}
-use Rattle.chess_mates.proofs.king_zone.compute_targets.Goals as goal
-
-pub returns-then-captures_do_more : goal.returns-then-captures_do_more
-returns-then-captures_do_more g c = search (rules, c.unknown.ensures)

@@ -1,7 +1,0 @@
-use Rattle.chess_mates.proofs.Chess.{rules}
-use Rattle.chess_mates.proofs.LastingFlights.{all_leave}
-use Rattle.chess_mates.proofs.lasting_flights.leave_one.Goals as goal
-
-pub returns : goal.returns
-returns c = λ yes. all_leave _ _ _ c.requires (search rules) (search (rules, yes)) (search rules) (search rules) (search rules) (search rules)
-    (search rules) (search rules) (search rules)

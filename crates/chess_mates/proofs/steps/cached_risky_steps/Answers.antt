@@ -1,6 +1,0 @@
-use Rattle.chess_mates.proofs.Chess.{arith}
-use Rattle.chess_mates.proofs.steps.cached_risky_steps.Goals as goal
-
-pub returns-then-kept-do_more-clause-risky : goal.returns-then-kept-do_more-clause-risky
-returns-then-kept-do_more-clause-risky g c = λ t small on off.
-    c.requires.kept.reported g.R.Rules.rule (grind arith) (grind arith) t small (rw c.if-kept-steps.true on) off

@@ -1,6 +1,0 @@
-use Rattle.chess_mates.proofs.Chess.{rules}
-use Rattle.chess_mates.proofs.Hurdles.{on_one}
-use Rattle.chess_mates.proofs.steps.reached_squares.Goals as goal
-
-pub returns-clause-alone : goal.returns-clause-alone
-returns-clause-alone c = λ t small on. search (rules, c.rider_reach-ridden.ensures.alone, c.leapt_squares.ensures.alone, on_one)

@@ -1,9 +1,0 @@
-use Rattle.chess_mates.proofs.Chess.{arith, rules}
-use Rattle.chess_mates.proofs.Passing.{pawn_mere}
-use Rattle.chess_mates.proofs.threats.altering_squares.Goals as goal
-
-pub returns-then-is : goal.returns-then-is
-returns-then-is c = record {
-  mere = λ m from to goes off. pawn_mere _ _ m (omega arith) to _ _ c.side.ensures c.side-2.ensures _ (rw c.crossed.ensures at c.only.ensures) (rw from goes)
-      (search rules) off;
-}

@@ -1,0 +1,15 @@
+pub mod Chess
+pub mod Barring
+pub mod ExactSteps
+pub mod HomeSquares
+pub mod HoppedFlights
+pub mod KingAttacks
+pub mod LastingFlights
+pub mod Passing
+pub mod Promotions
+pub mod QuietCastling
+pub mod Risks
+pub mod SafeSteps
+pub mod Sparing
+pub mod Springboards
+pub mod Ways

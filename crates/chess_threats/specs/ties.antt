@@ -1,0 +1,3 @@
+pub mod KingAttack
+pub mod LastingFlights
+pub mod Threats

@@ -1,0 +1,50 @@
+//! The squares that attackers reach over hurdles after one of them has left.
+ghost use Rattle.std.specs.Prelude.{◌≢◌, ℕ};
+ghost use Rattle.chess_core.specs.declared.man.Man.{Man};
+ghost use Rattle.chess_flights.specs.ties.Attackers.{IsAttacker};
+ghost use Rattle.chess_threats.specs.ties.KingAttack.{AreGuardsWithout};
+
+use crate::king_attack::KingAttack;
+use chess_attacks::words::only;
+use chess_core::man::Man;
+use chess_core::square::{Square, Squares};
+use chess_flights::attackers::Attackers;
+use chess_flights::guards::{leapt_squares, rider_reach};
+
+// The squares that attackers reach (`guarded`), and the squares that riders among them reach (`ridden`).
+#[derive(Clone, Copy)]
+pub(crate) struct Guards {
+    pub(crate) ridden: Squares,
+    pub(crate) guarded: Squares,
+}
+
+// Returns the attackers without the one on `gone`.
+fn without(men: &Attackers, gone: Square) -> Attackers
+    ensures { (s : ℕ) (x : Man) → IsAttacker men.now x s → gone ≢ s → IsAttacker result x s }
+{
+    let others = !only(Some(gone));
+    Attackers {
+        kings: men.kings & others,
+        queens: men.queens & others,
+        rooks: men.rooks & others,
+        bishops: men.bishops & others,
+        knights: men.knights & others,
+        pawns: men.pawns & others,
+        grasshoppers: men.grasshoppers & others,
+        nightriders: men.nightriders & others,
+        ..*men
+    }
+}
+
+// Returns the squares that attackers near the region reach after the one on `from` has left.
+pub(crate) fn guards_without(king_attack: &KingAttack, from: Square, region: Squares) -> Guards
+    ensures { AreGuardsWithout king_attack.now from region result }
+{
+    let hurdles = king_attack.hurdles & !only(Some(from));
+    let men = without(&king_attack.men, from);
+    let ridden = rider_reach(hurdles, &men, region);
+    Guards {
+        ridden,
+        guarded: ridden | leapt_squares(hurdles, &men, region),
+    }
+}

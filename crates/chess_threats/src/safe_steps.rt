@@ -1,0 +1,221 @@
+//! King's steps that one cheap test shows to be safe: no attacker that could give check next takes all flights.
+ghost use Rattle.std.specs.Prelude.{◌≡◌, ◌<◌, ◌==◌, ℕ, List, Option, true, false};
+ghost use Rattle.std.specs.Int.{bit_at};
+ghost use Rattle.chess_attacks.specs.Reaches.{reaches_as};
+ghost use Rattle.chess_core.specs.declared.man.Man.{Man};
+ghost use Rattle.chess_flights.specs.ties.Attackers.{IsAttacker};
+ghost use Rattle.chess_threats.specs.ties.LastingFlights.{AreOpenTargets};
+ghost use Rattle.chess_flights.specs.ties.Approaches.{IsLeft};
+ghost use Rattle.chess_threats.specs.ties.KingAttack.{AreGuardsThrough, AreChecksMet, ArePlainAttackers, IsPromotionMet, IsSafeStep};
+
+use crate::king_attack::KingAttack;
+use crate::king_zone::{MOST_ATTACKERS, adjacent_squares};
+use crate::lasting_flights::{OpenTargets, kind_leaves_one};
+use chess_attacks::words::{contains, only, pop_first};
+use chess_core::man::{Colour, Kind, Man};
+use chess_core::square::{LAST_RANKS, Square, Squares};
+use chess_flights::approach_squares::{open_approaches, promotion_squares};
+use chess_flights::attackers::Attackers;
+use chess_flights::guards::{leapt_squares, rider_reach};
+
+// Returns the squares of all attackers.
+#[tactic(auto, using(crate::proofs::SafeSteps::all_on))]
+#[inline(always)]
+fn squares_of_all(men: &Attackers) -> Squares
+    ensures { (s : ℕ) (x : Man) → IsAttacker men.now x s → (bit_at result s == 1) ≡ true }
+{
+    men.kings
+        | men.queens
+        | men.rooks
+        | men.bishops
+        | men.knights
+        | men.pawns
+        | men.grasshoppers
+        | men.nightriders
+}
+
+// Returns the squares that the attackers reach if none of them stops a line: whichever of them leaves, the
+// others reach no more.
+#[tactic(auto, using(crate::proofs::SafeSteps::guards_through_are))]
+#[inline(always)]
+fn guards_through(king_attack: &KingAttack) -> Squares
+    ensures { AreGuardsThrough king_attack.now result }
+{
+    let men = &king_attack.men;
+    let hurdles = king_attack.hurdles & !squares_of_all(men);
+    let ridden = rider_reach(hurdles, men, !0);
+    ridden | leapt_squares(hurdles, men, !0)
+}
+
+// Returns whether the attackers are few, may not castle, and have no grasshopper and no fairy promotion.
+fn are_plain(king_attack: &KingAttack) -> bool
+    ensures { result ≡ true → ArePlainAttackers king_attack.now }
+{
+    if king_attack.men.grasshoppers != 0 {
+        return false;
+    }
+    if king_attack.men.fairy_promotions {
+        return false;
+    }
+    king_attack.castled == 0 && king_attack.enemies.count_ones() <= MOST_ATTACKERS
+}
+
+// Returns whether one of `squares` remains wherever among `targets` a man of this kind arrives and, on some
+// board, gives check to a king on `king`.
+#[inline(always)]
+fn checks_leave_one(
+    squares: Squares,
+    colour: Colour,
+    kind: Kind,
+    targets: Squares,
+    king: Square,
+) -> bool
+    ensures { result ≡ true → (t : ℕ) → t < 64 → (bit_at targets t == 1) ≡ true
+        → (men : List (Option Man)) → reaches_as men colour kind t king ≡ true
+        → (f : ℕ) × IsLeft squares (record { colour = colour; kind = kind }) t f }
+{
+    if targets == 0 {
+        return true;
+    }
+    let checks = open_approaches(Man { colour, kind }, king);
+    kind_leaves_one(squares, colour, kind, targets & checks)
+}
+
+// Returns whether one of `squares` remains wherever among `targets` a pawn promotes, if it might then give
+// check to a king on `king`.
+#[inline(always)]
+fn promotions_leave_one(squares: Squares, colour: Colour, targets: Squares, king: Square) -> bool
+    ensures { result ≡ true → IsPromotionMet squares colour targets king }
+{
+    let last = targets & LAST_RANKS;
+    if last == 0 {
+        return true;
+    }
+    let kind = Kind::Pawn;
+    let pawns = open_approaches(Man { colour, kind }, king);
+    let checks = last & (promotion_squares(colour, false, king) | pawns);
+    if !kind_leaves_one(squares, colour, Kind::Queen, checks) {
+        return false;
+    }
+    kind_leaves_one(squares, colour, Kind::Knight, checks)
+}
+
+// Returns whether one of `squares` remains wherever an attacker other than a king or grasshopper arrives on a
+// target and, on some board, gives check to a king on `king`.
+#[inline(always)]
+fn all_checks_leave_one(
+    men: &Attackers,
+    targets: &OpenTargets,
+    squares: Squares,
+    king: Square,
+) -> bool
+    ensures { result ≡ true → AreChecksMet men.now targets.now squares king }
+{
+    let colour = men.colour;
+    if !checks_leave_one(squares, colour, Kind::Queen, targets.queens, king) {
+        return false;
+    }
+    if !checks_leave_one(squares, colour, Kind::Rook, targets.rooks, king) {
+        return false;
+    }
+    if !checks_leave_one(squares, colour, Kind::Bishop, targets.bishops, king) {
+        return false;
+    }
+    if !checks_leave_one(squares, colour, Kind::Knight, targets.knights, king) {
+        return false;
+    }
+    if !checks_leave_one(squares, colour, Kind::Pawn, targets.pawns, king) {
+        return false;
+    }
+    checks_leave_one(squares, colour, Kind::Nightrider, targets.nightriders, king)
+}
+
+// Returns whether the king's step to `to` is safe if nobody is there: no attacker reaches it now, and after
+// each move that might check there a flight remains. `false` says nothing.
+#[inline(always)]
+fn is_safe_step(
+    king_attack: &KingAttack,
+    targets: &OpenTargets,
+    guarded: Squares,
+    to: Square,
+) -> bool
+    requires plain { ArePlainAttackers king_attack.now }
+    requires targets { AreOpenTargets king_attack.now.men targets.now }
+    requires guarded { AreGuardsThrough king_attack.now guarded }
+    ensures { result ≡ true → (bit_at king_attack.now.hurdles to == 1) ≡ false
+        → IsSafeStep king_attack.now to }
+{
+    // For the proof: a square's number is below 64.
+    let _small = to.index();
+    if contains(guarded, to) {
+        return false;
+    }
+    let squares = adjacent_squares(king_attack, to) & !(guarded | only(Some(to)));
+    if !all_checks_leave_one(&king_attack.men, targets, squares, to) {
+        return false;
+    }
+    promotions_leave_one(squares, king_attack.men.colour, targets.pawns, to)
+}
+
+// Returns `to` if the test doesn't show that the king's step there is safe, otherwise no square.
+#[tactic(auto, using(crate::proofs::Sparing::one_square))]
+#[inline(always)]
+fn doubtful_step(
+    king_attack: &KingAttack,
+    targets: &OpenTargets,
+    guarded: Squares,
+    to: Square,
+) -> Squares
+    requires plain { ArePlainAttackers king_attack.now }
+    requires targets { AreOpenTargets king_attack.now.men targets.now }
+    requires guarded { AreGuardsThrough king_attack.now guarded }
+    ensures { (bit_at result to == 1) ≡ false → (bit_at king_attack.now.hurdles to == 1) ≡ false
+        → IsSafeStep king_attack.now to }
+{
+    // For the proof: a square's number is below 64.
+    let _small = to.index();
+    if is_safe_step(king_attack, targets, guarded, to) {
+        return 0;
+    }
+    only(Some(to))
+}
+
+// Returns the steps that the test doesn't show to be safe.
+#[tactic(auto, using(chess_attacks::proofs::HoldTaken::taken_all, chess_attacks::proofs::HoldTaken::taken_none, chess_attacks::proofs::HoldTaken::rest_falls))]
+fn doubtful_among(
+    king_attack: &KingAttack,
+    targets: &OpenTargets,
+    guarded: Squares,
+    steps: Squares,
+) -> Squares
+    requires plain { ArePlainAttackers king_attack.now }
+    requires targets { AreOpenTargets king_attack.now.men targets.now }
+    requires guarded { AreGuardsThrough king_attack.now guarded }
+    ensures { (t : ℕ) → t < 64 → (bit_at steps t == 1) ≡ true → (bit_at result t == 1) ≡ false
+        → (bit_at king_attack.now.hurdles t == 1) ≡ false → IsSafeStep king_attack.now t }
+{
+    let mut doubtful = 0u64;
+    let mut rest = steps;
+    while let Some(to) = pop_first(&mut rest) {
+        let more = doubtful_step(king_attack, targets, guarded, to);
+        doubtful |= more;
+    }
+    doubtful
+}
+
+// Returns the steps that aren't known to be safe without their risk. All, unless the attackers are plain.
+#[inline(never)]
+pub(crate) fn doubtful_steps(
+    king_attack: &KingAttack,
+    targets: &OpenTargets,
+    steps: Squares,
+) -> Squares
+    requires { AreOpenTargets king_attack.now.men targets.now }
+    ensures { (t : ℕ) → t < 64 → (bit_at steps t == 1) ≡ true → (bit_at result t == 1) ≡ false
+        → (bit_at king_attack.now.hurdles t == 1) ≡ false → IsSafeStep king_attack.now t }
+{
+    if !are_plain(king_attack) {
+        return steps;
+    }
+    doubtful_among(king_attack, targets, guards_through(king_attack), steps)
+}
