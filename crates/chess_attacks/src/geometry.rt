@@ -1,7 +1,7 @@
 //! Tables of bitboards, one for each square: lines, leaps and short steps on the empty board. The proofs
 //! compute each table from its definition.
 
-use chess_core::square::Squares;
+use chess_core::Squares;
 
 // For each direction, in the order of `Direction`: the squares of the line from each square.
 #[rattlefmt::skip]

@@ -9,8 +9,7 @@ ghost use Rattle.chess_attacks.specs.Reaches.{leaps};
 use crate::geometry::{
     ASIDE, BLACK_CAPTURES, BLACK_STEPS, KNIGHT_LEAPS, NEIGHBOURS, WHITE_CAPTURES, WHITE_STEPS,
 };
-use chess_core::man::Colour;
-use chess_core::square::{Square, Squares};
+use chess_core::{Colour, Square, Squares};
 
 /// Returns the squares next to `from`: where a king moves, apart from castling.
 pub fn king_leaps(from: Square) -> Squares

@@ -14,9 +14,7 @@ ghost use Rattle.chess_attacks.specs.Reaches.{hops, rides};
 
 use crate::geometry::{DIAGONAL_LINES, RAYS, STRAIGHT_LINES};
 use crate::words::{contains, highest, lowest, only};
-use chess_core::board::Board;
-use chess_core::man::Colour;
-use chess_core::square::{Square, Squares};
+use chess_core::{Board, Colour, Square, Squares};
 
 /// A direction of a line, as White sees it: the queen's eight, then the nightrider's eight.
 #[derive(Clone, Copy)]

@@ -7,9 +7,7 @@ ghost use Rattle.chess_attacks.specs.ties.Occupancy.{DescribesMen, sight_after};
 
 use crate::lines::occupied;
 use crate::words::only;
-use chess_core::board::Board;
-use chess_core::man::{Colour, Kind};
-use chess_core::square::{Square, Squares};
+use chess_core::{Board, Colour, Kind, Square, Squares};
 
 /// What attacks depend on: the occupied squares, and the squares whose men are still there.
 #[derive(Clone, Copy)]

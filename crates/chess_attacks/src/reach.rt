@@ -10,9 +10,7 @@ use crate::lines::{
     diagonal_rides, knight_rides, occupied, queen_hops, queen_rides, straight_rides,
 };
 use crate::words::contains;
-use chess_core::board::Board;
-use chess_core::man::{Colour, Kind};
-use chess_core::square::{Square, Squares};
+use chess_core::{Board, Colour, Kind, Square, Squares};
 
 /// Returns the squares where a man of this colour and kind on `from` could capture an enemy. Only
 /// `occupied` matters, not which men stand there. A pawn captures diagonally; its steps forward aren't

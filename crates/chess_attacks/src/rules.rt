@@ -8,9 +8,7 @@ ghost use Rattle.chess_attacks.specs.Attacks.{is_attacked_by_like, in_check, is_
 
 use crate::attacks_on::{attackers, is_reached, reaching_kind, some_unparalysed};
 use crate::occupancy::sight_now;
-use chess_core::board::Board;
-use chess_core::man::{Colour, Kind, Man, Move};
-use chess_core::square::Square;
+use chess_core::{Board, Colour, Kind, Man, Move, Square};
 
 /// A set of rules as a type parameter. Contracts see it as `rule`.
 pub trait Rules: Copy {

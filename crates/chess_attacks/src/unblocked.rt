@@ -4,8 +4,7 @@ ghost use Rattle.chess_attacks.specs.ties.Lines.{AreReached};
 use crate::leaps::{king_leaps, knight_leaps, pawn_leaps};
 use crate::lines::{diagonal_lines, straight_lines};
 use crate::reach::reach_over;
-use chess_core::man::{Kind, Man};
-use chess_core::square::{Square, Squares};
+use chess_core::{Kind, Man, Square, Squares};
 
 /// Returns a superset of the squares that the man on `from` could reach on some board; for a grasshopper
 /// a queen's lines. Pawns reach the squares on which they capture.

@@ -6,7 +6,7 @@ ghost use Rattle.chess_core.specs.Squares.{is_square};
 ghost use Rattle.chess_core.specs.ties.Words.{word};
 ghost use Rattle.chess_attacks.specs.ties.Taking.{IsPopped};
 
-use chess_core::square::{Square, Squares};
+use chess_core::{Square, Squares};
 
 /// Returns the bitboard of this square only, or the empty bitboard for `None`.
 #[tactic(auto, using(crate::proofs::Bits::word_only, crate::proofs::Bits::word_empty))]

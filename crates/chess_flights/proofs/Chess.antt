@@ -3,7 +3,7 @@ pub use Rattle.chess_rules.proofs.Chess.{DescribesMen, Bishop, Black, CanCastle,
 unfoldable pub use Rattle.chess_rules.proofs.Chess.{position_after_by, along, capture_square, can_castle, hops, in_check, is_ahead, is_attacked, is_clear, is_legal, is_mate, is_on_some, is_paralysed, is_pseudo_legal, is_reached, king_square, leaps, may_castle, may_expose, may_arrive, may_be_hurdle, moved_men, moves, position_after, reaches, reaches_as, reborn_square, rides, side_of, some_square, squares, squares_of, is_attacker, triple_at, word, has_unmoved}
 pub use Rattle.chess_attacks.specs.declared.lines.Direction.{Direction}
 pub use Rattle.chess_attacks.specs.declared.lines.Direction.TheVariants.{East, North, NorthEast, NorthWest, South, SouthEast, SouthWest, West}
-pub use Rattle.chess_rules.specs.declared.blockers.RiderLines.TheVariants.{Straight}
+pub use Rattle.chess_rules.specs.declared.legality.blockers.RiderLines.TheVariants.{Straight}
 pub use Rattle.chess_flights.specs.ties.Approaches.{AreApproaches, AreApproached, IsLeft, AreCapturers}
 pub use Rattle.chess_flights.specs.ties.Checks.{enemy}
 unfoldable pub use Rattle.chess_flights.specs.ties.Checks.{may_check_from}
@@ -13,10 +13,10 @@ pub use Rattle.chess_flights.specs.ties.Mates.{is_mating}
 unfoldable pub use Rattle.chess_flights.specs.ties.Mates.{mates, mates_after}
 pub use Rattle.chess_attacks.proofs.Bits.{off_left, off_right, on_left, on_right, word_has, off_zero}
 pub use Rattle.chess_attacks.proofs.Tests.{any_kept, implied}
-pub use Rattle.chess_rules.proofs.attacks.Exposing.{king_is_after, king_stays_king, IsSimple, captures_arrival, check_is}
-pub use Rattle.chess_rules.proofs.attacks.Seeing.{king_stands, there_now, gone_to, is_occupied_after, kept_now, left_now, no_man, occupied_now, occupied_words}
-pub use Rattle.chess_rules.proofs.attacks.Blocking.{arriving_colour, king_is, man_there, moved_plainly, not_attacked, other_differs, other_twice, simple_after, unreborn_after, IsCovered, IsShift, covered_parts, frees, gone_shift, line_before, not_parted, stood, unreached}
-pub use Rattle.chess_rules.proofs.attacks.StayingInCheck.{king_there}
+pub use Rattle.chess_rules.proofs.legality.Exposing.{king_is_after, king_stays_king, IsSimple, captures_arrival, check_is}
+pub use Rattle.chess_rules.proofs.legality.Seeing.{king_stands, there_now, gone_to, is_occupied_after, kept_now, left_now, no_man, occupied_now, occupied_words}
+pub use Rattle.chess_rules.proofs.legality.Blocking.{arriving_colour, king_is, man_there, moved_plainly, not_attacked, other_differs, other_twice, simple_after, unreborn_after, IsCovered, IsShift, covered_parts, frees, gone_shift, line_before, not_parted, stood, unreached}
+pub use Rattle.chess_rules.proofs.legality.StayingInCheck.{king_there}
 pub use Rattle.chess_rules.proofs.listing_moves.Calls.{is_pseudo_legal-from_legal}
 pub use Rattle.chess_rules.proofs.listing_moves.Places.{moves_after-end, moves_after-here, moves_after-start}
 pub use Rattle.chess_rules.proofs.listing_moves.Targeting.{every_square_on, false_by, no_pawn_arrives}

@@ -5,8 +5,8 @@ ghost use Rattle.chess_flights.specs.ties.Approaches.{ArePromotions, AreApproach
 
 use chess_attacks::unblocked::unblocked_reach;
 use chess_attacks::words::only;
-use chess_core::man::{Colour, Kind, Man};
-use chess_core::square::{LAST_RANKS, Square, Squares};
+use chess_core::square::LAST_RANKS;
+use chess_core::{Colour, Kind, Man, Square, Squares};
 
 /// Returns a superset of the squares from which the man reaches `to` on some board; for a grasshopper a
 /// queen's lines.

@@ -6,9 +6,7 @@ ghost use Rattle.chess_core.specs.declared.man.Kind.TheVariants.{King};
 ghost use Rattle.chess_core.specs.ties.Words.{squares_of};
 ghost use Rattle.chess_flights.specs.ties.Attackers.{AreAttackers, is_promotion};
 
-use chess_core::board::Board;
-use chess_core::man::{Colour, Kind};
-use chess_core::square::Squares;
+use chess_core::{Board, Colour, Kind, Squares};
 
 /// The squares of a side's men, kind by kind, and whether its pawns may promote to fairy men.
 #[derive(Clone, Copy)]

@@ -12,16 +12,14 @@ ghost use Rattle.chess_attacks.specs.RuleSet.{captures_do_more};
 ghost use Rattle.chess_attacks.specs.ties.Lines.{occupied_squares};
 ghost use Rattle.chess_attacks.specs.Reaches.{reaches_as};
 
+use chess_attacks::Rules;
 use chess_attacks::attacks_on::has_attacker_in;
 use chess_attacks::leaps::king_leaps;
 use chess_attacks::occupancy::{Occupancy, sight_after};
 use chess_attacks::reach::reach_over;
-use chess_attacks::rules::Rules;
 use chess_attacks::words::{only, pop_first};
-use chess_core::board::Board;
-use chess_core::man::{Colour, Kind, Man, Move};
-use chess_core::square::{Square, Squares};
-use chess_rules::making_moves::play::{arriving_man, capture_square};
+use chess_core::{Board, Colour, Kind, Man, Move, Square, Squares};
+use chess_rules::{arriving_man, capture_square};
 
 /// Returns the occupancy after a man has gone from `from` to `to`, the man on `captured` has left the
 /// board, and the king on `king` is lifted. The man that moved isn't among the standing men.

@@ -9,13 +9,12 @@ ghost use Rattle.chess_flights.specs.ties.FreeSteps.{GoesSimply, NoneHops};
 ghost use Rattle.chess_rules.specs.Play.{is_castling};
 ghost use Rattle.chess_rules.specs.ties.Targets.{is_promoting};
 
+use chess_attacks::Rules;
 use chess_attacks::leaps::king_leaps;
 use chess_attacks::lines::occupied;
-use chess_attacks::rules::Rules;
 use chess_attacks::words::only;
-use chess_core::board::Board;
-use chess_core::man::{Colour, Kind, Man};
-use chess_core::square::{LAST_RANKS, Square, Squares};
+use chess_core::square::LAST_RANKS;
+use chess_core::{Board, Colour, Kind, Man, Square, Squares};
 
 /// Returns whether no grasshopper is on the board.
 #[tactic(auto, using(crate::proofs::QuietFilter::no_grasshopper))]

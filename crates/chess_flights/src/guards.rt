@@ -8,8 +8,7 @@ use crate::attackers::Attackers;
 use chess_attacks::reach::reach_over;
 use chess_attacks::unblocked::unblocked_reach;
 use chess_attacks::words::pop_first;
-use chess_core::man::{Colour, Kind, Man};
-use chess_core::square::{Square, Squares};
+use chess_core::{Colour, Kind, Man, Square, Squares};
 
 /// Returns the squares that the man on `from` reaches over the hurdles.
 #[tactic(auto, using(chess_attacks::proofs::rays::OnSquares::occupied_on, crate::proofs::Hurdles::reached_is, chess_attacks::proofs::Bits::word_has), unfolding(crate::specs::ties::Guards::reached_over))]

@@ -2,8 +2,7 @@
 ghost use Rattle.chess_core.specs.declared.man.Kind.TheVariants.{Pawn};
 ghost use Rattle.chess_flights.specs.ties.Approaches.{AreApproaches, AreCapturers};
 
-use chess_core::man::Colour;
-use chess_core::square::Squares;
+use chess_core::{Colour, Squares};
 
 /// Returns a superset of the squares from which a pawn of this colour could go to one of the targets: the
 /// shifts wrap around the edges of the board.

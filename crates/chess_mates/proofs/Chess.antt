@@ -12,8 +12,8 @@ pub use Rattle.chess_mates.specs.ties.KnownFlights.{IsFlightless, IsUnreached}
 pub use Rattle.chess_mates.specs.ties.MatingPlaces.{IsNextMate}
 unfoldable pub use Rattle.chess_mates.specs.ties.MatingPlaces.{mates_between}
 pub use Rattle.chess_attacks.proofs.Tests.{all_kept, some_is}
-pub use Rattle.chess_rules.proofs.attacks.Exposing.{exposed_is}
-pub use Rattle.chess_rules.proofs.attacks.Blocking.{cannot_expose_parts, plain_safe}
+pub use Rattle.chess_rules.proofs.legality.Exposing.{exposed_is}
+pub use Rattle.chess_rules.proofs.legality.Blocking.{cannot_expose_parts, plain_safe}
 pub use Rattle.chess_rules.proofs.listing_moves.Arrivals.{may_go_aimed}
 pub use Rattle.chess_rules.proofs.listing_moves.Places.{place_of_triple}
 pub use Rattle.chess_rules.proofs.listing_moves.Targeting.{arrival_needed, castling_steps, own_moves}

@@ -8,16 +8,13 @@ ghost use Rattle.chess_rules.specs.Legal.{is_legal};
 ghost use Rattle.chess_rules.specs.ties.Places.{IsPlaceIn, moves_after, place_of};
 
 use crate::checks::check_squares_of;
-use chess_attacks::rules::Rules;
+use chess_attacks::Rules;
 use chess_attacks::unblocked::unblocked_reach;
 use chess_attacks::words::contains;
-use chess_core::board::Board;
-use chess_core::man::{Man, Move};
-use chess_core::square::{Square, Squares};
-use chess_rules::legal_moves::{LegalCursor, LegalityMasks};
-use chess_rules::move_filter::{MoveFilter, next_passing};
-use chess_rules::moves::{Moves, triple};
-use chess_rules::targets::{TRIPLES, TargetCache};
+use chess_core::{Board, Man, Move, Square, Squares};
+use chess_rules::{
+    LegalCursor, LegalityMasks, MoveFilter, Moves, TRIPLES, TargetCache, next_passing, triple,
+};
 
 // Returns the squares from which the man on `from`, if there is one, would attack the enemy king on the
 // board as it is.

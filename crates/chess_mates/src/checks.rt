@@ -18,17 +18,14 @@ use chess_attacks::attacks_on::reach_to;
 use chess_attacks::leaps::squares_aside;
 use chess_attacks::lines::occupied;
 use chess_attacks::occupancy::sight_after;
-use chess_attacks::rules::{Orthodox, Rules};
 use chess_attacks::words::{contains, only};
-use chess_core::board::Board;
-use chess_core::man::{Colour, Kind, Man, Move};
-use chess_core::square::{LAST_RANKS, Square, Squares};
+use chess_attacks::{Orthodox, Rules};
+use chess_core::square::LAST_RANKS;
+use chess_core::{Board, Colour, Kind, Man, Move, Square, Squares};
 use chess_flights::approach_squares::promotion_squares;
 use chess_flights::attackers::has_fairy_promotions;
 use chess_flights::flights::covered_squares;
-use chess_rules::blockers::{cannot_expose, fairy_lines, safety_from};
-use chess_rules::evasions::rebirth_captures;
-use chess_rules::targets::unblocked_targets;
+use chess_rules::{cannot_expose, fairy_lines, rebirth_captures, safety_from, unblocked_targets};
 
 /// What decides whether a move in a position may give check: the squares from which a move may expose
 /// the king (`blocker_squares`); the lines to the king that carry a fairy man; for each kind, the
@@ -75,7 +72,7 @@ pub(crate) fn check_squares_of(board: &Board, colour: Colour, kind: Kind) -> Squ
 // Returns the squares from which a move may expose the colour's king. `straight` and `diagonal` are the
 // squares from which a rook and a bishop may give check to it, `lines` its fairy lines.
 #[inline(always)]
-#[tactic(auto, using(chess_rules::proofs::attacks::Blocking::blocker_squares_none, crate::proofs::Checking::rook_squares, crate::proofs::Checking::bishop_squares))]
+#[tactic(auto, using(chess_rules::proofs::legality::Blocking::blocker_squares_none, crate::proofs::Checking::rook_squares, crate::proofs::Checking::bishop_squares))]
 fn blockers_from(
     board: &Board,
     colour: Colour,

@@ -14,19 +14,13 @@ ghost use Rattle.chess_flights.specs.ties.Mates.{is_mating};
 ghost use Rattle.chess_rules.specs.ties.Places.{IsPlaceIn, moves_after};
 
 use crate::checks::{CheckSquares, check_squares, may_check};
+use chess_attacks::Rules;
 use chess_attacks::attacks_on::has_attacker_in;
 use chess_attacks::leaps::king_leaps;
 use chess_attacks::occupancy::sight_after;
-use chess_attacks::rules::Rules;
 use chess_attacks::words::{contains, pop_first};
-use chess_core::board::Board;
-use chess_core::man::{Man, Move};
-use chess_core::square::{Square, Squares};
-use chess_rules::legal_moves::LegalCursor;
-use chess_rules::making_moves::play::{capture_square, play};
-use chess_rules::making_moves::undoing::unplay;
-use chess_rules::moves::is_mate;
-use chess_rules::targets::arrivals;
+use chess_core::{Board, Man, Move, Square, Squares};
+use chess_rules::{LegalCursor, arrivals, capture_square, is_mate, play, unplay};
 
 /// Returns whether the side to move has a legal move and each of its legal moves mates. A move that
 /// can't give check decides this without being played. The board is unchanged.

@@ -11,13 +11,10 @@ ghost use Rattle.chess_rules.specs.Play.{capture_square, position_after};
 ghost use Rattle.chess_attacks.specs.RuleSet.{captures_do_more, like_men_paralyse};
 ghost use Rattle.chess_rules.specs.ties.Exposure.{is_simple};
 
-use chess_attacks::rules::Rules;
-use chess_core::board::Board;
-use chess_core::man::{Kind, Man, Move};
-use chess_core::square::Square;
+use chess_attacks::Rules;
+use chess_core::{Board, Kind, Man, Move, Square};
 use chess_flights::flights::{covered_squares, first_safe, open_squares, sight_lifted};
-use chess_rules::exposure::is_simple;
-use chess_rules::making_moves::play::capture_square;
+use chess_rules::{capture_square, is_simple};
 
 /// What is known of the flights of the side to move.
 #[derive(Clone, Copy)]

@@ -20,17 +20,12 @@ use crate::flights_after::{Flights, flights_after};
 use crate::origins::check_origins;
 use crate::parries::{Parries, parries_after};
 use crate::standing_flights::{StandingFlights, standing_flights};
-use chess_attacks::rules::{Rules, in_check};
-use chess_core::board::Board;
-use chess_core::man::{Colour, Move};
-use chess_core::square::{Square, Squares};
-use chess_rules::legal::is_pseudo_legal;
-use chess_rules::making_moves::play::play;
-use chess_rules::making_moves::undoing::unplay;
-use chess_rules::move_filter::{MoveFilter, next_passing};
-use chess_rules::moves::{Moves, has_legal_move, triple};
-use chess_rules::other_moves::others_have_move;
-use chess_rules::targets::{TRIPLES, TargetCache, arrivals};
+use chess_attacks::{Rules, in_check};
+use chess_core::{Board, Colour, Move, Square, Squares};
+use chess_rules::{
+    MoveFilter, Moves, TRIPLES, TargetCache, arrivals, has_legal_move, is_pseudo_legal,
+    next_passing, others_have_move, play, triple, unplay,
+};
 use std::alloc::AllocError;
 use std::marker::{Model, PhantomData};
 

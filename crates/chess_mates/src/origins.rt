@@ -8,13 +8,11 @@ ghost use Rattle.chess_core.specs.declared.man.Kind.TheVariants.{King};
 ghost use Rattle.chess_mates.specs.ties.CheckSquares.{AreCheckOrigins, AreCheckSquares, AreCheckTargets, own_man};
 
 use crate::checks::{CheckSquares, may_check_from_everywhere, targets_off_blockers};
-use chess_attacks::rules::Rules;
+use chess_attacks::Rules;
 use chess_attacks::words::{next_bit, only, pop_first};
-use chess_core::board::Board;
-use chess_core::man::{Kind, Man};
-use chess_core::square::{Square, Squares};
+use chess_core::{Board, Kind, Man, Square, Squares};
 use chess_flights::pawn_approaches::pawns_before;
-use chess_rules::targets::unblocked_targets;
+use chess_rules::unblocked_targets;
 
 // Returns the squares of the mover's men of this kind whose moves can't expose the enemy king.
 #[inline(always)]

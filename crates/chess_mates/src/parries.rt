@@ -19,18 +19,15 @@ ghost use Rattle.chess_attacks.specs.ties.Lines.{occupied_squares};
 ghost use Rattle.chess_attacks.specs.ties.Occupancy.{DescribesMen};
 
 use crate::checks::CheckSquares;
+use chess_attacks::Rules;
 use chess_attacks::attacks_on::attackers_in;
 use chess_attacks::leaps::{king_leaps, pawn_advances};
 use chess_attacks::lines::{diagonal_lines, straight_lines};
 use chess_attacks::occupancy::{Occupancy, sight_after};
 use chess_attacks::reach::reach_over;
-use chess_attacks::rules::Rules;
 use chess_attacks::words::{contains, next_bit, only, pop_first};
-use chess_core::board::Board;
-use chess_core::man::{Colour, Kind, Man, Move};
-use chess_core::square::{Square, Squares};
-use chess_rules::blockers::{cannot_expose, fairy_lines};
-use chess_rules::making_moves::play::capture_square;
+use chess_core::{Board, Colour, Kind, Man, Move, Square, Squares};
+use chess_rules::{cannot_expose, capture_square, fairy_lines};
 
 /// What is known of parries of a check by legal moves of men other than the king.
 #[derive(Clone, Copy)]

@@ -9,12 +9,10 @@ ghost use Rattle.chess_flights.specs.ties.Approaches.{IsLeft};
 ghost use Rattle.chess_mates.specs.ties.StandingFlights.{AreStandingFlights, IsBeside, IsFlightBut};
 ghost use Rattle.chess_flights.specs.ties.FreeSteps.{NoneHops};
 
+use chess_attacks::Rules;
 use chess_attacks::lines::{diagonal_lines, occupied, straight_lines};
-use chess_attacks::rules::Rules;
 use chess_attacks::words::{contains, highest, next_bit, only};
-use chess_core::board::Board;
-use chess_core::man::{Kind, Man};
-use chess_core::square::{Square, Squares};
+use chess_core::{Board, Kind, Man, Square, Squares};
 use chess_flights::approach_squares::barring_squares;
 use chess_flights::attackers::attackers_on;
 use chess_flights::free_steps::{free_steps, none_hops, unsimple_squares};

@@ -7,8 +7,8 @@ pub mod Arrivals
 pub mod OpenBoard
 pub mod Calls
 pub mod Between
-pub mod Counting
+pub mod Counts
 pub mod SurelyLegal
-pub mod Triples
+pub mod TripleNumbers
 pub mod Filtering
 pub mod OtherMoves

@@ -1,3 +1,4 @@
 //! Makes moves on the board and takes them back.
-pub mod play;
-pub mod undoing;
+pub(crate) mod play;
+pub(crate) mod playing;
+pub(crate) mod undoing;

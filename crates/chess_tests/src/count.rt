@@ -7,9 +7,9 @@ use crate::plain::Rule;
 use crate::probe::is_same;
 use crate::setup::posed;
 use chess_core::{Board, Diagram, Move};
-use chess_rules::blockers::{blocker_squares, cannot_expose};
-use chess_rules::exposure::is_simple;
-use chess_rules::{Circe, Madrasi, Moves, Orthodox, Rules, play, unplay};
+use chess_rules::{
+    Circe, Madrasi, Moves, Orthodox, Rules, blocker_squares, cannot_expose, is_simple, play, unplay,
+};
 
 // The counts of a walk along all lines of moves.
 #[derive(Clone, Copy)]

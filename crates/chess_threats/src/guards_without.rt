@@ -6,8 +6,7 @@ ghost use Rattle.chess_threats.specs.ties.KingAttack.{AreGuardsWithout};
 
 use crate::king_attack::KingAttack;
 use chess_attacks::words::only;
-use chess_core::man::Man;
-use chess_core::square::{Square, Squares};
+use chess_core::{Man, Square, Squares};
 use chess_flights::attackers::Attackers;
 use chess_flights::guards::{leapt_squares, rider_reach};
 

@@ -8,11 +8,9 @@ ghost use Rattle.chess_core.specs.declared.man.Kind.TheVariants.{Pawn};
 ghost use Rattle.chess_threats.specs.ties.KingAttack.{AreClosed, AreHomes, AreHomesOf};
 ghost use Rattle.chess_rules.specs.Play.{rebirth};
 
-use chess_attacks::rules::Rules;
+use chess_attacks::Rules;
 use chess_attacks::words::{only, pop_first};
-use chess_core::board::Board;
-use chess_core::man::{Colour, Kind};
-use chess_core::square::{Square, Squares};
+use chess_core::{Board, Colour, Kind, Square, Squares};
 
 // Returns all home squares of the colour's men of a kind other than pawn (Popeye manual, Circe).
 #[tactic(auto, using(crate::proofs::HomeSquares::home_on))]

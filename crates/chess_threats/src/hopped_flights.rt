@@ -10,8 +10,7 @@ use crate::king_attack::KingAttack;
 use chess_attacks::attacks_on::reach_to;
 use chess_attacks::leaps::king_leaps;
 use chess_attacks::words::{only, pop_first};
-use chess_core::man::{Colour, Kind};
-use chess_core::square::{Square, Squares};
+use chess_core::{Colour, Kind, Square, Squares};
 
 // Returns the squares where a man may be after the attacker has left `from` and the king has left
 // `king`, arrivals apart: the hurdles, and in Circe, where the attackers are on closed squares, the

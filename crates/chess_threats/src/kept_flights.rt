@@ -8,11 +8,10 @@ use crate::king_attack::{KingAttack, king_attack_of};
 use crate::king_zone::{compute_targets, needed_squares};
 use crate::lasting_flights::OpenTargets;
 use crate::steps::{exact_steps, flightless_steps};
+use chess_attacks::Rules;
 use chess_attacks::leaps::king_leaps;
-use chess_attacks::rules::Rules;
-use chess_core::board::Board;
-use chess_core::square::{Square, Squares};
-use chess_rules::filter_moves::FilteredMoves;
+use chess_core::{Board, Square, Squares};
+use chess_rules::FilteredMoves;
 use std::marker::Model;
 
 /// The flights of the king of the side to move, as a filter: it takes moves after which the king keeps a

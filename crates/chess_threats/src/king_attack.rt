@@ -9,11 +9,9 @@ ghost use Rattle.chess_core.specs.WellFormed.{IsWellFormed};
 ghost use Rattle.chess_threats.specs.ties.KingAttack.{AreCastlingSquares, AreHurdles, IsHurdle, IsLifted, IsKingAttack, IsKingAttackOf, IsWhole};
 
 use crate::homes::closed_squares;
-use chess_attacks::rules::Rules;
+use chess_attacks::Rules;
 use chess_attacks::words::{contains, only};
-use chess_core::board::Board;
-use chess_core::man::{Colour, Kind};
-use chess_core::square::{Square, Squares};
+use chess_core::{Board, Colour, Kind, Square, Squares};
 use chess_flights::attackers::{Attackers, attackers_on, has_fairy_promotions};
 
 // The men around the defender's king, which is on `king`: the squares of the defender's men (`own`), of

@@ -11,13 +11,12 @@ ghost use Rattle.chess_flights.specs.ties.Guards.{IsReached};
 
 use crate::king_attack::KingAttack;
 use crate::lasting_flights::{OpenTargets, all_open_targets, keeps_one};
+use chess_attacks::Rules;
 use chess_attacks::leaps::king_leaps;
 use chess_attacks::lines::{diagonal_lines, straight_lines};
 use chess_attacks::reach::reach_over;
-use chess_attacks::rules::Rules;
 use chess_attacks::words::{highest, next_bit, only, pop_first};
-use chess_core::man::{Colour, Kind};
-use chess_core::square::{Square, Squares};
+use chess_core::{Colour, Kind, Square, Squares};
 use chess_flights::approach_squares::promotion_squares;
 use chess_flights::attackers::Attackers;
 use chess_flights::guards::reach_of;

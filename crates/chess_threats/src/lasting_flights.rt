@@ -12,12 +12,11 @@ ghost use Rattle.chess_attacks.specs.ties.Lines.{AreReached};
 
 use chess_attacks::unblocked::unblocked_reach;
 use chess_attacks::words::{highest, next_bit, only, pop_first};
-use chess_core::board::Board;
-use chess_core::man::{Colour, Kind, Man, Move};
-use chess_core::square::{LAST_RANKS, Square, Squares};
+use chess_core::square::LAST_RANKS;
+use chess_core::{Board, Colour, Kind, Man, Move, Square, Squares};
 use chess_flights::approach_squares::open_approaches;
 use chess_flights::attackers::Attackers;
-use chess_rules::targets::unblocked_targets;
+use chess_rules::unblocked_targets;
 
 // Supersets of the squares where each kind of a side's men may be after one move on an otherwise empty
 // board, and of the squares that they reach now. A promoted rook or bishop counts as a queen, which reaches

@@ -18,15 +18,13 @@ ghost use Rattle.chess_rules.specs.ties.Targets.{AreCandidates};
 use crate::king_attack::king_attack_of;
 use crate::lasting_flights::king_after;
 use crate::steps::exact_steps;
+use chess_attacks::Rules;
 use chess_attacks::attacks_on::has_attacker_in;
 use chess_attacks::leaps::king_leaps;
 use chess_attacks::lines::occupied;
 use chess_attacks::occupancy::Occupancy;
-use chess_attacks::rules::Rules;
 use chess_attacks::words::{only, pop_first};
-use chess_core::board::Board;
-use chess_core::man::{Kind, Man, Move};
-use chess_core::square::{Square, Squares};
+use chess_core::{Board, Kind, Man, Move, Square, Squares};
 use chess_flights::approach_squares::barring_squares;
 use chess_flights::attackers::attackers_on;
 use chess_flights::flights::{
@@ -34,9 +32,7 @@ use chess_flights::flights::{
 };
 use chess_flights::free_steps::{free_steps, none_hops, unsimple_squares};
 use chess_flights::guards::{leapt_squares, rider_reach};
-use chess_rules::exposure::is_simple;
-use chess_rules::filter_moves::FilteredMoves;
-use chess_rules::making_moves::play::capture_square;
+use chess_rules::{FilteredMoves, capture_square, is_simple};
 
 // Returns the occupancy after the enemy king, lifted from `king`, is put on `to`; the king isn't among
 // the standing men.

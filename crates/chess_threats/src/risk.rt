@@ -22,13 +22,13 @@ use crate::king_zone::{
 use chess_attacks::reach::reach_over;
 use chess_attacks::unblocked::unblocked_reach;
 use chess_attacks::words::{contains, next_bit, only, pop_first};
-use chess_core::man::{Colour, Kind, Man};
-use chess_core::square::{LAST_RANKS, Square, Squares};
+use chess_core::square::LAST_RANKS;
+use chess_core::{Colour, Kind, Man, Square, Squares};
 use chess_flights::approach_squares::open_approaches;
 use chess_flights::attackers::Attackers;
 use chess_flights::guards::{reach_from, rider_reach};
 use chess_flights::pawn_approaches::pawns_before;
-use chess_rules::targets::unblocked_targets;
+use chess_rules::unblocked_targets;
 
 // The squares where a defender's arrival might allow mate (`critical`), and the squares of all lines on
 // which a hurdle matters (`lines`).

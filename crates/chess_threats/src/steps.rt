@@ -12,10 +12,10 @@ use crate::king_zone::{MOST_ATTACKERS, adjacent_squares};
 use crate::lasting_flights::{OpenTargets, keeps_one};
 use crate::risk::risk_at;
 use crate::safe_steps::doubtful_steps;
+use chess_attacks::Rules;
 use chess_attacks::leaps::king_leaps;
-use chess_attacks::rules::Rules;
 use chess_attacks::words::{only, pop_first};
-use chess_core::square::{Square, Squares};
+use chess_core::{Square, Squares};
 use chess_flights::guards::{leapt_squares, rider_reach};
 
 // Steps of the king (`steps`), the steps among them after which a reply might mate (`risky`), and the

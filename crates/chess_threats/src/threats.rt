@@ -19,14 +19,13 @@ use crate::king_zone::{compute_targets, needed_squares};
 use crate::lasting_flights::OpenTargets;
 use crate::risk::{Risk, RiskAfterLeaving, cached_risk, critical_from};
 use crate::steps::{StepCache, cached_risky_steps, exact_steps};
+use chess_attacks::Rules;
 use chess_attacks::leaps::{king_leaps, pawn_advances};
-use chess_attacks::rules::Rules;
 use chess_attacks::words::only;
-use chess_core::board::Board;
-use chess_core::man::{Colour, Kind, Man, Move};
-use chess_core::square::{LAST_RANKS, Square, Squares};
+use chess_core::square::LAST_RANKS;
+use chess_core::{Board, Colour, Kind, Man, Move, Square, Squares};
 use chess_flights::pawn_approaches::capturers_before;
-use chess_rules::filter_moves::FilteredMoves;
+use chess_rules::FilteredMoves;
 use std::marker::Model;
 
 // Returns all squares more than a step from `from`, if an enemy pawn could capture on the square ahead

@@ -5,7 +5,7 @@ use Rattle.chess_core.specs.declared.man.Move.{Move}
 use Rattle.chess_attacks.specs.RuleSet.{RuleSet}
 use Rattle.chess_rules.specs.ties.Places.{moves_after, moves_between}
 use Rattle.chess_rules.specs.ties.Targets.{IsTargetCacheOf}
-use Rattle.chess_rules.specs.declared.targets.TargetCache.{TargetCache}
+use Rattle.chess_rules.specs.declared.listing_moves.move_filter.TargetCache.{TargetCache}
 use Rattle.chess_mates.specs.declared.mating_moves.MateClues.{MateClues}
 use Rattle.chess_mates.specs.ties.CheckSquares.{AreCheckSquares}
 use Rattle.chess_mates.specs.ties.StandingFlights.{AreStandingFlights}

@@ -1,6 +1,6 @@
 -- Moves that are legal without a test of each.
 use Rattle.chess_rules.proofs.Chess.{AreCandidates, AreLegal, Bool, IsAimed, IsWellFormed, King, Man, Move, None, Pawn, Position, RuleSet, Some, and_from, and_left, arith, bit_and, bit_at, bit_or, cannot_expose, captures_do_more, eqb-true, false, if◌then◌else◌, is_legal, is_plain, is_promoting, is_some, is_square, is_untested, joined, last_rank, man_on, may_expose, may_be_hurdle, or_parts, rank_of, refl, rules, same_kind, squares_same, sym, true, word, word_empty, word_has, ℕ, ◌&&◌, ◌<◌, ◌==◌, ◌∙◌, ◌≡◌}
-use Rattle.chess_rules.proofs.attacks.Blocking.{cannot_expose_own}
+use Rattle.chess_rules.proofs.legality.Blocking.{cannot_expose_own}
 use Rattle.chess_rules.proofs.listing_moves.Arrivals.{aimed_plain, goes_on, may_go_aimed}
 use Rattle.chess_rules.proofs.listing_moves.Targeting.{no_pawn_arrives}
 use Rattle.chess_rules.proofs.listing_moves.Walks.{off_second}

@@ -3,7 +3,7 @@
 use Rattle.chess_rules.proofs.Chess.{AllPairs, AllPairs-filter, Contains, IsWellFormed, Move, Position, RuleSet, and_from, and_parts, ap, arith, false, false_from_ne_true, in_check, is_legal, is_mate, is_nil, is_stalemate, moves, not-true, not_from_false, order_number, promotion_order, promotions, sym, triples, true, true≢false, ◌<◌, ◌↔◌, ◌∙◌, ◌≡◌, ◌≢◌, ◌⊎◌}
 use Rattle.chess_rules.proofs.listing_moves.Calls.{is_pseudo_legal-from_legal}
 use Rattle.chess_rules.proofs.listing_moves.Members.{from_filter, in_filter, pairs_weaker}
-use Rattle.chess_rules.proofs.listing_moves.Triples.{from_triples, in_triples, made_is_triple, triples_rise, by_parts, nil_where_nothing, nothing_in}
+use Rattle.chess_rules.proofs.listing_moves.TripleNumbers.{from_triples, in_triples, made_is_triple, triples_rise, by_parts, nil_where_nothing, nothing_in}
 
 -- The move's origin and arrival are squares of the board, and its promotion is one of `promotions`.
 abbrev pub IsTriple : Move → Type 0

@@ -14,8 +14,8 @@ use Rattle.std.specs.List.{list_any}
 use Rattle.chess_core.specs.Steps.{Step, diagonal_steps, gait_of, is_leaper, knight_steps, queen_steps, straight_steps}
 use Rattle.chess_attacks.specs.ties.Lines.{is_lined, is_on_some}
 use Rattle.chess_attacks.specs.Reaches.{reaches, rides}
-use Rattle.chess_rules.specs.declared.blockers.RiderLines.{RiderLines}
-use Rattle.chess_rules.specs.declared.blockers.RiderLines.TheVariants.{Straight, Diagonal}
+use Rattle.chess_rules.specs.declared.legality.blockers.RiderLines.{RiderLines}
+use Rattle.chess_rules.specs.declared.legality.blockers.RiderLines.TheVariants.{Straight, Diagonal}
 use Rattle.chess_attacks.specs.RuleSet.{RuleSet, captures_do_more}
 use Rattle.chess_attacks.specs.ties.Outward.{is_reached}
 

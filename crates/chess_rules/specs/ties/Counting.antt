@@ -7,9 +7,9 @@ use Rattle.chess_core.specs.ties.Words.{word}
 use Rattle.chess_core.specs.declared.man.Man.{Man}
 use Rattle.chess_rules.specs.Legal.{is_legal}
 use Rattle.chess_attacks.specs.RuleSet.{RuleSet, captures_do_more}
-use Rattle.chess_rules.specs.declared.counting.Candidates.{Candidates}
-use Rattle.chess_rules.specs.declared.counting.Legality.TheVariants.{Sure}
-use Rattle.chess_rules.specs.declared.legal_moves.LegalityMasks.{LegalityMasks}
+use Rattle.chess_rules.specs.declared.listing_moves.counting.Candidates.{Candidates}
+use Rattle.chess_rules.specs.declared.listing_moves.counting.Legality.TheVariants.{Sure}
+use Rattle.chess_rules.specs.declared.listing_moves.legal_moves.LegalityMasks.{LegalityMasks}
 use Rattle.chess_rules.specs.ties.Evasions.{AreEvasions}
 use Rattle.chess_rules.specs.ties.Blockers.{may_expose}
 use Rattle.chess_rules.specs.ties.Targets.{AreCandidates, is_promoting}

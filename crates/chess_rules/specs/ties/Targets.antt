@@ -13,7 +13,7 @@ use Rattle.chess_attacks.specs.Reaches.{forward}
 use Rattle.chess_rules.specs.Legal.{is_arrival_free, last_rank, is_pawn_step}
 use Rattle.chess_attacks.specs.Reaches.{reaches_as}
 use Rattle.chess_attacks.specs.RuleSet.{RuleSet}
-use Rattle.chess_rules.specs.declared.targets.TargetCache.{TargetCache}
+use Rattle.chess_rules.specs.declared.listing_moves.move_filter.TargetCache.{TargetCache}
 
 -- a pawn goes one or two squares forward, a king two files to either side
 unfoldable pub steps_to : Man → ℕ → ℕ → Bool

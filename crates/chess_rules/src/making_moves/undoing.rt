@@ -8,10 +8,8 @@ ghost use Rattle.chess_rules.specs.ties.Undoing.{CanReturn, before_by, leaving_m
 ghost use Rattle.chess_core.specs.WellFormed.{IsWellFormed};
 
 use crate::making_moves::play::{Undo, castle, corner, halfway, is_castling, put_at, remove_at};
-use chess_attacks::rules::Rules;
-use chess_core::board::Board;
-use chess_core::man::{Kind, Man, Move};
-use chess_core::square::Square;
+use chess_attacks::Rules;
+use chess_core::{Board, Kind, Man, Move, Square};
 
 // Returns the man that left the origin: the pawn if it promoted.
 fn leaving_man(man: Man, promo: Option<Kind>) -> Man

@@ -1,5 +1,0 @@
-use Rattle.chess_attacks.proofs.Basics.{rules}
-use Rattle.chess_rules.proofs.exposure.own_squares_after.Goals as goal
-
-pub returns : goal.returns
-returns c = search rules

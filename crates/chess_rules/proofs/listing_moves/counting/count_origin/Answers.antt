@@ -1,0 +1,9 @@
+use Rattle.chess_attacks.proofs.Basics.{arith}
+use Rattle.chess_rules.proofs.listing_moves.Counts.{count_by_word, count_whole}
+use Rattle.chess_rules.proofs.listing_moves.counting.count_origin.Goals as goal
+
+pub returns-then-end-eq-PER_ORIGIN-clause-count : goal.returns-then-end-eq-PER_ORIGIN-clause-count
+returns-then-end-eq-PER_ORIGIN-clause-count g c = grind (arith, count_whole)
+
+pub returns-then-are_known_legal-clause-count : goal.returns-then-are_known_legal-clause-count
+returns-then-are_known_legal-clause-count g c = grind (arith, count_by_word)
