@@ -2,7 +2,7 @@
 ghost use Rattle.std.specs.Prelude.{◌≡◌, ℕ, Some, false, true};
 ghost use Rattle.chess_core.specs.Squares.{squares};
 ghost use Rattle.chess_core.specs.Position.{king_square, man_on};
-ghost use Rattle.chess_attacks.specs.RuleSet.{RuleSet, captures_are_reborn, captures_do_more, circe, like_men_paralyse, madrasi, orthodox};
+ghost use Rattle.chess_attacks.specs.RuleSet.{RuleSet, captures_are_reborn, circe, like_men_paralyse, madrasi, orthodox};
 ghost use Rattle.chess_core.specs.WellFormed.{IsWellFormed};
 ghost use Rattle.chess_attacks.specs.Attacks.{is_attacked_by_like, in_check, is_attacked, is_attacked_by_like_man, is_paralysed};
 
@@ -14,20 +14,14 @@ use chess_core::{Board, Colour, Kind, Man, Move, Square};
 pub trait Rules: Copy {
     ghost rule: { RuleSet };
 
-    /// Returns whether captured men are reborn (Circe).
+    /// Returns whether captured men are reborn (Circe): a capture then changes more than the squares of the
+    /// two men.
     fn captures_are_reborn() -> bool
         ensures { result ≡ captures_are_reborn rule };
 
     /// Returns whether a man that an enemy man of its kind attacks is paralysed (Madrasi).
     fn like_men_paralyse() -> bool
         ensures { result ≡ like_men_paralyse rule };
-
-    /// Returns whether a capture can change more than the squares of the two men.
-    final fn captures_do_more() -> bool
-        ensures { result ≡ captures_do_more rule }
-    {
-        Self::captures_are_reborn()
-    }
 
     /// Returns whether the man on the square is paralysed: in Madrasi, if it isn't a king and an enemy man
     /// of its kind attacks it (Popeye manual, Madrasi).

@@ -1,5 +1,5 @@
 -- A flight after a move, decided by the men that then attack it.
-use Rattle.chess_flights.proofs.Chess.{AreOpen, AreSteps, Bool, Colour, IsMade, IsSafe, IsSeenFrom, IsSimple, IsWellFormed, King, List, Man, Move, None, Option, Position, RuleSet, Some, StandAlike, after_well_formed, and_from, and_left, and_parts, and_right, any_range_cases, any_range_false, arith, arrived, arriving_colour, arriving_king, arriving_man, bit_and, bit_at, bit_at-lt, bit_at_and, bit_not, bit_or, capture_of_piece, capture_square, captures_arrival, captures_do_more, cases_Bool, cases_eq, check_is, cond-false, cond-true, eq-eqb, eqb-true, false, false_from_ne_true, false≢true, first_of_and, gone_to, has_flight, inl, inr, is_arrival_free, is_attacked, is_flight, is_flight_at, is_legal, is_man, is_mate, is_nil, is_of_colour, is_open, is_paralysed, is_pseudo_legal, is_reached, is_some, is_square, kept_now, king_is_no_pawn, king_no_step, king_square, king_stands, king_there, leaps, left_now, length, list_any, made, man_on, man_there, mates, moves, moves_are_the_legal_triples, no_capture, no_reach_there, not, not-true, not_attacked, occupied_now, occupied_squares, on_first, or_cases, or_left, or_parts, other, other_differs, other_twice, position_after, queen_steps, reaches, reaches_alike, reaches_as, reaches_of, refl, rules, same_colour, same_colour-true, same_kind, side_of, sight_lifted, simple_after, some_square, some_square_same, some_square_true, square_is, squares, squares_both, squares_either, squares_not, squares_of, sym, taken, there_now, true, w64, without_man, word, word_has, ℕ, ◌&&◌, ◌<◌, ◌==◌, ◌||◌, ◌∙◌, ◌≡◌, ◌≢◌}
+use Rattle.chess_flights.proofs.Chess.{AreOpen, AreSteps, Bool, Colour, IsMade, IsSafe, IsSeenFrom, IsSimple, IsWellFormed, King, List, Man, Move, None, Option, Position, RuleSet, Some, StandAlike, after_well_formed, and_from, and_left, and_parts, and_right, any_range_cases, any_range_false, arith, arrived, arriving_colour, arriving_king, arriving_man, bit_and, bit_at, bit_at-lt, bit_at_and, bit_not, bit_or, capture_of_piece, capture_square, captures_arrival, captures_are_reborn, cases_Bool, cases_eq, check_is, cond-false, cond-true, eq-eqb, eqb-true, false, false_from_ne_true, false≢true, first_of_and, gone_to, has_flight, inl, inr, is_arrival_free, is_attacked, is_flight, is_flight_at, is_legal, is_man, is_mate, is_nil, is_of_colour, is_open, is_paralysed, is_pseudo_legal, is_reached, is_some, is_square, kept_now, king_is_no_pawn, king_no_step, king_square, king_stands, king_there, leaps, left_now, length, list_any, made, man_on, man_there, mates, moves, moves_are_the_legal_triples, no_capture, no_reach_there, not, not-true, not_attacked, occupied_now, occupied_squares, on_first, or_cases, or_left, or_parts, other, other_differs, other_twice, position_after, queen_steps, reaches, reaches_alike, reaches_as, reaches_of, refl, rules, same_colour, same_colour-true, same_kind, side_of, sight_lifted, simple_after, some_square, some_square_same, some_square_true, square_is, squares, squares_both, squares_either, squares_not, squares_of, sym, taken, there_now, true, w64, without_man, word, word_has, ℕ, ◌&&◌, ◌<◌, ◌==◌, ◌||◌, ◌∙◌, ◌≡◌, ◌≢◌}
 use Rattle.chess_rules.proofs.listing_moves.TripleNumbers.{nothing_in}
 use Rattle.chess_flights.proofs.Mating.{turn_after}
 use Rattle.chess_flights.proofs.Stepping.{IsStep, arrival_alike, lifted_alike, lifted_words, occupied_lifted, same_elsewhere, seen_stepped, stands_arrived, stepped}
@@ -109,7 +109,7 @@ module _ (rule : RuleSet) (p : Position) (m : Move) (x : Man) (k : ℕ) (i : IsS
     ]
 
     -- the squares open to the king, without Circe
-    pub open_squares : (w l h : ℕ) → captures_do_more rule ≡ false → w ≡ word (λ t. list_any (leaps k t) queen_steps)
+    pub open_squares : (w l h : ℕ) → captures_are_reborn rule ≡ false → w ≡ word (λ t. list_any (leaps k t) queen_steps)
         → l ≡ (sight_lifted p.men m.from (capture_square p x m) m.to k).standing
         → h ≡ bit_or (bit_and (side_of p.men (other p.turn)) l) (squares_of p.men p.turn King)
         → AreSteps rule (position_after rule p m).men x (other p.turn) k (bit_and w (bit_not w64 h))
@@ -124,7 +124,7 @@ module _ (rule : RuleSet) (p : Position) (m : Move) (x : Man) (k : ℕ) (i : IsS
         }
 
     -- in Circe, where the king may not capture
-    pub open_squares_in_circe : (w l : ℕ) → captures_do_more rule ≡ true → w ≡ word (λ t. list_any (leaps k t) queen_steps)
+    pub open_squares_in_circe : (w l : ℕ) → captures_are_reborn rule ≡ true → w ≡ word (λ t. list_any (leaps k t) queen_steps)
         → l ≡ (sight_lifted p.men m.from (capture_square p x m) m.to k).occupied
         → AreSteps rule (position_after rule p m).men x (other p.turn) k (bit_and w (bit_not w64 l))
     unfolding is_open
@@ -195,7 +195,7 @@ pub record IsKingStep (rule : RuleSet) (q : Position) (x : Man) (k t : ℕ) : Ty
 pub record IsOpenTo (rule : RuleSet) (men : List (Option Man)) (c : Colour) (k t : ℕ) : Type 0 where
   pub reached : reaches_as men c King k t ≡ true
   pub free : is_arrival_free c (man_on men t) ≡ true
-  pub nobody : captures_do_more rule ≡ true → man_on men t ≡ None
+  pub nobody : captures_are_reborn rule ≡ true → man_on men t ≡ None
 
 -- each open square has them
 pub open_parts : (rule : RuleSet) (men : List (Option Man)) (c : Colour) (k t : ℕ) → is_open rule men c k t ≡ true → IsOpenTo rule men c k t

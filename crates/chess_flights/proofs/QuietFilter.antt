@@ -1,6 +1,6 @@
 -- Quiet steps of the enemy king for all moves of one man: the other men reach no more than with both
 -- lifted from the board.
-use Rattle.chess_flights.proofs.Chess.{AreApproached, AreOpen, DescribesMen, Black, Colour, Grasshopper, IsSeenFrom, IsWellFormed, Kind, King, List, Man, Move, None, Option, Position, RuleSet, Some, StandAlike, White, after_well_formed, and_from, and_right, ap, arith, arrived, arriving_man, attacked_plainly, bit_and, bit_at, bit_not, bit_or, capture_square, captures_do_more, cases_Bool, cases_eq, cases_lt, cond-false, cond-true, eq-eqb, eqb-true, every_square_on, false, false_from_ne_true, false≢true, gait_of, in_check, inl, inr, is_hopper, is_legal, is_man, is_of_colour, is_open, is_promoting, is_reached, is_simple, is_some, is_square, kept_now, king_after, king_is_after, king_is_no_pawn, king_square, leaps, left_now, legal_moves_are_triples, length, list_any, man_on, man_on-without_other, man_on-without_same, men_on, no_pawn_arrives, no_reach_there, not, not_attacked, occupied_now, occupied_squares, off_left, off_right, off_zero, on_first, or_cases, or_parts, other, other_twice, position_after, queen_steps, reaches, reaches_alike, reaches_as, refl, rules, same_colour, same_kind, side_of, some_square_false, some_square_true, squares_both, squares_either, squares_not, squares_of, sym, there_now, true, w64, ways, without_man, word, word_has, ℕ, ◌&&◌, ◌<◌, ◌==◌, ◌^◌, ◌||◌, ◌∙◌, ◌≡◌, ◌≢◌, ◌⊎◌, IsLeft, has_flight, is_flight, like_men_paralyse, on_board}
+use Rattle.chess_flights.proofs.Chess.{AreApproached, AreOpen, DescribesMen, Black, Colour, Grasshopper, IsSeenFrom, IsWellFormed, Kind, King, List, Man, Move, None, Option, Position, RuleSet, Some, StandAlike, White, after_well_formed, and_from, and_right, ap, arith, arrived, arriving_man, attacked_plainly, bit_and, bit_at, bit_not, bit_or, capture_square, captures_are_reborn, cases_Bool, cases_eq, cases_lt, cond-false, cond-true, eq-eqb, eqb-true, every_square_on, false, false_from_ne_true, false≢true, gait_of, in_check, inl, inr, is_hopper, is_legal, is_man, is_of_colour, is_open, is_promoting, is_reached, is_simple, is_some, is_square, kept_now, king_after, king_is_after, king_is_no_pawn, king_square, leaps, left_now, legal_moves_are_triples, length, list_any, man_on, man_on-without_other, man_on-without_same, men_on, no_pawn_arrives, no_reach_there, not, not_attacked, occupied_now, occupied_squares, off_left, off_right, off_zero, on_first, or_cases, or_parts, other, other_twice, position_after, queen_steps, reaches, reaches_alike, reaches_as, refl, rules, same_colour, same_kind, side_of, some_square_false, some_square_true, squares_both, squares_either, squares_not, squares_of, sym, there_now, true, w64, ways, without_man, word, word_has, ℕ, ◌&&◌, ◌<◌, ◌==◌, ◌^◌, ◌||◌, ◌∙◌, ◌≡◌, ◌≢◌, ◌⊎◌, IsLeft, has_flight, is_flight, like_men_paralyse, on_board}
 use Rattle.chess_flights.proofs.CalmSteps.{apart, calm, seen_from}
 use Rattle.chess_flights.proofs.Fleeing.{IsKingOn, after_seen, is_made, is_step, king_on, king_seen, men_stepped, on_second, reached_near, step_legal_is, step_taken, step_to, turn_is, unseen_bit}
 use Rattle.chess_flights.proofs.Hurdles.{later_but}
@@ -19,7 +19,7 @@ pub beyond : (men : List (Option Man)) (e : ℕ) → length men ≡ 64 → (e < 
 beyond men e size high = search (rules, on_board)
 
 -- the squares to which the king may step, attacks apart: in Circe
-pub open_in_circe : (rule : RuleSet) (men : List (Option Man)) (c : Colour) (k n w : ℕ) → captures_do_more rule ≡ true
+pub open_in_circe : (rule : RuleSet) (men : List (Option Man)) (c : Colour) (k n w : ℕ) → captures_are_reborn rule ≡ true
     → n ≡ word (λ t. list_any (leaps k t) queen_steps) → w ≡ occupied_squares men → AreOpen rule men c k (bit_and n (bit_not w64 w))
 unfolding is_open
 open_in_circe rule men c k n w reborn near held = record {
@@ -29,7 +29,7 @@ open_in_circe rule men c k n w reborn near held = record {
 }
 
 -- the squares to which the king may step, attacks apart: elsewhere than in Circe
-pub open_elsewhere : (rule : RuleSet) (men : List (Option Man)) (c : Colour) (k n v h : ℕ) → captures_do_more rule ≡ false
+pub open_elsewhere : (rule : RuleSet) (men : List (Option Man)) (c : Colour) (k n v h : ℕ) → captures_are_reborn rule ≡ false
     → n ≡ word (λ t. list_any (leaps k t) queen_steps) → v ≡ side_of men (other c) → h ≡ squares_of men c King
     → AreOpen rule men (other c) k (bit_and n (bit_not w64 (bit_or v h)))
 unfolding is_open side_of squares_of
@@ -248,7 +248,7 @@ module _ (rule : RuleSet) (p : Position) (m : Move) (x : Man) (k : ℕ) (i : IsS
 
 -- a man that goes simply makes a simple move
 simple_then : (rule : RuleSet) (p : Position) (x : Man) (m : Move) → GoesSimply rule p x m → is_simple rule x m (is_some (capture_square p x m)) ≡ true
-simple_then rule p x m simply = grind (arith, simply.castling, simply.mere, cases_Bool (captures_do_more rule))
+simple_then rule p x m simply = grind (arith, simply.castling, simply.mere, cases_Bool (captures_are_reborn rule))
 
 -- a legal move arrives on the board
 pub small_arrival : (rule : RuleSet) (p : Position) (m : Move) → IsWellFormed p → is_legal rule p m ≡ true → m.to < 64
@@ -306,7 +306,7 @@ king_arrivals x m n king from small near fits off =
 -- for those to which a man may not simply go
 pub goes_simply : (rule : RuleSet) (p : Position) (x : Man) (m : Move) (o q c : ℕ) → o ≡ word (is_square p.crossed)
     → ((bit_at q m.to == 1) ≡ false → (is_castling x m ≡ false) × (is_promoting x m.to ≡ false))
-    → (captures_do_more rule ≡ true → c ≡ occupied_squares p.men) → m.to < 64
+    → (captures_are_reborn rule ≡ true → c ≡ occupied_squares p.men) → m.to < 64
     → (bit_at (bit_or (bit_or o q) c) m.to == 1) ≡ false → GoesSimply rule p x m
 unfolding capture_square
 goes_simply rule p x m o q c crossed special captures small off =

@@ -1,5 +1,5 @@
 -- The men on the squares after a move.
-use Rattle.chess_flights.proofs.Chess.{Colour, Grasshopper, IsMade, IsWellFormed, Kind, King, List, Man, Move, None, Option, Pawn, Position, RuleSet, Some, and_from, and_left, and_parts, and_right, arith, arrived, arrived_other, arriving_man, can_castle, capture_square, captures_do_more, cases_Bool, cases_eq, cond-false, cond-true, corner, eq-eqb, false, false_by, false≢true, gait_of, has_flight, has_unmoved, inl, inr, is_arrival_free, is_attacked, is_attacker, is_castling, is_flight, is_hopper, is_man, is_of_colour, is_open, is_promoting, is_promotion_right, is_some, is_square, kept_now, king_is_no_pawn, king_no_step, king_square, leaps, left_now, length, list_any, made, man_on, man_on-with_cases, may_castle, not-true, or_cases, or_parts, other, other_differs, position_after, position_after_by, put_at, queen_steps, reaches, reaches_as, reborn_square, refl, rules, same_colour, same_colour-true, same_kind, some_square_false, some_square_true, there_now, triple_at, true, unmoved_after, ℕ, ◌&&◌, ◌<◌, ◌||◌, ◌∙◌, ◌≡◌, ◌≢◌, ◌⊎◌, man_on_at, moved_men, ◌-◌}
+use Rattle.chess_flights.proofs.Chess.{Colour, Grasshopper, IsMade, IsWellFormed, Kind, King, List, Man, Move, None, Option, Pawn, Position, RuleSet, Some, and_from, and_left, and_parts, and_right, arith, arrived, arrived_other, arriving_man, can_castle, capture_square, captures_are_reborn, cases_Bool, cases_eq, cond-false, cond-true, corner, eq-eqb, false, false_by, false≢true, gait_of, has_flight, has_unmoved, inl, inr, is_arrival_free, is_attacked, is_attacker, is_castling, is_flight, is_hopper, is_man, is_of_colour, is_open, is_promoting, is_promotion_right, is_some, is_square, kept_now, king_is_no_pawn, king_no_step, king_square, leaps, left_now, length, list_any, made, man_on, man_on-with_cases, may_castle, not-true, or_cases, or_parts, other, other_differs, position_after, position_after_by, put_at, queen_steps, reaches, reaches_as, reborn_square, refl, rules, same_colour, same_colour-true, same_kind, some_square_false, some_square_true, there_now, triple_at, true, unmoved_after, ℕ, ◌&&◌, ◌<◌, ◌||◌, ◌∙◌, ◌≡◌, ◌≢◌, ◌⊎◌, man_on_at, moved_men, ◌-◌}
 use Rattle.chess_core.proofs.Castlings.{has_unmoved-parts}
 -- where a side stands somebody stands
 pub use Rattle.chess_flights.proofs.Fleeing.{some_of_colour as some_side}
@@ -56,13 +56,13 @@ pub some_stays : (p : Position) (x : Man) (m : Move) (b : ℕ) → ((s : ℕ) �
 some_stays p x m b here size from some = search (rules, cases_eq, there_now, stays_there)
 
 -- nobody is reborn where nobody is captured, or without Circe
-pub no_rebirth : (rule : RuleSet) (p : Position) (x : Man) (m : Move) → (captures_do_more rule ≡ true → capture_square p x m ≡ None)
+pub no_rebirth : (rule : RuleSet) (p : Position) (x : Man) (m : Move) → (captures_are_reborn rule ≡ true → capture_square p x m ≡ None)
     → reborn_square rule p x m ≡ None
 unfolding reborn_square
-no_rebirth rule p x m nobody = grind (arith, cases_Bool (captures_do_more rule))
+no_rebirth rule p x m nobody = grind (arith, cases_Bool (captures_are_reborn rule))
 
 -- a man that has moved stays moved
-pub moved_stays : (rule : RuleSet) (p : Position) (x : Man) (m : Move) (s : ℕ) → (captures_do_more rule ≡ true → capture_square p x m ≡ None)
+pub moved_stays : (rule : RuleSet) (p : Position) (x : Man) (m : Move) (s : ℕ) → (captures_are_reborn rule ≡ true → capture_square p x m ≡ None)
     → is_castling x m ≡ false → man_on p.men m.from ≡ Some x → has_unmoved p.unmoved s ≡ false → has_unmoved (position_after rule p m).unmoved s ≡ false
 unfolding position_after position_after_by unmoved_after
 moved_stays rule p x m s nobody plain here moved = search (rules, false_by, false≢true, has_unmoved-parts, no_rebirth)
@@ -126,7 +126,7 @@ nobody_strikes rule men t c none = grind (arith, reach_none men t c none, some_s
 -- the king flees to a free square next to it that no enemy reaches once it is there
 module _ (rule : RuleSet) (p : Position) (c : Colour) (k f : ℕ) (well : IsWellFormed p) (turn : p.turn ≡ c)
     (king : king_square p.men c ≡ Some k) (small : f < 64) (near : list_any (leaps k f) queen_steps ≡ true)
-    (free : is_arrival_free c (man_on p.men f) ≡ true) (vacant : captures_do_more rule ≡ true → man_on p.men f ≡ None)
+    (free : is_arrival_free c (man_on p.men f) ≡ true) (vacant : captures_are_reborn rule ≡ true → man_on p.men f ≡ None)
     (unreached : (z : Man) → IsKingOn p.men c k z → (s : ℕ) (u : Man) → s < 64 → man_on (arrived p z (step_to k f)) s ≡ Some u → u.colour ≡ other c
     → reaches_as (arrived p z (step_to k f)) u.colour u.kind s f ≡ false) where
   -- for flights that are left
@@ -134,6 +134,6 @@ module _ (rule : RuleSet) (p : Position) (c : Colour) (k f : ℕ) (well : IsWell
   unfolding has_flight is_flight is_open reaches_as
   has_one =
       let z = king_on p.men c k king in
-      let step : IsKingStep rule p z.0 k f = grind (arith, z.1, and_from, cases_Bool (captures_do_more rule)) in
+      let step : IsKingStep rule p z.0 k f = grind (arith, z.1, and_from, cases_Bool (captures_are_reborn rule)) in
       let step = step_is rule p z.0 k f step in
       search (rules, some_square_true (is_flight rule p) f small, turn, king, step, nobody_strikes rule _ f c (unreached z.0 z.1))

@@ -8,7 +8,7 @@ ghost use Rattle.chess_core.specs.declared.man.Move.{Move};
 ghost use Rattle.chess_core.specs.declared.man.Kind.TheVariants.{King};
 ghost use Rattle.chess_flights.specs.ties.Flights.{AreSteps, AreUnsafe, IsSafe, IsSeenFrom, sight_lifted, sight_with};
 ghost use Rattle.chess_rules.specs.Play.{arriving_man, capture_square, position_after};
-ghost use Rattle.chess_attacks.specs.RuleSet.{captures_do_more};
+ghost use Rattle.chess_attacks.specs.RuleSet.{captures_are_reborn};
 ghost use Rattle.chess_attacks.specs.ties.Lines.{occupied_squares};
 ghost use Rattle.chess_attacks.specs.Reaches.{reaches_as};
 
@@ -81,7 +81,7 @@ pub fn open_squares<R: Rules>(board: &Board, occupancy: Occupancy, king: Square)
         result }
 {
     let near = king_leaps(king);
-    if R::captures_do_more() {
+    if R::captures_are_reborn() {
         return near & !occupancy.occupied;
     }
     near & !held_squares(board, occupancy.standing)

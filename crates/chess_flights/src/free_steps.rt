@@ -33,7 +33,7 @@ pub fn free_steps<R: Rules>(board: &Board, king: Square) -> Squares
     ensures { AreOpen R.rule board.now.men (other board.now.turn) king result }
 {
     let near = king_leaps(king);
-    if R::captures_do_more() {
+    if R::captures_are_reborn() {
         return near & !occupied(board);
     }
     let mover = board.turn();
@@ -62,7 +62,7 @@ pub fn unsimple_squares<R: Rules>(board: &Board, man: Man, from: Square) -> Squa
     ensures { (m : Move) → m.from ≡ from → m.to < 64 → (bit_at result m.to == 1) ≡ false
         → GoesSimply R.rule board.now man m }
 {
-    let captures = if R::captures_do_more() {
+    let captures = if R::captures_are_reborn() {
         occupied(board)
     } else {
         0

@@ -1,5 +1,5 @@
 -- A move that doesn't arrive where its man may give check gives none.
-use Rattle.chess_mates.proofs.Chess.{AreCastlingTargets, AreCheckSquares, AreCheckTargets, CheckSquares, Colour, IsMade, IsWellFormed, King, Man, Move, Pawn, Position, Rook, RuleSet, Some, and_parts, ap, are_rebirths_quiet, arith, arrival_needed, bit_at, bit_or, cannot_expose, captures_do_more, cases_Bool, castling_steps, check_squares_for, enemy, false, false_by, halfway, in_check, inl, inr, is_castling, is_pseudo_legal, is_pseudo_legal-from_legal, is_some, is_square, is_two_files_aside, made, man_on, may_check_from, may_expose, may_arrive, may_go_aimed, may_be_hurdle, off_left, off_right, other, position_after, refl, rules, same_kind, steps_to, sym, true, word, word_has, ℕ, ◌+◌, ◌/◌, ◌<◌, ◌==◌, ◌∙◌, ◌≡◌, List, Option, rule_of_checks, is_promoting, arriving_man, arrived, other_twice, false≢true, Bool, Kind, along-is, bit_and, off_second, or_cases, ◌%◌, ◌*◌, ◌-◌, ◌^◌, ◌≢◌, ◌⊎◌}
+use Rattle.chess_mates.proofs.Chess.{AreCastlingTargets, AreCheckSquares, AreCheckTargets, CheckSquares, Colour, IsMade, IsWellFormed, King, Man, Move, Pawn, Position, Rook, RuleSet, Some, and_parts, ap, are_rebirths_quiet, arith, arrival_needed, bit_at, bit_or, cannot_expose, captures_are_reborn, cases_Bool, castling_steps, check_squares_for, enemy, false, false_by, halfway, in_check, inl, inr, is_castling, is_pseudo_legal, is_pseudo_legal-from_legal, is_some, is_square, is_two_files_aside, made, man_on, may_check_from, may_expose, may_arrive, may_go_aimed, may_be_hurdle, off_left, off_right, other, position_after, refl, rules, same_kind, steps_to, sym, true, word, word_has, ℕ, ◌+◌, ◌/◌, ◌<◌, ◌==◌, ◌∙◌, ◌≡◌, List, Option, rule_of_checks, is_promoting, arriving_man, arrived, other_twice, false≢true, Bool, Kind, along-is, bit_and, off_second, or_cases, ◌%◌, ◌*◌, ◌-◌, ◌^◌, ◌≢◌, ◌⊎◌}
 use Rattle.chess_rules.proofs.legality.EvasionTargets.{plain_elsewhere}
 use Rattle.chess_flights.proofs.CastlingChecks.{castling_gives_no_check, small}
 use Rattle.chess_flights.proofs.Becoming.{becomes}
@@ -29,11 +29,11 @@ any_target rule p v = record { elsewhere = λ x t small goes off. absurd (false�
 
 -- for `promotion_targets`: the squares that `CheckSquares` holds
 pub target_known : (rule : RuleSet) (p : Position) (v : CheckSquares) (b : Bool) → ((k : Kind) → may_promote p k ≡ true → is_promotion b k ≡ true)
-    → b ≡ false → captures_do_more rule ≡ false → ArePromotionTargets rule p v v.promotions
+    → b ≡ false → captures_are_reborn rule ≡ false → ArePromotionTargets rule p v v.promotions
 target_known rule p v b kinds none plain = record { elsewhere = λ x t small goes off. record { kinds = rw none at kinds; plain = plain; off = off } }
 
--- where captures do no more, the rule set of checks is the rule set of play
-known_rule : (rule : RuleSet) (men : List (Option Man)) (e : Colour) → captures_do_more rule ≡ false → rule_of_checks rule men e ≡ rule
+-- where captured men aren't reborn, the rule set of checks is the rule set of play
+known_rule : (rule : RuleSet) (men : List (Option Man)) (e : Colour) → captures_are_reborn rule ≡ false → rule_of_checks rule men e ≡ rule
 unfolding are_rebirths_quiet
 known_rule rule men e plain = rw plain refl
 
@@ -43,7 +43,7 @@ module _ (rule : RuleSet) (p : Position) (x : Man) (s : CheckSquares) (f : ℕ) 
     (checks : AreCheckSquares p.men (other p.turn) s) (inside : f < 64) (covered : (bit_at s.blocker_squares f == 1) ≡ false) (a b c d : ℕ)
     (checked_from : a ≡ check_squares_for s x.kind) (crossed : b ≡ word (λ t. is_square p.crossed t))
     (promotes : same_kind x.kind Pawn ≡ true → ArePromotionTargets rule p s c) (castles : same_kind x.kind King ≡ true → AreCastlingTargets s f c)
-    (reborn : are_rebirths_quiet rule p.men p.turn ≡ false → captures_do_more rule ≡ true → d ≡ word (λ t. is_some (man_on p.men t))) where
+    (reborn : are_rebirths_quiet rule p.men p.turn ≡ false → captures_are_reborn rule ≡ true → d ≡ word (λ t. is_some (man_on p.men t))) where
   module _ (m : Move) (at : m.from ≡ f) (small : m.to < 64) (may : is_pseudo_legal rule p m ≡ true)
       (apart : same_kind x.kind King ≡ true → may_check_from p.men (other p.turn) x m.to ≡ false)
       (off-lines : (bit_at (bit_or (bit_or (bit_or (bit_or a b) c) d) s.fairy_lines) m.to == 1) ≡ false) where

@@ -1,5 +1,5 @@
 -- A king in check has no legal move if all its steps are guarded after a move.
-use Rattle.chess_mates.proofs.Chess.{AreSteps, AreUnsafe, Colour, IsFlightless, IsSeenFrom, IsWellFormed, King, List, Man, Move, None, Option, Position, RuleSet, Some, [], after_well_formed, and_left, and_parts, and_right, ap, arith, arriving_colour, arriving_man, attacked_plainly, bit_and, bit_at, bit_not, can_castle, capture_square, captures_do_more, cases_Bool, like_men_paralyse, false, false_from_ne_true, false≢true, filter, in_check, inl, inr, is_legal, is_mate, is_nil, is_open, is_pseudo_legal-from_legal, is_reached, king_is, king_is_no_pawn, king_square, legal_moves_are_triples, made, man_on, may_castle, moves, not, not-true, occupied_squares, other, position_after, reaches, reaches_as, refl, same_colour, same_colour-refl, same_kind, same_kind-true, sight_lifted, some_is, sym, triples, true, true_from_ne_false, w64, word, ℕ, ◌&&◌, ◌<◌, ◌==◌, ◌∙◌, ◌∷◌, ◌≡◌}
+use Rattle.chess_mates.proofs.Chess.{AreSteps, AreUnsafe, Colour, IsFlightless, IsSeenFrom, IsWellFormed, King, List, Man, Move, None, Option, Position, RuleSet, Some, [], after_well_formed, and_left, and_parts, and_right, ap, arith, arriving_colour, arriving_man, attacked_plainly, bit_and, bit_at, bit_not, can_castle, capture_square, captures_are_reborn, cases_Bool, like_men_paralyse, false, false_from_ne_true, false≢true, filter, in_check, inl, inr, is_legal, is_mate, is_nil, is_open, is_pseudo_legal-from_legal, is_reached, king_is, king_is_no_pawn, king_square, legal_moves_are_triples, made, man_on, may_castle, moves, not, not-true, occupied_squares, other, position_after, reaches, reaches_as, refl, same_colour, same_colour-refl, same_kind, same_kind-true, sight_lifted, some_is, sym, triples, true, true_from_ne_false, w64, word, ℕ, ◌&&◌, ◌<◌, ◌==◌, ◌∙◌, ◌∷◌, ◌≡◌}
 use Rattle.chess_flights.proofs.Fleeing.{IsKingOn, arrived_strikes, is_made, king_on, king_seen, men_stepped, reached_alike, seen_bit, step_legal_is, step_seen, step_taken, step_to}
 use Rattle.chess_flights.proofs.Mating.{turn_after}
 use Rattle.chess_flights.proofs.Standing.{unnamed}
@@ -11,7 +11,7 @@ use Rattle.chess_rules.proofs.theorems.Moves.{mate_is}
 -- how a king in check goes: by a step
 own_step : (rule : RuleSet) (q : Position) (n : Move) (k : ℕ) (y : Man) → IsWellFormed q → king_square q.men q.turn ≡ Some k → man_on q.men k ≡ Some y
     → same_kind y.kind King ≡ true → in_check rule q.men q.turn ≡ true → is_of_others q n ≡ false → is_legal rule q n ≡ true
-    → captures_do_more rule ≡ false → (n.to < 64) × ((step_to k n.to ≡ n) × (is_open rule q.men q.turn k n.to ≡ true))
+    → captures_are_reborn rule ≡ false → (n.to < 64) × ((step_to k n.to ≡ n) × (is_open rule q.men q.turn k n.to ≡ true))
 unfolding is_open reaches reaches_as can_castle may_castle
 own_step rule q n k y well at here king check kings legal circe =
     let triple = legal_moves_are_triples rule q n well legal in
@@ -26,9 +26,9 @@ module _ (rule : RuleSet) (p : Position) (m : Move) (x : Man) (k : ℕ) (i : IsS
     (arrives : (l : List (Option Man)) → (sight_lifted p.men m.from (capture_square p x m) m.to k).occupied ≡ occupied_squares l
     → r ≡ word (reaches_as l (arriving_man x m.promo).colour (arriving_man x m.promo).kind m.to))
     (ways : AreSteps rule (position_after rule p m).men x (other p.turn) k n)
-    (mortal : same_kind x.kind King ≡ false) (exact : (not (captures_do_more rule) && not (like_men_paralyse rule)) ≡ true)
+    (mortal : same_kind x.kind King ≡ false) (exact : (not (captures_are_reborn rule) && not (like_men_paralyse rule)) ≡ true)
     (guarded : AreUnsafe p.men p.turn (sight_lifted p.men m.from (capture_square p x m) m.to k) (bit_and n (bit_not w64 r))) where
-  plain : (captures_do_more rule ≡ false) × (like_men_paralyse rule ≡ false)
+  plain : (captures_are_reborn rule ≡ false) × (like_men_paralyse rule ≡ false)
   plain = let both = and_parts _ _ exact in (not-true _ both.0, not-true _ both.1)
 
   reached : (y : Man) (t : ℕ) → t < 64 → IsKingOn (position_after rule p m).men (other p.turn) k y

@@ -1,5 +1,5 @@
 -- A man other than the king parries a check and opens no line to the king.
-use Rattle.chess_mates.proofs.Chess.{DescribesMen, Bishop, Black, Bool, Colour, Grasshopper, IsCovered, IsMade, IsShift, IsSimple, IsWellFormed, Kind, King, List, Man, Move, Nightrider, None, Option, Pawn, Position, Queen, Rook, RuleSet, Some, StandAlike, Step, White, after_well_formed, agree_below_at, along, and_from, and_left, and_parts, and_right, any_kept, any_range_cases, any_range_false, ap, arith, arrived, arriving_colour, arriving_man, attacked_plainly, bit_and, bit_at, bit_not, bit_or, can_castle, cannot_expose_parts, capture_square, captures_arrival, captures_do_more, cases_Bool, cases_eq, check_is, cond-false, cond-true, covered_parts, diagonal_steps, differs, eq-eqb, eqb-true, like_men_paralyse, false, false_from_ne_true, false≢true, forward, goes_on, gone_shift, gone_to, if◌then◌else◌, in_check, inl, inr, is_advance, is_ahead, is_arrival_free, is_attacked_at, is_legal, is_lined, is_man, is_mate, is_of_colour, is_on_fairy_line, is_on_fairy_line_at, is_on_some, is_paralysed, is_promoting, is_promotion_right, is_pseudo_legal, is_pseudo_legal-from_legal, is_reached, is_blocking, is_some, is_square, kept_now, king_is, king_square, king_there, knight_steps, leaps, left_now, legal_moves_are_triples, length, length-set, list_any, made, maker, man_on, man_on-with_other, man_on-with_same, man_there, mates, may_castle, may_expose, may_expose_at, may_be_hurdle, no_capture, not, not-true, not_attacked, occupied_now, occupied_squares, off_second, off_zero, on_board, on_first, or_cases, or_left, or_parts, or_right, other, other_differs, other_twice, pawn_steps_to, position_after, position_after_by, queen_steps, reaches, refl, return_square, rules, same_colour, same_colour-refl, same_colour-true, same_kind, sight_after, simple_after, some_square, some_square_false, some_square_true, square_is, squares, squares_both, squares_either, squares_not, squares_of, squares_same, stood, straight_steps, subst, sym, there_now, true, true_from_ne_false, unreached, w64, with_man, word, word_has, ℕ, ◌&&◌, ◌<◌, ◌==◌, ◌||◌, ◌∙◌, ◌≡◌, ◌≢◌}
+use Rattle.chess_mates.proofs.Chess.{DescribesMen, Bishop, Black, Bool, Colour, Grasshopper, IsCovered, IsMade, IsShift, IsSimple, IsWellFormed, Kind, King, List, Man, Move, Nightrider, None, Option, Pawn, Position, Queen, Rook, RuleSet, Some, StandAlike, Step, White, after_well_formed, agree_below_at, along, and_from, and_left, and_parts, and_right, any_kept, any_range_cases, any_range_false, ap, arith, arrived, arriving_colour, arriving_man, attacked_plainly, bit_and, bit_at, bit_not, bit_or, can_castle, cannot_expose_parts, capture_square, captures_arrival, captures_are_reborn, cases_Bool, cases_eq, check_is, cond-false, cond-true, covered_parts, diagonal_steps, differs, eq-eqb, eqb-true, like_men_paralyse, false, false_from_ne_true, false≢true, forward, goes_on, gone_shift, gone_to, if◌then◌else◌, in_check, inl, inr, is_advance, is_ahead, is_arrival_free, is_attacked_at, is_legal, is_lined, is_man, is_mate, is_of_colour, is_on_fairy_line, is_on_fairy_line_at, is_on_some, is_paralysed, is_promoting, is_promotion_right, is_pseudo_legal, is_pseudo_legal-from_legal, is_reached, is_blocking, is_some, is_square, kept_now, king_is, king_square, king_there, knight_steps, leaps, left_now, legal_moves_are_triples, length, length-set, list_any, made, maker, man_on, man_on-with_other, man_on-with_same, man_there, mates, may_castle, may_expose, may_expose_at, may_be_hurdle, no_capture, not, not-true, not_attacked, occupied_now, occupied_squares, off_second, off_zero, on_board, on_first, or_cases, or_left, or_parts, or_right, other, other_differs, other_twice, pawn_steps_to, position_after, position_after_by, queen_steps, reaches, refl, return_square, rules, same_colour, same_colour-refl, same_colour-true, same_kind, sight_after, simple_after, some_square, some_square_false, some_square_true, square_is, squares, squares_both, squares_either, squares_not, squares_of, squares_same, stood, straight_steps, subst, sym, there_now, true, true_from_ne_false, unreached, w64, with_man, word, word_has, ℕ, ◌&&◌, ◌<◌, ◌==◌, ◌||◌, ◌∙◌, ◌≡◌, ◌≢◌}
 use Rattle.chess_rules.proofs.legality.Blocking.{CannotExpose, IsPlain, IsQuiet, arrived_shift}
 use Rattle.chess_flights.proofs.Fleeing.{king_waits, on_second, reaches_alike_of, seen_bit, unseen_bit}
 use Rattle.chess_rules.proofs.legality.Seeing.{IsCapture, seen_after}
@@ -122,7 +122,7 @@ promotes_right q y s t = elim (cases_Bool (is_promoting y t)) [
 
 -- a reply that may be made and leaves no line open is legal
 module _ (rule : RuleSet) (q : Position) (y : Man) (s t k : ℕ) (well : IsWellFormed q) (stands : man_on q.men s ≡ Some y) (mine : same_colour y.colour q.turn ≡ true)
-    (able : like_men_paralyse rule ≡ false) (circe : captures_do_more rule ≡ false) (mortal : same_kind y.kind King ≡ false) (small : t < 64)
+    (able : like_men_paralyse rule ≡ false) (circe : captures_are_reborn rule ≡ false) (mortal : same_kind y.kind King ≡ false) (small : t < 64)
     (free : is_arrival_free q.turn (man_on q.men t) ≡ true) (goes : can_go rule q y (reply y s t) ≡ true) (king : king_square q.men q.turn ≡ Some k) where
   may_reply : is_pseudo_legal rule q (reply y s t) ≡ true
   unfolding is_pseudo_legal is_paralysed

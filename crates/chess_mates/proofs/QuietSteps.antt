@@ -1,9 +1,9 @@
 -- Steps of the king that give no check, found without playing them.
-use Rattle.chess_mates.proofs.Chess.{AreOpen, DescribesMen, Colour, IsUnreached, IsWellFormed, King, Man, Position, RuleSet, Some, and_from, and_parts, ap, arith, bit_and, bit_at, capture_square, captures_do_more, cond-true, exposed_is, false, is_arrival, is_legal, is_open, king_after, king_square, leaps, list_any, man_on, not, not_attacked, on_first, other, queen_steps, rules, same_colour, same_colour-true, same_kind, sight_after, subst, sym, true, word, word_has, ℕ, ◌<◌, ◌==◌, ◌≡◌}
+use Rattle.chess_mates.proofs.Chess.{AreOpen, DescribesMen, Colour, IsUnreached, IsWellFormed, King, Man, Position, RuleSet, Some, and_from, and_parts, ap, arith, bit_and, bit_at, capture_square, captures_are_reborn, cond-true, exposed_is, false, is_arrival, is_legal, is_open, king_after, king_square, leaps, list_any, man_on, not, not_attacked, on_first, other, queen_steps, rules, same_colour, same_colour-true, same_kind, sight_after, subst, sym, true, word, word_has, ℕ, ◌<◌, ◌==◌, ◌≡◌}
 use Rattle.chess_flights.proofs.Fleeing.{IsKingStep, king_on, may_step, on_second, reached_near, simple_step, step_to}
 
 -- for the word of a king's steps
-pub open_steps : (rule : RuleSet) (p : Position) (k n w : ℕ) → captures_do_more rule ≡ false → n ≡ word (λ t. list_any (leaps k t) queen_steps)
+pub open_steps : (rule : RuleSet) (p : Position) (k n w : ℕ) → captures_are_reborn rule ≡ false → n ≡ word (λ t. list_any (leaps k t) queen_steps)
     → w ≡ word (is_arrival rule p k) → (x : Man) → man_on p.men k ≡ Some x → same_kind x.kind King ≡ true → AreOpen rule p.men p.turn k (bit_and n w)
 unfolding is_open is_arrival
 open_steps rule p k n w circe near at x here king =

@@ -12,7 +12,7 @@ ghost use Rattle.chess_flights.specs.ties.Approaches.{ArePromotions};
 ghost use Rattle.chess_rules.specs.ties.Blockers.{cannot_expose, may_expose, may_be_hurdle};
 ghost use Rattle.chess_rules.specs.Legal.{is_legal, is_pseudo_legal};
 ghost use Rattle.chess_rules.specs.Play.{position_after};
-ghost use Rattle.chess_attacks.specs.RuleSet.{captures_do_more};
+ghost use Rattle.chess_attacks.specs.RuleSet.{captures_are_reborn};
 
 use chess_attacks::attacks_on::reach_to;
 use chess_attacks::leaps::squares_aside;
@@ -156,7 +156,7 @@ fn are_rebirths_quiet<R: Rules>(board: &Board) -> bool
 #[inline(always)]
 fn checking_rebirths<R: Rules>(board: &Board) -> Squares
     ensures { are_rebirths_quiet R.rule board.now.men board.now.turn ≡ false
-        → captures_do_more R.rule ≡ true → result ≡ word (λ s. is_some (man_on board.now.men s)) }
+        → captures_are_reborn R.rule ≡ true → result ≡ word (λ s. is_some (man_on board.now.men s)) }
 {
     if are_rebirths_quiet::<R>(board) {
         return 0;
@@ -167,7 +167,7 @@ fn checking_rebirths<R: Rules>(board: &Board) -> Squares
 // Returns whether nothing can be ruled out: moves from all squares may expose the king, or captures from
 // anywhere may give check by rebirth.
 pub(crate) fn may_check_from_everywhere<R: Rules>(board: &Board, squares: &CheckSquares) -> bool {
-    squares.blocker_squares == !0 || R::captures_do_more() && !are_rebirths_quiet::<R>(board)
+    squares.blocker_squares == !0 || R::captures_are_reborn() && !are_rebirths_quiet::<R>(board)
 }
 
 // Returns the squares to which a king on `from` castles with check by the rook, and perhaps more.
@@ -187,7 +187,7 @@ fn castling_targets(squares: &CheckSquares, from: Square) -> Squares
 fn promotion_targets<R: Rules>(board: &Board, squares: &CheckSquares) -> Squares
     ensures { ArePromotionTargets R.rule board.now squares.now result }
 {
-    if R::captures_do_more() || has_fairy_promotions(board) {
+    if R::captures_are_reborn() || has_fairy_promotions(board) {
         return LAST_RANKS;
     }
     squares.promotions

@@ -49,7 +49,7 @@ fn step_squares<R: Rules>(board: &Board, king: Square) -> Squares
     ensures { (x : Man) → man_on board.now.men king ≡ Some x → same_kind x.kind King ≡ true
         → AreOpen R.rule board.now.men board.now.turn king result }
 {
-    if R::captures_do_more() {
+    if R::captures_are_reborn() {
         return 0;
     }
     king_leaps(king) & arrivals::<R>(board, king)

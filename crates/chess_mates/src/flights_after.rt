@@ -8,7 +8,7 @@ ghost use Rattle.chess_flights.specs.ties.Flights.{IsSeenFrom, sight_lifted};
 ghost use Rattle.chess_mates.specs.ties.KnownFlights.{IsKnown};
 ghost use Rattle.chess_rules.specs.Legal.{is_pseudo_legal};
 ghost use Rattle.chess_rules.specs.Play.{capture_square, position_after};
-ghost use Rattle.chess_attacks.specs.RuleSet.{captures_do_more, like_men_paralyse};
+ghost use Rattle.chess_attacks.specs.RuleSet.{captures_are_reborn, like_men_paralyse};
 ghost use Rattle.chess_rules.specs.ties.Exposure.{is_simple};
 
 use chess_attacks::Rules;
@@ -30,9 +30,9 @@ pub(crate) enum Flights {
 // Returns whether all flights are found under these rules: no capture is skipped, and no attacker may be
 // paralysed.
 fn are_all_seen<R: Rules>() -> bool
-    ensures { result ≡ (not (captures_do_more R.rule) && not (like_men_paralyse R.rule)) }
+    ensures { result ≡ (not (captures_are_reborn R.rule) && not (like_men_paralyse R.rule)) }
 {
-    !R::captures_do_more() && !R::like_men_paralyse()
+    !R::captures_are_reborn() && !R::like_men_paralyse()
 }
 
 // Returns what is known of the flights of the enemy king on `king` after this man's simple move; the man

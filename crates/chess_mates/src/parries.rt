@@ -48,7 +48,7 @@ fn are_parries_known<R: Rules>(board: &Board, squares: &CheckSquares, man: Man, 
 {
     !man.kind.is(Kind::King)
         && m.promo.is_none()
-        && !R::captures_do_more()
+        && !R::captures_are_reborn()
         && !R::like_men_paralyse()
         && cannot_expose::<R>(board, board.turn().other(), squares.blockers(), m)
 }

@@ -23,7 +23,7 @@ pub use Rattle.chess_rules.specs.Legal.{can_go, is_arrival_free, is_nil, is_prom
 unfoldable pub use Rattle.chess_rules.specs.Legal.{can_castle, is_legal, is_mate, is_pseudo_legal, may_castle, moves, triples, is_stalemate}
 pub use Rattle.chess_rules.specs.Play.{arriving_man, by_shade, captured_man, corner, halfway, if_empty, is_castling, is_diagonal, is_double_step, man_on_at, move_man, put_at, rebirth_at, unmoved_with_rook, unmoved_without_at, without_at}
 unfoldable pub use Rattle.chess_rules.specs.Play.{position_after_by, capture_square, moved_men, position_after, rebirth, reborn_square, undo_by, undo_of, unmoved_after}
-pub use Rattle.chess_attacks.specs.RuleSet.{captures_are_reborn, captures_do_more, circe}
+pub use Rattle.chess_attacks.specs.RuleSet.{captures_are_reborn, circe}
 pub use Rattle.chess_rules.specs.declared.legality.blockers.RiderLines.TheVariants.{Diagonal, Straight}
 pub use Rattle.chess_rules.specs.ties.Evasions.{AreEvasions, AreEvasionsFrom, has_fairy_lines_of, is_evasion, IsNoEvasion, may_be_paralysed, may_paralyse_new_kind}
 pub use Rattle.chess_rules.specs.ties.Idle.{is_legal-idle, is_unfiltered-idle}

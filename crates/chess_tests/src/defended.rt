@@ -58,9 +58,6 @@ fn rules_out_a_mate<R: Rules>(rule: Rule, board: &mut Board, reported: &mut u32)
     let Some(king) = board.king_of(board.turn()) else {
         return false;
     };
-    if !Threats::are_known::<R>() {
-        return false;
-    }
     let mut threats = Threats::of::<R>(board, king);
     let mut place = Moves::<R>::start();
     while let Some(m) = place.next(board) {

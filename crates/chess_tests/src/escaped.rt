@@ -73,9 +73,6 @@ fn said_of<R: Rules>(rule: Rule, diagram: &Diagram, from: Square) -> Said
     let Some(king) = board.king_of(board.turn()) else {
         return Said::Nothing;
     };
-    if !Threats::are_known::<R>() {
-        return Said::Nothing;
-    }
     let mut flights = KeptFlights::of::<R>(&board, king);
     let known = LegalCursor::<R>::of(&board);
     if !known.has_filtered(&mut flights, &mut board, only(Some(from))) {

@@ -220,9 +220,6 @@ fn is_harmless_under<R: Rules>(diagram: &Diagram, wanted: Move) -> Option<bool>
             let Some(king) = board.king_of(board.turn()) else {
                 return None;
             };
-            if !Threats::are_known::<R>() {
-                return None;
-            }
             let mut threats = Threats::of::<R>(&board, king);
             return Some(threats.rule_out_mate::<R>(&board, &m));
         }

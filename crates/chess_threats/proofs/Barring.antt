@@ -1,5 +1,5 @@
 -- A king's step to an empty square is illegal if an attacker reaches the square over the hurdles.
-use Rattle.chess_threats.proofs.Chess.{Colour, IsAttackedOver, IsAttacker, IsBarred, IsMade, IsMereMove, IsPlainMove, IsKingAttack, IsKingAttackOf, IsWellFormed, IsWhole, King, List, Man, Move, None, Option, Position, RuleSet, KingAttack, Some, StandAlike, and_from, and_left, ap, arith, arrived, arriving_colour, bit_and, bit_at, bit_not, bit_or, capture_square, captures_do_more, cases_eq, cases_lt, cond-true, like_men_paralyse, false, false_by, false≢true, gone_to, in_check, inl, inr, is_attacked, is_attacker, is_legal, is_of_colour, is_paralysed, is_pseudo_legal, is_some, king_is_after, king_square, length, length-set, made, man_on, men_on, no_reach_there, not, off_left, off_right, off_second, other, position_after, reached_over, reaches, reaches_alike, reaches_as, refl, rules, same_Bool, same_colour, same_colour-refl, same_kind, side_of, simple_after, some_square_true, sym, true, w64, word_has, ℕ, ◌<◌, ◌==◌, ◌^◌, ◌∙◌, ◌≡◌, ◌≢◌}
+use Rattle.chess_threats.proofs.Chess.{Colour, IsAttackedOver, IsAttacker, IsBarred, IsMade, IsMereMove, IsPlainMove, IsKingAttack, IsKingAttackOf, IsWellFormed, IsWhole, King, List, Man, Move, None, Option, Position, RuleSet, KingAttack, Some, StandAlike, and_from, and_left, ap, arith, arrived, arriving_colour, bit_and, bit_at, bit_not, bit_or, capture_square, captures_are_reborn, cases_eq, cases_lt, cond-true, like_men_paralyse, false, false_by, false≢true, gone_to, in_check, inl, inr, is_attacked, is_attacker, is_legal, is_of_colour, is_paralysed, is_pseudo_legal, is_some, king_is_after, king_square, length, length-set, made, man_on, men_on, no_reach_there, not, off_left, off_right, off_second, other, position_after, reached_over, reaches, reaches_alike, reaches_as, refl, rules, same_Bool, same_colour, same_colour-refl, same_kind, side_of, simple_after, some_square_true, sym, true, w64, word_has, ℕ, ◌<◌, ◌==◌, ◌^◌, ◌∙◌, ◌≡◌, ◌≢◌}
 use Rattle.chess_threats.proofs.HomeSquares.{some_of}
 use Rattle.chess_attacks.proofs.rays.OnSquares.{one_on, size_on}
 use Rattle.chess_flights.proofs.Bitboards.{on_denied}
@@ -116,7 +116,7 @@ module _ (rule : RuleSet) (p : Position) (m : Move) (x : Man) (v : KingAttack) (
 -- a king's step to an empty square that an attacker reaches over the hurdles is illegal: it would be in
 -- check after it
 pub barred_is_illegal : (rule : RuleSet) (p : Position) (m : Move) (x : Man) (v : KingAttack) → IsWellFormed p → is_pseudo_legal rule p m ≡ true
-    → man_on p.men m.from ≡ Some x → m.to < 64 → IsPlainMove p x m → (captures_do_more rule ≡ true → IsMereMove p x m) → same_kind x.kind King ≡ true
+    → man_on p.men m.from ≡ Some x → m.to < 64 → IsPlainMove p x m → (captures_are_reborn rule ≡ true → IsMereMove p x m) → same_kind x.kind King ≡ true
     → v.king ≡ m.from → IsKingAttack v → IsWhole v → IsKingAttackOf rule p v → IsBarred rule v m.to → is_legal rule p m ≡ true → ⊥
 unfolding is_legal in_check
 barred_is_illegal rule p m x v well may here small plain mere king at_king king_attack whole fits barred legal =

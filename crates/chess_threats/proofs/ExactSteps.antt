@@ -1,5 +1,5 @@
 -- The king's legal steps, from the squares that its attackers reach.
-use Rattle.chess_threats.proofs.Chess.{AreReached, Attackers, Grasshopper, IfSome, IsAttackedOver, IsNear, IsKingAttack, IsKingAttackOf, IsWellFormed, IsWhole, Man, Move, None, Option, Position, RuleSet, KingAttack, Some, and_from, and_parts, ap, arith, arrived, bit_and, bit_at, bit_not, capture_of_piece, capture_square, captures_do_more, cases_Bool, like_men_paralyse, false, false_by, false_from_ne_true, false≢true, inl, inr, is_arrival, is_arrival_free, is_attacked, is_hopper, is_legal, is_open, is_pseudo_legal-from_legal, leaps, list_any, made, man_on, men_on, no_pawn_arrives, not, on_first, other, queen_steps, reached_over, reaches_as, refl, rules, same_kind, same_kind-true, sym, true, true_from_ne_false, w64, word, word_has, ℕ, ◌<◌, ◌==◌, ◌^◌, ◌∙◌, ◌≡◌, ◌≢◌}
+use Rattle.chess_threats.proofs.Chess.{AreReached, Attackers, Grasshopper, IfSome, IsAttackedOver, IsNear, IsKingAttack, IsKingAttackOf, IsWellFormed, IsWhole, Man, Move, None, Option, Position, RuleSet, KingAttack, Some, and_from, and_parts, ap, arith, arrived, bit_and, bit_at, bit_not, capture_of_piece, capture_square, captures_are_reborn, cases_Bool, like_men_paralyse, false, false_by, false_from_ne_true, false≢true, inl, inr, is_arrival, is_arrival_free, is_attacked, is_hopper, is_legal, is_open, is_pseudo_legal-from_legal, leaps, list_any, made, man_on, men_on, no_pawn_arrives, not, on_first, other, queen_steps, reached_over, reaches_as, refl, rules, same_kind, same_kind-true, sym, true, true_from_ne_false, w64, word, word_has, ℕ, ◌<◌, ◌==◌, ◌^◌, ◌∙◌, ◌≡◌, ◌≢◌}
 use Rattle.chess_flights.proofs.Fleeing.{IsKingOn, IsKingStep, king_on, may_step, step_is, step_to}
 use Rattle.chess_flights.proofs.Bitboards.{off_denied, denied_on, none_at}
 use Rattle.chess_flights.proofs.Standing.{and_left_king, no_hopper, unfree, unnamed}
@@ -17,7 +17,7 @@ none_hops a none = record {
       grind (arith, no_hopper, cases_Bool (same_kind x.kind Grasshopper), kind, none_at a.grasshoppers s none, i.on);
 }
 
--- for `plain_squares`, where captures do more: a square next to the king without a hurdle
+-- for `plain_squares`, where captured men are reborn: a square next to the king without a hurdle
 pub empty_step : (rule : RuleSet) (v : KingAttack) (n t : ℕ) → v.hurdles < 2 ^ 64 → n ≡ word (λ t. list_any (leaps v.king t) queen_steps) → t < 64
     → (bit_at (bit_and n (bit_not w64 v.hurdles)) t == 1) ≡ true → IsPlainStep rule v t
 empty_step rule v n t fits near small on = search (rules, word_has, on_first, off_denied)
@@ -74,7 +74,7 @@ module _ (rule : RuleSet) (p : Position) (v : KingAttack) (squares w : ℕ) (wel
       mine = king.mine;
       king = king.king;
       small = small;
-      near = grind (arith, plain.near, free, and_from, cases_Bool (captures_do_more rule), plain.empty, hurdle_is rule p v king_attack whole fits t small apart);
+      near = grind (arith, plain.near, free, and_from, cases_Bool (captures_are_reborn rule), plain.empty, hurdle_is rule p v king_attack whole fits t small apart);
     }
 
     legal_is : is_legal rule p m ≡ not (is_attacked rule (arrived p x m) t (other p.turn))

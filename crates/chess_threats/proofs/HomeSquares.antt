@@ -1,5 +1,5 @@
 -- Home squares of captured men, and squares closed to a king.
-use Rattle.chess_threats.proofs.Chess.{AreClosed, AreHomes, AreHomesOf, Bishop, Black, Colour, Grasshopper, Kind, King, Knight, List, Man, Nightrider, Option, Pawn, Position, Queen, Rook, RuleSet, Some, White, agree_below_at, arith, bit_at, bit_or, captures_do_more, cases_Bool, eq-eqb, false, false≢true, file_of, is_man, is_of_colour, is_some, is_square, man_on, not, on_left, on_right, other, rank_of, rebirth, rebirth_small, refl, rules, same_kind, side_of, square_at, square_at-is, squares_of, true, word, word_has, ℕ, ◌<◌, ◌==◌, ◌||◌, ◌≡◌, ◌⊎◌}
+use Rattle.chess_threats.proofs.Chess.{AreClosed, AreHomes, AreHomesOf, Bishop, Black, Colour, Grasshopper, Kind, King, Knight, List, Man, Nightrider, Option, Pawn, Position, Queen, Rook, RuleSet, Some, White, agree_below_at, arith, bit_at, bit_or, captures_are_reborn, cases_Bool, eq-eqb, false, false≢true, file_of, is_man, is_of_colour, is_some, is_square, man_on, not, on_left, on_right, other, rank_of, rebirth, rebirth_small, refl, rules, same_kind, side_of, square_at, square_at-is, squares_of, true, word, word_has, ℕ, ◌<◌, ◌==◌, ◌||◌, ◌≡◌, ◌⊎◌}
 use Rattle.chess_flights.proofs.Bitboards.{none_on}
 
 -- the words of `homes_of`
@@ -60,7 +60,7 @@ all_homes men c q r b n p g d queens rooks bishops knights pawns hoppers riders 
 }
 
 -- for `closed_squares`: without Circe
-pub own_closed : (rule : RuleSet) (p : Position) (c : Colour) (w : ℕ) → c ≡ p.turn → w ≡ side_of p.men c → captures_do_more rule ≡ false → AreClosed rule p w
+pub own_closed : (rule : RuleSet) (p : Position) (c : Colour) (w : ℕ) → c ≡ p.turn → w ≡ side_of p.men c → captures_are_reborn rule ≡ false → AreClosed rule p w
 unfolding side_of
 own_closed rule p c w turn side plain = search (rules, word_has, false≢true)
 

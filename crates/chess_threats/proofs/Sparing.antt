@@ -1,5 +1,5 @@
 -- No reply mates after a defender's move without risk.
-use Rattle.chess_threats.proofs.Chess.{AreFree, AreLaterHurdles, Colour, KingZone, IsArrival, IsAttacker, IsCaptured, IsCastlingHarmless, IsCheckWord, IsFlight, IsHome, IsHurdle, IsMade, IsMereMove, IsNear, IsOff, IsPlainMove, IsQuiet, IsReborn, IsRiskAt, IsShut, IsShutAt, IsKingAttack, IsKingAttackOf, IsUnguarded, IsUnhopped, IsWeakAt, IsWellFormed, Kind, King, List, Man, MayRide, Move, Nightrider, None, Option, Pawn, Position, Risk, RuleSet, KingAttack, Some, [], after_well_formed, all_triples, and_from, and_left, and_parts, and_right, ap, arith, arrival_needed, arrived, arriving_colour, arriving_king, arriving_man, bit_at, capture_of_piece, capture_square, captured_enemy, captured_man, captures_are_reborn, captures_do_more, cases_Bool, cases_eq, castle_of, corner, eq-eqb, eqb-true, false, false_by, false_from_ne_true, false≢true, file_of, gait_of, halfway, has_flight, has_unmoved, in_check, inl, inr, is_absent, is_arrival_free, is_attacked, is_attacked_at, is_attacker, is_castling, is_double_step, is_fairy, is_hopper, is_legal, is_man, is_of_colour, is_promoting, is_pseudo_legal, is_rider, is_some, is_square, king-back, king_after, king_is, king_is_after, king_square, king_stands, king_there, leaps, list_any, made, maker, man_on, man_there, mates, mates_after, may_check_from, may_arrive, may_go_aimed, men_on, moved_men, moved_plainly, off_second, off_zero, on_board, or_cases, or_parts, other, other_twice, position_after, position_after_by, queen_steps, reached_over, reaches_as, reaches_back, rebirth, reborn_is, reborn_square, refl, rules, same_colour, same_colour-refl, same_colour-true, same_kind, same_kind-true, side_of, simple_after, square_is, subst, sym, taken, there_now, true, word, word_has, ℕ, or_left, or_right, true_from_ne_false, ◌-◌, ◌<◌, ◌==◌, ◌||◌, ◌∙◌, ◌≡◌, ◌≢◌, ◌⊎◌}
+use Rattle.chess_threats.proofs.Chess.{AreFree, AreLaterHurdles, Colour, KingZone, IsArrival, IsAttacker, IsCaptured, IsCastlingHarmless, IsCheckWord, IsFlight, IsHome, IsHurdle, IsMade, IsMereMove, IsNear, IsOff, IsPlainMove, IsQuiet, IsReborn, IsRiskAt, IsShut, IsShutAt, IsKingAttack, IsKingAttackOf, IsUnguarded, IsUnhopped, IsWeakAt, IsWellFormed, Kind, King, List, Man, MayRide, Move, Nightrider, None, Option, Pawn, Position, Risk, RuleSet, KingAttack, Some, [], after_well_formed, all_triples, and_from, and_left, and_parts, and_right, ap, arith, arrival_needed, arrived, arriving_colour, arriving_king, arriving_man, bit_at, capture_of_piece, capture_square, captured_enemy, captured_man, captures_are_reborn, cases_Bool, cases_eq, castle_of, corner, eq-eqb, eqb-true, false, false_by, false_from_ne_true, false≢true, file_of, gait_of, halfway, has_flight, has_unmoved, in_check, inl, inr, is_absent, is_arrival_free, is_attacked, is_attacked_at, is_attacker, is_castling, is_double_step, is_fairy, is_hopper, is_legal, is_man, is_of_colour, is_promoting, is_pseudo_legal, is_rider, is_some, is_square, king-back, king_after, king_is, king_is_after, king_square, king_stands, king_there, leaps, list_any, made, maker, man_on, man_there, mates, mates_after, may_check_from, may_arrive, may_go_aimed, men_on, moved_men, moved_plainly, off_second, off_zero, on_board, or_cases, or_parts, other, other_twice, position_after, position_after_by, queen_steps, reached_over, reaches_as, reaches_back, rebirth, reborn_is, reborn_square, refl, rules, same_colour, same_colour-refl, same_colour-true, same_kind, same_kind-true, side_of, simple_after, square_is, subst, sym, taken, there_now, true, word, word_has, ℕ, or_left, or_right, true_from_ne_false, ◌-◌, ◌<◌, ◌==◌, ◌||◌, ◌∙◌, ◌≡◌, ◌≢◌, ◌⊎◌}
 use Rattle.chess_flights.proofs.Standing.{after_is, and_left_king, arrival_small, captured_there, castle_unmoved, free_man, has_one, king_reaches, mine_again, moved_stays, no_rebirth, nobody_strikes, not_mine, not_mine_enemy, piece_reaches, same_man, some_side, some_stays, stays_there, stood, stood_reborn, unfree, unnamed}
 use Rattle.chess_flights.proofs.Becoming.{becomes, promotes_still}
 use Rattle.chess_flights.proofs.Hurdles.{later, later_but}
@@ -19,7 +19,7 @@ man_of o h = grind arith
 -- the move m of the defender, plain, without risk
 pub record IsSpared (rule : RuleSet) (p : Position) (m : Move) (x : Man) (v : KingAttack) (k : ℕ) (r : Risk) : Type 0 where
   pub plain : IsPlainMove p x m
-  pub mere : captures_do_more rule ≡ true → IsMereMove p x m
+  pub mere : captures_are_reborn rule ≡ true → IsMereMove p x m
   pub king_attack : IsKingAttack v
   pub fits : IsKingAttackOf rule p v
   pub at : IsRiskAt v k r
@@ -63,7 +63,7 @@ module _ (rule : RuleSet) (p : Position) (m : Move) (x : Man) (v : KingAttack) (
   abbrev q : Position
   q = position_after rule p m
 
-  nobody : captures_do_more rule ≡ true → capture_square p x m ≡ None
+  nobody : captures_are_reborn rule ≡ true → capture_square p x m ≡ None
   nobody circe = (i.mere circe).captures
 
   men_q : q.men ≡ arrived p x m
@@ -260,7 +260,7 @@ module _ (rule : RuleSet) (p : Position) (m : Move) (x : Man) (v : KingAttack) (
         defends : b.man.colour ≡ p.turn
         defends = mine_again b.man.colour p.turn (ap (same_colour b.man.colour) (sym turn_q) ∙ captured_enemy rule q y n b.man well_q is_n b.who)
 
-        circe : captures_do_more rule ≡ true
+        circe : captures_are_reborn rule ≡ true
         circe = true_from_ne_false _ (λ off. false≢true (ap is_some (sym (no_rebirth rule q y n (λ on. absurd (false≢true (sym off ∙ on)))) ∙ at)))
 
         taken_on : b.square ≡ n.to
@@ -291,7 +291,7 @@ module _ (rule : RuleSet) (p : Position) (m : Move) (x : Man) (v : KingAttack) (
       ShownPositions s z = ((s ≡ n.to) × (z ≡ arriving_man y n.promo)) ⊎ ((s ≢ n.to) × ((s ≢ n.from) × (man_on q.men s ≡ Some z)))
 
       abbrev IsNew : ℕ → Type 0
-      IsNew s = ((bit_at v.closed s == 1) ≡ true) × (captures_do_more rule ≡ true)
+      IsNew s = ((bit_at v.closed s == 1) ≡ true) × (captures_are_reborn rule ≡ true)
 
       -- a man on a square was there before, or is reborn there
       same_or_new : (s : ℕ) → (man_on r.men s ≡ man_on landed s)
@@ -446,7 +446,7 @@ module _ (rule : RuleSet) (p : Position) (m : Move) (x : Man) (v : KingAttack) (
 
       -- a free square next to the king that nobody reaches
       module _ (f : ℕ) (in_f : f < 64) (near : list_any (leaps k f) queen_steps ≡ true) (free : is_arrival_free p.turn (man_on r.men f) ≡ true)
-          (vacant : captures_do_more rule ≡ true → man_on r.men f ≡ None) (unguarded : IsUnguarded v n.from m.from f)
+          (vacant : captures_are_reborn rule ≡ true → man_on r.men f ≡ None) (unguarded : IsUnguarded v n.from m.from f)
           (unsprung : (men : List (Option Man)) → ((h : ℕ) (y : Man) → h ≢ f → man_on men h ≡ Some y → (h ≢ k) × (man_on r.men h ≡ Some y))
           → (s : ℕ) (z : Man) → IsAttacker v.men z s → n.from ≢ s → is_hopper (gait_of z.kind) ≡ true → reaches_as men z.colour z.kind s f ≡ false)
           (comes_off : f ≢ n.to → (men : List (Option Man)) → ((h : ℕ) (y : Man) → h ≢ f → man_on men h ≡ Some y → (h ≢ k) × (man_on r.men h ≡ Some y))

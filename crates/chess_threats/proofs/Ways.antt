@@ -1,6 +1,6 @@
 -- How a defender arrives on a square that isn't risky: its king steps there, or another man goes there
 -- and perhaps leaves a line.
-use Rattle.chess_threats.proofs.Chess.{AreAdjacent, AreMere, ArePlain, AreRisky, AreThreatsOf, IsLike, IsMereMove, IsPlainMove, IsSafeMove, IsSafeStep, IsDecidedStep, IsKingAttackOf, IsSparedStep, IsWellFormed, KeepsFlight, KeepsFlightBeside, KeepsOne, King, Man, Move, Position, RuleSet, KingAttack, Some, ThreatsSeen, [], agree_below_at, along, and_from, and_parts, ap, arith, arrival_needed, bit_and, bit_at, bit_at_above, bit_not, bit_or, captures_do_more, cases_Bool, cases_lt, cond-false, cond-true, eqb-true, false, false_by, false≢true, inl, inr, is_castling, is_legal, is_man, is_pseudo_legal, is_pseudo_legal-from_legal, king_after, king_is, leaps, list_any, made, maker, man_on, mates_after, may_go_aimed, off_left, off_right, off_second, position_after, queen_steps, refl, rules, same_colour-refl, same_kind, some_is, sym, true, w64, word, ℕ, ◌<◌, ◌==◌, ◌^◌, ◌∙◌, ◌≡◌, ◌≢◌}
+use Rattle.chess_threats.proofs.Chess.{AreAdjacent, AreMere, ArePlain, AreRisky, AreThreatsOf, IsLike, IsMereMove, IsPlainMove, IsSafeMove, IsSafeStep, IsDecidedStep, IsKingAttackOf, IsSparedStep, IsWellFormed, KeepsFlight, KeepsFlightBeside, KeepsOne, King, Man, Move, Position, RuleSet, KingAttack, Some, ThreatsSeen, [], agree_below_at, along, and_from, and_parts, ap, arith, arrival_needed, bit_and, bit_at, bit_at_above, bit_not, bit_or, captures_are_reborn, cases_Bool, cases_lt, cond-false, cond-true, eqb-true, false, false_by, false≢true, inl, inr, is_castling, is_legal, is_man, is_pseudo_legal, is_pseudo_legal-from_legal, king_after, king_is, leaps, list_any, made, maker, man_on, mates_after, may_go_aimed, off_left, off_right, off_second, position_after, queen_steps, refl, rules, same_colour-refl, same_kind, some_is, sym, true, w64, word, ℕ, ◌<◌, ◌==◌, ◌^◌, ◌∙◌, ◌≡◌, ◌≢◌}
 use Rattle.chess_threats.specs.ties.KingAttack.{AreNeeded}
 use Rattle.chess_flights.proofs.Bitboards.{denied_on}
 use Rattle.chess_threats.proofs.LastingFlights.{no_mate_after as flight_after}
@@ -21,7 +21,7 @@ like_fits rule p v w l fits = search (rules, l.men, l.own, l.enemies, l.king, l.
 module _ (rule : RuleSet) (p : Position) (x : Man) (v : ThreatsSeen) (well : IsWellFormed p) (threats : AreThreatsOf rule p v) where
   module _ (m : Move) (may : is_pseudo_legal rule p m ≡ true) (here : man_on p.men m.from ≡ Some x) (small : m.to < 64) where
     -- a flight that is kept next to the king's new square
-    keeps : (k near : ℕ) → captures_do_more rule ≡ false → is_castling x m ≡ false → king_after p x m ≡ Some k → AreAdjacent v.king_attack k near
+    keeps : (k near : ℕ) → captures_are_reborn rule ≡ false → is_castling x m ≡ false → king_after p x m ≡ Some k → AreAdjacent v.king_attack k near
         → ((f : ℕ) → f < 64 → (bit_at near f == 1) ≡ true → f ≢ m.to) → KeepsOne v.king_attack.men near
         → mates_after rule (position_after rule p m) 0 ≡ []
     keeps k near captures alone king next arrival kept =
@@ -34,7 +34,7 @@ module _ (rule : RuleSet) (p : Position) (x : Man) (v : ThreatsSeen) (well : IsW
         }) v.king_attack.men fits.men fits.colour fits.promotions kept
 
     -- beside the king, wherever the man comes
-    man_keeps : same_kind x.kind King ≡ false → captures_do_more rule ≡ false → KeepsFlightBeside v.king_attack m.to
+    man_keeps : same_kind x.kind King ≡ false → captures_are_reborn rule ≡ false → KeepsFlightBeside v.king_attack m.to
         → mates_after rule (position_after rule p m) 0 ≡ []
     man_keeps mortal captures kept =
         keeps v.king_attack.king kept.near captures
@@ -49,7 +49,7 @@ module _ (rule : RuleSet) (p : Position) (x : Man) (v : ThreatsSeen) (well : IsW
         some_is v.king_attack.king m.from (threats.fits.king ∙ king_is p.men p.turn m.from well.kings from is)
 
   module _ (m : Move) (may : is_pseudo_legal rule p m ≡ true) (here : man_on p.men m.from ≡ Some x) (small : m.to < 64) (from : m.from < 64)
-      (plain : IsPlainMove p x m) (mere : captures_do_more rule ≡ true → IsMereMove p x m) where
+      (plain : IsPlainMove p x m) (mere : captures_are_reborn rule ≡ true → IsMereMove p x m) where
     king_safe : same_kind x.kind King ≡ true → IsSafeStep v.king_attack m.to → mates_after rule (position_after rule p m) 0 ≡ []
     king_safe king safe =
         let king_attack = threats.king_attack in
@@ -97,7 +97,7 @@ module _ (rule : RuleSet) (p : Position) (x : Man) (v : ThreatsSeen) (well : IsW
   -- among the squares of w only the ones in l are risky, if elsewhere the king keeps a flight when the man
   -- arrives
   pub unkept_are_risky : (s w l r : ℕ) → man_on p.men s ≡ Some x → w < 2 ^ 64 → same_kind x.kind King ≡ false
-      → ((t : ℕ) → t < 64 → (bit_at w t == 1) ≡ true → (bit_at l t == 1) ≡ false → (captures_do_more rule ≡ false) × KeepsFlightBeside v.king_attack t)
+      → ((t : ℕ) → t < 64 → (bit_at w t == 1) ≡ true → (bit_at l t == 1) ≡ false → (captures_are_reborn rule ≡ false) × KeepsFlightBeside v.king_attack t)
       → AreRisky rule p s l r → AreRisky rule p s w r
   unkept_are_risky s w l r here fits mortal keeps are = record {
     is_decided = λ m legal origin on off. elim (cases_Bool (bit_at l m.to == 1)) [
@@ -111,10 +111,10 @@ module _ (rule : RuleSet) (p : Position) (x : Man) (v : ThreatsSeen) (well : IsW
 
   -- the squares of w that are in u, where moves aren't plain, or in r
   module _ (s w u r : ℕ) (here : man_on p.men s ≡ Some x) (from : s < 64) (fits : w < 2 ^ 64) (plain : ArePlain p x s u)
-      (mere : captures_do_more rule ≡ true → AreMere p x s u) where
+      (mere : captures_are_reborn rule ≡ true → AreMere p x s u) where
     -- by what spares a move off them
     risky_by : ((m : Move) → is_legal rule p m ≡ true → is_pseudo_legal rule p m ≡ true → m.from ≡ s → m.to < 64 → (bit_at w m.to == 1) ≡ true
-        → (bit_at u m.to == 1) ≡ false → (bit_at r m.to == 1) ≡ false → IsPlainMove p x m → (captures_do_more rule ≡ true → IsMereMove p x m)
+        → (bit_at u m.to == 1) ≡ false → (bit_at r m.to == 1) ≡ false → IsPlainMove p x m → (captures_are_reborn rule ≡ true → IsMereMove p x m)
         → mates_after rule (position_after rule p m) 0 ≡ []) → AreRisky rule p s w (bit_and w (bit_or u r))
     risky_by spares = record {
       is_decided = λ m legal origin on off.
@@ -148,7 +148,7 @@ module _ (rule : RuleSet) (p : Position) (x : Man) (v : ThreatsSeen) (well : IsW
           (rw origin (safe m.to (denied_on w u m.to fits_u small on off) none)))
 
 -- another man comes only to risky squares, if these are all off which the king keeps no flight
-pub needed_are_risky : (rule : RuleSet) (v : ThreatsSeen) (s w n : ℕ) → s < 64 → w < 2 ^ 64 → captures_do_more rule ≡ false → AreNeeded v.king_attack n
+pub needed_are_risky : (rule : RuleSet) (v : ThreatsSeen) (s w n : ℕ) → s < 64 → w < 2 ^ 64 → captures_are_reborn rule ≡ false → AreNeeded v.king_attack n
     → s ≢ v.king_attack.king → (p : Position) → IsWellFormed p → AreThreatsOf rule p v → AreRisky rule p s w (bit_and w n)
 needed_are_risky rule v s w n low fits circe needed apart p well threats = record {
   is_decided = λ m legal origin on off.
@@ -161,14 +161,14 @@ needed_are_risky rule v s w n low fits circe needed apart p well threats = recor
 }
 
 -- for `keep_flights`: no square to which the man comes is needed
-pub kept_are_risky : (rule : RuleSet) (v : ThreatsSeen) (s w n : ℕ) → s < 64 → w < 2 ^ 64 → captures_do_more rule ≡ false → AreNeeded v.king_attack n
+pub kept_are_risky : (rule : RuleSet) (v : ThreatsSeen) (s w n : ℕ) → s < 64 → w < 2 ^ 64 → captures_are_reborn rule ≡ false → AreNeeded v.king_attack n
     → (bit_and w n == 0) ≡ true → s ≢ v.king_attack.king → (p : Position) → IsWellFormed p → AreThreatsOf rule p v → AreRisky rule p s w 0
 kept_are_risky rule v s w n low fits circe needed none apart p well threats =
     rw (eqb-true (bit_and w n) 0 none) at (needed_are_risky rule v s w n low fits circe needed apart p well threats)
 
--- for the king's steps, where captures do no more: off the risky squares a flight stays, castlings included
+-- for the king's steps, where captured men aren't reborn: off the risky squares a flight stays, castlings included
 pub flightless_are_risky : (rule : RuleSet) (p : Position) (v : ThreatsSeen) (s w n u r : ℕ) → IsWellFormed p → AreThreatsOf rule p v → s ≡ v.king_attack.king
-    → s < 64 → w < 2 ^ 64 → n < 2 ^ 64 → captures_do_more rule ≡ false → n ≡ word (λ t. list_any (leaps s t) queen_steps) → u ≡ bit_not w64 n
+    → s < 64 → w < 2 ^ 64 → n < 2 ^ 64 → captures_are_reborn rule ≡ false → n ≡ word (λ t. list_any (leaps s t) queen_steps) → u ≡ bit_not w64 n
     → ((t : ℕ) → t < 64 → (bit_at (bit_and w (bit_not w64 u)) t == 1) ≡ true → (bit_at r t == 1) ≡ false → KeepsFlight rule v.king_attack t)
     → AreRisky rule p s w (bit_and w (bit_or u r))
 flightless_are_risky rule p v s w n u r well threats at low fits fits_n circe near castlings keeps =

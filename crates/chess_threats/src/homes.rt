@@ -97,7 +97,7 @@ pub(crate) fn closed_squares<R: Rules>(board: &Board) -> Squares
 {
     let turn = board.turn();
     let own = board.side(turn);
-    if !R::captures_do_more() {
+    if !R::captures_are_reborn() {
         return own;
     }
     own | board.side(turn.other()) | home_squares(board, turn)

@@ -2,7 +2,7 @@
 ghost use Rattle.std.specs.Prelude.{◌≡◌, Some};
 ghost use Rattle.chess_core.specs.Position.{king_square};
 ghost use Rattle.chess_core.specs.WellFormed.{IsWellFormed};
-ghost use Rattle.chess_threats.specs.ties.Threats.{AreRisky, AreThreatsOf, IsKnown};
+ghost use Rattle.chess_threats.specs.ties.Threats.{AreRisky, AreThreatsOf};
 
 use crate::king_attack::{KingAttack, king_attack_of};
 use crate::king_zone::{compute_targets, needed_squares};
@@ -42,8 +42,7 @@ impl Model for KeptFlights {
 impl KeptFlights {
     /// Computes the flights of the king of the side to move, which is on `king`.
     pub fn of<R: Rules>(board: &Board, king: Square) -> KeptFlights
-        ensures { IsWellFormed board.now → IsKnown R.rule
-            → king_square board.now.men board.now.turn ≡ Some king
+        ensures { IsWellFormed board.now → king_square board.now.men board.now.turn ≡ Some king
             → AreThreatsOf R.rule board.now result }
     {
         let king_attack = king_attack_of::<R>(board, king);
@@ -70,7 +69,7 @@ impl KeptFlights {
     {
         // For the proof: a square's number is below 64.
         let _small = from.index();
-        if R::captures_do_more() {
+        if R::captures_are_reborn() {
             return squares;
         }
         if from != self.king_attack.king {

@@ -247,7 +247,7 @@ pub(crate) fn castling_is_harmless(king_attack: &KingAttack, king_zone: &KingZon
 pub(crate) fn compute_targets<R: Rules>(king_attack: &KingAttack, targets: &mut OpenTargets)
     ensures { AreOpenTargets king_attack.now.men targets.new }
 {
-    if R::captures_do_more() || king_attack.enemies.count_ones() > MOST_ATTACKERS {
+    if R::captures_are_reborn() || king_attack.enemies.count_ones() > MOST_ATTACKERS {
         *targets = OpenTargets::unknown();
         return;
     }

@@ -20,12 +20,12 @@ use chess_flights::guards::{leapt_squares, rider_reach};
 
 // Steps of the king (`steps`), the steps among them after which a reply might mate (`risky`), and the
 // rules for which this was computed: whether men of one kind paralyse each other (`stand_still`), and
-// whether captures do more than remove a man (`do_more`).
+// whether captured men are reborn (`reborn`).
 #[derive(Clone, Copy)]
 pub(crate) struct StepCache {
     steps: Squares,
     stand_still: bool,
-    do_more: bool,
+    reborn: bool,
     risky: Squares,
 }
 
@@ -37,7 +37,7 @@ impl StepCache {
         StepCache {
             steps: 0,
             stand_still: false,
-            do_more: false,
+            reborn: false,
             risky: 0,
         }
     }
@@ -49,7 +49,7 @@ fn keeps_flight_at<R: Rules>(king_attack: &KingAttack, targets: &OpenTargets, to
     requires { AreOpenTargets king_attack.now.men targets.now }
     ensures { result ≡ true → KeepsFlight R.rule king_attack.now to }
 {
-    !R::captures_do_more()
+    !R::captures_are_reborn()
         && keeps_one(&king_attack.men, targets, adjacent_squares(king_attack, to))
 }
 
@@ -127,7 +127,7 @@ fn plain_squares<R: Rules>(king_attack: &KingAttack) -> Squares
     ensures { (t : ℕ) → t < 64 → (bit_at result t == 1) ≡ true → IsPlainStep R.rule king_attack.now t }
 {
     let near = king_leaps(king_attack.king);
-    if R::captures_do_more() {
+    if R::captures_are_reborn() {
         return near & !king_attack.hurdles;
     }
     near
@@ -160,7 +160,7 @@ fn unbarred_steps<R: Rules>(king_attack: &KingAttack, steps: Squares) -> Squares
     if steps.count_ones() < FEW_STEPS || R::like_men_paralyse() {
         return steps;
     }
-    if !R::captures_do_more() && reports_steps(king_attack) {
+    if !R::captures_are_reborn() && reports_steps(king_attack) {
         return steps;
     }
     steps & (king_attack.hurdles | !reached_squares(king_attack, steps))
@@ -192,15 +192,15 @@ pub(crate) fn cached_risky_steps<R: Rules>(
     ensures kept { IsStepCacheOf king_attack.now kept.new }
 {
     let stand_still = R::like_men_paralyse();
-    let do_more = R::captures_do_more();
-    if kept.steps == steps && kept.stand_still == stand_still && kept.do_more == do_more {
+    let reborn = R::captures_are_reborn();
+    if kept.steps == steps && kept.stand_still == stand_still && kept.reborn == reborn {
         return kept.risky;
     }
     let risky = risky_steps::<R>(king_attack, targets, steps);
     *kept = StepCache {
         steps,
         stand_still,
-        do_more,
+        reborn,
         risky,
     };
     risky

@@ -8,10 +8,10 @@ ghost use Rattle.chess_core.specs.declared.man.Move.{Move};
 ghost use Rattle.chess_flights.specs.ties.Mates.{mates_after};
 ghost use Rattle.chess_threats.specs.declared.king_attack.KingAttack.{KingAttack};
 ghost use Rattle.chess_threats.specs.ties.KingAttack.{AreThreats, IsRiskAfterLeaving, IsSafeMove, IsKingAttack, IsWhole};
-ghost use Rattle.chess_threats.specs.ties.Threats.{AreMere, ArePlain, AreRisky, AreThreatsOf, IsPassing, IsKnown};
+ghost use Rattle.chess_threats.specs.ties.Threats.{AreMere, ArePlain, AreRisky, AreThreatsOf, IsPassing};
 ghost use Rattle.chess_rules.specs.Legal.{is_legal};
 ghost use Rattle.chess_rules.specs.Play.{position_after};
-ghost use Rattle.chess_attacks.specs.RuleSet.{captures_do_more};
+ghost use Rattle.chess_attacks.specs.RuleSet.{captures_are_reborn};
 ghost use Rattle.chess_rules.specs.ties.Targets.{may_arrive};
 
 use crate::king_attack::{KingAttack, is_of, king_attack_of};
@@ -81,10 +81,10 @@ fn altering_squares(board: &Board, man: Man, from: Square) -> Squares
 #[tactic(auto, using(chess_attacks::proofs::Bits::off_left, chess_attacks::proofs::Bits::off_right))]
 fn unplain_squares<R: Rules>(board: &Board, man: Man, from: Square) -> Squares
     ensures plain { ArePlain board.now man from result }
-    ensures mere { captures_do_more R.rule ≡ true → AreMere board.now man from result }
+    ensures mere { captures_are_reborn R.rule ≡ true → AreMere board.now man from result }
 {
     let special = special_squares(board, man, from);
-    if !R::captures_do_more() {
+    if !R::captures_are_reborn() {
         return special;
     }
     special | altering_squares(board, man, from)
@@ -94,9 +94,9 @@ fn unplain_squares<R: Rules>(board: &Board, man: Man, from: Square) -> Squares
 #[tactic(auto, using(chess_rules::proofs::listing_moves::Walks::off_second))]
 fn unkept_squares<R: Rules>(needed: Squares, squares: Squares) -> Squares
     ensures { (t : ℕ) → t < 64 → (bit_at squares t == 1) ≡ true → (bit_at result t == 1) ≡ false
-        → (captures_do_more R.rule ≡ false) × ((bit_at needed t == 1) ≡ false) }
+        → (captures_are_reborn R.rule ≡ false) × ((bit_at needed t == 1) ≡ false) }
 {
-    if R::captures_do_more() {
+    if R::captures_are_reborn() {
         return squares;
     }
     squares & needed
@@ -167,8 +167,7 @@ impl Model for Threats {
 impl Threats {
     /// Computes the threats to the king of the side to move, which is on `king`.
     pub fn of<R: Rules>(board: &Board, king: Square) -> Threats
-        ensures { IsWellFormed board.now → IsKnown R.rule
-            → king_square board.now.men board.now.turn ≡ Some king
+        ensures { IsWellFormed board.now → king_square board.now.men board.now.turn ≡ Some king
             → AreThreatsOf R.rule board.now result }
     {
         let king_attack = king_attack_of::<R>(board, king);
@@ -186,8 +185,7 @@ impl Threats {
 
     /// Replaces these threats with the threats to the king of the side to move, which is on `king`.
     pub fn recompute<R: Rules>(&mut self, board: &Board, king: Square)
-        ensures { IsWellFormed board.now → IsKnown R.rule
-            → king_square board.now.men board.now.turn ≡ Some king
+        ensures { IsWellFormed board.now → king_square board.now.men board.now.turn ≡ Some king
             → AreThreatsOf R.rule board.now self.new }
     {
         self.king_attack = king_attack_of::<R>(board, king);
@@ -198,21 +196,13 @@ impl Threats {
         self.steps = StepCache::none();
     }
 
-    /// Returns whether threats can be computed under these rules: a capture does no more than remove a
-    /// man, which may be reborn.
-    pub fn are_known<R: Rules>() -> bool
-        ensures { result ≡ true → IsKnown R.rule }
-    {
-        !R::captures_do_more() || R::captures_are_reborn()
-    }
-
     /// Returns whether these are the threats of the board's position. Positions with the same men,
     /// castling squares and side to move have the same threats.
     pub fn are_of<R: Rules>(&self, board: &Board) -> bool
         requires { IsWellFormed board.now }
         ensures { result ≡ true → AreThreatsOf R.rule board.now self.now }
     {
-        Threats::are_known::<R>() && is_of::<R>(&self.king_attack, board)
+        is_of::<R>(&self.king_attack, board)
     }
 
     /// Returns the risky squares among `squares`: squares where the arrival of the man on `from` by a
@@ -271,7 +261,7 @@ impl Threats {
         if from == self.king_attack.king {
             return false;
         }
-        !R::captures_do_more() && squares & self.needed == 0
+        !R::captures_are_reborn() && squares & self.needed == 0
     }
 
     /// Returns whether these threats show that no reply to the move mates. `false` says nothing.

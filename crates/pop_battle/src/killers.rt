@@ -85,8 +85,8 @@ impl<R: Rules> Killers<R> {
         }
     }
 
-    /// Computes the threats in the board's position and keeps them, or keeps none if the rules don't allow
-    /// it or the side to move has no king.
+    /// Computes the threats in the board's position and keeps them; keeps none if the side to
+    /// move has no king.
     pub fn renew_threats(&mut self, board: &Board)
         requires well_formed { IsWellFormed board.now }
         ensures { IfSome self.new.threats (λ t. AreThreatsOf R.rule board.now t) }
@@ -95,10 +95,6 @@ impl<R: Rules> Killers<R> {
             self.threats = None;
             return;
         };
-        if !Threats::are_known::<R>() {
-            self.threats = None;
-            return;
-        }
         match &mut self.threats {
             Some(threats) => threats.recompute::<R>(board, king),
             None => self.threats = Some(Threats::of::<R>(board, king)),

@@ -2,7 +2,7 @@
 ghost use Rattle.std.specs.Prelude.{◌+◌, ◌-◌, ◌≡◌, ◌≤◌, IfSome, None, Some, false, true};
 ghost use Rattle.chess_core.specs.Position.{king_square};
 ghost use Rattle.chess_core.specs.WellFormed.{IsWellFormed};
-ghost use Rattle.chess_attacks.specs.RuleSet.{captures_do_more};
+ghost use Rattle.chess_attacks.specs.RuleSet.{captures_are_reborn};
 ghost use Rattle.chess_rules.specs.Legal.{is_legal, moves as legal_moves};
 ghost use Rattle.chess_rules.specs.Play.{position_after};
 ghost use Rattle.chess_rules.specs.ties.Filtering.{SomeFails};
@@ -150,7 +150,7 @@ fn value_by_trial<R: Rules>(board: &mut Board, search_state: &mut SearchState<R>
 #[inline(never)]
 fn keeps_flight<R: Rules>(board: &mut Board, king: Square) -> bool
     requires well_formed { IsWellFormed board.old }
-    requires captures { captures_do_more R.rule ≡ false }
+    requires captures { captures_are_reborn R.rule ≡ false }
     requires king { king_square board.old.men board.old.turn ≡ Some king }
     ensures unchanged { board.new ≡ board.old }
     ensures defence { result ≡ true
@@ -185,7 +185,7 @@ fn surely_escapes<R: Rules>(board: &mut Board) -> bool
     ensures defence { result ≡ true
         → SomeFails R.rule board.old (allows_mate R.rule board.old) }
 {
-    if R::captures_do_more() || !are_few_men(board) {
+    if R::captures_are_reborn() || !are_few_men(board) {
         return false;
     }
     let Some(king) = board.king_of(board.turn()) else {

@@ -13,7 +13,7 @@ use Rattle.chess_core.specs.declared.man.Move.{Move}
 use Rattle.chess_rules.specs.Legal.{is_arrival_free, is_legal, is_pseudo_legal}
 use Rattle.chess_rules.specs.Play.{capture_square}
 use Rattle.chess_attacks.specs.Reaches.{reaches_as}
-use Rattle.chess_attacks.specs.RuleSet.{RuleSet, captures_do_more}
+use Rattle.chess_attacks.specs.RuleSet.{RuleSet, captures_are_reborn}
 use Rattle.chess_attacks.specs.ties.Outward.{is_reached}
 use Rattle.chess_attacks.specs.ties.Occupancy.{DescribesMen, sight_after}
 use Rattle.chess_rules.specs.ties.Exposure.{is_simple}
@@ -37,7 +37,7 @@ has_flight rule p = some_square (is_flight rule p)
 unfoldable pub is_open : RuleSet → List (Option Man) → Colour → ℕ → ℕ → Bool
 is_open rule men c k t =
     reaches_as men c King k t && is_arrival_free c (man_on men t)
-    && not (captures_do_more rule && is_some (man_on men t))
+    && not (captures_are_reborn rule && is_some (man_on men t))
 
 -- the king of colour c on k may step to each square of w, attacked or not
 pub record AreOpen (rule : RuleSet) (men : List (Option Man)) (c : Colour) (k w : ℕ) : Type 0 where
@@ -48,7 +48,7 @@ pub record AreOpen (rule : RuleSet) (men : List (Option Man)) (c : Colour) (k w 
 pub record AreSteps (rule : RuleSet) (men : List (Option Man)) (x : Man) (c : Colour) (k w : ℕ) : Type
     0 where
   pub inside : (t : ℕ) → t < 64 → (bit_at w t == 1) ≡ true → is_open rule men c k t ≡ true
-  pub outside : same_kind x.kind King ≡ false → captures_do_more rule ≡ false → (t : ℕ) → t < 64
+  pub outside : same_kind x.kind King ≡ false → captures_are_reborn rule ≡ false → (t : ℕ) → t < 64
       → (bit_at w t == 1) ≡ false → is_open rule men c k t ≡ false
 
 -- x may make the simple move m, and the enemy king is on k; if x is a king, it doesn't arrive next to k

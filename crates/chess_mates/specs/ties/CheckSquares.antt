@@ -15,7 +15,7 @@ use Rattle.chess_flights.specs.ties.Approaches.{ArePromotions}
 use Rattle.chess_attacks.specs.Attacks.{in_check}
 use Rattle.chess_rules.specs.Legal.{is_legal}
 use Rattle.chess_rules.specs.Play.{position_after}
-use Rattle.chess_attacks.specs.RuleSet.{RuleSet, captures_are_reborn, captures_do_more, orthodox}
+use Rattle.chess_attacks.specs.RuleSet.{RuleSet, captures_are_reborn, orthodox}
 use Rattle.chess_attacks.specs.ties.Lines.{is_two_files_aside}
 use Rattle.chess_rules.specs.ties.Blockers.{may_expose, may_be_hurdle}
 use Rattle.chess_rules.specs.ties.Targets.{is_promoting}
@@ -65,7 +65,7 @@ check_squares_for s Nightrider = s.nightrider
 -- a promoted pawn may give check
 pub record PromotesQuietly (rule : RuleSet) (p : Position) (v : CheckSquares) (t : ℕ) : Type 0 where
   pub kinds : (k : Kind) → may_promote p k ≡ true → is_promotion false k ≡ true
-  pub plain : captures_do_more rule ≡ false
+  pub plain : captures_are_reborn rule ≡ false
   pub off : (bit_at v.promotions t == 1) ≡ false
 
 -- a pawn that promotes on a square not in w gives no check

@@ -16,7 +16,7 @@ use Rattle.chess_core.specs.declared.man.Kind.TheVariants.{Bishop, King, Pawn, R
 use Rattle.chess_core.specs.declared.man.Man.{Man}
 use Rattle.chess_core.specs.declared.man.Move.{Move}
 use Rattle.chess_core.specs.ties.Words.{word}
-use Rattle.chess_attacks.specs.RuleSet.{RuleSet, captures_do_more, like_men_paralyse}
+use Rattle.chess_attacks.specs.RuleSet.{RuleSet, captures_are_reborn, like_men_paralyse}
 use Rattle.chess_attacks.specs.ties.Lines.{is_advance, is_on_some, occupied_squares}
 use Rattle.chess_rules.specs.ties.Blockers.{cannot_expose, is_fairy, may_expose, may_be_hurdle}
 use Rattle.chess_rules.specs.ties.Filtering.{is_of_others}
@@ -26,7 +26,7 @@ use Rattle.chess_rules.specs.ties.Filtering.{is_of_others}
 pub record AreParriesKnown (rule : RuleSet) (p : Position) (x : Man) (m : Move) : Type 0 where
   pub mortal : same_kind x.kind King ≡ false
   pub unpromoted : m.promo ≡ None
-  pub reborn : captures_do_more rule ≡ false
+  pub reborn : captures_are_reborn rule ≡ false
   pub able : like_men_paralyse rule ≡ false
   pub cannot_expose : cannot_expose rule p (other p.turn) m ≡ true
 

@@ -1,5 +1,5 @@
 -- A plain move from a square that a queen on the king's square doesn't reach opens no line to the king.
-use Rattle.chess_rules.proofs.Chess.{AtMostOneKing, Bishop, Bool, Colour, Diagonal, Direction, East, Grasshopper, IsWellFormed, Kind, King, List, Man, Move, Nightrider, None, North, NorthEast, NorthWest, Option, Position, Queen, Rook, RuleSet, Some, South, SouthEast, SouthWest, Step, Straight, West, [], and_from, and_parts, and_right, any_kept, ap, arith, arriving_man, bit_at, bit_not, bit_or, cannot_expose, capture_square, captures_do_more, cases_Bool, cases_eq, cond-false, cond-true, diagonal_steps, differs, eq-eqb, every_square, false, false_from_ne_true, false≢true, find_first, find_square_some, has_fairy, hops, in_check, inl, inr, is_attacked, is_attacked_at, is_attacker, is_rider_beyond, is_castling, is_checker, is_checker_at, is_man, is_of_colour, is_on_fairy_line, is_on_some, is_plain, is_promotion_right, is_pseudo_legal, is_reached, is_blocking, is_square, joined, king_square, knight_steps, length, list_any, list_any-append, man_on, may_expose, may_expose_at, may_be_hurdle, moved_men, not, not-true, not_zero, or_cases, or_left, or_parts, or_right, other, position_after, position_after_by, queen_steps, reaches, reaches_as, reborn_square, refl, rider_along, rides, rules, same_colour, same_kind, second_fails, some_square_false, some_square_true, squares, squares_either, squares_of, squares_same, step_of, steps_along, straight_steps, sym, true, w64, word, word_empty, word_has, ℕ, ◌&&◌, ◌<◌, ◌==◌, ◌||◌, ◌∙◌, ◌∷◌, ◌≡◌, ◌≢◌}
+use Rattle.chess_rules.proofs.Chess.{AtMostOneKing, Bishop, Bool, Colour, Diagonal, Direction, East, Grasshopper, IsWellFormed, Kind, King, List, Man, Move, Nightrider, None, North, NorthEast, NorthWest, Option, Position, Queen, Rook, RuleSet, Some, South, SouthEast, SouthWest, Step, Straight, West, [], and_from, and_parts, and_right, any_kept, ap, arith, arriving_man, bit_at, bit_not, bit_or, cannot_expose, capture_square, captures_are_reborn, cases_Bool, cases_eq, cond-false, cond-true, diagonal_steps, differs, eq-eqb, every_square, false, false_from_ne_true, false≢true, find_first, find_square_some, has_fairy, hops, in_check, inl, inr, is_attacked, is_attacked_at, is_attacker, is_rider_beyond, is_castling, is_checker, is_checker_at, is_man, is_of_colour, is_on_fairy_line, is_on_some, is_plain, is_promotion_right, is_pseudo_legal, is_reached, is_blocking, is_square, joined, king_square, knight_steps, length, list_any, list_any-append, man_on, may_expose, may_expose_at, may_be_hurdle, moved_men, not, not-true, not_zero, or_cases, or_left, or_parts, or_right, other, position_after, position_after_by, queen_steps, reaches, reaches_as, reborn_square, refl, rider_along, rides, rules, same_colour, same_kind, second_fails, some_square_false, some_square_true, squares, squares_either, squares_of, squares_same, step_of, steps_along, straight_steps, sym, true, w64, word, word_empty, word_has, ℕ, ◌&&◌, ◌<◌, ◌==◌, ◌||◌, ◌∙◌, ◌∷◌, ◌≡◌, ◌≢◌}
 use Rattle.chess_rules.specs.declared.legality.blockers.RiderLines.{RiderLines}
 use Rattle.chess_attacks.proofs.rays.Ends.{square_is}
 use Rattle.chess_rules.proofs.legality.FairyLines.{Holds, WasThere, fairy_parts, hopper_before, nightrider_before, once, ride_kept}
@@ -223,7 +223,7 @@ captures_there p x m s off h = grind (arith, cases_Bool, cond-true, cond-false, 
 pub record IsPlain (rule : RuleSet) (p : Position) (x : Man) (m : Move) : Type 0 where
   pub castling : is_castling x m ≡ false
   pub crossed : is_square p.crossed m.to ≡ false
-  pub rebirth : captures_do_more rule ≡ true → capture_square p x m ≡ None
+  pub rebirth : captures_are_reborn rule ≡ true → capture_square p x m ≡ None
 
 -- where nobody castles, the moved men are those once the man has arrived
 pub moved_plainly : (p : Position) (x : Man) (m : Move) → is_castling x m ≡ false → moved_men p x m ≡ arrived p x m
@@ -232,13 +232,13 @@ moved_plainly p x m h = rw h refl
 
 -- where nobody is reborn
 pub unreborn_after : (rule : RuleSet) (p : Position) (x : Man) (m : Move) → man_on p.men m.from ≡ Some x
-    → (captures_do_more rule ≡ true → capture_square p x m ≡ None) → (position_after rule p m).men ≡ moved_men p x m
+    → (captures_are_reborn rule ≡ true → capture_square p x m ≡ None) → (position_after rule p m).men ≡ moved_men p x m
 unfolding position_after position_after_by reborn_square
 unreborn_after rule p x m here rebirth = search rules
 
 -- where nobody is reborn and nobody castles, the men after the move are those after the arrival
 pub simple_after : (rule : RuleSet) (p : Position) (x : Man) (m : Move) → man_on p.men m.from ≡ Some x → is_castling x m ≡ false
-    → (captures_do_more rule ≡ true → capture_square p x m ≡ None) → (position_after rule p m).men ≡ arrived p x m
+    → (captures_are_reborn rule ≡ true → capture_square p x m ≡ None) → (position_after rule p m).men ≡ arrived p x m
 simple_after rule p x m here castling rebirth = unreborn_after rule p x m here rebirth ∙ moved_plainly p x m castling
 
 -- after a plain move the men are those after the arrival

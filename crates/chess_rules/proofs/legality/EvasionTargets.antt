@@ -1,5 +1,5 @@
 -- A move that doesn't arrive where a check is parried isn't legal.
-use Rattle.chess_rules.proofs.Chess.{AreEvasions, AreEvasionsFrom, IsWellFormed, King, Man, Move, Position, RuleSet, Some, and_left, and_parts, and_right, ap, arith, bit_and, bit_at, bit_not, bit_or, captures_do_more, cases_Bool, like_men_paralyse, false, is_castling, is_plain, is_promoting, is_some, is_square, man_on, may_arrive, off_left, off_right, refl, rules, same_kind, true, w64, word, word_has, ℕ, ◌<◌, ◌==◌, ◌∙◌, ◌≡◌}
+use Rattle.chess_rules.proofs.Chess.{AreEvasions, AreEvasionsFrom, IsWellFormed, King, Man, Move, Position, RuleSet, Some, and_left, and_parts, and_right, ap, arith, bit_and, bit_at, bit_not, bit_or, captures_are_reborn, cases_Bool, like_men_paralyse, false, is_castling, is_plain, is_promoting, is_some, is_square, man_on, may_arrive, off_left, off_right, refl, rules, same_kind, true, w64, word, word_has, ℕ, ◌<◌, ◌==◌, ◌∙◌, ◌≡◌}
 use Rattle.chess_rules.proofs.legality.StayingInCheck.{check_unmet}
 use Rattle.chess_rules.proofs.listing_moves.Targeting.{arrival_needed, every_square_on, false_by, no_promotion_here}
 use Rattle.chess_rules.proofs.listing_moves.Arrivals.{may_go_aimed}
@@ -8,7 +8,7 @@ use Rattle.chess_rules.proofs.listing_moves.Walks.{off_second}
 -- a move that isn't castling, captures nobody en passant and, in Circe, nobody at all, is plain: by the words of the squares where that may be
 pub plain_elsewhere : (rule : RuleSet) (p : Position) (x : Man) (m : Move) (b d : ℕ) → m.to < 64 → is_castling x m ≡ false
     → b ≡ word (λ t. is_square p.crossed t) → (bit_at b m.to == 1) ≡ false
-    → (captures_do_more rule ≡ true → d ≡ word (λ t. is_some (man_on p.men t))) → (bit_at d m.to == 1) ≡ false → is_plain rule p x m ≡ true
+    → (captures_are_reborn rule ≡ true → d ≡ word (λ t. is_some (man_on p.men t))) → (bit_at d m.to == 1) ≡ false → is_plain rule p x m ≡ true
 unfolding is_plain
 plain_elsewhere rule p x m b d small no_castling crossed off-b reborn off-d = search (rules, and_left, and_right, cases_Bool, word_has)
 
@@ -18,7 +18,7 @@ evasions_from_all rule p f = search (rules, every_square_on)
 
 module _ (rule : RuleSet) (p : Position) (x : Man) (f : ℕ) (well : IsWellFormed p) (here : man_on p.men f ≡ Some x) (piece : same_kind x.kind King ≡ false)
     (d a b c e : ℕ) (evasion_squares : AreEvasions rule p.men p.turn a) (crossed : b ≡ word (λ t. is_square p.crossed t))
-    (reborn : captures_do_more rule ≡ true → c ≡ word (λ t. is_some (man_on p.men t)))
+    (reborn : captures_are_reborn rule ≡ true → c ≡ word (λ t. is_some (man_on p.men t)))
     (promoted : like_men_paralyse rule ≡ true → e ≡ word (is_promoting x))
     (targets : (q : Position) (t : ℕ) → t < 64 → may_arrive q x f t ≡ true → (bit_at d t == 1) ≡ true) where
   -- another man than the king needs an evasion, the en passant square, in Circe an occupied square and in

@@ -1,5 +1,5 @@
 -- Whether a move leaves its own king in check, decided by the attacks after it.
-use Rattle.chess_rules.proofs.Chess.{DescribesMenAfter, AreOthers, DescribesMen, Bool, Colour, IsWellFormed, Kind, King, List, Man, Move, None, Option, Position, RuleSet, Some, and_from, and_left, and_parts, ap, arith, arriving_man, bit_at, capture_square, captures_do_more, cases_Bool, cases_eq, cond-false, cond-true, differs, eq-eqb, like_men_paralyse, attacks_like, is_attacked_by_like, false, false≢true, in_check, is_arrival_free, is_arriving_as, is_attacked, is_attacked_at, is_castling, is_man, is_of_colour, is_paralysed, is_promotion_right, is_pseudo_legal, is_simple, is_some, is_square, joined, king_after, king_square, man_on, not, not-true, not_zero, or_parts, other, own_after, position_after, reaches, refl, rules, same_colour, same_colour-refl, same_colour-true, same_kind, shared, sight_after, some_square, squares_not, squares_of, squares_same, subst, sym, true, word, word_empty, word_has, ℕ, ◌&&◌, ◌<◌, ◌==◌, ◌||◌, ◌∙◌, ◌≡◌}
+use Rattle.chess_rules.proofs.Chess.{DescribesMenAfter, AreOthers, DescribesMen, Bool, Colour, IsWellFormed, Kind, King, List, Man, Move, None, Option, Position, RuleSet, Some, and_from, and_left, and_parts, ap, arith, arriving_man, bit_at, capture_square, captures_are_reborn, cases_Bool, cases_eq, cond-false, cond-true, differs, eq-eqb, like_men_paralyse, attacks_like, is_attacked_by_like, false, false≢true, in_check, is_arrival_free, is_arriving_as, is_attacked, is_attacked_at, is_castling, is_man, is_of_colour, is_paralysed, is_promotion_right, is_pseudo_legal, is_simple, is_some, is_square, joined, king_after, king_square, man_on, not, not-true, not_zero, or_parts, other, own_after, position_after, reaches, refl, rules, same_colour, same_colour-refl, same_colour-true, same_kind, shared, sight_after, some_square, squares_not, squares_of, squares_same, subst, sym, true, word, word_empty, word_has, ℕ, ◌&&◌, ◌<◌, ◌==◌, ◌||◌, ◌∙◌, ◌≡◌}
 use Rattle.chess_attacks.specs.declared.occupancy.Occupancy.{Occupancy}
 use Rattle.chess_attacks.proofs.attacks.Attacking.{attacked_by}
 use Rattle.chess_attacks.proofs.rays.Ends.{square_is}
@@ -13,7 +13,7 @@ use Rattle.chess_rules.proofs.making_moves.Stays.{moved_sound}
 -- the parts of a simple move
 pub record IsSimple (rule : RuleSet) (p : Position) (x : Man) (m : Move) : Type 0 where
   pub castling : is_castling x m ≡ false
-  pub rebirth : captures_do_more rule ≡ true → capture_square p x m ≡ None
+  pub rebirth : captures_are_reborn rule ≡ true → capture_square p x m ≡ None
 
 simple_parts : (rule : RuleSet) (p : Position) (x : Man) (m : Move) → is_simple rule x m (is_some (capture_square p x m)) ≡ true → IsSimple rule p x m
 simple_parts rule p x m h = grind (arith, and_parts, not-true)

@@ -1,5 +1,5 @@
 -- Moves that are legal without a test of each.
-use Rattle.chess_rules.proofs.Chess.{AreCandidates, AreLegal, Bool, IsAimed, IsWellFormed, King, Man, Move, None, Pawn, Position, RuleSet, Some, and_from, and_left, arith, bit_and, bit_at, bit_or, cannot_expose, captures_do_more, eqb-true, false, if◌then◌else◌, is_legal, is_plain, is_promoting, is_some, is_square, is_untested, joined, last_rank, man_on, may_expose, may_be_hurdle, or_parts, rank_of, refl, rules, same_kind, squares_same, sym, true, word, word_empty, word_has, ℕ, ◌&&◌, ◌<◌, ◌==◌, ◌∙◌, ◌≡◌}
+use Rattle.chess_rules.proofs.Chess.{AreCandidates, AreLegal, Bool, IsAimed, IsWellFormed, King, Man, Move, None, Pawn, Position, RuleSet, Some, and_from, and_left, arith, bit_and, bit_at, bit_or, cannot_expose, captures_are_reborn, eqb-true, false, if◌then◌else◌, is_legal, is_plain, is_promoting, is_some, is_square, is_untested, joined, last_rank, man_on, may_expose, may_be_hurdle, or_parts, rank_of, refl, rules, same_kind, squares_same, sym, true, word, word_empty, word_has, ℕ, ◌&&◌, ◌<◌, ◌==◌, ◌∙◌, ◌≡◌}
 use Rattle.chess_rules.proofs.legality.Blocking.{cannot_expose_own}
 use Rattle.chess_rules.proofs.listing_moves.Arrivals.{aimed_plain, goes_on, may_go_aimed}
 use Rattle.chess_rules.proofs.listing_moves.Targeting.{no_pawn_arrives}
@@ -44,7 +44,7 @@ reborn_word b test = search (rules, word_empty)
 -- the word of the squares that aren't sure: the en passant square, those with men that may be reborn, a
 -- pawn's last rank, and those from which a move may expose the king
 pub unsure_word : (rule : RuleSet) (p : Position) (x : Man) (c r l v : ℕ) → c ≡ word (λ t. is_square p.crossed t)
-    → r ≡ (if captures_do_more rule then word (λ t. is_some (man_on p.men t)) else 0) → l ≡ word (is_promoting x)
+    → r ≡ (if captures_are_reborn rule then word (λ t. is_some (man_on p.men t)) else 0) → l ≡ word (is_promoting x)
     → v ≡ word (may_expose p.men p.turn) → bit_or (bit_or (bit_or c r) l) v ≡ word (is_untested rule p x)
 unfolding is_untested
 unsure_word rule p x c r l v hc hr hl hv = joined _ _ _ _ (joined _ _ _ _ (joined _ _ _ _ hc (hr ∙ reborn_word _ _)) hl) hv

@@ -16,7 +16,7 @@ use Rattle.chess_attacks.specs.ties.Lines.{is_lined, is_on_some}
 use Rattle.chess_attacks.specs.Reaches.{reaches, rides}
 use Rattle.chess_rules.specs.declared.legality.blockers.RiderLines.{RiderLines}
 use Rattle.chess_rules.specs.declared.legality.blockers.RiderLines.TheVariants.{Straight, Diagonal}
-use Rattle.chess_attacks.specs.RuleSet.{RuleSet, captures_do_more}
+use Rattle.chess_attacks.specs.RuleSet.{RuleSet, captures_are_reborn}
 use Rattle.chess_attacks.specs.ties.Outward.{is_reached}
 
 -- men of this kind are fairy men that move along lines: riders or hoppers
@@ -101,7 +101,7 @@ rider_along Diagonal = Bishop
 unfoldable pub is_plain : RuleSet → Position → Man → Move → Bool
 is_plain rule p x m =
     not (is_castling x m) && not (is_square p.crossed m.to)
-    && not (captures_do_more rule && is_some (man_on p.men m.to))
+    && not (captures_are_reborn rule && is_some (man_on p.men m.to))
 
 -- the move of this man, if there is one, can't expose the king of colour c
 abbrev pub cannot_expose_of : RuleSet → Position → Option Man → Colour → Move → Bool

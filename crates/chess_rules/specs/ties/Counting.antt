@@ -6,7 +6,7 @@ use Rattle.chess_core.specs.Squares.{is_square}
 use Rattle.chess_core.specs.ties.Words.{word}
 use Rattle.chess_core.specs.declared.man.Man.{Man}
 use Rattle.chess_rules.specs.Legal.{is_legal}
-use Rattle.chess_attacks.specs.RuleSet.{RuleSet, captures_do_more}
+use Rattle.chess_attacks.specs.RuleSet.{RuleSet, captures_are_reborn}
 use Rattle.chess_rules.specs.declared.listing_moves.counting.Candidates.{Candidates}
 use Rattle.chess_rules.specs.declared.listing_moves.counting.Legality.TheVariants.{Sure}
 use Rattle.chess_rules.specs.declared.listing_moves.legal_moves.LegalityMasks.{LegalityMasks}
@@ -23,7 +23,7 @@ pub record IsKnownIn (rule : RuleSet) (p : Position) (k : LegalityMasks) : Type 
 -- captures a man that is reborn, or promotes; or a move from t may expose the king, as from its fairy lines
 unfoldable pub is_untested : RuleSet → Position → Man → ℕ → Bool
 is_untested rule p x t =
-    is_square p.crossed t || (captures_do_more rule && is_some (man_on p.men t)) || is_promoting x t
+    is_square p.crossed t || (captures_are_reborn rule && is_some (man_on p.men t)) || is_promoting x t
     || may_expose p.men p.turn t
 
 -- each move of the man on s to a square of the bitboard w is legal and doesn't promote

@@ -12,12 +12,12 @@ use Rattle.chess_core.specs.declared.man.Man.{Man}
 use Rattle.chess_core.specs.declared.man.Move.{Move}
 use Rattle.chess_attacks.specs.ties.Lines.{occupied_squares}
 use Rattle.chess_rules.specs.Play.{arriving_man, is_castling}
-use Rattle.chess_attacks.specs.RuleSet.{RuleSet, captures_do_more}
+use Rattle.chess_attacks.specs.RuleSet.{RuleSet, captures_are_reborn}
 use Rattle.chess_attacks.specs.declared.occupancy.Occupancy.{Occupancy}
 
 -- the move of x does no more than move it and remove at most one captured man
 abbrev pub is_simple : RuleSet → Man → Move → Bool → Bool
-is_simple rule x m captures = not (is_castling x m) && not (captures_do_more rule && captures)
+is_simple rule x m captures = not (is_castling x m) && not (captures_are_reborn rule && captures)
 
 -- x arrives on s by the move m as a man of kind k
 abbrev pub is_arriving_as : Man → Move → Kind → ℕ → Bool

@@ -12,7 +12,7 @@ ghost use Rattle.chess_attacks.specs.ties.Lines.{is_on_some, occupied_squares};
 ghost use Rattle.chess_attacks.specs.Reaches.{reaches, rides};
 ghost use Rattle.chess_core.specs.ties.Words.{squares_of, word};
 ghost use Rattle.chess_rules.specs.ties.Blockers.{AreRides, cannot_expose, has_fairy, has_fairy_lines, is_checker, is_plain, is_line_rider, is_blocking, may_expose, may_be_hurdle, rider_along, steps_along};
-ghost use Rattle.chess_attacks.specs.RuleSet.{captures_do_more};
+ghost use Rattle.chess_attacks.specs.RuleSet.{captures_are_reborn};
 
 use crate::making_moves::play::is_castling;
 use chess_attacks::Rules;
@@ -291,7 +291,7 @@ pub(crate) fn is_plain<R: Rules>(board: &Board, man: Man, m: &Move) -> bool
 {
     !is_castling(man, m)
         && board.crossed() != Some(m.to)
-        && !(R::captures_do_more() && board.man_at(m.to).is_some())
+        && !(R::captures_are_reborn() && board.man_at(m.to).is_some())
 }
 
 // Returns whether a man on the square may be a hurdle for an enemy grasshopper that attacks the colour's

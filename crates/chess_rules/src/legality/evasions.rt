@@ -8,7 +8,7 @@ ghost use Rattle.chess_rules.specs.ties.Evasions.{AreEvasionsFrom, AreEvasions, 
 ghost use Rattle.chess_rules.specs.ties.Blockers.{cannot_expose, is_checker, is_plain, may_expose};
 ghost use Rattle.chess_rules.specs.Legal.{is_pseudo_legal};
 ghost use Rattle.chess_rules.specs.Play.{position_after};
-ghost use Rattle.chess_attacks.specs.RuleSet.{captures_do_more, like_men_paralyse};
+ghost use Rattle.chess_attacks.specs.RuleSet.{captures_are_reborn, like_men_paralyse};
 ghost use Rattle.chess_rules.specs.ties.Targets.{is_promoting};
 
 use crate::legality::blockers::{cannot_expose, has_fairy_lines, is_plain};
@@ -121,10 +121,10 @@ fn leaves_check<R: Rules>(board: &Board, evasion_squares: Squares, m: &Move) -> 
 /// Returns the squares on which a capture does more than take a man off the board: all occupied squares in
 /// Circe, none elsewhere.
 pub fn rebirth_captures<R: Rules>(board: &Board) -> Squares
-    ensures { result ≡ (if captures_do_more R.rule then word (λ s. is_some (man_on board.now.men s))
+    ensures { result ≡ (if captures_are_reborn R.rule then word (λ s. is_some (man_on board.now.men s))
         else 0) }
 {
-    if R::captures_do_more() {
+    if R::captures_are_reborn() {
         occupied(board)
     } else {
         0

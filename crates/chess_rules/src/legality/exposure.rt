@@ -37,7 +37,7 @@ fn king_after(board: &Board, man: Man, m: &Move) -> Option<Square>
 pub fn is_simple<R: Rules>(man: Man, m: &Move, captures: bool) -> bool
     ensures { result ≡ is_simple R.rule man m.now captures }
 {
-    !is_castling(man, m) && !(R::captures_do_more() && captures)
+    !is_castling(man, m) && !(R::captures_are_reborn() && captures)
 }
 
 // Returns the arrival square if the man that arrives there is of this kind; otherwise no square.

@@ -26,7 +26,7 @@ use Rattle.chess_flights.specs.ties.Approaches.{AreApproached, IsLeft, MayBecome
 use Rattle.chess_threats.specs.ties.LastingFlights.{KeepsOne, targets_for}
 use Rattle.chess_rules.specs.Play.{rebirth}
 use Rattle.chess_attacks.specs.Reaches.{leaps, reaches_as}
-use Rattle.chess_attacks.specs.RuleSet.{RuleSet, captures_do_more, like_men_paralyse}
+use Rattle.chess_attacks.specs.RuleSet.{RuleSet, captures_are_reborn, like_men_paralyse}
 use Rattle.chess_attacks.specs.ties.Lines.{is_on_some}
 use Rattle.chess_rules.specs.ties.Targets.{is_promoting, may_arrive}
 use Rattle.chess_flights.specs.ties.Guards.{reached_over, IsNear, IsReached, is_rider, IsAttackedOver}
@@ -88,9 +88,9 @@ pub record AreHomes (men : List (Option Man)) (c : Colour) (w : ℕ) : Type 0 wh
 pub record AreClosed (rule : RuleSet) (p : Position) (w : ℕ) : Type 0 where
   pub own : (s : ℕ) → s < 64 → is_of_colour (man_on p.men s) p.turn ≡ true
       → (bit_at w s == 1) ≡ true
-  pub others : captures_do_more rule ≡ true → (s : ℕ) → s < 64
+  pub others : captures_are_reborn rule ≡ true → (s : ℕ) → s < 64
       → is_some (man_on p.men s) ≡ true → (bit_at w s == 1) ≡ true
-  pub homes : captures_do_more rule ≡ true → AreHomes p.men p.turn w
+  pub homes : captures_are_reborn rule ≡ true → AreHomes p.men p.turn w
 
 -- v describes the position, with the defender to move
 pub record IsKingAttackOf (rule : RuleSet) (p : Position) (v : KingAttack) : Type 0 where
@@ -445,7 +445,7 @@ pub record IsPromotionMet (w : ℕ) (c : Colour) (targets k : ℕ) : Type 0 wher
 
 -- except in Circe, the king keeps a flight after its step to t, whatever is played next
 pub record KeepsFlight (rule : RuleSet) (v : KingAttack) (t : ℕ) : Type 0 where
-  pub captures : captures_do_more rule ≡ false
+  pub captures : captures_are_reborn rule ≡ false
   pub near : ℕ
   pub adjacent : AreAdjacent v t near
   pub keeps : KeepsOne v.men near
@@ -474,14 +474,14 @@ IsDecidedStep rule v t = IsSparedStep rule v t ⊎ IsBarred rule v t
 -- ones on paralysis and captures
 pub record IsStepCacheOf (v : KingAttack) (k : StepCache) : Type 0 where
   pub reported : (rule : RuleSet) → like_men_paralyse rule ≡ k.stand_still
-      → captures_do_more rule ≡ k.do_more → (t : ℕ) → t < 64
+      → captures_are_reborn rule ≡ k.reborn → (t : ℕ) → t < 64
       → (bit_at k.steps t == 1) ≡ true → (bit_at k.risky t == 1) ≡ false
       → IsDecidedStep rule v t
 
 -- the king's step to t is plain: t is next to it, and in Circe empty
 pub record IsPlainStep (rule : RuleSet) (v : KingAttack) (t : ℕ) : Type 0 where
   pub near : list_any (leaps v.king t) queen_steps ≡ true
-  pub empty : captures_do_more rule ≡ true → (bit_at v.hurdles t == 1) ≡ false
+  pub empty : captures_are_reborn rule ≡ true → (bit_at v.hurdles t == 1) ≡ false
 
 -- no attacker is a hopper
 pub record AreUnhopping (a : Attackers) : Type 0 where

@@ -11,12 +11,8 @@ use Rattle.chess_flights.specs.ties.Mates.{mates_after}
 use Rattle.chess_threats.specs.ties.KingAttack.{IsKingAttack, IsKingAttackOf, IsWhole}
 use Rattle.chess_rules.specs.Legal.{is_legal}
 use Rattle.chess_rules.specs.Play.{capture_square, halfway, is_castling, is_double_step, position_after}
-use Rattle.chess_attacks.specs.RuleSet.{RuleSet, captures_are_reborn, captures_do_more}
+use Rattle.chess_attacks.specs.RuleSet.{RuleSet}
 use Rattle.chess_rules.specs.ties.Targets.{is_promoting, may_arrive}
-
--- threats can be computed: a capture does no more than remove a man, which may be reborn
-pub record IsKnown (rule : RuleSet) : Type 0 where
-  pub captures : captures_do_more rule ≡ true → captures_are_reborn rule ≡ true
 
 -- what contracts see of threats: the king attack
 pub record ThreatsSeen : Type 0 where
@@ -24,7 +20,6 @@ pub record ThreatsSeen : Type 0 where
 
 -- the threats belong to this position
 pub record AreThreatsOf (rule : RuleSet) (p : Position) (t : ThreatsSeen) : Type 0 where
-  pub reported : IsKnown rule
   pub fits : IsKingAttackOf rule p t.king_attack
   pub king_attack : IsKingAttack t.king_attack
   pub whole : IsWhole t.king_attack
