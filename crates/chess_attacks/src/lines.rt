@@ -7,9 +7,8 @@ ghost use Rattle.chess_core.specs.Squares.{some_square};
 ghost use Rattle.chess_core.specs.declared.man.Colour.{Colour};
 ghost use Rattle.chess_core.specs.declared.man.Kind.TheVariants.{Grasshopper, Nightrider};
 ghost use Rattle.chess_core.specs.ties.Words.{squares_of, word};
-ghost use Rattle.chess_attacks.specs.ties.Lines.{IsStop, IsUpTo, direction_number, flat_steps, is_ahead, is_on_some, occupied_squares, ray, rises, steep_steps, step_of};
+ghost use Rattle.chess_attacks.specs.ties.Lines.{IsStop, IsUpTo, direction_number, flat_steps, is_ahead, is_on_some, occupied_squares, ray, rises, steep_steps, step_of, is_lined};
 ghost use Rattle.chess_attacks.specs.ties.Outward.{hopped_from};
-ghost use Rattle.chess_attacks.specs.ties.Lines.{is_lined};
 ghost use Rattle.chess_attacks.specs.Reaches.{hops, rides};
 
 use crate::geometry::{DIAGONAL_LINES, RAYS, STRAIGHT_LINES};

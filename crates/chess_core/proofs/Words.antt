@@ -1,6 +1,5 @@
 -- Laws of bitboards: their bits, one bit set or cleared, and unions.
-use Rattle.chess_core.proofs.Basics.{Bool, List, [], and_le_l, ap, arith, bit_and, bit_at, bit_at-pow_other, bit_at-pow_same, bit_at-suc, bit_at-trailing_zeros, bit_at-zero, bit_at_and, bit_at_clear_other, bit_at_clear_same, bit_at_lowest, bit_at_not, bit_at_or, bit_at_set_other, bit_at_set_same, bit_not, bit_of, bit_or, cases_eq, eq-eqb, eqb, false, get_or}
-use Rattle.chess_core.proofs.Basics.{get_or-set_other, get_or-set_same, inl, inr, length, length-set, max, min, ne_eqb, not, one_shl, or_lt, refl, rules, same_from_bits_below, set, some_square, squares, subst, suc, sym, trailing_zeros, true, w64, word, word_of, zero, ℕ, ◌%◌, ◌&&◌, ◌*◌, ◌+◌, ◌-◌, ◌<◌, ◌^◌, ◌||◌, ◌∙◌, ◌∷◌, ◌≡◌}
+use Rattle.chess_core.proofs.Basics.{Bool, List, [], and_le_l, ap, arith, bit_and, bit_at, bit_at-pow_other, bit_at-pow_same, bit_at-suc, bit_at-trailing_zeros, bit_at-zero, bit_at_and, bit_at_clear_other, bit_at_clear_same, bit_at_lowest, bit_at_not, bit_at_or, bit_at_set_other, bit_at_set_same, bit_not, bit_of, bit_or, cases_eq, eq-eqb, eqb, false, get_or, get_or-set_other, get_or-set_same, inl, inr, length, length-set, max, min, ne_eqb, not, one_shl, or_lt, refl, rules, same_from_bits_below, set, some_square, squares, subst, suc, sym, trailing_zeros, true, w64, word, word_of, zero, ℕ, ◌%◌, ◌&&◌, ◌*◌, ◌+◌, ◌-◌, ◌<◌, ◌^◌, ◌||◌, ◌∙◌, ◌∷◌, ◌≡◌}
 use Rattle.std.proofs.lemmas.List.FromFn.{get_or-range_with_len}
 use Rattle.chess_core.proofs.Ranges.{some_square_true, some_square_false}
 

@@ -1,10 +1,9 @@
 -- What a man reaches doesn't depend on the man on the square that it reaches.
 use Rattle.chess_attacks.proofs.Basics.{Bool, List, Option, Some, [], and_left, arith, cases_Bool, false, false_from_ne_true, is_some, list_all, list_any, or_from, range_with_len, refl, rules, suc, zero, ℕ, ◌&&◌, ◌+◌, ◌-◌, ◌<◌, ◌||◌, ◌∙◌, ◌∷◌, ◌≡◌, ◌≢◌, ◌≤◌}
 use Rattle.chess_attacks.proofs.Chess.{Bishop, Black, Colour, Direction, East, Gait, Hopper, Kind, Knight, Leaper, Man, Nightrider, North, NorthEast, NorthWest, Pawn, Rider, Rook, South, SouthEast, SouthWest, Step, West, White, along, any_range_false, any_range_same, gait_of, goes_by, hops, is_clear, is_occupied, is_square, kind_steps, leaps, man_on, place, reaches_as, rides, step_of}
-use Rattle.chess_attacks.proofs.rays.Ends.{square_is}
+use Rattle.chess_attacks.proofs.rays.Ends.{square_is, stays}
 use Rattle.chess_attacks.proofs.rays.Lined.{knight_directions, queen_directions}
 use Rattle.chess_attacks.proofs.rays.Ahead.{Ordered, ordered}
-use Rattle.chess_attacks.proofs.rays.Ends.{stays}
 
 -- two boards have men on equal squares, except perhaps t
 pub record StandAlike (men others : List (Option Man)) (t : ℕ) : Type 0 where

@@ -1,12 +1,11 @@
 -- Taking a move back restores the position before it.
 use Rattle.chess_rules.proofs.Chess.{CanCastle, CanReturn, IsSome, IsWellFormed, Kind, List, Man, Move, None, Option, Position, RuleSet, Some, and_parts, arith, arriving_man, before_by, capture_square, captured_man, cases_Bool, corner, halfway, inl, inr, is_castling, is_en_passant_square_right, is_promotion_right, is_pseudo_legal, leaving_man, length, length-set, man_on, man_on-with_same, man_on-without_other, man_on-without_same, man_on_at, moved_men, position_after, position_after_by, put_at, reborn_square, refl, return_square, returned_men, rules, same_kind-true, true, uncastled_men, undo_by, undo_of, without_at, without_man, ℕ, ◌<◌, ◌∙◌, ◌≡◌}
 use Rattle.chess_core.specs.Undo.{Undo}
-use Rattle.chess_rules.proofs.making_moves.Pseudo.{made}
+use Rattle.chess_rules.proofs.making_moves.Pseudo.{made, IsCastle, IsMade}
 use Rattle.chess_rules.proofs.making_moves.Back.{lift_after_place, place_after_lift, unborn, uncastled}
 use Rattle.chess_rules.proofs.making_moves.Castles.{no_king_left, same_colour_self}
 use Rattle.chess_rules.proofs.making_moves.Fits.{IsPopped, arrived, can_move, castle_of, corner_stays, some_there, taken}
 use Rattle.chess_rules.proofs.making_moves.Plays.{capture_clears, length-without_at}
-use Rattle.chess_rules.proofs.making_moves.Pseudo.{IsCastle, IsMade}
 use Rattle.chess_rules.proofs.making_moves.Stays.{captured_mortal, move_man_other, moved_sound, reborn_is, rebirth_small, maker}
 
 -- the men once origin and square of capture are cleared

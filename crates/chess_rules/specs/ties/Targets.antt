@@ -9,9 +9,8 @@ use Rattle.chess_core.specs.declared.man.Kind.TheVariants.{King, Pawn}
 use Rattle.chess_core.specs.declared.man.Man.{Man}
 use Rattle.chess_core.specs.declared.man.Move.{Move}
 use Rattle.chess_attacks.specs.Attacks.{is_paralysed}
-use Rattle.chess_attacks.specs.Reaches.{forward}
+use Rattle.chess_attacks.specs.Reaches.{forward, reaches_as}
 use Rattle.chess_rules.specs.Legal.{is_arrival_free, last_rank, is_pawn_step}
-use Rattle.chess_attacks.specs.Reaches.{reaches_as}
 use Rattle.chess_attacks.specs.RuleSet.{RuleSet}
 use Rattle.chess_rules.specs.declared.listing_moves.move_filter.TargetCache.{TargetCache}
 

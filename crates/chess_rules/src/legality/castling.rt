@@ -2,9 +2,8 @@
 ghost use Rattle.std.specs.Prelude.{◌≡◌, ◌≤◌, ◌-◌, ℕ, Some, length};
 ghost use Rattle.std.specs.List.{list_all, range_with_len};
 ghost use Rattle.chess_core.specs.Position.{man_on};
-ghost use Rattle.chess_core.specs.WellFormed.{IsWellFormed};
+ghost use Rattle.chess_core.specs.WellFormed.{IsWellFormed, is_vacant};
 ghost use Rattle.chess_rules.specs.Legal.{can_castle, may_castle, squares_between};
-ghost use Rattle.chess_core.specs.WellFormed.{is_vacant};
 
 use crate::making_moves::play::{corner, halfway, is_castling};
 use chess_attacks::{Rules, in_check};
