@@ -51,6 +51,7 @@ lowest_goes n pos fits =
       here = eq-eqb _ 1 z.1;
       first = λ t lt. grind (arith, z.2 t lt);
       gone = grind (arith, less.here, bit_at_and n (n - 1) (trailing_zeros w64 n));
-      others = λ t other. grind (arith, cases_lt t (trailing_zeros w64 n), cases_eq t (trailing_zeros w64 n), less.above t, z.2 t, bit_at_and n (n - 1) t, bit_at-lt n t);
+      others = λ t other.
+          grind (arith, cases_lt t (trailing_zeros w64 n), cases_eq t (trailing_zeros w64 n), less.above t, z.2 t, bit_at_and n (n - 1) t, bit_at-lt n t);
       fewer = omega (arith, and_le_r n (n - 1));
     }

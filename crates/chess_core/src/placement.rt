@@ -9,13 +9,19 @@ use crate::man::{Colour, Kind, Man};
 use crate::square::{Square, Squares};
 use std::marker::Model;
 
+// A bitboard for each kind, at the kind's number.
+type ByKind = [Squares; 8];
+
+// A bitboard for each colour, at the colour's number.
+type BySide = [Squares; 2];
+
 /// The men on the squares, with bitboards of the men of each kind and of each colour, which make a
 /// search for them needless. Contracts see the men square by square, a1 first.
 #[derive(Clone, Copy)]
 pub(crate) struct Placement {
     array: [Option<Man>; 64],
-    by_kind: [Squares; 8],
-    by_side: [Squares; 2],
+    by_kind: ByKind,
+    by_side: BySide,
 }
 
 impl Model for Placement {
@@ -31,7 +37,11 @@ impl Model for Placement {
 
     ghost invariant = { λ p. (length p.array ≡ 64) × Agrees p.array p.by_kind p.by_side };
 
-    ghost inverse = { λ v. record { array = v; by_kind = kind_bitboards v; by_side = side_bitboards v } };
+    ghost inverse = { λ v. record {
+      array = v;
+      by_kind = kind_bitboards v;
+      by_side = side_bitboards v;
+    } };
 
     ghost inverse_ok = { λ p h i. record p {
       by_kind = sym h.1.kinds_are i;

@@ -156,7 +156,8 @@ fn are_rebirths_quiet<R: Rules>(board: &Board) -> bool
 #[inline(always)]
 fn checking_rebirths<R: Rules>(board: &Board) -> Squares
     ensures { are_rebirths_quiet R.rule board.now.men board.now.turn ≡ false
-        → captures_are_reborn R.rule ≡ true → result ≡ word (λ s. is_some (man_on board.now.men s)) }
+        → captures_are_reborn R.rule ≡ true
+        → result ≡ word (λ s. is_some (man_on board.now.men s)) }
 {
     if are_rebirths_quiet::<R>(board) {
         return 0;

@@ -74,7 +74,8 @@ module _ (rule : RuleSet) (p : Position) (v : KingAttack) (squares w : ℕ) (wel
       mine = king.mine;
       king = king.king;
       small = small;
-      near = grind (arith, plain.near, free, and_from, cases_Bool (captures_are_reborn rule), plain.empty, hurdle_is rule p v king_attack whole fits t small apart);
+      near =
+          grind (arith, plain.near, free, and_from, cases_Bool (captures_are_reborn rule), plain.empty, hurdle_is rule p v king_attack whole fits t small apart);
     }
 
     legal_is : is_legal rule p m ≡ not (is_attacked rule (arrived p x m) t (other p.turn))

@@ -122,7 +122,10 @@ module _ (rule : RuleSet) (p : Position) where
       skip : (b : ℕ) → ((t : ℕ) → t < b → (bit_at rest t == 1) ≡ false) → b ≤ 64 → h.at ≤ per_arrival * b
           → between (per_origin * s + h.at) (per_origin * s + end) ≡ between (per_origin * s + per_arrival * b) (per_origin * s + end)
       skip b off fits le =
-          let passing : AreCandidates rule p (passes_to w (is_legal rule p)) s w = record { inside = are.inside; outside = λ m at to out. grind (arith, out) } in
+          let passing : AreCandidates rule p (passes_to w (is_legal rule p)) s w = record {
+            inside = are.inside;
+            outside = λ m at to out. grind (arith, out);
+          } in
           let plain = none-plain rule p (is_legal rule p) (is_legal-idle rule p) s w rest h.at b (per_arrival * b) passing none
           (λ t lt on out from. grind (arith, h.left t lt)) off (omega arith) fits in
           count_over _ _ _ (omega arith) (omega arith) (none-to _ _ _ _ s w h.at (per_arrival * b) (omega arith) are (λ m off. off) plain)

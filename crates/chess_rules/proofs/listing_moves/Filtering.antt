@@ -57,7 +57,8 @@ module _ (rule : RuleSet) (p : Position) (test : Move → Bool) where
   -- over a range without a wanted move the same moves that pass are left
   pub wanted-none : (a b : ℕ) → (b < all_triples → a ≤ b) → b ≤ all_triples → NonePass (is_unfiltered rule p test) a b
       → filter test (moves_after rule p a) ≡ filter test (moves_after rule p b)
-  wanted-none = over (λ n. filter test (moves_after rule p n)) (is_unfiltered rule p test) wanted-skip [] (λ n ge. ap (filter test) (moves_after-end rule p n ge))
+  wanted-none =
+      over (λ n. filter test (moves_after rule p n)) (is_unfiltered rule p test) wanted-skip [] (λ n ge. ap (filter test) (moves_after-end rule p n ge))
 
   -- up to a legal move, by its number
   pub filtered_numbered : (a n c : ℕ) → a ≤ n → n < all_triples → c ≡ length (moves_between rule p a n) → NonePass (is_unfiltered rule p test) a n

@@ -63,7 +63,8 @@ is_rider_beyond men e j ds k s q = is_line_rider men e j ds k q && list_any (rid
 
 -- s blocks a line between k and a line rider of colour e: riders on both reach it
 unfoldable pub is_blocking : List (Option Man) → Colour → Kind → List Step → ℕ → ℕ → Bool
-is_blocking men e j ds k s = list_any (rides men k s) ds && some_square (is_rider_beyond men e j ds k s)
+is_blocking men e j ds k s =
+    list_any (rides men k s) ds && some_square (is_rider_beyond men e j ds k s)
 
 -- an enemy of colour c on s reaches the king's square, if there is a king
 abbrev pub is_checker_at : List (Option Man) → Option ℕ → Colour → ℕ → Bool

@@ -23,8 +23,8 @@ pub record IsKnownIn (rule : RuleSet) (p : Position) (k : LegalityMasks) : Type 
 -- captures a man that is reborn, or promotes; or a move from t may expose the king, as from its fairy lines
 unfoldable pub is_untested : RuleSet → Position → Man → ℕ → Bool
 is_untested rule p x t =
-    is_square p.crossed t || (captures_are_reborn rule && is_some (man_on p.men t)) || is_promoting x t
-    || may_expose p.men p.turn t
+    is_square p.crossed t || (captures_are_reborn rule && is_some (man_on p.men t))
+    || is_promoting x t || may_expose p.men p.turn t
 
 -- each move of the man on s to a square of the bitboard w is legal and doesn't promote
 pub record AreLegal (rule : RuleSet) (p : Position) (s w : ℕ) : Type 0 where
@@ -41,6 +41,7 @@ pub record AreExact (rule : RuleSet) (p : Position) (s w : ℕ) : Type 0 where
 
 -- all legal moves of the man on s go to the candidate squares; if their legality is `Sure`, it has one to
 -- each
-pub record AreKnownCandidates (rule : RuleSet) (p : Position) (s : ℕ) (c : Candidates) : Type 0 where
+pub record AreKnownCandidates (rule : RuleSet) (p : Position) (s : ℕ)
+    (c : Candidates) : Type 0 where
   pub candidates : AreCandidates rule p (is_legal rule p) s c.squares
   pub legal : c.legality ≡ Sure → AreLegal rule p s c.squares

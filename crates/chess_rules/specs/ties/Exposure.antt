@@ -31,8 +31,8 @@ own_after men v x m k =
 
 -- v describes `men`, the men after the move m of x: x's side as in `own_after`, the other side where it
 -- stood
-pub record DescribesMenAfter (before men : List (Option Man)) (x : Man) (m : Move) (v : Occupancy) : Type
-    0 where
+pub record DescribesMenAfter (before men : List (Option Man)) (x : Man) (m : Move)
+    (v : Occupancy) : Type 0 where
   pub occupied : v.occupied ≡ occupied_squares men
   pub own : (k : Kind) → own_after before v x m k ≡ squares_of men x.colour k
   pub others : (s : ℕ) → is_of_colour (man_on men s) (other x.colour) ≡ true

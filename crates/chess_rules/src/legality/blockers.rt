@@ -160,8 +160,8 @@ fn blocking_squares(
     rides: Squares,
 ) -> Squares
     requires { AreRides board.now.men colour (rider_along lines) (steps_along lines) square rides }
-    ensures { result ≡ word (is_blocking board.now.men colour (rider_along lines) (steps_along lines)
-        square) }
+    ensures { result ≡ word (is_blocking board.now.men colour (rider_along lines)
+        (steps_along lines) square) }
 {
     let riders = riders_on_lines(board, colour, square, lines);
     if riders == 0 {

@@ -121,8 +121,8 @@ fn leaves_check<R: Rules>(board: &Board, evasion_squares: Squares, m: &Move) -> 
 /// Returns the squares on which a capture does more than take a man off the board: all occupied squares in
 /// Circe, none elsewhere.
 pub fn rebirth_captures<R: Rules>(board: &Board) -> Squares
-    ensures { result ≡ (if captures_are_reborn R.rule then word (λ s. is_some (man_on board.now.men s))
-        else 0) }
+    ensures { result ≡ (if captures_are_reborn R.rule
+        then word (λ s. is_some (man_on board.now.men s)) else 0) }
 {
     if R::captures_are_reborn() {
         occupied(board)

@@ -35,7 +35,8 @@ pub trait FilteredMoves {
     fn filter_moves<R: Rules>(&mut self, board: &Board, from: Square, squares: Squares) -> Squares
         requires well_formed { IsWellFormed board.now }
         requires fits { fits self.old R.rule board.now }
-        ensures filtered { AreFiltered R.rule board.now (test R.rule board.now) from squares result }
+        ensures filtered { AreFiltered R.rule board.now (test R.rule board.now) from squares
+            result }
         ensures same { self.new ≡ self.old };
 
     /// Returns exactly the squares to which the man on `from` has legal moves, or `None` if the filter
@@ -125,7 +126,8 @@ pub(crate) fn next_unfiltered<R: Rules, S: FilteredMoves>(
     requires none { passed.old ≡ 0 }
     ensures low { result < all_triples → start ≤ result }
     ensures high { result ≤ all_triples }
-    ensures none { NonePass (is_unfiltered R.rule board.old (S.test R.rule board.old)) start result }
+    ensures none { NonePass (is_unfiltered R.rule board.old (S.test R.rule board.old)) start
+        result }
     ensures legal { result < all_triples → is_legal R.rule board.old (triple_at result) ≡ true }
     ensures passed { passed.new ≡ length (moves_between R.rule board.old start result) }
     ensures same { filter_moves.new ≡ filter_moves.old }

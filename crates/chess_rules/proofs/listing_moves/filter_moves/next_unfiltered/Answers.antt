@@ -20,8 +20,8 @@ pub returns-then-at-lt-PER_ORIGIN-clause-none : goal.returns-then-at-lt-PER_ORIG
 returns-then-at-lt-PER_ORIGIN-clause-none g c =
     walk_to _ _ _ _ _ _ _ _ c.loop-from.invariant.none c.in-Some.ensures.taken (omega (arith, c.from-first.ensures, c.index.ensures.value))
     c.saturating_sub-begin.ensures
-    (none-to _ _ _ _ _ _ _ _ c.next_of_man-at.ensures.high (rw c.loop-from.invariant.board at c.unfiltered_squares-wanted.ensures.wanted) (λ m h. and_left _ _ h)
-    (rw c.loop-from.invariant.board at c.next_of_man-at.ensures.none))
+    (none-to _ _ _ _ _ _ _ _ c.next_of_man-at.ensures.high (rw c.loop-from.invariant.board at c.unfiltered_squares-wanted.ensures.wanted)
+    (λ m h. and_left _ _ h) (rw c.loop-from.invariant.board at c.next_of_man-at.ensures.none))
 
 pub loop-from-preserved : goal.loop-from-preserved
 loop-from-preserved g c =
