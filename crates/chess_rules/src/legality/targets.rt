@@ -1,4 +1,4 @@
-//! The squares where a man may arrive, and the numbers of its triples.
+//! The squares where a man may arrive.
 ghost use Rattle.std.specs.Prelude.{◌≡◌, ◌==◌, ℕ, ◌<◌, ◌&&◌, true};
 ghost use Rattle.chess_core.specs.Castling.{has_unmoved};
 ghost use Rattle.chess_core.specs.Position.{man_on, Position};

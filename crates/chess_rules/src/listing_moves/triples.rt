@@ -1,4 +1,5 @@
-//! The triples of origin, arrival and promotion by their numbers: the order of moves.
+//! Triples of origin, arrival and promotion by their numbers, which are the order of moves. Cursors count
+//! triples: after a move they are at its number plus 1.
 ghost use Rattle.std.specs.Prelude.{◌≡◌, ◌<◌, ◌≤◌};
 ghost use Rattle.chess_rules.specs.ties.Places.{HasNoMoveFrom, NamesMove, all_triples, per_origin, promotion_at, triple_at};
 
