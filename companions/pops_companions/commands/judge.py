@@ -9,11 +9,12 @@ from pops_companions import command
 from pops_companions.command import CommandError, Status
 from pops_companions.input.given import given_problems
 from pops_companions.many.program import LOOKED_FOR, MissingError, find
+from pops_companions.many.tries_program import TRIES_LOOKED_FOR, find_tries
 from pops_companions.report.source import is_input
 from pops_companions.review.beside import Beside
 from pops_companions.review.judged_groups import judged_groups
 from pops_companions.review.judgement_text import MOST_LINES, Tally, as_text
-from pops_companions.review.judging_run import TRIES_LOOKED_FOR, Runs, Work, find_tries
+from pops_companions.review.judging_run import Runs, Work
 from pops_companions.review.reading import reviewed_unfinished_report
 from pops_companions.review.sheet import Evidence, sheet
 

@@ -23,11 +23,6 @@ from pops_companions.input.writing import text_of_problems
 from pops_companions.report.source import UNFINISHED
 from pops_companions.review.posing import posed_problems
 
-TRIES_LOOKED_FOR = (
-    "the program pops-tries (default: $POPS_TRIES, the one next to pops, the one on the PATH)"
-)
-
-
 @dataclass(frozen=True)
 class Runs:
     """How problems are solved: by which program, in how many processes, for how many seconds each.
@@ -39,23 +34,6 @@ class Runs:
     tries: Optional[str]
     jobs: Optional[int]
     seconds: Optional[float]
-
-
-def find_tries(named: Optional[str], pops: str) -> Optional[str]:
-    """Returns the program that shows tries and threats; None where there is none."""
-    named = named or os.environ.get("POPS_TRIES")
-    if named:
-        found = shutil.which(named)
-        if found is None:
-            raise CommandError(Status.DEVICE, f"there is no program {named}")
-        return found
-    beside = Path(pops).resolve().parent
-    built = beside.parent.parent / "pops_tries" / "out" / "pops_tries"
-    for place in (str(beside / "pops-tries"), str(built), "pops-tries"):
-        found = shutil.which(place)
-        if found is not None:
-            return found
-    return None
 
 
 class Work:
