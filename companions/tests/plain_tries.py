@@ -106,8 +106,8 @@ class Writer:
         reading = read_piece(self._text, piece)
         head = [f"problem {piece.number}"]
         if reading.number is not None:
-            line = self._text.rstrip(b"\n").count(b"\n") + 1
-            line = line if reading.at is None else reading.word.line
+            end = self._text.count(b"\n") + 1
+            line = end if reading.at is None else reading.word.line
             fault = f"fault {reading.number.value}: {FAULT_TEXTS[reading.number]}"
             return [*head, f"line {line}: {fault}"], None
         placed = {it: reading.men[it].man.letter for it in reading.men}
