@@ -151,21 +151,27 @@ def _attacks(men: str, origin: int, place: int) -> bool:
     return place in _ever_attacked(men[origin], origin) and place in attacked(men, origin)
 
 
+def _places(men: str, man: str) -> Iterator[int]:
+    """The squares of all men like this one."""
+    place = men.find(man)
+    while place >= 0:
+        yield place
+        place = men.find(man, place + 1)
+
+
 def is_paralysed(men: str, place: int) -> bool:
     """Madrasi: an enemy man of its kind attacks the man, which is no king."""
     like = men[place].swapcase()
-    others = (other for other, man in enumerate(men) if man == like)
-    return like not in "Kk" and any(_attacks(men, other, place) for other in others)
+    return like not in "Kk" and any(_attacks(men, it, place) for it in _places(men, like))
 
 
 def is_attacked(rules: Rules, men: str, place: int, colour: Colour) -> bool:
     """Whether a man of this colour that can move attacks the square."""
     own = "KQRBSPGN" if colour is Colour.WHITE else "kqrbspgn"
     return any(
-        man in own
-        and _attacks(men, origin, place)
-        and not (rules.is_madrasi and is_paralysed(men, origin))
-        for origin, man in enumerate(men)
+        _attacks(men, origin, place) and not (rules.is_madrasi and is_paralysed(men, origin))
+        for man in own
+        for origin in _places(men, man)
     )
 
 

@@ -4,7 +4,6 @@ import tempfile
 import unittest
 from pathlib import Path
 
-from pops_companions.review.judging_run import lines_below_head
 from tests import support, test_pages, test_soundness
 
 ONE = b"BeginProblem\nTitle A mate\nOrigin A & B 1900\nPieces White Kg6 Ra1 Black Kg8\nStipulation #1\n"
@@ -95,21 +94,17 @@ class Judging(unittest.TestCase):
     def test_tries_where_the_program_is(self) -> None:
         tries = self.script(
             "tries",
-            "cat > /dev/null\nprintf 'problem 1\\ntitle: A mate\\n8 ......k.\\n#1\\n1.Ra1-a8#!\\n\\n'\n",
+            "cat > /dev/null\nprintf 'problem 1\\ntitle: A mate\\n#1\\nplay\\n1.Ra1-a8#!\\n"
+            "solutions: 1\\ntries\\ntries: 0\\n\\n'\n",
         )
         outcome = self.judged("--pops-tries", tries)
         self.assertEqual((outcome.status, outcome.error), (0, ""))
         one, two = self.articles()
         self.assertIn("tries and threats", one.words)
-        self.assertIn("1.Ra1-a8#!", one.words)
+        self.assertIn("play\n1.Ra1-a8#!\nsolutions: 1\ntries\ntries: 0", one.words)
         self.assertNotIn("tries and threats", two.words)
         missing = self.judged("--pops-tries", "nowhere/tries")
         self.assertEqual(missing.status, 3)
-
-    def test_the_lines_of_tries(self) -> None:
-        text = "problem 1\n1 K.......\n  abcdefgh\ns#2 Circe\nplay\n1.a2-a3!\n\n"
-        self.assertEqual(lines_below_head(text), ["play", "1.a2-a3!"])
-        self.assertEqual(lines_below_head("problem 1\nline 2: fault 14: square expected\n\n"), [])
 
     def test_twins_have_one_verdict(self) -> None:
         self.text.write_bytes(

@@ -118,7 +118,7 @@ def judge(settings: Settings) -> Status:
     work.solve()
     short: Optional[str] = str(work.short) if work.solve_shorter(given) else None
     tries = work.tries(text, given)
-    beside = Beside(NAME, settings.solutions, settings.collection, short)
+    beside = Beside(NAME, settings.solutions, settings.collection, short, tries)
     tally = Tally()
     most = None if settings.all else MOST_LINES
     with reviewed_unfinished_report(
@@ -127,7 +127,8 @@ def judge(settings: Settings) -> Status:
         judgements = beside.judgements(items)
         judged = list(judged_groups(judgements, given, settings.encoding, settings.apart))
     heading = settings.heading or Path(settings.collection).stem
-    evidence = Evidence(tries, settings.encoding, most)
+    lines = {number: item.lines for number, item in tries.items()}
+    evidence = Evidence(lines, settings.encoding, most)
     page = sheet(tally.counted(judged), tally, heading, evidence)
     with command.written(settings.output) as target:
         target.write(page.encode("utf-8", "replace"))
