@@ -66,7 +66,7 @@ def _distance(one: str, other: str) -> int:
 
 
 def made_text(seed: int, number: int) -> bytes:
-    """An input of so many problems, of which a few are faulty."""
+    """An input of `number` problems, of which a few are faulty."""
     chance = random.Random(seed)
     problems: list[list[str]] = []
     while len(problems) < number:

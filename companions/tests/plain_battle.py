@@ -57,7 +57,7 @@ class Battle:
         return move_text(self.rules, position, move) + mark
 
     def wins(self, moves: int, position: Position) -> bool:
-        """Whether White, to move, wins within so many moves."""
+        """Whether White, to move, wins within this number of moves."""
         if moves == 0:
             return False
         key = (moves, position)
@@ -68,14 +68,14 @@ class Battle:
         return self._won[key]
 
     def keeps_win(self, moves: int, position: Position) -> bool:
-        """Whether White wins after his move that led here, the first of so many."""
+        """Whether White wins after his first move of this number, which led here."""
         if self.form is Play.DIRECT and (moves == 1 or self.is_goal(position)):
             return self.is_goal(position)
         replies = self.moves(position)
         return bool(replies) and all(self.is_met(moves, position, it) for it in replies)
 
     def refutations(self, moves: int, position: Position) -> list[Move]:
-        """The replies to White's first move of so many after which he doesn't win any more."""
+        """The replies to White's first move of this number that he doesn't win against."""
         return [it for it in self.moves(position) if not self.is_met(moves, position, it)]
 
     def is_met(self, moves: int, position: Position, reply: Move) -> bool:

@@ -27,7 +27,7 @@ _ROOKS = {"a1": "R", "h1": "R", "e1": "K", "a8": "r", "h8": "r", "e8": "k"}
 
 @dataclass(frozen=True)
 class Asked:
-    """A problem of battle play, and what is asked of it."""
+    """A problem of battle play with its options."""
 
     battle: Battle
     moves: int

@@ -304,9 +304,9 @@ class Forms(Case):
         marks = "".join(chr(code) for code in range(33, 127)) + " Réti"
         strange = WITH_FAIRY_MEN.replace(b"Sam Loyd", marks.encode())
         for place, text in enumerate((TWINS, SEVERAL_THREATS, ORGAN_PIPES, strange)):
-            for figures in ([], ["--figures"]):
+            for option in ("--apart", "--figures"):
                 source = self.room / f"sheet-{place}.tex"
-                source.write_bytes(self.sheet(text, "--to", "latex", *figures).output)
+                source.write_bytes(self.sheet(text, "--to", "latex", option).output)
                 words = ["latex", "-interaction=nonstopmode", "-halt-on-error", source.name]
                 done = subprocess.run(words, cwd=self.room, capture_output=True, timeout=120)
                 self.assertEqual(done.returncode, 0, done.stdout[-2000:])
@@ -326,7 +326,7 @@ class Forms(Case):
 
     def test_authors(self) -> None:
         """One person, surname first or last, is one entry; two are two."""
-        for text, names, entries in (
+        cases: list[tuple[str, Optional[list[str]], list[str]]] = [
             ("Loyd, Samuel", ["Samuel Loyd"], ["Loyd, Samuel"]),
             ("Samuel Loyd", ["Samuel Loyd"], ["Loyd, Samuel"]),
             ("A. Kraemer & E. Zepler", None, ["Kraemer, A.", "Zepler, E."]),
@@ -336,7 +336,8 @@ class Forms(Case):
             ("Anonymous", ["Anonymous"], ["Anonymous"]),
             ("Paul Morphy, 1856", ["Paul Morphy, 1856"], ["Paul Morphy, 1856"]),
             ("", [], []),
-        ):
+        ]
+        for text, names, entries in cases:
             with self.subTest(text):
                 self.assertEqual([it.entry for it in persons(text)], entries)
                 if names is not None:

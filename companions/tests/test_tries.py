@@ -121,7 +121,7 @@ class Testing(unittest.TestCase):
         return run_here.companion("pops-test", *named, *words, text=report)
 
     def test_duals_only_after_defences(self) -> None:
-        """Of its seventeen duals all but one only don't parry the three threats."""
+        """Seventeen duals come after all replies, one after the only defence."""
         report = support.run([support.pops()], SEVERAL_THREATS).output
         alone = run_here.companion("pops-test", text=report).output.decode()
         self.assertIn("  17 duals at the mate: 17 on move 2\n", alone)

@@ -78,9 +78,8 @@ def command_line() -> argparse.ArgumentParser:
         "Prints the solutions of the problems of INPUT as magazines do: set play, tries and keys in\n"
         "short notation, threats, refutations, defences with the same continuations together;\n"
         "above each diagram author, title, source and award, below it stipulation and number of\n"
-        "men; at the end an index of authors. The solutions are those of pops and pops-tries,\n"
-        "which it runs unless their texts are given. Without pops-tries it shows the defences\n"
-        "that pops shows, and no threats and tries.",
+        "men; at the end an index of authors. It runs pops and pops-tries, or takes their texts.\n"
+        "Without pops-tries it shows the defences that pops shows, and no threats and tries.",
         epilog="example: pops-sheet tourney.pop --language de -o sheet.html\n"
         "         pops-sheet tourney.pop --report tourney.report --to latex -o sheet.tex\n"
         "exit status: 0 if all is well, 1 if a problem is faulty, 2 for a mistake in the command\n"
@@ -132,7 +131,7 @@ class Texts:
             self._refuse(named or "the output of pops", "no report of pops", error)
 
     def tries(self) -> dict[int, TriesItem]:
-        """Returns the problems of the text of tries; none where there is no such program."""
+        """Returns the problems of the text of tries; none without pops-tries."""
         named = self._settings.tries
         if named is not None:
             text = _read(named)

@@ -86,8 +86,8 @@ class Beside:
         tries = self._tries.get(item.number)
         if tries is not None:
             boards = {tries.board, item.board} - {None}
-            asked = {(it.stipulation, it.condition) for it in (tries, item)}
-            if len(boards) > 1 or len(asked) > 1:
+            theirs, ours = (tries.stipulation, tries.condition), (item.stipulation, item.condition)
+            if len(boards) > 1 or theirs != ours:
                 message = f"the text of tries has another problem {item.number} than the report"
                 raise CommandError(Status.DEVICE, message)
         return tries
