@@ -3,6 +3,7 @@
 The texts of tries come from the plain solver of the tests.
 """
 
+import functools
 import io
 import re
 import shutil
@@ -12,6 +13,7 @@ import tempfile
 import unittest
 from pathlib import Path
 from typing import Optional
+from unittest import mock
 
 from pops_companions.chess.men import Man, Square
 from pops_companions.report.items import SoundItem
@@ -20,7 +22,7 @@ from pops_companions.report.tries import TriesItem, read_tries
 from pops_companions.sheet.languages import LANGUAGES, marked_as
 from pops_companions.sheet.solution import Solution
 from pops_companions.show.authors import persons
-from tests import support
+from tests import run_here, support
 from tests.plain_tries import plain_tries
 
 # (from memory: the queen's square before the key isn't certain)
@@ -74,8 +76,14 @@ def lines(men: str, asked: str, play: str, tries: Optional[str] = None) -> list[
     return told
 
 
+@functools.lru_cache(maxsize=None)
+def tries_of(text: bytes) -> bytes:
+    """The text of tries of an input, made once."""
+    return plain_tries(text)
+
+
 class Case(unittest.TestCase):
-    """A folder with an input, and a program of tries."""
+    """A folder with an input, its text of tries, and a program that makes it."""
 
     def setUp(self) -> None:
         room = tempfile.TemporaryDirectory()
@@ -87,12 +95,16 @@ class Case(unittest.TestCase):
         )
         self.tries.chmod(0o755)
 
-    def sheet(self, text: bytes, *words: str, with_tries: bool = True) -> support.Outcome:
+    def sheet(self, text: bytes, *words: str) -> support.Outcome:
+        """The sheet of an input with its text of tries."""
+        (self.room / "some.tries").write_bytes(tries_of(text))
+        return self.made(text, "--tries", str(self.room / "some.tries"), *words)
+
+    def made(self, text: bytes, *words: str) -> support.Outcome:
+        """The sheet of an input, for which pops is run."""
         given = self.room / "given.pop"
         given.write_bytes(text)
-        programs = ["--pops", support.pops()]
-        programs += ["--pops-tries", str(self.tries)] if with_tries else []
-        return support.companion("pops-sheet", str(given), *programs, *words)
+        return run_here.companion("pops-sheet", str(given), "--pops", support.pops(), *words)
 
     def text(self, text: bytes, *words: str) -> str:
         outcome = self.sheet(text, "--to", "text", *words)
@@ -126,11 +138,10 @@ class Published(Case):
 
     def test_several_threats(self) -> None:
         """The key threatens three mates, and only one defence parries them all."""
-        told = self.text(SEVERAL_THREATS, "--refutations", "0")
-        (solution,) = re.findall(r"^  1\.Q.*(?:\n    .*)*", told, re.M)
+        told = self.text(SEVERAL_THREATS)
         self.assertEqual(
-            solution.split("\n"),
-            ["  1.Qf1! threat: 2.Qg1#/Qh3#/Rh3#", "    1...Bg2 2.Qxg2#/Rxg2#"],
+            told.split("  Solution\n")[1],
+            "    1.Qf1! threat: 2.Qg1#/Qh3#/Rh3#\n      1...Bg2 2.Qxg2#/Rxg2#\n",
         )
 
     def test_the_try_of_the_manual(self) -> None:
@@ -261,7 +272,7 @@ class Forms(Case):
             ("fr", "1.Df1! menace : 2.Dg1#/Dh3#/Th3#"),
         ):
             self.assertIn(wanted, self.text(SEVERAL_THREATS, "--language", language))
-        outcome = self.sheet(SEVERAL_THREATS, "--figures", "--refutations", "0")
+        outcome = self.sheet(SEVERAL_THREATS, "--figures")
         self.assertIn("1.♕f1! threat: 2.♕g1#/♕h3#/♖h3#</p>", outcome.output.decode())
         told = self.sheet(WITH_FAIRY_MEN, "--figures").output.decode()
         self.assertIn('<span class="turned">', told)
@@ -361,21 +372,26 @@ class Forms(Case):
 class Command(Case):
     def test_without_tries(self) -> None:
         """It prints what pops alone shows, and says so."""
-        missing = {"POPS_TRIES": ""}
-        outcome = self.sheet(OF_THE_MANUAL, "--to", "text", with_tries=False)
-        if outcome.error == "":
-            self.skipTest(f"pops-tries is here: {missing}")
+        with mock.patch("pops_companions.commands.sheet.find_tries", lambda *_: None):
+            outcome = self.made(OF_THE_MANUAL, "--to", "text")
         message = "pops-sheet: pops-tries isn't installed: threats and tries aren't shown\n"
         self.assertEqual((outcome.status, outcome.error), (0, message))
         self.assertIn("  1.Qb2!\n    1...Kd1,Kf1,a5 2.Rc1#\n", outcome.output.decode())
 
+    def test_a_program_of_tries(self) -> None:
+        """It is run where no text is given, for as many refutations as are asked for."""
+        words = ["--to", "text", "--pops-tries", str(self.tries)]
+        outcome = self.made(OF_THE_MANUAL, *words)
+        self.assertEqual((outcome.status, outcome.error), (0, ""))
+        self.assertEqual(outcome.output.decode(), self.text(OF_THE_MANUAL))
+        told = self.made(OF_THE_MANUAL, *words, "--refutations", "0").output.decode()
+        self.assertIn("  #2 (3 + 2)\n  1.Qb2! threat: 2.Rc1#\n", told)
+
     def test_given_texts(self) -> None:
         """Texts that are given are taken, and no program is run."""
         report = self.room / "given.report"
-        tries = self.room / "given.tries"
         report.write_bytes(support.run([support.pops()], OF_THE_MANUAL).output)
-        tries.write_bytes(plain_tries(OF_THE_MANUAL))
-        words = ["--report", str(report), "--tries", str(tries), "--pops", "/bin/false"]
+        words = ["--report", str(report), "--pops", "/bin/false"]
         outcome = self.sheet(OF_THE_MANUAL, "--to", "text", *words)
         self.assertEqual((outcome.status, outcome.error), (0, ""))
         self.assertEqual(outcome.output.decode(), self.text(OF_THE_MANUAL))
@@ -405,7 +421,7 @@ class Command(Case):
         self.assertEqual((outcome.status, outcome.output), (3, b""))
         self.assertIn("is no input of pops", outcome.error)
         self.tries.write_text("#!/bin/sh\nexit 4\n")
-        outcome = self.sheet(OF_THE_MANUAL)
+        outcome = self.made(OF_THE_MANUAL, "--pops-tries", str(self.tries))
         self.assertEqual((outcome.status, outcome.output), (3, b""))
         self.assertIn("plain-tries ended with 4", outcome.error)
 

@@ -14,7 +14,7 @@ from pops_companions.show.titles import printable
 _STYLE = """
 .line { margin: 0 0 0 calc(var(--level) * 1em + 1em); text-indent: -1em; }
 h3.block { margin-top: .4em; }
-.turned { display: inline-block; transform: rotate(180deg); }
+.turned { display: inline-block; text-indent: 0; transform: rotate(180deg); }
 .index { columns: 16em auto; }
 .index p { margin: 0 0 0 1em; text-indent: -1em; }
 article { break-inside: avoid; }

@@ -14,7 +14,9 @@ _HEAD = r"""\documentclass[a4paper]{article}
 \usepackage{diagram}
 \nocomputer
 \setlength{\parindent}{0pt}
+\setlength{\lineskip}{2ex}
 """
+_BETWEEN = "\\hspace{2em}\n"
 # White's figures of the package; its upside-down queen and knight are the fairy men.
 _FIGURES = {
     Kind.KING: "K",
@@ -39,8 +41,9 @@ def as_latex(
     men = {kind: rf"\w{name}{{}}" for kind, name in _FIGURES.items()} if figures else {}
     marks = marked_as(language, men)
     parts = [_HEAD, "\\begin{document}\n", f"\\section*{{{escaped(heading)}}}\n"]
-    parts += [f"{_diagram(entry, encoding, marks)}\n" for entry in all_entries]
-    parts.append("\\putsol\n")
+    # (the diagrams of a paragraph are set side by side, as many as a line holds)
+    parts += [_diagram(entry, encoding, marks) + _BETWEEN for entry in all_entries]
+    parts.append("\n\\putsol\n")
     index = index_of(all_entries)
     if index:
         parts.append(f"\n\\section*{{{escaped(language.authors)}}}\n")
