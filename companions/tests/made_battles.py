@@ -16,49 +16,71 @@ _WHITE = ["Q", "R", "R", "B", "S", "P", "P", "P", "G", "N"]
 _BLACK = ["Q", "R", "B", "S", "P", "P", "P", "P", "G", "N"]
 _STIPULATIONS = ["#1", "#2", "#2", "#2", "#2", "=1", "=2", "s#1", "s#2", "s=1", "s=2"]
 _CONDITIONS = ["", "", "", "Circe", "Madrasi"]
+# Where the king to be mated stands.
+_BEATEN = ["e1", "a1", "h1", "c8", "e8", "h5", "a8", "h8"]
+
+
+class _Men:
+    """The men of a problem: the king to be mated, near it the other side's men."""
+
+    def __init__(self, chance: random.Random, is_self: bool):
+        self._chance = chance
+        self._free = set(_SQUARES)
+        self._beaten = chance.choice(_BEATEN)
+        self.crossed = ""
+        self.white: list[str] = []
+        self.black: list[str] = []
+        if chance.random() < 0.15 and not is_self and self._beaten != "e1":
+            self._put(self.white, "Ke1", "Rh1")
+        if self._beaten == "e8" and chance.random() < 0.5:
+            self._put(self.black, *chance.choice([("Rh8",), ("Ra8",), ("Ra8", "Rh8")]))
+        if chance.random() < 0.15:
+            self._put_pawns(chance.choice("bcdefg"))
+        self._put(self.white if is_self else self.black, f"K{self._beaten}")
+        other = self.black if is_self else self.white
+        if not any(it.startswith("K") for it in other):
+            self._take(other, "K")
+        for kind in chance.choices(_WHITE, k=chance.randint(2, 5)):
+            self._take(self.white, kind)
+        for kind in chance.choices(_BLACK, k=chance.randint(0, 2)):
+            self._take(self.black, kind)
+
+    @property
+    def line(self) -> str:
+        return f"Pieces White {' '.join(self.white)} Black {' '.join(self.black)}"
+
+    def _put_pawns(self, file: str) -> None:
+        """A black pawn that has just made its double step, and a white one beside it."""
+        self._put(self.black, f"P{file}5")
+        self._put(self.white, f"P{chr(ord(file) + 1)}5")
+        self._free -= {f"{file}6", f"{file}7"}
+        self.crossed = f"{file}6"
+
+    def _put(self, side: list[str], *men: str) -> None:
+        side.extend(men)
+        self._free -= {man[1:] for man in men}
+
+    def _take(self, side: list[str], kind: str) -> None:
+        """Puts a man on a free square near the king to be mated, if there is one."""
+        fitting = [it for it in sorted(self._free) if kind != "P" or it[1] in "234567"]
+        close = [it for it in fitting if _distance(it, self._beaten) <= 2]
+        self._put(side, kind + self._chance.choice(close or fitting))
 
 
 def made_problem(chance: random.Random) -> list[str]:
     """The lines of a problem; it may be faulty, where a side is in check for example."""
     stipulation = chance.choice(_STIPULATIONS)
-    is_self = stipulation.startswith("s")
+    men = _Men(chance, stipulation.startswith("s"))
     condition = chance.choice(_CONDITIONS)
-    squares = set(_SQUARES)
-
-    def take(kind: str, near: str = "") -> str:
-        fitting = [it for it in sorted(squares) if kind != "P" or it[1] in "234567"]
-        close = [it for it in fitting if near and _distance(it, near) <= 2]
-        place = chance.choice(close or fitting)
-        squares.discard(place)
-        return kind + place
-
-    # (the king to be mated stands at the edge, the other side's men near it)
-    beaten = chance.choice(["e1", "a1", "h1", "c8", "e8", "h5", "a8", "h8"])
-    squares.discard(beaten)
-    white = [f"K{beaten}" if is_self else take("K", beaten)]
-    black = [take("K") if is_self else f"K{beaten}"]
-    white += [take(it, beaten) for it in chance.choices(_WHITE, k=chance.randint(2, 5))]
-    black += [take(it, beaten) for it in chance.choices(_BLACK, k=chance.randint(0, 2))]
-    if chance.random() < 0.15:
-        white, squares = _castling_men(white, squares, is_self)
-    pieces = f"Pieces White {' '.join(white)} Black {' '.join(black)}"
-    lines = [pieces, f"Stipulation {stipulation}"]
-    if condition:
-        lines.append(f"Condition {condition}")
     options = ["NoBoard"] * (chance.random() < 0.3) + ["Variation"] * (chance.random() < 0.6)
     options += ["SetPlay"] * (chance.random() < 0.5)
     options += [f"MaxSolutions {chance.randint(1, 3)}"] * (chance.random() < 0.15)
+    options += [f"EnPassant {men.crossed}"] if men.crossed else []
     options += ["NoCastling " + chance.choice(["e1", "h1", "a8 e8"])] * (chance.random() < 0.1)
-    if options:
-        lines.append("Option " + " ".join(options))
+    lines = [men.line, f"Stipulation {stipulation}"]
+    lines += [f"Condition {condition}"] if condition else []
+    lines += ["Option " + " ".join(options)] if options else []
     return lines
-
-
-def _castling_men(white: list[str], squares: set[str], is_self: bool) -> tuple[list[str], set[str]]:
-    """White with king and rook unmoved, where their squares are free."""
-    if is_self or not {"e1", "h1"} <= squares:
-        return white, squares
-    return ["Ke1", "Rh1", *white[1:]], squares - {"e1", "h1"}
 
 
 def _distance(one: str, other: str) -> int:

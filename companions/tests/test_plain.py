@@ -6,6 +6,7 @@ import unittest
 from pops_companions.chess.stipulation import Play
 from pops_companions.input.pieces import cut
 from pops_companions.input.reading import read_piece
+from pops_companions.many.tries_program import find_tries
 from pops_companions.report.moves import Mark
 from pops_companions.report.tries import FirstMove, Menace, TriesItem, read_tries
 from tests import support
@@ -49,6 +50,21 @@ class BesidePops(unittest.TestCase):
                     self.agree(text)
                 tried += 1
         self.assertGreater(tried, 15)
+
+
+class BesidePopsTries(unittest.TestCase):
+    def test_made_problems(self) -> None:
+        """All of the text: keys, threats, zugzwang, defences, tries and refutations."""
+        program = find_tries(None, support.pops())
+        if program is None:
+            print("test_plain: no pops-tries here: its text wasn't compared")
+            return
+        for seed, refutations in ((31, 0), (32, 1), (33, 3)):
+            text = made_text(seed, 25)
+            theirs = support.run([program, "--refutations", str(refutations)], text).output
+            ours = plain_tries(text, refutations)
+            for one, other in zip(ours.split(b"\n\n"), theirs.split(b"\n\n")):
+                self.assertEqual(one.decode(), other.decode())
 
 
 class Definitions(unittest.TestCase):

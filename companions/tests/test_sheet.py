@@ -377,6 +377,8 @@ class Command(Case):
         message = "pops-sheet: pops-tries isn't installed: threats and tries aren't shown\n"
         self.assertEqual((outcome.status, outcome.error), (0, message))
         self.assertIn("  1.Qb2!\n    1...Kd1,Kf1,a5 2.Rc1#\n", outcome.output.decode())
+        with mock.patch("pops_companions.commands.sheet.find_tries", lambda *_: None):
+            self.assertEqual(self.made(TWINS).error, "")
 
     def test_a_program_of_tries(self) -> None:
         """It is run where no text is given, for as many refutations as are asked for."""

@@ -10,6 +10,7 @@ from pathlib import Path
 from typing import NoReturn, Optional, Union
 
 from pops_companions import command
+from pops_companions.chess.stipulation import Play
 from pops_companions.command import CommandError, Status
 from pops_companions.input.given import GivenProblem, given_problems
 from pops_companions.input.pieces import cut
@@ -169,6 +170,11 @@ class Texts:
         }
 
 
+def is_battle(item: AnyItem) -> bool:
+    """Returns whether an item can have tries."""
+    return isinstance(item, SoundItem) and item.stipulation.play is not Play.HELP
+
+
 def _read(name: str) -> bytes:
     with command.opened(name) as source:
         return source.read()
@@ -213,7 +219,8 @@ def sheet(settings: Settings) -> Status:
     """Writes the sheet."""
     texts = Texts(settings)
     given, boards = given_problems(texts.input), texts.boards()
-    items, tries = texts.items(), texts.tries()
+    items = texts.items()
+    tries = texts.tries() if any(map(is_battle, items)) else {}
     refuse_other_texts(items, tries, given, boards)
     language = LANGUAGES[settings.language]
     made = Sheet(boards, tries, language, settings.encoding)
