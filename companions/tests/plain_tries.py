@@ -98,6 +98,10 @@ class Writer:
                 yield from _play(asked)
             yield ""
 
+    def problems(self) -> Iterator[Asked]:
+        """The problems of battle play that have no fault."""
+        return (asked for _, asked in self._items() if asked is not None)
+
     def _items(self) -> "Iterator[tuple[list[str], Asked | None]]":
         for piece, given in zip(cut(self._text), given_problems(self._text)):
             yield self._item(piece, given)
