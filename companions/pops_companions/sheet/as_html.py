@@ -45,7 +45,8 @@ class _Page:
     def of(self, entries: list[Entry], title: str) -> str:
         return "".join(
             [
-                '<!DOCTYPE html>\n<html>\n<head>\n<meta charset="utf-8">\n',
+                f'<!DOCTYPE html>\n<html lang="{self.language.code}">\n<head>\n',
+                '<meta charset="utf-8">\n',
                 '<meta name="viewport" content="width=device-width">\n',
                 f"<title>{title}</title>\n<style>{STYLE}{_STYLE}</style>\n</head>\n<body>\n",
                 diagram.shapes(),

@@ -13,8 +13,9 @@ FIGURES: Mapping[Kind, str] = dict(zip(Kind, "♔♕♖♗♘♙"))
 
 
 class Language(NamedTuple):
-    """A language: letters in the order of Kind, letters of the colours, and words."""
+    """A language: its code, letters in the order of Kind, letters of the colours, and words."""
 
+    code: str
     letters: str
     colours: str
     threat: str
@@ -32,8 +33,9 @@ class Language(NamedTuple):
         return self.letters[list(Kind).index(kind)]
 
 
-LANGUAGES: Mapping[str, Language] = {
-    "en": Language(
+_ALL = (
+    Language(
+        code="en",
         letters="KQRBSPGN",
         colours="wb",
         threat="threat:",
@@ -47,7 +49,8 @@ LANGUAGES: Mapping[str, Language] = {
         stopped="and perhaps more",
         authors="Authors",
     ),
-    "de": Language(
+    Language(
+        code="de",
         letters="KDTLSBGN",
         colours="ws",
         threat="droht:",
@@ -61,7 +64,8 @@ LANGUAGES: Mapping[str, Language] = {
         stopped="und vielleicht weitere",
         authors="Autoren",
     ),
-    "fr": Language(
+    Language(
+        code="fr",
         letters="RDTFCPSN",
         colours="bn",
         threat="menace :",
@@ -75,7 +79,8 @@ LANGUAGES: Mapping[str, Language] = {
         stopped="et peut-être d'autres",
         authors="Auteurs",
     ),
-}
+)
+LANGUAGES: Mapping[str, Language] = {it.code: it for it in _ALL}
 
 
 def colour_mark(colour: Colour) -> str:
