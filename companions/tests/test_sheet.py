@@ -274,8 +274,9 @@ class Forms(Case):
             self.assertIn(wanted, self.text(SEVERAL_THREATS, "--language", language))
         outcome = self.sheet(SEVERAL_THREATS, "--figures")
         self.assertIn("1.♕f1! threat: 2.♕g1#/♕h3#/♖h3#</p>", outcome.output.decode())
-        told = self.sheet(WITH_FAIRY_MEN, "--figures").output.decode()
+        told = self.sheet(WITH_FAIRY_MEN, "--figures", "--language", "de").output.decode()
         self.assertIn('<span class="turned">', told)
+        self.assertIn('<p class="fairy">Grashüpfer d5</p>', told)
 
     def test_a_page(self) -> None:
         outcome = self.sheet(TWINS, "--heading", "Ours & yours \ue000")

@@ -58,7 +58,7 @@ class _Page:
         )
 
     def _article(self, entry: Entry) -> str:
-        head = "".join(_head(entry))
+        head = "".join(_head(entry, self.language))
         parts = "".join(line for part in entry.parts for line in self._part(part))
         return (
             f'<article id="problem-{entry.numbers}">\n<div>\n<header>\n{head}</header>\n</div>\n'
@@ -87,7 +87,7 @@ class _Page:
             yield "</div>\n"
 
 
-def _head(entry: Entry) -> Iterator[str]:
+def _head(entry: Entry, language: Language) -> Iterator[str]:
     """Yields what is above and below a diagram, and the diagram."""
     names = " &amp; ".join(html.escape(person.name) for person in entry.authors)
     number = f'<a href="#problem-{entry.numbers}">{entry.numbers}</a>'
@@ -97,10 +97,9 @@ def _head(entry: Entry) -> Iterator[str]:
             yield f'<p class="{label}">{html.escape(text)}</p>\n'
     if entry.board is not None:
         yield diagram.diagram(entry.board) + "\n"
-    if entry.asked:
         yield (
             f'<p class="below"><span class="stipulation">{html.escape(entry.asked)}</span>'
             f' <span class="count">{entry.count}</span></p>\n'
         )
-    for name in [] if entry.board is None else diagram.fairy_men(entry.board):
-        yield f'<p class="fairy">{html.escape(name)}</p>\n'
+        for name in diagram.fairy_men(entry.board, language.fairy_men):
+            yield f'<p class="fairy">{html.escape(name)}</p>\n'

@@ -42,7 +42,7 @@ def as_latex(
     marks = marked_as(language, men)
     parts = [_HEAD, "\\begin{document}\n", f"\\section*{{{escaped(heading)}}}\n"]
     # (the diagrams of a paragraph are set side by side, as many as a line holds)
-    parts += [_diagram(entry, encoding, marks) + _BETWEEN for entry in all_entries]
+    parts += [_diagram(entry, encoding, language, marks) + _BETWEEN for entry in all_entries]
     parts.append("\n\\putsol\n")
     index = index_of(all_entries)
     if index:
@@ -54,10 +54,11 @@ def as_latex(
     return "".join(parts)
 
 
-def _diagram(entry: Entry, encoding: str, marks: dict[int, str]) -> str:
+def _diagram(entry: Entry, encoding: str, language: Language, marks: dict[int, str]) -> str:
     assert entry.board is not None
     lines = [line for part in entry.parts for line in _part(part, marks)]
-    return latex(entry.group, entry.board, encoding, Sheet(entry.numbers, entry.award, lines))
+    sheet = Sheet(entry.numbers, entry.award, lines, language.fairy_men)
+    return latex(entry.group, entry.board, encoding, sheet)
 
 
 def _part(part: Part, marks: dict[int, str]) -> list[str]:

@@ -28,6 +28,13 @@ class Language(NamedTuple):
     no_solution: str
     stopped: str
     authors: str
+    grasshopper: str
+    nightrider: str
+
+    @property
+    def fairy_men(self) -> Mapping[Kind, str]:
+        """The names of the fairy men."""
+        return {Kind.GRASSHOPPER: self.grasshopper, Kind.NIGHTRIDER: self.nightrider}
 
     def man(self, kind: Kind) -> str:
         return self.letters[list(Kind).index(kind)]
@@ -48,6 +55,8 @@ _ALL = (
         no_solution="no solution",
         stopped="and perhaps more",
         authors="Authors",
+        grasshopper="Grasshopper",
+        nightrider="Nightrider",
     ),
     Language(
         code="de",
@@ -63,6 +72,8 @@ _ALL = (
         no_solution="unlösbar",
         stopped="und vielleicht weitere",
         authors="Autoren",
+        grasshopper="Grashüpfer",
+        nightrider="Nachtreiter",
     ),
     Language(
         code="fr",
@@ -78,6 +89,8 @@ _ALL = (
         no_solution="pas de solution",
         stopped="et peut-être d'autres",
         authors="Auteurs",
+        grasshopper="Sauterelle",
+        nightrider="Noctambule",
     ),
 )
 LANGUAGES: Mapping[str, Language] = {it.code: it for it in _ALL}

@@ -1,12 +1,12 @@
 """Problems for the LaTeX package diagram, with the German letters that it takes by itself."""
 
-from collections.abc import Sequence
+from collections.abc import Mapping, Sequence
 from typing import NamedTuple, Optional
 
 from pops_companions.chess.men import Colour, Kind
 from pops_companions.report.items import Board, FaultyItem, Phase, SoundItem
 from pops_companions.show.authors import Person, persons
-from pops_companions.show.diagram import UPSIDE_DOWN, numbers_of_men
+from pops_companions.show.diagram import FAIRY_NAMES, UPSIDE_DOWN, numbers_of_men
 from pops_companions.show.titles import printable, shown
 from pops_companions.show.twins import Group, Twin
 
@@ -33,11 +33,15 @@ _SPECIAL = {
 
 
 class Sheet(NamedTuple):
-    """What a sheet says of a problem: number, award, and the lines of its solution in LaTeX."""
+    """What a sheet says of a problem: number, award, the lines of its solution in LaTeX.
+
+    `fairy_men` are the names of the fairy men.
+    """
 
     number: str
     award: str
     solution: Sequence[str]
+    fairy_men: Mapping[Kind, str]
 
 
 def latex(group: Group, board: Board, encoding: str, sheet: Optional[Sheet] = None) -> str:
@@ -58,7 +62,7 @@ def latex(group: Group, board: Board, encoding: str, sheet: Optional[Sheet] = No
     if not group.is_alone:
         changes = [twin.heading for twin in group.twins if twin.change or twin.has_own_diagram]
         lines.append(r"\twins{%s}" % r"\newline ".join(map(escaped, changes)))
-    fairy = _fairy_men(board)
+    fairy = _fairy_men(board, FAIRY_NAMES if sheet is None else sheet.fairy_men)
     if fairy:
         lines.append(r"\piecedefs{%s}" % "; ".join(fairy))
     solution: Sequence[str]
@@ -136,14 +140,14 @@ def _pieces(board: Board) -> list[str]:
     return pieces
 
 
-def _fairy_men(board: Board) -> list[str]:
+def _fairy_men(board: Board, names: Mapping[Kind, str]) -> list[str]:
     """Returns what the fairy men are called, as `{ws}{DU}{Grasshopper}`."""
     named = []
     for kind in UPSIDE_DOWN:
         colours = {man.colour for man in board.men.values() if man.kind is kind}
         if colours:
             letters = "".join(_COLOURS[colour] for colour in Colour if colour in colours)
-            named.append("{%s}{%s}{%s}" % (letters, _KINDS[kind], kind.word.title()))
+            named.append("{%s}{%s}{%s}" % (letters, _KINDS[kind], names[kind]))
     return named
 
 
