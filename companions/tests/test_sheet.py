@@ -398,16 +398,32 @@ class Command(Case):
         outcome = self.sheet(OF_THE_MANUAL, "--to", "text", *words)
         self.assertEqual((outcome.status, outcome.error), (0, ""))
         self.assertEqual(outcome.output.decode(), self.text(OF_THE_MANUAL))
-        for text, wanted in (
-            (ORGAN_PIPES, "the report isn't that of the input: problem 1 differs"),
-            (TWINS, "the report isn't that of the input: other problems"),
+        both = support.run([support.pops()], TWINS).output
+        for other, wanted in (
+            (both.split(b"problem 2\n")[0], "problem 1 differs"),
+            (both, "other problems"),
         ):
-            other = self.sheet(text, "--to", "text", *words)
-            self.assertEqual((other.status, other.error), (3, f"pops-sheet: {wanted}\n"))
+            report.write_bytes(other)
+            refused = self.sheet(OF_THE_MANUAL, "--to", "text", *words)
+            message = f"pops-sheet: the report isn't that of the input: {wanted}\n"
+            self.assertEqual((refused.status, refused.error), (3, message))
         report.write_bytes(b"nothing\n")
         refused = self.sheet(OF_THE_MANUAL, "--to", "text", *words)
         self.assertEqual(refused.status, 3)
         self.assertIn("given.report is no report of pops: line 1: ", refused.error)
+
+    def test_a_report_without_a_problem(self) -> None:
+        """pops-many leaves out what it stopped: its diagram is shown all the same."""
+        report = self.room / "given.report"
+        whole = support.run([support.pops()], TWINS).output
+        report.write_bytes(b"problem 2\n" + whole.split(b"problem 2\n")[1])
+        outcome = self.sheet(TWINS, "--to", "text", "--report", str(report))
+        self.assertEqual(outcome.status, 1)
+        self.assertEqual(outcome.error, "pops-sheet: problem 1 isn't in the report\n")
+        self.assertIn("  h#1 (2 + 1)\n", outcome.output.decode())
+        self.assertIn("1.Kg8 Rb8#", outcome.output.decode())
+        latex = self.sheet(TWINS, "--to", "latex", "--report", str(report)).output
+        self.assertIn(b"\\end{document}", latex)
 
     def test_faulty_problems(self) -> None:
         text = OF_THE_MANUAL.replace(b"#2", b"#99")

@@ -17,7 +17,7 @@ from pops_companions.input.pieces import cut
 from pops_companions.input.reading import read_piece
 from pops_companions.many.program import LOOKED_FOR, MissingError, find
 from pops_companions.many.tries_program import TRIES_LOOKED_FOR, find_tries, output_of
-from pops_companions.report.items import AnyItem, Board, FaultyItem, SoundItem
+from pops_companions.report.items import AnyItem, Board, HeadlessItem, SoundItem
 from pops_companions.report.reader import ReportError, read_report
 from pops_companions.report.source import is_input
 from pops_companions.report.tries import TriesItem, read_tries
@@ -83,8 +83,8 @@ def command_line() -> argparse.ArgumentParser:
         "Without pops-tries it shows the defences that pops shows, and no threats and tries.",
         epilog="example: pops-sheet tourney.pop --language de -o sheet.html\n"
         "         pops-sheet tourney.pop --report tourney.report --to latex -o sheet.tex\n"
-        "exit status: 0 if all is well, 1 if a problem is faulty, 2 for a mistake in the command\n"
-        "line, 3 if a text can't be read, isn't what it should be or can't be written.",
+        "exit status: 0 if all is well, 1 if a problem is faulty or not in the report, 2 for a\n"
+        "mistake in the command line, 3 if a text can't be read, isn't what it should be or can't be written.",
     )
     add = parser.add_argument
     add("input", metavar="INPUT", help="an input of pops")
@@ -170,6 +170,16 @@ class Texts:
         }
 
 
+def with_missing(items: list[AnyItem], given: list[GivenProblem]) -> list[AnyItem]:
+    """Adds the problems that a report lacks, as pops-many leaves them out, and says which."""
+    found = {item.number: item for item in items}
+    for problem in given:
+        if problem.number not in found:
+            print(f"{NAME}: problem {problem.number} isn't in the report", file=sys.stderr)
+            found[problem.number] = HeadlessItem(problem.number, "not in the report")
+    return [item for _, item in sorted(found.items())]
+
+
 def is_battle(item: AnyItem) -> bool:
     """Returns whether an item can have tries."""
     return isinstance(item, SoundItem) and item.stipulation.play is not Play.HELP
@@ -187,7 +197,8 @@ def refuse_other_texts(
     boards: dict[int, Board],
 ) -> None:
     """Raises CommandError where a text isn't of the input."""
-    if [item.number for item in items] != [problem.number for problem in given]:
+    numbers = [item.number for item in items]
+    if numbers != sorted(set(numbers)) or any(it > len(given) for it in numbers):
         raise CommandError(Status.DEVICE, "the report isn't that of the input: other problems")
     shown: list[Union[SoundItem, TriesItem]] = [it for it in items if isinstance(it, SoundItem)]
     for one in [*shown, *tries.values()]:
@@ -222,6 +233,7 @@ def sheet(settings: Settings) -> Status:
     items = texts.items()
     tries = texts.tries() if any(map(is_battle, items)) else {}
     refuse_other_texts(items, tries, given, boards)
+    items = with_missing(items, given)
     language = LANGUAGES[settings.language]
     made = Sheet(boards, tries, language, settings.encoding)
     entries = made.entries(groups(iter(items), given, settings.encoding, settings.apart))
@@ -236,8 +248,8 @@ def sheet(settings: Settings) -> Status:
         written = pdf_of(page) if settings.to == "pdf" else page.encode("utf-8", "replace")
     with command.written(settings.output) as target:
         target.write(written)
-    faulty = any(isinstance(item, FaultyItem) for item in items)
-    return Status.FAULTY if faulty else Status.GOOD
+    is_whole = all(isinstance(item, SoundItem) for item in items)
+    return Status.GOOD if is_whole else Status.FAULTY
 
 
 def main(words: list[str]) -> Status:

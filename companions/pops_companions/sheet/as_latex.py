@@ -4,6 +4,7 @@ texlive-games, texlive-pstricks)."""
 from collections.abc import Iterable
 
 from pops_companions.chess.men import Kind
+from pops_companions.report.items import SoundItem
 from pops_companions.sheet.entries import Entry, Part, index_of
 from pops_companions.sheet.languages import Language, marked_as
 from pops_companions.show.latex import Sheet, escaped, latex
@@ -35,9 +36,9 @@ def as_latex(
 ) -> str:
     """Returns the document of a sheet: diagrams, solutions, and the index of authors.
 
-    A problem without a diagram, which is faulty, is left out.
+    Problems that are faulty or not in the report are left out.
     """
-    all_entries = [entry for entry in entries if entry.board is not None and entry.asked]
+    all_entries = [entry for entry in entries if isinstance(entry.group.first, SoundItem)]
     men = {kind: rf"\w{name}{{}}" for kind, name in _FIGURES.items()} if figures else {}
     marks = marked_as(language, men)
     parts = [_HEAD, "\\begin{document}\n", f"\\section*{{{escaped(heading)}}}\n"]

@@ -28,7 +28,6 @@ def _entry(entry: Entry, language: Language) -> Iterator[str]:
         yield _INDENT + entry.origin
     if entry.board is not None:
         yield _INDENT + position_in_words(entry.board)
-    if entry.asked:
         yield f"{_INDENT}{entry.asked} ({entry.count})"
     for part in entry.parts:
         yield from _part(part, language)

@@ -51,8 +51,11 @@ class Entry:
 
     @property
     def asked(self) -> str:
-        """Stipulation and condition; empty for a faulty problem."""
-        return self.group.first.asked if isinstance(self.group.first, SoundItem) else ""
+        """Stipulation and condition, of a problem that isn't in the report as the input has it."""
+        if isinstance(self.group.first, SoundItem):
+            return self.group.first.asked
+        given = self.group.twins[0].given
+        return "" if given is None or given.stipulation is None else given.stipulation.text
 
     @property
     def count(self) -> str:
