@@ -15,11 +15,15 @@ _pops_options() {
       own='--output --each --index --jobs --check --no-board --seconds --unfinished --split --split-after --split-depth
         --pops-part --resume --journal --pops --sshlogin --remote-pops --remote-pops-part --ssh'
       ;;
+    pops-sheet)
+      own='--report --tries --refutations --to --language --figures --heading --apart --output --pops --pops-tries
+        --encoding'
+      ;;
     pops-page) own='--output --heading --input --unfinished --apart --encoding' ;;
     pops-diagram) own='--svg --png --latex --output --width --input --apart --encoding' ;;
     pops2json) own='--output --array --schema --input --encoding' ;;
     pops-test)
-      own='--input --solutions --pose --short --unfinished --csv --page --heading --apart --all --output --encoding'
+      own='--input --solutions --pose --short --tries --unfinished --csv --page --heading --apart --all --output --encoding'
       ;;
     pops-judge)
       own='--output --heading --seconds --jobs --solutions --resume --apart --all --pops --pops-tries --encoding'
@@ -42,6 +46,8 @@ _pops() {
   case $program,$before in
     fen2pop,--condition | fen2pop,-c) mapfile -t COMPREPLY < <(compgen -W 'Circe Madrasi' -- "$word") ;;
     pops-export,--to) mapfile -t COMPREPLY < <(compgen -W 'popeye yaml' -- "$word") ;;
+    pops-sheet,--to) mapfile -t COMPREPLY < <(compgen -W 'html latex pdf text' -- "$word") ;;
+    pops-sheet,--language) mapfile -t COMPREPLY < <(compgen -W 'en de fr' -- "$word") ;;
     pops-part,--phase) mapfile -t COMPREPLY < <(compgen -W 'set play' -- "$word") ;;
     pops-part,--depth) mapfile -t COMPREPLY < <(compgen -W '1 2 3 4' -- "$word") ;;
     pops-part,--item | pops-part,--part) ;;
@@ -50,11 +56,11 @@ _pops() {
       ;;
     # Any file is offered for the value of an option, and where a report or positions are read.
     pops-*,-*) ;;
-    pops,* | pops-many,* | pops-explain,* | pops-judge,* | pops-export,*)
+    pops,* | pops-many,* | pops-explain,* | pops-judge,* | pops-export,* | pops-sheet,*)
       mapfile -t COMPREPLY < <(compgen -f -X '!*.pop' -- "$word"; compgen -d -- "$word")
       ;;
   esac
 }
 complete -o filenames -o bashdefault -o default -F _pops \
-  pops pops-part fen2pop pops-import pops-export pops-many pops-page pops-diagram pops2json pops-test pops-judge \
-  pops-compare pops-explain pops-find
+  pops pops-part fen2pop pops-import pops-export pops-many pops-page pops-sheet pops-diagram pops2json pops-test \
+  pops-judge pops-compare pops-explain pops-find

@@ -1,11 +1,11 @@
 """pops-judge: one sheet of a collection; runs that are stopped, and a program of tries."""
 
+import sys
 import tempfile
 import unittest
 from pathlib import Path
 
-from pops_companions.review.judging_run import lines_below_head
-from tests import support, test_pages, test_soundness
+from tests import support, test_pages, test_sheet, test_soundness
 
 ONE = b"BeginProblem\nTitle A mate\nOrigin A & B 1900\nPieces White Kg6 Ra1 Black Kg8\nStipulation #1\n"
 TWO = b"NextProblem\nTitle A help\nPieces White Kg6 Ra1 Black Kh8\nStipulation h#1\nEndProblem\n"
@@ -95,21 +95,27 @@ class Judging(unittest.TestCase):
     def test_tries_where_the_program_is(self) -> None:
         tries = self.script(
             "tries",
-            "cat > /dev/null\nprintf 'problem 1\\ntitle: A mate\\n8 ......k.\\n#1\\n1.Ra1-a8#!\\n\\n'\n",
+            "cat > /dev/null\nprintf 'problem 1\\ntitle: A mate\\n#1\\nplay\\n1.Ra1-a8#!\\n"
+            "solutions: 1\\ntries\\ntries: 0\\n\\n'\n",
         )
         outcome = self.judged("--pops-tries", tries)
         self.assertEqual((outcome.status, outcome.error), (0, ""))
         one, two = self.articles()
         self.assertIn("tries and threats", one.words)
-        self.assertIn("1.Ra1-a8#!", one.words)
+        self.assertIn("play\n1.Ra1-a8#!\nsolutions: 1\ntries\ntries: 0", one.words)
         self.assertNotIn("tries and threats", two.words)
         missing = self.judged("--pops-tries", "nowhere/tries")
         self.assertEqual(missing.status, 3)
 
-    def test_the_lines_of_tries(self) -> None:
-        text = "problem 1\n1 K.......\n  abcdefgh\ns#2 Circe\nplay\n1.a2-a3!\n\n"
-        self.assertEqual(lines_below_head(text), ["play", "1.a2-a3!"])
-        self.assertEqual(lines_below_head("problem 1\nline 2: fault 14: square expected\n\n"), [])
+    def test_what_tries_add_to_the_findings(self) -> None:
+        """By the plain solver of the tests; its text is kept for a run that goes on."""
+        words = f"cd {support.COMPANIONS} && exec {sys.executable} -m tests.plain_tries\n"
+        self.text.write_bytes(test_sheet.OF_THE_MANUAL)
+        outcome = self.judged("--pops-tries", self.script("tries", words))
+        self.assertEqual((outcome.status, outcome.error), (0, ""))
+        (article,) = self.articles()
+        for text in ("1.Qh8-b2: 1 threat", "2 tries with one refutation", "1.Qh8-h2? Ke1-d1!"):
+            self.assertIn(text, "\n".join(article.words))
 
     def test_twins_have_one_verdict(self) -> None:
         self.text.write_bytes(

@@ -80,7 +80,8 @@ class Runs(SplitRoom):
 
     def test_a_part_that_fails_once_is_told_and_tried_again(self) -> None:
         once = f"if [ ! -e {self.room}/failed ]; then touch {self.room}/failed; exit 4; fi"
-        outcome = self.split(self.pops_part("problem-play-2", once))
+        # (one run at a time: another could take part 2 over, and the first one begin it all the same)
+        outcome = self.split(self.pops_part("problem-play-2", once), "--jobs", "1")
         self.assertEqual((outcome.status, outcome.output), (0, b""))
         self.assertEqual(
             outcome.error,

@@ -9,11 +9,12 @@ from pops_companions import command
 from pops_companions.command import CommandError, Status
 from pops_companions.input.given import given_problems
 from pops_companions.many.program import LOOKED_FOR, MissingError, find
+from pops_companions.many.tries_program import TRIES_LOOKED_FOR, find_tries
 from pops_companions.report.source import is_input
 from pops_companions.review.beside import Beside
 from pops_companions.review.judged_groups import judged_groups
 from pops_companions.review.judgement_text import MOST_LINES, Tally, as_text
-from pops_companions.review.judging_run import TRIES_LOOKED_FOR, Runs, Work, find_tries
+from pops_companions.review.judging_run import Runs, Work
 from pops_companions.review.reading import reviewed_unfinished_report
 from pops_companions.review.sheet import Evidence, sheet
 
@@ -117,7 +118,7 @@ def judge(settings: Settings) -> Status:
     work.solve()
     short: Optional[str] = str(work.short) if work.solve_shorter(given) else None
     tries = work.tries(text, given)
-    beside = Beside(NAME, settings.solutions, settings.collection, short)
+    beside = Beside(NAME, settings.solutions, settings.collection, short, tries)
     tally = Tally()
     most = None if settings.all else MOST_LINES
     with reviewed_unfinished_report(
@@ -126,7 +127,8 @@ def judge(settings: Settings) -> Status:
         judgements = beside.judgements(items)
         judged = list(judged_groups(judgements, given, settings.encoding, settings.apart))
     heading = settings.heading or Path(settings.collection).stem
-    evidence = Evidence(tries, settings.encoding, most)
+    lines = {number: item.lines for number, item in tries.items()}
+    evidence = Evidence(lines, settings.encoding, most)
     page = sheet(tally.counted(judged), tally, heading, evidence)
     with command.written(settings.output) as target:
         target.write(page.encode("utf-8", "replace"))

@@ -20,7 +20,7 @@ from pops_companions.review.judgement_text import (
     csv_line,
 )
 from pops_companions.review.posing import posed_problems
-from pops_companions.review.reading import reviewed_unfinished_report
+from pops_companions.review.reading import reviewed_unfinished_report, tries_of_file
 
 NAME = "pops-test"
 
@@ -33,6 +33,7 @@ class Settings(argparse.Namespace):
     solutions: int
     pose: bool
     short: Optional[str]
+    tries: Optional[str]
     unfinished: Optional[str]
     csv: bool
     page: bool
@@ -52,6 +53,11 @@ def _add_evidence(parser: argparse.ArgumentParser) -> None:
         help="write the input that asks for an input's short solutions, and nothing else",
     )
     add("--short", metavar="REPORT", help="the report of what --pose wrote")
+    add(
+        "--tries",
+        metavar="TEXT",
+        help="the text of pops-tries: threats, zugzwang, tries, and duals only after defences",
+    )
     add(
         "--unfinished",
         metavar="FILE",
@@ -117,7 +123,8 @@ def arguments(words: list[str]) -> Settings:
     """Reads the words of the command line."""
     parser = command_line()
     settings = parser.parse_args(words, Settings())
-    beside = (settings.input, settings.short, settings.unfinished, settings.csv, settings.page)
+    beside = [settings.input, settings.short, settings.tries, settings.unfinished]
+    beside += ["--csv"] * settings.csv + ["--page"] * settings.page
     if settings.pose and any(beside):
         parser.error("--pose goes only with an input and --output")
     return settings
@@ -137,7 +144,8 @@ def pose(file: Optional[str], output: Optional[str]) -> None:
 
 def test(settings: Settings) -> Status:
     """Judges a report and writes what was found."""
-    beside = Beside(NAME, settings.solutions, settings.input, settings.short)
+    tries = tries_of_file(settings.tries)
+    beside = Beside(NAME, settings.solutions, settings.input, settings.short, tries)
     tally = Tally()
     most = None if settings.all else MOST_LINES
     with reviewed_unfinished_report(

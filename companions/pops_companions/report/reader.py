@@ -42,14 +42,14 @@ class ReportError(ValueError):
 CUT = "the report ends here"
 
 
-class _Broken(Exception):
+class Broken(Exception):
     """Ends the reading of an unfinished problem, with the reason."""
 
 
-class _Lines:
+class Lines:
     """The lines of a report, one looked at ahead, with their numbers.
 
-    With `may_break` an item may end early: `_Broken` says so.
+    With `may_break` an item may end early: `Broken` says so.
     """
 
     def __init__(self, source: Iterable[bytes], may_break: bool):
@@ -77,12 +77,12 @@ class _Lines:
         """The line at hand. Refused at the end of the report, where an item is cut."""
         if self._ahead is None:
             if self.may_break:
-                raise _Broken(CUT)
+                raise Broken(CUT)
             raise ReportError(self.number, "the report is cut inside a problem")
         if self.may_break and self._ahead.startswith(lines.UNFINISHED):
             reason = self._ahead[len(lines.UNFINISHED) :].decode("utf-8", "replace")
             self._step()
-            raise _Broken(reason)
+            raise Broken(reason)
         return self._ahead
 
     @property
@@ -106,7 +106,7 @@ def read_report(source: Iterable[bytes]) -> Iterator[Item]:
 
     ReportError where the text departs from the grammar, after the items before.
     """
-    for item in _items(_Lines(source, may_break=False)):
+    for item in _items(Lines(source, may_break=False)):
         assert not isinstance(item, HeadlessItem)
         yield item
 
@@ -116,23 +116,23 @@ def read_unfinished_report(source: Iterable[bytes]) -> Iterator[AnyItem]:
 
     These problems have what the report shows of them. A cut line is left out.
     """
-    return _items(_Lines(source, may_break=True))
+    return _items(Lines(source, may_break=True))
 
 
-def _items(source: _Lines) -> Iterator[AnyItem]:
+def _items(source: Lines) -> Iterator[AnyItem]:
     while not source.at_end:
         problem = lines.PROBLEM.fullmatch(source.ahead)
         if problem is None:
             raise source.refused("a line 'problem' with its number")
         source.take()
         item = _read_item(source, int(problem[1]))
-        reason = _take_end(source)
+        reason = take_end(source)
         if reason is not None and isinstance(item, SoundItem):
             item = replace(item, unfinished=reason)
         yield item
 
 
-def _take_end(source: _Lines) -> Optional[str]:
+def take_end(source: Lines) -> Optional[str]:
     """Takes the empty line after an item; returns why the item is unfinished, if it says so."""
     reason = None
     while True:
@@ -141,15 +141,15 @@ def _take_end(source: _Lines) -> Optional[str]:
                 raise source.refused("an empty line")
             source.take()
             return reason
-        except _Broken as broken:
+        except Broken as broken:
             if source.at_end:
                 return reason
             reason = str(broken)
 
 
 @dataclass
-class _Head:
-    """What a report has shown of a problem so far."""
+class Head:
+    """What a report has shown of a problem so far, above its solutions."""
 
     title: Optional[bytes] = None
     author: Optional[bytes] = None
@@ -157,8 +157,8 @@ class _Head:
     asked: Optional[tuple[Stipulation, Optional[Condition]]] = None
 
 
-def _read_item(source: _Lines, number: int) -> AnyItem:
-    head = _Head()
+def _read_item(source: Lines, number: int) -> AnyItem:
+    head = Head()
     phases: list[Phase] = []
     unfinished = None
     is_checked = False
@@ -168,13 +168,13 @@ def _read_item(source: _Lines, number: int) -> AnyItem:
             source.take()
             text = fault[3].decode("latin-1")
             return FaultyItem(number, Fault(int(fault[1]), int(fault[2]), text))
-        stipulation = _read_head(source, head)
+        stipulation = read_head(source, head)
         is_checked = source.ahead == lines.SOUND
         if is_checked:
             source.take()
         else:
             _read_phases(source, stipulation, phases)
-    except _Broken as broken:
+    except Broken as broken:
         unfinished = str(broken)
         if head.asked is None:
             return HeadlessItem(number, unfinished)
@@ -183,7 +183,7 @@ def _read_item(source: _Lines, number: int) -> AnyItem:
     return SoundItem(number, head.title, head.author, head.board, *head.asked, shown, unfinished)
 
 
-def _read_head(source: _Lines, head: _Head) -> Stipulation:
+def read_head(source: Lines, head: Head) -> Stipulation:
     """Reads the lines above the solutions into `head`; returns the stipulation."""
     head.title = _read_text(source, lines.TITLE)
     head.author = _read_text(source, lines.AUTHOR)
@@ -192,7 +192,7 @@ def _read_head(source: _Lines, head: _Head) -> Stipulation:
     return head.asked[0]
 
 
-def _read_text(source: _Lines, label: bytes) -> Optional[bytes]:
+def _read_text(source: Lines, label: bytes) -> Optional[bytes]:
     if not source.ahead.startswith(label):
         return None
     text = source.ahead[len(label) :]
@@ -200,7 +200,7 @@ def _read_text(source: _Lines, label: bytes) -> Optional[bytes]:
     return text
 
 
-def _read_board(source: _Lines) -> Board:
+def _read_board(source: Lines) -> Board:
     ranks = []
     for rank in range(8, 0, -1):
         parts = lines.RANK.fullmatch(source.ahead)
@@ -214,7 +214,7 @@ def _read_board(source: _Lines) -> Board:
     return Board(tuple(ranks))
 
 
-def _read_stipulation(source: _Lines) -> tuple[Stipulation, Optional[Condition]]:
+def _read_stipulation(source: Lines) -> tuple[Stipulation, Optional[Condition]]:
     words = source.text.split(" ")
     try:
         stipulation = Stipulation.of_text(words[0])
@@ -227,13 +227,13 @@ def _read_stipulation(source: _Lines) -> tuple[Stipulation, Optional[Condition]]
     return stipulation, condition
 
 
-def _read_phases(source: _Lines, stipulation: Stipulation, phases: list[Phase]) -> None:
+def _read_phases(source: Lines, stipulation: Stipulation, phases: list[Phase]) -> None:
     """Adds the phases, the last one as far as it goes where the problem is unfinished."""
     if source.text == PhaseKind.SET.value:
-        _read_phase(source, stipulation, PhaseKind.SET, phases)
+        read_phase(source, stipulation, PhaseKind.SET, phases)
     if source.text != PhaseKind.PLAY.value:
         raise source.refused("'play'")
-    _read_phase(source, stipulation, PhaseKind.PLAY, phases)
+    read_phase(source, stipulation, PhaseKind.PLAY, phases)
 
 
 @dataclass
@@ -247,9 +247,10 @@ class _Found:
         return Phase(kind, tuple(self.solutions), tuple(self.lines), total, last_line)
 
 
-def _read_phase(
-    source: _Lines, stipulation: Stipulation, kind: PhaseKind, phases: list[Phase]
+def read_phase(
+    source: Lines, stipulation: Stipulation, kind: PhaseKind, phases: list[Phase]
 ) -> None:
+    """Adds the phase at hand, as far as it goes where the problem is unfinished."""
     source.take()
     found = _Found()
     try:
@@ -260,14 +261,14 @@ def _read_phase(
         if total is None:
             phases.append(found.phase(kind, None, "unfinished"))
             return
-    except _Broken as broken:
+    except Broken as broken:
         phases.append(found.phase(kind, None, f"unfinished: {broken}"))
         raise
     phases.append(found.phase(kind, total, source.take()))
 
 
 def _read_solutions(
-    source: _Lines, stipulation: Stipulation, kind: PhaseKind, found: _Found
+    source: Lines, stipulation: Stipulation, kind: PhaseKind, found: _Found
 ) -> Optional[Total]:
     """Adds a phase's solutions to `found`; returns its total, whose line isn't taken.
 
@@ -284,7 +285,7 @@ def _read_solutions(
         if stipulation.play is Play.HELP:
             found.solutions.append(_read_help_line(source, stipulation, first_half))
         else:
-            node, depth = _read_node(source, stipulation, first_half, len(path))
+            node, depth = read_node(source, stipulation, first_half, len(path))
             del path[depth:]
             if path:
                 path[-1].below.append(node)
@@ -298,7 +299,7 @@ def _read_solutions(
     return Total(count, total[2] is not None)
 
 
-def _read_help_line(source: _Lines, stipulation: Stipulation, first_half: int) -> HelpLine:
+def _read_help_line(source: Lines, stipulation: Stipulation, first_half: int) -> HelpLine:
     text = source.text
     last_half = stipulation.first_half + stipulation.half_moves - 1
     place = 0
@@ -318,9 +319,10 @@ def _read_help_line(source: _Lines, stipulation: Stipulation, first_half: int) -
     return HelpLine(text, tuple(moves))
 
 
-def _read_node(
-    source: _Lines, stipulation: Stipulation, first_half: int, deepest: int
+def read_node(
+    source: Lines, stipulation: Stipulation, first_half: int, deepest: int
 ) -> tuple[Node, int]:
+    """Returns the node of the line at hand, which isn't taken, and its level, at most `deepest`."""
     text = source.text
     indent = len(text) - len(text.lstrip(" "))
     depth = indent // 2

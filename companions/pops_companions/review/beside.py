@@ -1,6 +1,6 @@
-"""What is known of the problems of a report beside it: wanted numbers, and short solutions."""
+"""What is known of the problems of a report beside it: wanted numbers, short solutions, tries."""
 
-from collections.abc import Iterator
+from collections.abc import Iterator, Mapping
 from dataclasses import replace
 from typing import NoReturn, Optional
 
@@ -9,6 +9,7 @@ from pops_companions.command import CommandError, Status
 from pops_companions.input.given import GivenProblem
 from pops_companions.input.given_source import read_given
 from pops_companions.report.items import AnyItem, SoundItem
+from pops_companions.report.tries import TriesItem
 from pops_companions.review.judging import Judgement, judged, missing
 from pops_companions.review.posing import AnswersError, ShortAnswers
 from pops_companions.review.reading import reviewed_unfinished_report
@@ -18,13 +19,20 @@ class Beside:
     """The input of a report and the report of the shorter stipulations, where they are named."""
 
     def __init__(
-        self, companion: str, solutions: int, input_file: Optional[str], short_file: Optional[str]
+        self,
+        companion: str,
+        solutions: int,
+        input_file: Optional[str],
+        short_file: Optional[str],
+        tries: Mapping[int, TriesItem],
     ):
         """Reads both. `solutions` are wanted in help play where the input says nothing.
 
-        `given` are the problems of the input, none where none is named.
+        `given` are the problems of the input, none where none is named. `tries` are the tries and
+        threats of problems by their numbers, as far as they are known.
         """
         self._solutions = solutions
+        self._tries = tries
         self._input_file = input_file
         self._short_file = short_file
         self.given: list[GivenProblem] = []
@@ -43,8 +51,9 @@ class Beside:
         last = 0
         for item in items:
             if item.number <= last:
-                if self._input_file is not None or self._short_file is not None:
-                    message = "--input and --short go with one report, not with several joined"
+                if self._input_file is not None or self._short_file is not None or self._tries:
+                    options = "--input, --short and --tries"
+                    message = f"{options} go with one report, not with several joined"
                     raise CommandError(Status.DEVICE, message)
                 last = 0
             yield from map(self._missing, range(last + 1, item.number))
@@ -61,15 +70,27 @@ class Beside:
     def _judged(self, item: AnyItem) -> Judgement:
         if self._input_file is not None and item.number > len(self.given):
             self._refuse_input(f"it has no problem {item.number}")
-        wanted, short = 1, None
+        wanted, short, tries = 1, None, None
         if isinstance(item, SoundItem):
             wanted = self._wanted(item)
+            tries = self._tries_of(item)
             if self._answers is not None:
                 try:
                     short = self._answers.of(item)
                 except AnswersError as error:
                     self._refuse_answers(error)
-        return replace(judged(item, wanted, short), given=self._given_of(item.number))
+        given = self._given_of(item.number)
+        return replace(judged(item, wanted, short, tries), given=given)
+
+    def _tries_of(self, item: SoundItem) -> Optional[TriesItem]:
+        tries = self._tries.get(item.number)
+        if tries is not None:
+            boards = {tries.board, item.board} - {None}
+            theirs, ours = (tries.stipulation, tries.condition), (item.stipulation, item.condition)
+            if len(boards) > 1 or theirs != ours:
+                message = f"the text of tries has another problem {item.number} than the report"
+                raise CommandError(Status.DEVICE, message)
+        return tries
 
     def _wanted(self, item: SoundItem) -> int:
         usual = self._solutions if item.stipulation.play is Play.HELP else 1

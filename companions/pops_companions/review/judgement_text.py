@@ -30,6 +30,8 @@ COLUMNS = (
     "duals_earlier",
     "set_solutions",
     "unprovided_checks",
+    "threats",
+    "tries",
     "reasons",
 )
 
@@ -101,6 +103,8 @@ def as_csv(judgement: Judgement, encoding: str) -> str:
             judgement.duals_earlier,
             judgement.set_solutions,
             judgement.unprovided_checks,
+            judgement.threats,
+            judgement.tries,
             "; ".join(judgement.reasons),
         )
     )

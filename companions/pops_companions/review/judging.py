@@ -19,6 +19,7 @@ from pops_companions.report.items import (
     SoundItem,
 )
 from pops_companions.report.moves import Mark, PlayedMove
+from pops_companions.report.tries import FirstMove, Menace, TriesItem
 from pops_companions.review.duals import Dual, Place, last_half, late_partings, tree_duals
 from pops_companions.review.naming import counted
 
@@ -70,6 +71,8 @@ class Judgement:
     duals_earlier: Optional[int] = None
     set_solutions: Optional[int] = None
     unprovided_checks: Optional[int] = None
+    threats: Optional[int] = None
+    tries: Optional[int] = None
 
     @property
     def verdict(self) -> Verdict:
@@ -89,10 +92,16 @@ class Judgement:
         self.findings.append(Finding(weight, text, lines))
 
 
-def judged(item: AnyItem, wanted: int, short: Optional[tuple[str, ...]]) -> Judgement:
+def judged(
+    item: AnyItem,
+    wanted: int,
+    short: Optional[tuple[str, ...]],
+    tries: Optional[TriesItem] = None,
+) -> Judgement:
     """Returns the judgement of an item, by the number of solutions that it should have.
 
     `short` are the short solutions that were found elsewhere, None where none were looked for.
+    `tries` are the problem's tries and threats, where they are known.
     """
     judgement = Judgement(item.number, item)
     if isinstance(item, FaultyItem):
@@ -113,7 +122,11 @@ def judged(item: AnyItem, wanted: int, short: Optional[tuple[str, ...]]) -> Judg
         return judgement
     _judge_number(judgement, item.stipulation, play)
     _judge_short_solutions(judgement, item.stipulation, play, short)
-    _judge_duals(judgement, item.stipulation, play)
+    if tries is None or tries.total is None:
+        _judge_duals(judgement, item.stipulation, play)
+    else:
+        _judge_duals_after_defences(judgement, item.stipulation, tries)
+        _judge_tries(judgement, tries)
     _judge_set_play(judgement, item, play)
     return judgement
 
@@ -241,6 +254,52 @@ def _judge_duals(judgement: Judgement, stipulation: Stipulation, play: Phase) ->
             judgement.find(Weight.NOTE, "duals not shown: they need Variation")
             return
         duals = list(tree_duals(keys))
+    _count_duals(judgement, stipulation, duals)
+
+
+def _judge_duals_after_defences(
+    judgement: Judgement, stipulation: Stipulation, tries: TriesItem
+) -> None:
+    """Judges the duals after replies that parry the threats; others are no defences."""
+    if stipulation.moves > 2 and any(map(_is_cut, tries.keys)):
+        judgement.find(Weight.NOTE, "duals not shown: they need Variation")
+        return
+    keys = (Node(key.text, key.move, list(key.defences)) for key in tries.keys)
+    _count_duals(judgement, stipulation, list(tree_duals(keys)))
+
+
+def _is_cut(key: FirstMove) -> bool:
+    """Returns whether a continuation of White is shown without what follows it."""
+    continuations = (move for defence in key.defences for move in defence.below)
+    return any(not move.below and not _ends(move.move) for move in (*key.threats, *continuations))
+
+
+def _judge_tries(judgement: Judgement, tries: TriesItem) -> None:
+    """Says what each key threatens, and which tries have one refutation."""
+    for key in tries.keys:
+        move = key.text[:-1]
+        if key.menace is Menace.THREAT:
+            text = f"{move}: {counted(len(key.threats), 'threat')}"
+            judgement.find(Weight.NOTE, text, (_choices(key.threats),))
+        elif key.menace is not None:
+            judgement.find(Weight.NOTE, f"{move}: {key.menace.value}")
+    if len(tries.keys) == 1:
+        judgement.threats = len(tries.keys[0].threats)
+    close = [one for one in tries.tries if len(one.refutations) == 1]
+    judgement.tries = len(close)
+    if close:
+        text = ("1 try" if len(close) == 1 else f"{len(close)} tries") + " with one refutation"
+        lines = tuple(f"{one.text} {one.refutations[0].move.text}!" for one in close)
+        judgement.find(Weight.NOTE, text, lines)
+
+
+def _choices(nodes: tuple[Node, ...]) -> str:
+    """Returns moves of White in one line: `2.Qf1-g1# | Qf1-h3#`."""
+    first, *others = nodes
+    return " | ".join([first.text.strip(), *(node.move.text for node in others)])
+
+
+def _count_duals(judgement: Judgement, stipulation: Stipulation, duals: list[Dual]) -> None:
     at_the_end = [dual for dual in duals if dual.place is Place.AT_THE_END]
     earlier = [dual for dual in duals if dual.place is Place.EARLIER]
     judgement.duals_at_the_end, judgement.duals_earlier = len(at_the_end), len(earlier)

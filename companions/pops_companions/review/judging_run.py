@@ -9,7 +9,7 @@ import subprocess
 import sys
 from collections.abc import Sequence
 from concurrent.futures import ThreadPoolExecutor
-from dataclasses import dataclass
+from dataclasses import dataclass, replace
 from functools import partial
 from pathlib import Path
 from typing import NoReturn, Optional
@@ -21,12 +21,9 @@ from pops_companions.input.given import GivenProblem
 from pops_companions.input.pieces import cut
 from pops_companions.input.writing import text_of_problems
 from pops_companions.report.source import UNFINISHED
+from pops_companions.report.tries import TriesItem
 from pops_companions.review.posing import posed_problems
-
-TRIES_LOOKED_FOR = (
-    "the program pops-tries (default: $POPS_TRIES, the one next to pops, the one on the PATH)"
-)
-
+from pops_companions.review.reading import tries_of_file
 
 @dataclass(frozen=True)
 class Runs:
@@ -39,23 +36,6 @@ class Runs:
     tries: Optional[str]
     jobs: Optional[int]
     seconds: Optional[float]
-
-
-def find_tries(named: Optional[str], pops: str) -> Optional[str]:
-    """Returns the program that shows tries and threats; None where there is none."""
-    named = named or os.environ.get("POPS_TRIES")
-    if named:
-        found = shutil.which(named)
-        if found is None:
-            raise CommandError(Status.DEVICE, f"there is no program {named}")
-        return found
-    beside = Path(pops).resolve().parent
-    built = beside.parent.parent / "pops_tries" / "out" / "pops_tries"
-    for place in (str(beside / "pops-tries"), str(built), "pops-tries"):
-        found = shutil.which(place)
-        if found is not None:
-            return found
-    return None
 
 
 class Work:
@@ -129,8 +109,8 @@ class Work:
         file = f"{self.report}{UNFINISHED}"
         return file if os.path.isfile(file) else None
 
-    def tries(self, text: bytes, given: Sequence[GivenProblem]) -> dict[int, list[str]]:
-        """Returns the lines of tries and threats of each problem of battle play, by its number."""
+    def tries(self, text: bytes, given: Sequence[GivenProblem]) -> dict[int, TriesItem]:
+        """Returns tries and threats of each problem of battle play, by its number."""
         program = self._runs.tries
         if program is None:
             return {}
@@ -141,13 +121,13 @@ class Work:
         ]
         jobs = self._runs.jobs or len(os.sched_getaffinity(0))
         with ThreadPoolExecutor(jobs) as pool:
-            texts = pool.map(partial(self._tries_of, program), wanted)
-            return {number: lines for (number, _), lines in zip(wanted, texts) if lines}
+            found = pool.map(partial(self._tries_of, program), wanted)
+            return {item.number: item for item in found if item is not None}
 
-    def _tries_of(self, program: str, wanted: tuple[int, bytes]) -> list[str]:
-        """Returns the lines of one problem below its head; they are kept for a run that goes on.
+    def _tries_of(self, program: str, wanted: tuple[int, bytes]) -> Optional[TriesItem]:
+        """Returns what pops-tries shows of a problem; its text is kept for a run that goes on.
 
-        `wanted` is its number and its text.
+        `wanted` is its number and its text. None where it is faulty or takes too long.
         """
         number, text = wanted
         kept = self._folder / f"tries-{number}.txt"
@@ -158,25 +138,17 @@ class Work:
                 )
             except subprocess.TimeoutExpired:
                 self.is_finished = False
-                return []
+                return None
             except OSError as error:
                 message = f"{program} can't be run: {error.strerror}"
                 raise CommandError(Status.DEVICE, message) from None
             if run.returncode != Status.GOOD:
-                return []
+                return None
             kept.write_bytes(run.stdout)
-        return lines_below_head(kept.read_text("utf-8", "replace"))
+        item = next(iter(tries_of_file(str(kept)).values()), None)
+        return None if item is None else replace(item, number=number)
 
     def end(self) -> None:
         """Removes the folder, unless a problem isn't finished."""
         if self.is_finished:
             shutil.rmtree(self._folder, ignore_errors=True)
-
-
-def lines_below_head(text: str) -> list[str]:
-    """Returns the lines of an item below its stipulation."""
-    lines = text.rstrip("\n").split("\n")
-    for place, line in enumerate(lines):
-        if line.lstrip("sh")[:1] in ("#", "=") and not line.startswith(" "):
-            return lines[place + 1 :]
-    return []

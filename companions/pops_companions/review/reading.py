@@ -4,9 +4,12 @@ from collections.abc import Iterator
 from contextlib import contextmanager
 from typing import Optional
 
+from pops_companions import command
 from pops_companions.command import CommandError, Status
 from pops_companions.report.items import AnyItem, Item
+from pops_companions.report.reader import ReportError
 from pops_companions.report.source import opened_report, opened_unfinished_report
+from pops_companions.report.tries import TriesItem, read_tries
 
 
 @contextmanager
@@ -25,6 +28,19 @@ def reviewed_unfinished_report(
     with _refused_as_device():
         with opened_unfinished_report(companion, file, unfinished, encoding) as items:
             yield items
+
+
+def tries_of_file(file: Optional[str]) -> dict[int, TriesItem]:
+    """Returns the sound problems of a text of tries by their numbers; none where none is named."""
+    if file is None:
+        return {}
+    with command.opened(file) as source:
+        try:
+            items = list(read_tries(source))
+        except ReportError as error:
+            message = f"{file} is no text of pops-tries: {error}"
+            raise CommandError(Status.DEVICE, message) from None
+    return {item.number: item for item in items if isinstance(item, TriesItem)}
 
 
 @contextmanager

@@ -6,7 +6,7 @@ upside down.
 """
 
 import re
-from collections.abc import Iterable
+from collections.abc import Iterable, Mapping
 from functools import lru_cache
 from pathlib import Path
 from xml.sax.saxutils import escape, quoteattr
@@ -164,11 +164,15 @@ def count(board: Board) -> str:
     return f"({white}+{black})"
 
 
-def fairy_men(board: Board) -> list[str]:
+# The English names of the fairy men.
+FAIRY_NAMES = {kind: kind.word.title() for kind in UPSIDE_DOWN}
+
+
+def fairy_men(board: Board, names: Mapping[Kind, str] = FAIRY_NAMES) -> list[str]:
     """Returns the fairy men of a board by name with their squares, as `Grasshopper e3`."""
     said = []
     for kind in UPSIDE_DOWN:
         squares = [square.name for square, man in board.men.items() if man.kind is kind]
         if squares:
-            said.append(f"{kind.word.title()} {' '.join(sorted(squares))}")
+            said.append(f"{names[kind]} {' '.join(sorted(squares))}")
     return said

@@ -1,10 +1,12 @@
 """Problems for the LaTeX package diagram, with the German letters that it takes by itself."""
 
-import re
+from collections.abc import Mapping, Sequence
+from typing import NamedTuple, Optional
 
 from pops_companions.chess.men import Colour, Kind
 from pops_companions.report.items import Board, FaultyItem, Phase, SoundItem
-from pops_companions.show.diagram import UPSIDE_DOWN, numbers_of_men
+from pops_companions.show.authors import Person, persons
+from pops_companions.show.diagram import FAIRY_NAMES, UPSIDE_DOWN, numbers_of_men
 from pops_companions.show.titles import printable, shown
 from pops_companions.show.twins import Group, Twin
 
@@ -28,74 +30,98 @@ _SPECIAL = {
     "\ufffd": "?",
     **{character: "\\" + character for character in "#$%&_{}"},
 }
-_BETWEEN_AUTHORS = re.compile(r"\s*;\s*|\s+(?:&|and)\s+")
-# A surname, a comma, and names that aren't a date, a place or the like.
-_SURNAME_FIRST = re.compile(r"([^\W\d_][^,\d]*), *([^\W\d_][^,\d]*)")
 
 
-def latex(group: Group, board: Board, encoding: str) -> str:
+class Sheet(NamedTuple):
+    """What a sheet says of a problem: number, award, the lines of its solution in LaTeX.
+
+    `fairy_men` are the names of the fairy men.
+    """
+
+    number: str
+    award: str
+    solution: Sequence[str]
+    fairy_men: Mapping[Kind, str]
+
+
+def latex(group: Group, board: Board, encoding: str, sheet: Optional[Sheet] = None) -> str:
     """Returns a problem with its twins as an environment `diagram`; its title stands for a
     dedication.
 
-    `board` is the first one's, whose item isn't faulty.
+    `board` is the first one's, whose item isn't faulty. The solution is the report's, or that of a
+    sheet.
     """
     item = group.first
     assert isinstance(item, SoundItem)
-    given = group.twins[0].given
-    lines = [r"\begin{diagram}"]
-    if group.author is not None:
-        lines.append(r"\author{%s}" % authors(shown(group.author, encoding)))
-    if group.title is not None:
-        lines.append(r"\dedic{%s}" % _escaped(group.title))
-    if given is not None and given.origin is not None:
-        lines.append(r"\source{%s}" % _escaped(shown(given.origin, encoding)))
     white, black = numbers_of_men(board)
+    lines = [r"\begin{diagram}", *_names(group, encoding, sheet)]
     lines.append(r"\pieces[%d+%d]{%s}" % (white, black, ", ".join(_pieces(board))))
-    lines.append(r"\stipulation{%s}" % _escaped(item.stipulation.text))
+    lines.append(r"\stipulation{%s}" % escaped(item.stipulation.text))
     if item.condition is not None:
         lines.append(r"\condition{%s}" % item.condition.value)
     if not group.is_alone:
         changes = [twin.heading for twin in group.twins if twin.change or twin.has_own_diagram]
-        lines.append(r"\twins{%s}" % r"\newline ".join(map(_escaped, changes)))
-    fairy = _fairy_men(board)
+        lines.append(r"\twins{%s}" % r"\newline ".join(map(escaped, changes)))
+    fairy = _fairy_men(board, FAIRY_NAMES if sheet is None else sheet.fairy_men)
     if fairy:
         lines.append(r"\piecedefs{%s}" % "; ".join(fairy))
-    solution = [line for twin in group.twins for line in _solution(twin, group.is_alone)]
+    solution: Sequence[str]
+    if sheet is not None:
+        solution = sheet.solution
+    else:
+        solution = [line for twin in group.twins for line in _solution(twin, group.is_alone)]
     if solution:
         lines.append(r"\solution{%s}" % "\\newline\n".join(solution))
     lines.append(r"\end{diagram}")
     return "\n".join(lines) + "\n"
 
 
+def _names(group: Group, encoding: str, sheet: Optional[Sheet]) -> list[str]:
+    """Returns the lines above a diagram."""
+    lines = []
+    given = group.twins[0].given
+    if sheet is not None:
+        lines.append(r"\specialdiagnum{%s}" % sheet.number)
+    if group.author is not None:
+        lines.append(r"\author{%s}" % authors(shown(group.author, encoding)))
+    if group.title is not None:
+        lines.append(r"\dedic{%s}" % escaped(group.title))
+    if given is not None and given.origin is not None:
+        lines.append(r"\source{%s}" % escaped(shown(given.origin, encoding)))
+    if sheet is not None and sheet.award:
+        lines.append(r"\award{%s}" % escaped(sheet.award))
+    return lines
+
+
 def authors(text: str) -> str:
     """Returns the authors of a problem as the package wants them, parted by semicolons.
 
     `Loyd, Samuel` is one author, surname first, and an entry of an index; a name in another form
-    stays as it is. Several are parted by `;`, `&` or `and`.
+    stays as it is. `persons` says how several are parted.
     """
-    return "; ".join(_author(name) for name in _BETWEEN_AUTHORS.split(text) if name)
+    return "; ".join(map(_author, persons(text)))
 
 
-def _author(name: str) -> str:
-    parts = _SURNAME_FIRST.fullmatch(name)
-    if parts is None:
+def _author(person: Person) -> str:
+    if not person.surname:
         # Surname and no given name: the package would reverse the name at its comma.
-        return "{%s}, {}" % _escaped(name)
-    return f"{_escaped(parts[1])}, {_escaped(parts[2])}"
+        return "{%s}, {}" % escaped(person.text)
+    return f"{escaped(person.surname)}, {escaped(person.given)}"
 
 
 def _solution(twin: Twin, is_alone: bool) -> list[str]:
     """Returns the lines of a twin's solutions as the report has them, below its label."""
     item = twin.item
-    lines = [] if is_alone else [_escaped(twin.label.text)]
+    lines = [] if is_alone else [escaped(twin.label.text)]
     if isinstance(item, FaultyItem):
-        return [*lines, _escaped(f"fault {item.fault.number}: {item.fault.text}")]
+        return [*lines, escaped(f"fault {item.fault.number}: {item.fault.text}")]
     if not isinstance(item, SoundItem) or item.phases is None:
         return lines if is_alone else [*lines, "not solved"]
     return lines + [line for phase in item.phases for line in _phase(phase)]
 
 
-def _escaped(text: str) -> str:
+def escaped(text: str) -> str:
+    """Returns a text with LaTeX's own characters made harmless."""
     return "".join(_SPECIAL.get(character, character) for character in printable(text))
 
 
@@ -114,14 +140,14 @@ def _pieces(board: Board) -> list[str]:
     return pieces
 
 
-def _fairy_men(board: Board) -> list[str]:
+def _fairy_men(board: Board, names: Mapping[Kind, str]) -> list[str]:
     """Returns what the fairy men are called, as `{ws}{DU}{Grasshopper}`."""
     named = []
     for kind in UPSIDE_DOWN:
         colours = {man.colour for man in board.men.values() if man.kind is kind}
         if colours:
             letters = "".join(_COLOURS[colour] for colour in Colour if colour in colours)
-            named.append("{%s}{%s}{%s}" % (letters, _KINDS[kind], kind.word.title()))
+            named.append("{%s}{%s}{%s}" % (letters, _KINDS[kind], names[kind]))
     return named
 
 
@@ -131,5 +157,5 @@ def _phase(phase: Phase) -> list[str]:
     for line in phase.lines:
         depth = (len(line) - len(line.lstrip(" "))) // 2
         indent = r"\hspace*{%dem}" % depth if depth else ""
-        lines.append(indent + _escaped(line.lstrip(" ")))
+        lines.append(indent + escaped(line.lstrip(" ")))
     return lines + [phase.last_line]

@@ -1,0 +1,261 @@
+"""Prints the solutions of a collection as magazines do: short notation, threats, tries, authors."""
+
+import argparse
+import io
+import shutil
+import subprocess
+import sys
+import tempfile
+from pathlib import Path
+from typing import NoReturn, Optional, Union
+
+from pops_companions import command
+from pops_companions.chess.stipulation import Play
+from pops_companions.command import CommandError, Status
+from pops_companions.input.given import GivenProblem, given_problems
+from pops_companions.input.pieces import cut
+from pops_companions.input.reading import read_piece
+from pops_companions.many.program import LOOKED_FOR, MissingError, find
+from pops_companions.many.tries_program import TRIES_LOOKED_FOR, find_tries, output_of
+from pops_companions.report.items import AnyItem, Board, HeadlessItem, SoundItem
+from pops_companions.report.reader import ReportError, read_report
+from pops_companions.report.source import is_input
+from pops_companions.report.tries import TriesItem, read_tries
+from pops_companions.sheet.as_html import as_html
+from pops_companions.sheet.as_latex import as_latex
+from pops_companions.sheet.as_text import as_text
+from pops_companions.sheet.entries import Sheet, board_of
+from pops_companions.sheet.languages import LANGUAGES
+from pops_companions.show.twins import groups
+
+NAME = "pops-sheet"
+FORMS = ("html", "latex", "pdf", "text")
+BROWSERS = ("chromium", "chromium-browser", "google-chrome")
+
+
+class Settings(argparse.Namespace):
+    """The words of the command line."""
+
+    input: str
+    report: Optional[str]
+    tries: Optional[str]
+    refutations: int
+    to: str
+    language: str
+    figures: bool
+    heading: Optional[str]
+    apart: bool
+    output: Optional[str]
+    pops: Optional[str]
+    pops_tries: Optional[str]
+    encoding: str
+
+
+def _refutations(text: str) -> int:
+    if not text.isascii() or not text.isdigit() or int(text) > 200:
+        raise argparse.ArgumentTypeError(f"{text!r} is no number from 0 to 200")
+    return int(text)
+
+
+def _add_forms(parser: argparse.ArgumentParser) -> None:
+    """Adds the options for what is written."""
+    add = parser.add_argument
+    add("--to", choices=FORMS, default="html", help="the form (html); pdf needs chromium")
+    add(
+        "--language",
+        choices=tuple(LANGUAGES),
+        default="en",
+        help="the language of letters and words: English, German, French (en)",
+    )
+    add("--figures", action="store_true", help="figures of the men instead of letters")
+    add("--heading", metavar="TEXT", help="the sheet's heading (the name of INPUT)")
+    add("--apart", action="store_true", help="show each twin as a problem of its own")
+    add("-o", "--output", metavar="SHEET", help="the sheet (default: standard output)")
+
+
+def command_line() -> argparse.ArgumentParser:
+    parser = command.parser(
+        NAME,
+        "Prints the solutions of the problems of INPUT as magazines do: set play, tries and keys in\n"
+        "short notation, threats, refutations, defences with the same continuations together;\n"
+        "above each diagram author, title, source and award, below it stipulation and number of\n"
+        "men; at the end an index of authors. It runs pops and pops-tries, or takes their texts.\n"
+        "Without pops-tries it shows the defences that pops shows, and no threats and tries.",
+        epilog="example: pops-sheet tourney.pop --language de -o sheet.html\n"
+        "         pops-sheet tourney.pop --report tourney.report --to latex -o sheet.tex\n"
+        "exit status: 0 if all is well, 1 if a problem is faulty or not in the report, 2 for a\n"
+        "mistake in the command line, 3 if a text can't be read, isn't what it should be or can't be written.",
+    )
+    add = parser.add_argument
+    add("input", metavar="INPUT", help="an input of pops")
+    add("--report", metavar="REPORT", help="the report of pops (default: pops is run)")
+    add("--tries", metavar="TEXT", help="the text of pops-tries (default: pops-tries is run)")
+    add(
+        "--refutations",
+        type=_refutations,
+        default=1,
+        metavar="N",
+        help="show tries with at most N refutations, if pops-tries is run (1)",
+    )
+    _add_forms(parser)
+    add("--pops", metavar="PROGRAM", help=LOOKED_FOR)
+    add("--pops-tries", metavar="PROGRAM", help=TRIES_LOOKED_FOR)
+    command.add_encoding(parser)
+    return parser
+
+
+def arguments(words: list[str]) -> Settings:
+    """Reads the words of the command line."""
+    parser = command_line()
+    settings = parser.parse_args(words, Settings())
+    if settings.figures and settings.to == "text":
+        parser.error("--figures goes with --to html, latex or pdf")
+    return settings
+
+
+class Texts:
+    """An input with the texts of both programs."""
+
+    def __init__(self, settings: Settings):
+        self._settings = settings
+        self.input = _read(settings.input)
+        if not any(map(is_input, self.input.split(b"\n"))):
+            raise CommandError(Status.DEVICE, f"{settings.input} is no input of pops")
+
+    def items(self) -> list[AnyItem]:
+        """Returns the items of the report, which has to be that of the input."""
+        named = self._settings.report
+        text = _read(named) if named else output_of(self._pops(), text=self.input)
+        try:
+            return list(read_report(io.BytesIO(text)))
+        except ReportError as error:
+            self._refuse(named or "the output of pops", "no report of pops", error)
+
+    def tries(self) -> dict[int, TriesItem]:
+        """Returns the problems of the text of tries; none without pops-tries."""
+        named = self._settings.tries
+        if named is not None:
+            text = _read(named)
+        else:
+            pops = "" if self._settings.pops_tries else self._pops()
+            program = find_tries(self._settings.pops_tries, pops)
+            if program is None:
+                message = "pops-tries isn't installed: threats and tries aren't shown"
+                print(f"{NAME}: {message}", file=sys.stderr)
+                return {}
+            refutations = str(self._settings.refutations)
+            text = output_of(program, "--refutations", refutations, text=self.input)
+        try:
+            items = list(read_tries(io.BytesIO(text)))
+        except ReportError as error:
+            self._refuse(named or "the output of pops-tries", "no text of pops-tries", error)
+        return {item.number: item for item in items if isinstance(item, TriesItem)}
+
+    def _pops(self) -> str:
+        try:
+            return find(self._settings.pops)
+        except MissingError as error:
+            raise CommandError(Status.DEVICE, str(error)) from None
+
+    def _refuse(self, name: str, why: str, error: ReportError) -> NoReturn:
+        raise CommandError(Status.DEVICE, f"{name} is {why}: {error}") from None
+
+    def boards(self) -> dict[int, Board]:
+        """Returns the boards of the problems without a fault, also of those with NoBoard."""
+        readings = ((piece.number, read_piece(self.input, piece)) for piece in cut(self.input))
+        return {
+            number: board_of({square: placed.man for square, placed in reading.men.items()})
+            for number, reading in readings
+            if reading.number is None
+        }
+
+
+def with_missing(items: list[AnyItem], given: list[GivenProblem]) -> list[AnyItem]:
+    """Adds the problems that a report lacks, as pops-many leaves them out, and says which."""
+    found = {item.number: item for item in items}
+    for problem in given:
+        if problem.number not in found:
+            print(f"{NAME}: problem {problem.number} isn't in the report", file=sys.stderr)
+            found[problem.number] = HeadlessItem(problem.number, "not in the report")
+    return [item for _, item in sorted(found.items())]
+
+
+def is_battle(item: AnyItem) -> bool:
+    """Returns whether an item can have tries."""
+    return isinstance(item, SoundItem) and item.stipulation.play is not Play.HELP
+
+
+def _read(name: str) -> bytes:
+    with command.opened(name) as source:
+        return source.read()
+
+
+def refuse_other_texts(
+    items: list[AnyItem],
+    tries: dict[int, TriesItem],
+    given: list[GivenProblem],
+    boards: dict[int, Board],
+) -> None:
+    """Raises CommandError where a text isn't of the input."""
+    numbers = [item.number for item in items]
+    if numbers != sorted(set(numbers)) or any(it > len(given) for it in numbers):
+        raise CommandError(Status.DEVICE, "the report isn't that of the input: other problems")
+    shown: list[Union[SoundItem, TriesItem]] = [it for it in items if isinstance(it, SoundItem)]
+    for one in [*shown, *tries.values()]:
+        stipulation = given[one.number - 1].stipulation if one.number <= len(given) else None
+        if one.stipulation != stipulation or one.board not in (None, boards.get(one.number)):
+            name = "report" if isinstance(one, SoundItem) else "text of tries"
+            message = f"the {name} isn't that of the input: problem {one.number} differs"
+            raise CommandError(Status.DEVICE, message)
+
+
+def pdf_of(page: str) -> bytes:
+    """Returns a page as headless Chromium prints it. CommandError where there is none."""
+    browser = next((it for it in BROWSERS if shutil.which(it)), None)
+    if browser is None:
+        message = "--to pdf needs chromium, which isn't on the PATH; --to html needs nothing"
+        raise CommandError(Status.DEVICE, message)
+    with tempfile.TemporaryDirectory(prefix="pops-sheet-") as room:
+        source, target = Path(room) / "sheet.html", Path(room) / "sheet.pdf"
+        source.write_text(page, "utf-8", "replace")
+        words = ["--headless", "--no-sandbox", "--disable-gpu", "--no-pdf-header-footer"]
+        words += [f"--user-data-dir={room}/profile", f"--print-to-pdf={target}", source.as_uri()]
+        done = subprocess.run([browser, *words], stdin=subprocess.DEVNULL, capture_output=True)
+        if done.returncode != 0 or not target.is_file():
+            raise CommandError(Status.DEVICE, f"{browser} ended with {done.returncode}")
+        return target.read_bytes()
+
+
+def sheet(settings: Settings) -> Status:
+    """Writes the sheet."""
+    texts = Texts(settings)
+    given, boards = given_problems(texts.input), texts.boards()
+    items = texts.items()
+    tries = texts.tries() if any(map(is_battle, items)) else {}
+    refuse_other_texts(items, tries, given, boards)
+    items = with_missing(items, given)
+    language = LANGUAGES[settings.language]
+    made = Sheet(boards, tries, language, settings.encoding)
+    entries = made.entries(groups(iter(items), given, settings.encoding, settings.apart))
+    heading = settings.heading or Path(settings.input).stem
+    if settings.to == "text":
+        written = as_text(entries, language).encode("utf-8", "replace")
+    elif settings.to == "latex":
+        page = as_latex(entries, language, heading, settings.encoding, settings.figures)
+        written = page.encode("utf-8", "replace")
+    else:
+        page = as_html(entries, language, heading, settings.figures)
+        written = pdf_of(page) if settings.to == "pdf" else page.encode("utf-8", "replace")
+    with command.written(settings.output) as target:
+        target.write(written)
+    is_whole = all(isinstance(item, SoundItem) for item in items)
+    return Status.GOOD if is_whole else Status.FAULTY
+
+
+def main(words: list[str]) -> Status:
+    return sheet(arguments(words))
+
+
+def run() -> NoReturn:
+    """Runs the command on the program's arguments."""
+    command.run(NAME, main)

@@ -1,0 +1,1 @@
+"""Sheets of solutions, as magazines print them."""

@@ -1,0 +1,57 @@
+"""Men before and after a printed move, and which other men could have made it."""
+
+from typing import Optional
+
+from pops_companions.chess.attacks import Men, attackers
+from pops_companions.chess.men import Kind, Man, Square
+from pops_companions.chess.stipulation import Condition
+from pops_companions.report.moves import Castling, PlayedMove
+
+
+def after(men: Men, move: PlayedMove) -> Men:
+    """Returns the men after a move."""
+    return _moved(men, move, move.origin)
+
+
+def _moved(men: Men, move: PlayedMove, origin: Square) -> Men:
+    moved = dict(men)
+    man = moved.pop(origin)
+    if move.en_passant:
+        moved.pop(Square(move.arrival.file, origin.rank), None)
+    moved[move.arrival] = man if move.promotion is None else Man(man.colour, move.promotion)
+    if move.castling is not None:
+        corner, crossed = (8, 6) if move.castling is Castling.SHORT else (1, 4)
+        moved[Square(crossed, origin.rank)] = moved.pop(Square(corner, origin.rank))
+    if move.rebirth is not None:
+        moved[move.rebirth.square] = move.rebirth.man
+    return moved
+
+
+def rivals(men: Men, move: PlayedMove, condition: Optional[Condition]) -> list[Square]:
+    """Returns where other men of the same kind are that could legally move to the same square.
+
+    Pawns have none: a capture by a pawn names its file.
+    """
+    if move.kind is Kind.PAWN or move.castling is not None:
+        return []
+    is_madrasi = condition is Condition.MADRASI
+    man = men[move.origin]
+    others = attackers(men, move.arrival, man.colour, is_madrasi)
+    return [
+        other
+        for other in others
+        if other != move.origin
+        and men[other] == man
+        and not _leaves_king(men, move, other, is_madrasi)
+    ]
+
+
+def _leaves_king(men: Men, move: PlayedMove, origin: Square, is_madrasi: bool) -> bool:
+    """Returns whether the man's own king is in check after it moves from another square."""
+    moved = _moved(men, move, origin)
+    king = Man(move.side, Kind.KING)
+    return any(
+        attackers(moved, place, move.side.opponent, is_madrasi)
+        for place, man in moved.items()
+        if man == king
+    )

@@ -1,0 +1,449 @@
+"""pops-sheet: published solutions in short notation, forms, languages, authors, refusals.
+
+The texts of tries come from the plain solver of the tests.
+"""
+
+import functools
+import io
+import re
+import shutil
+import subprocess
+import sys
+import tempfile
+import unittest
+from pathlib import Path
+from typing import Optional
+from unittest import mock
+
+from pops_companions.chess.men import Man, Square
+from pops_companions.report.items import SoundItem
+from pops_companions.report.reader import read_report
+from pops_companions.report.tries import TriesItem, read_tries
+from pops_companions.sheet.languages import LANGUAGES, marked_as
+from pops_companions.sheet.solution import Solution
+from pops_companions.show.authors import persons
+from tests import run_here, support
+from tests.plain_tries import plain_tries
+
+# (from memory: the queen's square before the key isn't certain)
+ORGAN_PIPES = (
+    b"BeginProblem\nTitle The Organ Pipes\nAuthor Loyd, Samuel\nOrigin Boston Gazette 1859\n"
+    b"Pieces White Kg3 Qh5 Se3 Pb3 Pd2 Pf4 Black Kd4 Rd8 Re8 Bc8 Bf8 Pa6 Pb4 Pd3 Pe4 Pg4\n"
+    b"Stipulation #2\nEndProblem\n"
+)
+SEVERAL_THREATS = (
+    b"BeginProblem\nPieces White Ke3 Qb5 Rd6 Rg3 Be4 Bf5 Se6 Black Kh2 Rf7 Bf3\n"
+    b"Stipulation #2\nOption Variation\nEndProblem\n"
+)
+OF_THE_MANUAL = (
+    b"BeginProblem\nPieces White Kd6 Qh8 Rc7 Black Ke1 Pa6\nStipulation #2\nOption Variation\n"
+    b"EndProblem\n"
+)
+HEAD = "BeginProblem\nTitle A pair a)\nAuthor Loyd, Samuel & Shinkman, Will\n"
+TWINS = (
+    f"{HEAD}Origin The Source 1900\nRemark award: 1st Prize\n"
+    "Pieces White Kg6 Ra1 Black Kh8\nStipulation h#1\nOption SetPlay\nNextProblem\n"
+    f"{HEAD[13:].replace('a)', 'b)')}Remark b) Move a1 b2\n"
+    "Pieces White Kg6 Rb2 Black Kh8\nStipulation h#1\nEndProblem\n"
+).encode()
+WITH_FAIRY_MEN = (
+    b"BeginProblem\nAuthor Sam Loyd\nPieces White Ka1 Gd5 Nc3 Rb7 Black Kh8 Pg7h7\n"
+    b"Stipulation #1\nOption NoBoard\nEndProblem\n"
+)
+
+
+def men_of(text: str) -> dict[Square, Man]:
+    """Men by letters and squares, as `Kg6 ra1`: White's are capital."""
+    return {Square.of_name(it[1:]): Man.of_letter(it[0]) for it in text.split()}
+
+
+def lines(men: str, asked: str, play: str, tries: Optional[str] = None) -> list[str]:
+    """The lines of a solution in English, set in by two blanks a level; headings end in a colon."""
+    (item,) = read_report(io.BytesIO(f"problem 1\n{asked}\n{play}\n".encode()))
+    assert isinstance(item, SoundItem)
+    own: Optional[TriesItem] = None
+    if tries is not None:
+        (found,) = read_tries(io.BytesIO(f"problem 1\n{asked}\n{tries}\n".encode()))
+        assert isinstance(found, TriesItem)
+        own = found
+    language = LANGUAGES["en"]
+    blocks = Solution(men_of(men), item.condition, language).blocks(item, own)
+    told: list[str] = []
+    for block in blocks:
+        told += [f"{block.heading}:"] if len(blocks) > 1 else []
+        for line in block.lines:
+            told.append("  " * line.level + line.text.translate(marked_as(language, {})))
+    return told
+
+
+@functools.lru_cache(maxsize=None)
+def tries_of(text: bytes) -> bytes:
+    """The text of tries of an input, made once."""
+    return plain_tries(text)
+
+
+class Case(unittest.TestCase):
+    """A folder with an input, its text of tries, and a program that makes it."""
+
+    def setUp(self) -> None:
+        room = tempfile.TemporaryDirectory()
+        self.addCleanup(room.cleanup)
+        self.room = Path(room.name)
+        self.tries = self.room / "plain-tries"
+        self.tries.write_text(
+            f"#!/bin/sh\ncd {support.COMPANIONS} && exec {sys.executable} -m tests.plain_tries \"$@\"\n"
+        )
+        self.tries.chmod(0o755)
+
+    def sheet(self, text: bytes, *words: str) -> support.Outcome:
+        """The sheet of an input with its text of tries."""
+        (self.room / "some.tries").write_bytes(tries_of(text))
+        return self.made(text, "--tries", str(self.room / "some.tries"), *words)
+
+    def made(self, text: bytes, *words: str) -> support.Outcome:
+        """The sheet of an input, for which pops is run."""
+        given = self.room / "given.pop"
+        given.write_bytes(text)
+        return run_here.companion("pops-sheet", str(given), "--pops", support.pops(), *words)
+
+    def text(self, text: bytes, *words: str) -> str:
+        outcome = self.sheet(text, "--to", "text", *words)
+        self.assertEqual((outcome.status, outcome.error), (0, ""))
+        return outcome.output.decode()
+
+
+class Published(Case):
+    """What is published, not what our programs print."""
+
+    def test_the_organ_pipes(self) -> None:
+        """Zugzwang; rooks and bishops interfere on each of four squares, in both orders."""
+        told = self.text(ORGAN_PIPES)
+        self.assertIn("1. Samuel Loyd: The Organ Pipes\n  Boston Gazette 1859\n", told)
+        self.assertIn("  #2 (6 + 10)\n", told)
+        self.assertIn("Authors\n  Loyd, Samuel: 1\n", told)
+        solution = told.split("  Solution\n")[1].split("\n\n")[0].split("\n")
+        self.assertEqual(solution[0].strip(), "1.Qa5! zugzwang")
+        mates: dict[str, str] = {}
+        for line in solution[1:]:
+            found = re.fullmatch(r" +1\.\.\.(\S+) 2\.(\S+)", line)
+            assert found is not None, line
+            mates.update(dict.fromkeys(found[1].split(","), found[2]))
+        for defence, mate in (
+            *(("Bd7", "Qd5#"), ("Rd7", "Sf5#"), ("Be7", "Qe5#"), ("Re7", "Qxb4#")),
+            *(("Bd6", "Qd5#"), ("Rd6", "Qxb4#"), ("Be6", "Qe5#"), ("Re6", "Sf5#")),
+            *(("Bb7", "Sf5#"), ("Bf5", "Sxf5#"), ("Bc5", "Qa1#")),
+            *(("Rd5", "Qxd5#"), ("Re5", "Qxe5#")),
+        ):
+            self.assertIn(mate, mates[defence].split("/"), defence)
+
+    def test_several_threats(self) -> None:
+        """The key threatens three mates, and only one defence parries them all."""
+        told = self.text(SEVERAL_THREATS)
+        self.assertEqual(
+            told.split("  Solution\n")[1],
+            "    1.Qf1! threat: 2.Qg1#/Qh3#/Rh3#\n      1...Bg2 2.Qxg2#/Rxg2#\n",
+        )
+
+    def test_the_try_of_the_manual(self) -> None:
+        told = self.text(OF_THE_MANUAL).split("\n")
+        place = told.index("    1.Qh2? threat: 2.Rc1#")
+        self.assertEqual(told[place + 1], "      but 1...Kd1!")
+        self.assertEqual(told[told.index("  Solution") + 1], "    1.Qb2! threat: 2.Rc1#")
+
+    def test_morphy(self) -> None:
+        """1.Ra6! bxa6 2.b7#, any move of the bishop 2.Rxa7#."""
+        told = self.text((support.REPOSITORY / "examples" / "morphy_1856.pop").read_bytes())
+        place = told.index("1.Ra6! zugzwang")
+        found = [line.strip() for line in told[place:].split("\n\n")[0].split("\n")]
+        mates = {it: line.split(" 2.")[1] for line in found[1:] for it in _defences(line)}
+        self.assertEqual(mates.pop("bxa6"), "b7#")
+        self.assertEqual(set(mates.values()), {"Rxa7#"})
+        self.assertTrue(all(it[0] == "B" for it in mates))
+
+    def test_help_play_of_twins(self) -> None:
+        told = self.text(TWINS)
+        self.assertEqual(
+            told,
+            "1-2. Samuel Loyd & Will Shinkman: A pair\n  The Source 1900, 1st Prize\n"
+            "  White Kg6 Ra1, Black Kh8\n  h#1 (2 + 1)\n"
+            "  a)\n  Set play\n    1...Ra8#\n  Solution\n    1.Kg8 Ra8#\n"
+            "  b) Move a1 b2\n  1.Kg8 Rb8#\n\n"
+            "Authors\n  Loyd, Samuel: 1-2\n  Shinkman, Will: 1-2\n",
+        )
+
+
+def _defences(line: str) -> list[str]:
+    found = re.match(r"1\.\.\.(\S+)", line)
+    return [] if found is None else found[1].split(",")
+
+
+class Lines(unittest.TestCase):
+    def test_men_told_apart(self) -> None:
+        """By file, by rank, by both, and not where the other man is pinned or only near."""
+        for men, move, wanted in (
+            ("Ke1 Sb1 Sf3 kh8", "Sb1-d2", "Sbd2"),
+            ("Ke1 Rd1 Rd8 kh7", "Rd1-d5", "R1d5"),
+            ("Kh1 Qa1 Qa5 Qe1 kh8", "Qa1-c3", "Qa1c3"),
+            ("Ke1 Se2 Sb1 re8 kh8", "Sb1-c3", "Sc3"),
+            ("Ke1 Sb1 Sg6 kh8", "Sb1-c3", "Sc3"),
+            ("Ke1 Pd5 Pf5 pe5 kh8", "d5*e6 ep.", "dxe6 ep."),
+            ("Ke1 Pb7 ra8 kh6", "b7*a8=Q", "bxa8=Q"),
+            ("Ke1 Rh1 kh8", "0-0", "0-0"),
+            ("Kg1 Rb3 Gd1 kh8", "Gd1-h5", "Gh5"),
+        ):
+            with self.subTest(move):
+                play = f"play\n1.{move}#\nsolutions: 1\n"
+                self.assertEqual(lines(men, "#1", play), [f"1.{wanted}#!"])
+
+    def test_madrasi_and_circe(self) -> None:
+        """A paralysed man is no rival; a rebirth is shown with its colour."""
+        play = "play\n1.Rd1-d5#\nsolutions: 1\n"
+        self.assertEqual(lines("Ke1 Rd1 Rd8 kh7", "#1 Madrasi", play), ["1.R1d5#!"])
+        self.assertEqual(lines("Ke1 Rd1 Rd8 rh8 kh7", "#1 Madrasi", play), ["1.Rd5#!"])
+        play = "play\n1.Rb3*d3[+bPd7]#\nsolutions: 1\n"
+        self.assertEqual(lines("Ke1 Rb3 pd3 kh7", "#1 Circe", play), ["1.Rxd3[+bPd7]#!"])
+
+    def test_same_continuations_together(self) -> None:
+        """The rook needs its file after one defence alone: both defences show it."""
+        play = (
+            "play\n1.Kb6-c6\n  1...Kh8-g8\n    2.Ra1-a8#\n  1...h7-h6\n    2.Ra1-a8#\n"
+            "  1...h7-h5\n    2.Ra1-a8#\n    2.Rf1-f8#\nsolutions: 1\n"
+        )
+        self.assertEqual(
+            lines("Kb6 Ra1 Rf1 kh8 ph7", "#2", play),
+            ["1.Kc6!", "  1...Kg8,h6 2.Ra8#", "  1...h5 2.Ra8#/Rf8#"],
+        )
+
+    def test_deeper_trees(self) -> None:
+        """What goes on in one way stays in its line; branches are set in below it."""
+        play = (
+            "play\n1.Ra1-a2\n  1...Kh8-g8\n    2.Ra2-a3\n      2...Kg8-h8\n        3.Ra3-a8#\n"
+            "  1...h7-h6\n    2.Ra2-a3\n      2...Kh8-g8\n        3.Ra3-a8#\n"
+            "      2...h6-h5\n        3.Ra3-h3#\n    2.Ra2-a4\n      2...Kh8-g8\n"
+            "        3.Ra4-a8#\nsolutions: 1\n"
+        )
+        self.assertEqual(
+            lines("Kf7 Ra1 kh8 ph7", "#3", play),
+            [
+                *("1.Ra2!", "  1...Kg8 2.Ra3 Kh8 3.Ra8#", "  1...h6"),
+                *("    2.Ra3", "      2...Kg8 3.Ra8#", "      2...h5 3.Rh3#"),
+                "    2.Ra4 Kg8 3.Ra8#",
+            ],
+        )
+
+    def test_selfmates_set_play_and_stopped_play(self) -> None:
+        play = (
+            "set\n1...Rb8-b1#\nsolutions: 1\nplay\n1.Qa1-a2\n  1...Rb8-b1#\n"
+            "  1...Rb8-c8\n    2.Qa2-g8+\nsolutions: 1, stopped\n"
+        )
+        self.assertEqual(
+            lines("Kh1 Qa1 Ph2 Pg2 rb8 kh8", "s#2", play),
+            [
+                *("Set play:", "1...Rb1#", "Solution:", "1.Qa2!"),
+                *("  1...Rb1#", "  1...Rc8 2.Qg8+", "(and perhaps more)"),
+            ],
+        )
+        self.assertEqual(
+            lines("Kg6 kh8", "#2", "set\nnot possible\nplay\nsolutions: 0\n"),
+            ["Set play:", "not possible", "Solution:", "no solution"],
+        )
+
+    def test_a_threat_in_several_moves(self) -> None:
+        tries = (
+            "play\n1.Ra1-a2!\n  threat\n    2.Ra2-b2\n      2...Kh8-g8\n        3.Rb2-b8#\n"
+            "    2.Ra2-c2\n      2...Kh8-g8\n        3.Rc2-c8#\n  1...Kh8-g8\n    2.Ra2-a8#\n"
+            "solutions: 1\ntries\n1.Ra1-b1?\n  zugzwang\n  but\n    1...Kh8-g8!\n    1...h7-h6!\n"
+            "tries: 1\n"
+        )
+        self.assertEqual(
+            lines("Kf7 Ra1 kh8 ph7", "#3", "play\n1.Ra1-a2\nsolutions: 1\n", tries),
+            [
+                *("Tries:", "1.Rb1? zugzwang", "  but 1...Kg8!, h6!", "Solution:"),
+                *("1.Ra2! threat:", "  2.Rb2 Kg8 3.Rb8#", "  2.Rc2 Kg8 3.Rc8#"),
+                "  1...Kg8 2.Ra8#",
+            ],
+        )
+
+
+class Forms(Case):
+    def test_languages_and_figures(self) -> None:
+        for language, wanted in (
+            ("de", "1.Df1! droht: 2.Dg1#/Dh3#/Th3#"),
+            ("fr", "1.Df1! menace : 2.Dg1#/Dh3#/Th3#"),
+        ):
+            self.assertIn(wanted, self.text(SEVERAL_THREATS, "--language", language))
+        outcome = self.sheet(SEVERAL_THREATS, "--figures")
+        self.assertIn("1.♕f1! threat: 2.♕g1#/♕h3#/♖h3#</p>", outcome.output.decode())
+        told = self.sheet(WITH_FAIRY_MEN, "--figures", "--language", "de").output.decode()
+        self.assertIn('<span class="turned">', told)
+        self.assertIn('<p class="fairy">Grashüpfer d5</p>', told)
+
+    def test_a_page(self) -> None:
+        outcome = self.sheet(TWINS, "--heading", "Ours & yours \ue000")
+        self.assertEqual((outcome.status, outcome.error), (0, ""))
+        page = outcome.output.decode()
+        for wanted in (
+            "<h1>Ours &amp; yours \ue000</h1>",
+            '<h2><a href="#problem-1-2">1-2</a> Samuel Loyd &amp; Will Shinkman</h2>',
+            '<p class="title">A pair</p>',
+            '<p class="origin">The Source 1900, 1st Prize</p>',
+            '<span class="stipulation">h#1</span> <span class="count">2 + 1</span>',
+            '<h3 class="label">b) Move a1 b2</h3>\n<p class="line" style="--level: 0">1.Kg8 Rb8#</p>',
+            '<p>Loyd, Samuel: <a href="#problem-1-2">1-2</a></p>',
+        ):
+            self.assertIn(wanted, page)
+        self.assertEqual(page.count('<svg class="diagram"'), 1)
+        apart = self.sheet(TWINS, "--apart").output.decode()
+        self.assertEqual(apart.count('<svg class="diagram"'), 2)
+
+    def test_a_document_of_latex(self) -> None:
+        text = self.sheet(TWINS, "--to", "latex").output.decode()
+        for wanted in (
+            "\\usepackage{diagram}\n",
+            "\\specialdiagnum{1-2}\n\\author{Loyd, Samuel; Shinkman, Will}\n\\dedic{A pair}\n"
+            "\\source{The Source 1900}\n\\award{1st Prize}\n\\pieces[2+1]{wKg6, wTa1, sKh8}\n",
+            "\\textit{Set play}\\newline\n1...Ra8\\#\\newline\n",
+            "Loyd, Samuel \\dotfill\\ 1-2\\par\n",
+        ):
+            self.assertIn(wanted, text)
+        figures = self.sheet(WITH_FAIRY_MEN, "--to", "latex", "--figures").output.decode()
+        self.assertIn("\\piecedefs{{w}{DU}{Grasshopper}; {w}{SU}{Nightrider}}", figures)
+
+    def test_latex_is_typeset(self) -> None:
+        if shutil.which("latex") is None or not self.has_package():
+            print("test_sheet: no LaTeX with the package diagram here: nothing was typeset")
+            return
+        marks = "".join(chr(code) for code in range(33, 127)) + " Réti"
+        strange = WITH_FAIRY_MEN.replace(b"Sam Loyd", marks.encode())
+        for place, text in enumerate((TWINS, SEVERAL_THREATS, ORGAN_PIPES, strange)):
+            for option in ("--apart", "--figures"):
+                source = self.room / f"sheet-{place}.tex"
+                source.write_bytes(self.sheet(text, "--to", "latex", option).output)
+                words = ["latex", "-interaction=nonstopmode", "-halt-on-error", source.name]
+                done = subprocess.run(words, cwd=self.room, capture_output=True, timeout=120)
+                self.assertEqual(done.returncode, 0, done.stdout[-2000:])
+
+    def has_package(self) -> bool:
+        return subprocess.run(["kpsewhich", "diagram.sty"], capture_output=True).returncode == 0
+
+    def test_a_pdf(self) -> None:
+        if shutil.which("chromium") is None:
+            outcome = self.sheet(TWINS, "--to", "pdf")
+            self.assertEqual((outcome.status, outcome.output), (3, b""))
+            self.assertIn("--to pdf needs chromium, which isn't on the PATH", outcome.error)
+            print("test_sheet: no chromium here: no PDF was made")
+            return
+        outcome = self.sheet(TWINS, "--to", "pdf")
+        self.assertEqual((outcome.status, outcome.output[:5]), (0, b"%PDF-"))
+
+    def test_authors(self) -> None:
+        """One person, surname first or last, is one entry; two are two."""
+        cases: list[tuple[str, Optional[list[str]], list[str]]] = [
+            ("Loyd, Samuel", ["Samuel Loyd"], ["Loyd, Samuel"]),
+            ("Samuel Loyd", ["Samuel Loyd"], ["Loyd, Samuel"]),
+            ("A. Kraemer & E. Zepler", None, ["Kraemer, A.", "Zepler, E."]),
+            ("Anna Muster und Bert Roe", None, ["Muster, Anna", "Roe, Bert"]),
+            ("Herbert von Ahlen; Loyd, Sam", None, ["Ahlen, Herbert von", "Loyd, Sam"]),
+            ("Sam Loyd jun.", ["Sam Loyd jun."], ["Loyd jun., Sam"]),
+            ("Anonymous", ["Anonymous"], ["Anonymous"]),
+            ("Paul Morphy, 1856", ["Paul Morphy, 1856"], ["Paul Morphy, 1856"]),
+            ("", [], []),
+        ]
+        for text, names, entries in cases:
+            with self.subTest(text):
+                self.assertEqual([it.entry for it in persons(text)], entries)
+                if names is not None:
+                    self.assertEqual([it.name for it in persons(text)], names)
+
+    def test_awards(self) -> None:
+        """As pops-import keeps them: of Popeye, of YAML as a text, and of YAML with its parts."""
+        for remarks, wanted in (
+            (["Award 2nd Prize"], "2nd Prize"),
+            (["award: 3rd HM", "C+"], "3rd HM"),
+            (["award.tourney.name: Jubilee", "award.distinction: 1st Prize"], "1st Prize, Jubilee"),
+            (["awarded by nobody"], ""),
+        ):
+            text = TWINS.decode().replace("Remark award: 1st Prize", "\n".join(
+                f"Remark {remark}" for remark in remarks
+            ))
+            origin = self.text(text.encode()).split("\n")[1].strip()
+            self.assertEqual(origin, ", ".join(filter(None, ("The Source 1900", wanted))))
+
+
+class Command(Case):
+    def test_without_tries(self) -> None:
+        """It prints what pops alone shows, and says so."""
+        with mock.patch("pops_companions.commands.sheet.find_tries", lambda *_: None):
+            outcome = self.made(OF_THE_MANUAL, "--to", "text")
+        message = "pops-sheet: pops-tries isn't installed: threats and tries aren't shown\n"
+        self.assertEqual((outcome.status, outcome.error), (0, message))
+        self.assertIn("  1.Qb2!\n    1...Kd1,Kf1,a5 2.Rc1#\n", outcome.output.decode())
+        with mock.patch("pops_companions.commands.sheet.find_tries", lambda *_: None):
+            self.assertEqual(self.made(TWINS).error, "")
+
+    def test_a_program_of_tries(self) -> None:
+        """It is run where no text is given, for as many refutations as are asked for."""
+        words = ["--to", "text", "--pops-tries", str(self.tries)]
+        outcome = self.made(OF_THE_MANUAL, *words)
+        self.assertEqual((outcome.status, outcome.error), (0, ""))
+        self.assertEqual(outcome.output.decode(), self.text(OF_THE_MANUAL))
+        told = self.made(OF_THE_MANUAL, *words, "--refutations", "0").output.decode()
+        self.assertIn("  #2 (3 + 2)\n  1.Qb2! threat: 2.Rc1#\n", told)
+
+    def test_given_texts(self) -> None:
+        """Texts that are given are taken, and no program is run."""
+        report = self.room / "given.report"
+        report.write_bytes(support.run([support.pops()], OF_THE_MANUAL).output)
+        words = ["--report", str(report), "--pops", "/bin/false"]
+        outcome = self.sheet(OF_THE_MANUAL, "--to", "text", *words)
+        self.assertEqual((outcome.status, outcome.error), (0, ""))
+        self.assertEqual(outcome.output.decode(), self.text(OF_THE_MANUAL))
+        both = support.run([support.pops()], TWINS).output
+        for other, wanted in (
+            (both.split(b"problem 2\n")[0], "problem 1 differs"),
+            (both, "other problems"),
+        ):
+            report.write_bytes(other)
+            refused = self.sheet(OF_THE_MANUAL, "--to", "text", *words)
+            message = f"pops-sheet: the report isn't that of the input: {wanted}\n"
+            self.assertEqual((refused.status, refused.error), (3, message))
+        report.write_bytes(b"nothing\n")
+        refused = self.sheet(OF_THE_MANUAL, "--to", "text", *words)
+        self.assertEqual(refused.status, 3)
+        self.assertIn("given.report is no report of pops: line 1: ", refused.error)
+
+    def test_a_report_without_a_problem(self) -> None:
+        """pops-many leaves out what it stopped: its diagram is shown all the same."""
+        report = self.room / "given.report"
+        whole = support.run([support.pops()], TWINS).output
+        report.write_bytes(b"problem 2\n" + whole.split(b"problem 2\n")[1])
+        outcome = self.sheet(TWINS, "--to", "text", "--report", str(report))
+        self.assertEqual(outcome.status, 1)
+        self.assertEqual(outcome.error, "pops-sheet: problem 1 isn't in the report\n")
+        self.assertIn("  h#1 (2 + 1)\n", outcome.output.decode())
+        self.assertIn("1.Kg8 Rb8#", outcome.output.decode())
+        latex = self.sheet(TWINS, "--to", "latex", "--report", str(report)).output
+        self.assertIn(b"\\end{document}", latex)
+
+    def test_faulty_problems(self) -> None:
+        text = OF_THE_MANUAL.replace(b"#2", b"#99")
+        outcome = self.sheet(text, "--to", "text")
+        self.assertEqual((outcome.status, outcome.error), (1, ""))
+        self.assertEqual(outcome.output.decode(), "1.\n  line 3: bad stipulation\n")
+        self.assertIn(b'class="fault"', self.sheet(text).output)
+        self.assertIn(b"\\putsol", self.sheet(text, "--to", "latex").output)
+
+    def test_mistakes(self) -> None:
+        for words in (["--refutations", "201"], ["--to", "odt"], ["--figures", "--to", "text"]):
+            self.assertEqual(self.sheet(TWINS, *words).status, 2)
+        outcome = self.sheet(b"problem 1\n")
+        self.assertEqual((outcome.status, outcome.output), (3, b""))
+        self.assertIn("is no input of pops", outcome.error)
+        self.tries.write_text("#!/bin/sh\nexit 4\n")
+        outcome = self.made(OF_THE_MANUAL, "--pops-tries", str(self.tries))
+        self.assertEqual((outcome.status, outcome.output), (3, b""))
+        self.assertIn("plain-tries ended with 4", outcome.error)
+
+
+if __name__ == "__main__":
+    unittest.main()

@@ -1,0 +1,170 @@
+"""Texts of pops-tries: how they are read, what is refused, and what pops-test takes from them."""
+
+import csv
+import io
+import tempfile
+import unittest
+from pathlib import Path
+
+from pops_companions.report.items import FaultyItem
+from pops_companions.report.reader import ReportError
+from pops_companions.report.tries import AnyTriesItem, Menace, TriesItem, read_tries
+from tests import run_here, support
+from tests.plain_tries import plain_tries
+from tests.test_sheet import SEVERAL_THREATS
+
+# A text written by hand: a key with a threat that goes on, and a try with two refutations.
+TEXT = """\
+problem 1
+title: Three moves
+#3
+set
+1...h7-h6
+  2.Ra1-a8#
+solutions: 1
+play
+1.Ra1-a2!
+  threat
+    2.Ra2-b2
+      2...Kh8-g8
+        3.Rb2-b8#
+  1...Kh8-g8
+    2.Ra2-a8#
+  1...h7-h6
+    2.Ra2-a8#
+    2.Ra2-b2
+1.Ra1-a8#!
+solutions: 2, stopped
+tries
+1.Ra1-b1+?
+  check
+  1...h7-h6
+    2.Rb1-b8#
+  but
+    1...Kh8-g8!
+    1...h7-h5!
+tries: 1
+
+problem 2
+line 9: fault 11: no men
+
+problem 3
+h#2.5 Circe
+no tries in help play
+
+"""
+
+
+def read(text: str) -> list[AnyTriesItem]:
+    return list(read_tries(io.BytesIO(text.encode())))
+
+
+class Reading(unittest.TestCase):
+    def test_all_parts(self) -> None:
+        one, faulty, help_play = read(TEXT)
+        assert isinstance(one, TriesItem) and isinstance(help_play, TriesItem)
+        self.assertEqual((one.number, one.title, one.stipulation.text), (1, b"Three moves", "#3"))
+        assert one.set_play is not None and one.total is not None
+        self.assertEqual(one.set_play.last_line, "solutions: 1")
+        self.assertEqual((one.total.count, one.total.stopped), (2, True))
+        key, at_once = one.keys
+        self.assertEqual((key.text, key.menace), ("1.Ra1-a2!", Menace.THREAT))
+        (threat,) = key.threats
+        self.assertEqual(threat.below[0].below[0].text, "        3.Rb2-b8#")
+        self.assertEqual([len(it.below) for it in key.defences], [1, 2])
+        self.assertEqual((at_once.menace, at_once.defences), (None, ()))
+        (attempt,) = one.tries
+        self.assertEqual(attempt.menace, Menace.CHECK)
+        self.assertEqual([it.move.text for it in attempt.refutations], ["Kh8-g8", "h7-h5"])
+        self.assertEqual(list(one.lines), TEXT.split("\n\n")[0].split("\n")[3:])
+        assert isinstance(faulty, FaultyItem)
+        self.assertEqual(faulty.fault.number, 11)
+        self.assertEqual((help_play.total, help_play.lines), (None, ("no tries in help play",)))
+
+    def test_what_is_refused(self) -> None:
+        """A text that departs from its form, with the line where it does."""
+        for old, new, line in (
+            ("1.Ra1-a2!", "1.Ra1-a2", 9),
+            ("1.Ra1-a2!", "1.Ra1-a2?", 9),
+            ("  threat", "  threats", 10),
+            ("  1...Kh8-g8\n    2.Ra2", "    1...Kh8-g8\n    2.Ra2", 14),
+            ("solutions: 2", "solutions: 3", 20),
+            ("\ntries\n1", "\ntry\n1", 21),
+            ("  but\n", "", 26),
+            ("    1...Kh8-g8!", "    1...Kh8-g8", 27),
+            ("tries: 1", "tries: 2", 29),
+            ("no tries in help play", "play", 36),
+            ("tries: 1\n\n", "tries: 1\n", 30),
+        ):
+            with self.subTest(new), self.assertRaises(ReportError) as caught:
+                self.assertIn(old, TEXT)
+                read(TEXT.replace(old, new, 1))
+            self.assertEqual(caught.exception.line, line)
+        for length in range(1, len(TEXT) - 1):
+            if not TEXT[:length].endswith("\n\n"):
+                with self.assertRaises(ReportError):
+                    read(TEXT[:length])
+
+
+class Testing(unittest.TestCase):
+    """pops-test with a text of tries."""
+
+    def setUp(self) -> None:
+        room = tempfile.TemporaryDirectory()
+        self.addCleanup(room.cleanup)
+        self.room = Path(room.name)
+
+    def judged(self, text: bytes, tries: bytes, *words: str) -> support.Outcome:
+        (self.room / "some.tries").write_bytes(tries)
+        report = support.run([support.pops()], text).output
+        named = ["--tries", str(self.room / "some.tries")]
+        return run_here.companion("pops-test", *named, *words, text=report)
+
+    def test_duals_only_after_defences(self) -> None:
+        """Seventeen duals come after all replies, one after the only defence."""
+        report = support.run([support.pops()], SEVERAL_THREATS).output
+        alone = run_here.companion("pops-test", text=report).output.decode()
+        self.assertIn("  17 duals at the mate: 17 on move 2\n", alone)
+        outcome = self.judged(SEVERAL_THREATS, plain_tries(SEVERAL_THREATS))
+        self.assertEqual((outcome.status, outcome.error), (0, ""))
+        self.assertEqual(
+            outcome.output.decode().split("\n")[:8],
+            [
+                "problem 1: sound: #2",
+                "  1 dual at the mate: 1 on move 2",
+                "    1.Qb5-f1 Bf3-g2 2.Qf1*g2# | Rg3*g2#",
+                "  1.Qb5-f1: 3 threats",
+                "    2.Qf1-g1# | Qf1-h3# | Rg3-h3#",
+                "  2 tries with one refutation",
+                "    1.Qb5-b2+? Bf3-e2!",
+                "    1.Qb5-e2+? Bf3*e2!",
+            ],
+        )
+        rows = self.judged(SEVERAL_THREATS, plain_tries(SEVERAL_THREATS), "--csv").output.decode()
+        (row,) = csv.DictReader(io.StringIO(rows))
+        self.assertEqual((row["threats"], row["tries"], row["duals_at_the_end"]), ("3", "2", "1"))
+
+    def test_zugzwang_and_what_isnt_shown(self) -> None:
+        """Zugzwang is said of the key; without Variation later duals of #3 aren't known."""
+        text = (support.REPOSITORY / "examples" / "morphy_1856.pop").read_bytes()
+        told = self.judged(text, plain_tries(text)).output.decode()
+        self.assertIn("  1.Ra1-a6: zugzwang\n", told)
+        three = text.replace(b"#2", b"#3").replace(b"Variation", b"MaxSolutions 1")
+        play = "1.Ra1-a6!\n  zugzwang\n  1...Bb8-c7\n    2.Ra6-a5\nsolutions: 1, stopped\n"
+        head = plain_tries(three.replace(b"#3", b"#1")).split(b"#1\n")[0].decode()
+        tries = f"{head}#3\nplay\n{play}tries\ntries: 0\n\n"
+        told = self.judged(three, tries.encode()).output.decode()
+        self.assertIn("  duals not shown: they need Variation\n", told)
+
+    def test_texts_that_dont_fit(self) -> None:
+        other = plain_tries(SEVERAL_THREATS).replace(b"7 .....r..", b"7 ........")
+        outcome = self.judged(SEVERAL_THREATS, other)
+        self.assertEqual((outcome.status, outcome.output), (3, b""))
+        self.assertIn("the text of tries has another problem 1 than the report", outcome.error)
+        outcome = self.judged(SEVERAL_THREATS, b"problem 1\n")
+        self.assertEqual(outcome.status, 3)
+        self.assertIn("some.tries is no text of pops-tries: line 2: ", outcome.error)
+
+
+if __name__ == "__main__":
+    unittest.main()
