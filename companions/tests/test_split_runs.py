@@ -89,8 +89,7 @@ class Runs(SplitRoom):
             " pops-part ended with status 4; tried again\n",
         )
         self.assertEqual(self.report.read_bytes(), self.wanted)
-        # (a busy machine may try a third time: parts that take long are tried alone)
-        self.assertGreaterEqual(self.parts().count("play-2"), 2)
+        self.assertEqual(self.parts().count("play-2"), 2)
 
     def test_a_part_that_fails_twice_leaves_the_others_kept(self) -> None:
         outcome = self.split(self.pops_part("problem-play-2", "kill -9 $$"))
