@@ -39,7 +39,7 @@ pub fn is_key<R: Rules, const N: usize>(
 }
 
 /// Returns whether White no longer wins after the reply that led to the board's position.
-#[tactic(auto, using(crate::proofs::Contests::reply_by_value, crate::proofs::Contests::reply_in_short))]
+#[tactic(auto, using(crate::proofs::Contests::replying))]
 fn is_refuted<R: Rules, const N: usize>(
     contest: Contest,
     board: &mut Board,
@@ -85,7 +85,7 @@ pub fn refutes<R: Rules, const N: usize>(
 
 /// Returns the number of refutations of the first move that led to the board's position, counted up to one
 /// more than `most`.
-#[tactic(auto, using(crate::proofs::Loops::counted, crate::proofs::Loops::passed_over, crate::proofs::Loops::all_counted, pop_battle::proofs::Boards::after_start))]
+#[tactic(auto, using(crate::proofs::Loops::counting, pop_battle::proofs::Boards::after_start))]
 fn count_refutations<R: Rules, const N: usize>(
     contest: Contest,
     most: u32,

@@ -45,7 +45,7 @@ pub fn unpass(board: &mut Board, crossed: Option<Square>)
 }
 
 /// Returns whether White wins the board's position with one move less than the whole contest has.
-#[tactic(auto, using(crate::proofs::Contests::passed_by_value, crate::proofs::Contests::no_win_at_goal, crate::proofs::Contests::no_win_in_short))]
+#[tactic(auto, using(crate::proofs::Contests::passing))]
 fn wins_with_one_less<R: Rules, const N: usize>(
     contest: Contest,
     board: &mut Board,
@@ -142,7 +142,7 @@ fn works<R: Rules, const N: usize>(
 /// Returns whether the legal reply `by` to the first move that led to the board's position is a defence.
 /// `threat` is the least number of half-moves within which White's threats win, or `None` if White threatens
 /// nothing.
-#[tactic(auto, using(crate::proofs::Loops::not_there, crate::proofs::Loops::not_asked, crate::proofs::Loops::found, crate::proofs::Loops::nowhere, crate::proofs::Contests::passed_well_formed, crate::proofs::Contests::defence_by_loop, crate::proofs::Contests::defence_without_threat, crate::proofs::Contests::placed, chess_rules::proofs::listing_moves::Calls::playing, pop_battle::proofs::Boards::after_start))]
+#[tactic(auto, using(crate::proofs::Loops::looking, crate::proofs::Contests::defending, pop_battle::proofs::Boards::after_start))]
 pub fn is_defence<R: Rules, const N: usize>(
     contest: Contest,
     threat: Option<usize>,
