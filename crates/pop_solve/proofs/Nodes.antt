@@ -124,10 +124,10 @@ module _ {P M : Type 0} (battle : Battle) (game : Game P M) (n : ℕ) where
 
   -- a property of trees holds of all of a game's trees
   module _ {Ok : List M → Type 0} {Q : List (List M) → Type 0} (holds : HoldsOfTrees game Ok Q) where
-    unless : (g : Bool) (paths : List (List M)) → Q paths → Q (cond g [] paths)
+    pub unless : (g : Bool) (paths : List (List M)) → Q paths → Q (cond g [] paths)
     unless g paths h = search (rules, holds.none)
 
-    trees_hold : (h : ℕ) → ((q : P) → Q (nodes_below battle game n h q)) × ((r : P) → Q (continuations battle game n h r))
+    pub trees_hold : (h : ℕ) → ((q : P) → Q (nodes_below battle game n h q)) × ((r : P) → Q (continuations battle game n h r))
     unfolding nodes_below continuations
     trees_hold zero = (λ q. holds.none, λ r. holds.none)
     trees_hold (suc h) = (
@@ -135,7 +135,7 @@ module _ {P M : Type 0} (battle : Battle) (game : Game P M) (n : ℕ) where
       λ r. unless (game.goal r) _ (holds.nodes _ (best_moves battle game n r) (holds.some _ _ (holds.moves r)) (λ m. (trees_hold h).0 (game.after r m))),
     )
 
-    singles_hold : (ms : List M) → Ok ms → Q (map (λ m. m ∷ []) ms)
+    pub singles_hold : (ms : List M) → Ok ms → Q (map (λ m. m ∷ []) ms)
     singles_hold ms ok = subst Q (flat_map_single (λ m. m ∷ []) ms) (holds.nodes (λ m. []) ms ok (λ m. holds.none))
 
     below_key_holds : (variation : Bool) (h : ℕ) (p : P) (m : M) → Q (below_key variation h p m)

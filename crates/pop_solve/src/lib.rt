@@ -23,8 +23,9 @@
 //! assert!(rt; keys == 1);
 //! ```
 //!
-//! The items re-exported at the root are the interface. The other public modules serve `pop_parts` only: it
-//! begins the search of a phase after given moves (`beginning`) and lets `phases` walk it. No call allocates.
+//! The items re-exported at the root are the interface. The other public modules serve `pop_parts`, which
+//! begins the search of a phase after given moves (`beginning`) and lets `phases` walk it, and `pop_tries`,
+//! which walks what follows a first move (`walk`, `showing`). No call allocates.
 #![tactic(auto)]
 
 pub mod beginning;
@@ -33,7 +34,7 @@ pub mod laws;
 pub mod phases;
 pub mod plan;
 pub mod search;
-mod showing;
+pub mod showing;
 pub mod walk;
 
 pub use laws::no_path_comes_twice;

@@ -122,7 +122,7 @@ pub(crate) fn line<R: Rules>(
 }
 
 /// Returns the last move that leads to the top frame, as it is shown.
-pub(crate) fn last_shown<R: Rules>(plan: Plan, frames: &[Frame<R>], board: &mut Board) -> Shown
+pub fn last_shown<R: Rules>(plan: Plan, frames: &[Frame<R>], board: &mut Board) -> Shown
     requires deep { 2 ≤ length frames.now }
     requires walking { (h : ℕ) × (p : Position)
         × IsWalking R.rule h p (reverse frames.now) board.old }

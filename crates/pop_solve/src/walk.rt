@@ -98,7 +98,7 @@ fn shown_length<R: Rules, const N: usize>(
 
 /// Returns how many half-moves the walk goes on from the board's position, with `left` half-moves left.
 #[tactic(auto, unfolding(crate::specs::ties::Walk::walk_length))]
-fn walk_length<R: Rules, const N: usize>(
+pub fn walk_length<R: Rules, const N: usize>(
     plan: Plan,
     left: usize,
     board: &mut Board,
@@ -429,7 +429,7 @@ fn next_of_top<R: Rules, const N: usize>(
 /// Takes one step of the walk: plays the next move of the top frame, or closes the frame. Returns whether
 /// the path to the new top frame is emitted.
 #[tactic(auto, using(crate::proofs::Walking::top_frame))]
-pub(crate) fn step<R: Rules, const N: usize>(
+pub fn step<R: Rules, const N: usize>(
     plan: Plan,
     half_moves: usize,
     board: &mut Board,

@@ -1,0 +1,4 @@
+pub mod Words
+pub mod Contests
+pub mod Loops
+pub mod theorems

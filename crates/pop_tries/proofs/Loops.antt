@@ -1,0 +1,40 @@
+-- Loops over the moves of a position that count those which pass a test, or look for one.
+use Rattle.pop_tries.proofs.Words.{Bool, List, Move, [], ap, arith, cond, false, filter, length, list_any, refl, sym, true, ℕ, ◌+◌, ◌∙◌, ◌∷◌, ◌≡◌, ◌||◌}
+
+module _ (test : Move → Bool) (m : Move) (old new : List Move) (next : old ≡ m ∷ new) where
+  -- the next move passes, and is counted
+  pub counted : (count total : ℕ) → test m ≡ true → count + length (filter test old) ≡ total → (count + 1) + length (filter test new) ≡ total
+  counted count total passes so_far = grind arith
+
+  -- the next move fails
+  pub passed_over : (count total : ℕ) → test m ≡ false → count + length (filter test old) ≡ total → count + length (filter test new) ≡ total
+  passed_over count total fails so_far = grind arith
+
+  -- the next move passes, and what is looked for isn't there
+  pub not_there : (wanted : Move → Bool) (all : Bool) → test m ≡ true → wanted m ≡ false → list_any wanted (filter test old) ≡ all
+      → list_any wanted (filter test new) ≡ all
+  not_there wanted all passes fails so_far = grind arith
+
+  -- the next move fails, whatever is looked for
+  pub not_asked : (wanted : Move → Bool) (all : Bool) → test m ≡ false → list_any wanted (filter test old) ≡ all → list_any wanted (filter test new) ≡ all
+  not_asked wanted all fails so_far = grind arith
+
+  -- the next move passes, and is what is looked for
+  pub found : (wanted : Move → Bool) (all : Bool) → test m ≡ true → wanted m ≡ true → list_any wanted (filter test old) ≡ all → all ≡ true
+  found wanted all passes fits so_far = grind arith
+
+-- no move is left
+module _ (test : Move → Bool) (old : List Move) (none : old ≡ []) where
+  -- all have been counted
+  pub all_counted : (count total : ℕ) → count + length (filter test old) ≡ total → count ≡ total
+  all_counted count total so_far = grind arith
+
+  -- what is looked for isn't there
+  pub nowhere : (wanted : Move → Bool) (all : Bool) → list_any wanted (filter test old) ≡ all → all ≡ false
+  nowhere wanted all so_far = grind arith
+
+-- for a loop that counts
+pub ruleset counting = (counted, passed_over, all_counted)
+
+-- for a loop that looks for a move
+pub ruleset looking = (not_there, not_asked, found, nowhere)

@@ -1,0 +1,179 @@
+-- What is shown below a first move, for any game: which threats and replies, in which order, and that
+-- nothing comes twice.
+use Rattle.pop_tries.proofs.Words.{AllPairs, Battle, Below, Bool, Contains, Game, List, Passing, [], ap, arith, below_first, below_reply, best_moves, Contains-append_cases, in_cases, but, check, cond, faced, false, filter_agree, flat_map, from_map, has_threat, in_map, inl, inr, is_defence, is_in_set_play, map, none_in_nil, pairs_append, pairs_later, pairs_map, pairs_of, pairs_weaker, refl, refutation, refutations, reply, reply_nodes, set_tree, shown_refutations, shown_replies, suc, sym, subst, threat, threat_nodes, threatened, threats, true, zugzwang, AllPairs-filter, node, ℕ, ◌&&◌, ◌++◌, ◌-◌, ◌<◌, ◌↔◌, ◌∙◌, ◌∷◌, ◌≡◌, ◌≢◌, ◌≤◌}
+use Rattle.pop_solve.proofs.Nodes.{HoldsOfTrees, deeper_are, in_order, roots_are, set_tree_paths, singles_hold, trees_hold, unless}
+unfoldable use Rattle.pop_solve.proofs.Nodes.{below_set}
+use Rattle.pop_solve.proofs.theorems.Lists.{StandsBefore, never_before_itself}
+use Rattle.pop_solve.proofs.theorems.Trees.{IsBest, continuations_are}
+use Rattle.pop_tries.proofs.theorems.Threats.{each_is_defence_where_nothing_threatens, is_best}
+
+-- the end of a list in order is in order
+pairs_back : {X : Type 0} (R : X → X → Type 0) (xs ys : List X) → AllPairs R (xs ++ ys) → AllPairs R ys
+pairs_back R [] ys a = a
+pairs_back R (x ∷ xs) ys a = pairs_back R xs ys (pairs_later R x (xs ++ ys) a)
+
+-- a first move leads to q, with h half-moves left
+module _ {P M : Type 0} (battle : Battle) (game : Game P M) (n : ℕ) (passing : Passing P M) (variation : Bool) (h : ℕ) (q : P) where
+  -- A reply is shown exactly if White still wins after it and it is a defence.
+  pub replies_shown_are : (d : M) → Contains (reply_nodes battle game n passing variation h q) (d ∷ [])
+      ↔ (Contains (game.moves q) d × ((is_in_set_play battle game n (game.after q d) && is_defence battle game n passing q d) ≡ true))
+  replies_shown_are d = roots_are (λ d. below_reply battle game n variation (h - 1) (game.after q d))
+      (λ d. is_in_set_play battle game n (game.after q d) && is_defence battle game n passing q d) (game.moves q) d
+
+  -- Below a shown reply stand its continuations, as below a first move of set play.
+  pub replies_go_on : (d x : M) (path : List M) → Contains (reply_nodes battle game n passing variation h q) (d ∷ (x ∷ path))
+      ↔ (Contains (game.moves q) d × ((is_in_set_play battle game n (game.after q d) && is_defence battle game n passing q d) ≡ true)
+      × Contains (below_reply battle game n variation (h - 1) (game.after q d)) (x ∷ path))
+  replies_go_on d x path = deeper_are (λ d. below_reply battle game n variation (h - 1) (game.after q d))
+      (λ d. is_in_set_play battle game n (game.after q d) && is_defence battle game n passing q d) (game.moves q) d x path
+
+  by_variation : (variation : Bool) (t : M) → 2 ≤ h → game.goal (passing.passed q) ≡ false
+      → Contains (below_reply battle game n variation (h - 1) (passing.passed q)) (t ∷ []) ↔ IsBest battle game n (passing.passed q) t
+  by_variation true t deep unmet =
+      let are = continuations_are battle game n (h - 1) (passing.passed q) t in
+      (λ c. (are.0 c).2, λ best. are.1 (omega (arith, deep), unmet, best))
+  by_variation false t deep unmet =
+      let singles = map (λ m. m ∷ []) (best_moves battle game n (passing.passed q)) in
+      let best = is_best battle game n passing q (passing.passed q) t in
+      rw unmet (
+        λ c. let w = from_map (λ m. m ∷ []) (best_moves battle game n (passing.passed q)) (t ∷ []) c in best.0 (grind arith),
+        λ b. in_map (λ m. m ∷ []) (best_moves battle game n (passing.passed q)) t (best.1 b),
+      )
+
+  -- The threats are shown, and no other move is shown as one, if half-moves are left for them and the goal
+  -- isn't reached by passing.
+  pub threats_shown_are : (t : M) → 2 ≤ h → game.goal (passing.passed q) ≡ false
+      → Contains (threat_nodes battle game n passing variation h q) (t ∷ []) ↔ Contains (threats battle game n passing q) t
+  threats_shown_are t deep unmet = by (has_threat battle game n passing q) refl
+    where
+      by : (b : Bool) → has_threat battle game n passing q ≡ b
+          → Contains (threat_nodes battle game n passing variation h q) (t ∷ []) ↔ Contains (threats battle game n passing q) t
+      by true e =
+          let are = by_variation variation t deep unmet in
+          let best = is_best battle game n passing q (passing.passed q) t in
+          rw e (λ c. best.1 (are.0 c), λ c. are.1 (best.0 c))
+      by false e = rw e (λ c. absurd (none_in_nil (t ∷ []) c), λ c. absurd (none_in_nil t c))
+
+  module _ {Ok : List M → Type 0} {Q : List (List M) → Type 0} (holds : HoldsOfTrees game Ok Q) where
+    below_reply_holds : (variation : Bool) (k : ℕ) (r : P) → Q (below_reply battle game n variation k r)
+    below_reply_holds true k r = (trees_hold battle game n holds k).1 r
+    below_reply_holds false k r = unless battle game n holds (game.goal r) _
+        (singles_hold battle game n holds (best_moves battle game n r) (holds.some _ _ (holds.moves r)))
+
+    replies_hold : Q (reply_nodes battle game n passing variation h q)
+    replies_hold = holds.nodes _ (shown_replies battle game n passing q) (holds.some _ _ (holds.moves q))
+        (λ d. below_reply_holds variation (h - 1) (game.after q d))
+
+    threats_hold : Q (threat_nodes battle game n passing variation h q)
+    threats_hold = by (has_threat battle game n passing q)
+      where
+        by : (b : Bool) → Q (cond b (below_reply battle game n variation (h - 1) (passing.passed q)) [])
+        by true = below_reply_holds variation (h - 1) (passing.passed q)
+        by false = holds.none
+
+  module _ (before : M → M → Type 0) (order : (p : P) → AllPairs before (game.moves p)) where
+    -- If the moves of each position are in an order, the shown replies with the nodes below them come in its
+    -- lexicographic order.
+    pub replies_in_order : AllPairs (StandsBefore before) (reply_nodes battle game n passing variation h q)
+    replies_in_order = (replies_hold (in_order game before order)).1
+
+    -- The threats, with the nodes below them, come in this order too.
+    pub threats_in_order : AllPairs (StandsBefore before) (threat_nodes battle game n passing variation h q)
+    threats_in_order = (threats_hold (in_order game before order)).1
+
+  -- what is listed in an order without repetition: check, threat or zugzwang; threats; replies; the word
+  -- `but`; refutations
+  abbrev part : Below M → ℕ
+  part check = 0
+  part threat = 0
+  part zugzwang = 0
+  part (threatened path) = 1
+  part (reply path) = 2
+  part but = 3
+  part (refutation d) = 4
+
+  apart : (x y : Below M) → part x < part y → x ≢ y
+  apart x y less same = omega (arith, less, ap part same)
+
+  part_of_map : {X : Type 0} (f : X → Below M) (k : ℕ) → ((x : X) → part (f x) ≡ k) → (xs : List X) (y : Below M) → Contains (map f xs) y → part y ≡ k
+  part_of_map f k all xs y c = let w = from_map f xs y c in ap part (sym w.2) ∙ all w.0
+
+  differ : (w : Below M) → part w ≡ 0 → (ts rs : List (List M)) (ds : List M) → AllPairs (λ a b. a ≢ b) ts → AllPairs (λ a b. a ≢ b) rs
+      → AllPairs (λ a b. a ≢ b) ds → AllPairs (λ a b. a ≢ b) ((w ∷ map threatened ts ++ map reply rs) ++ (but ∷ map refutation ds))
+  differ w first ts rs ds a b c =
+      let one = part_of_map threatened 1 (λ x. refl) ts in
+      let two = part_of_map reply 2 (λ x. refl) rs in
+      let four = part_of_map refutation 4 (λ x. refl) ds in
+      let shown = pairs_append (λ a b. a ≢ b) (map threatened ts) (map reply rs)
+      (pairs_map (λ a b. a ≢ b) (λ a b. a ≢ b) threatened ts (λ x y ne same. ne (grind arith)) a)
+      (pairs_map (λ a b. a ≢ b) (λ a b. a ≢ b) reply rs (λ x y ne same. ne (grind arith)) b)
+      (λ x y s t. apart x y (omega (arith, one x s, two y t))) in
+      let refuted = pairs_of (λ a b. a ≢ b) but (map refutation ds)
+      (λ y t. apart but y (omega (arith, four y t)))
+      (pairs_map (λ a b. a ≢ b) (λ a b. a ≢ b) refutation ds (λ x y ne same. ne (grind arith)) c) in
+      let early : (x : Below M) → Contains (w ∷ map threatened ts ++ map reply rs) x → part x ≤ 2 =
+      λ x s. elim (in_cases w (map threatened ts ++ map reply rs) x s) [
+        | inl same ↦ omega (arith, ap part same, first)
+        | inr later ↦ elim (Contains-append_cases (map threatened ts) (map reply rs) x later) [
+          | inl s ↦ omega (arith, one x s)
+          | inr t ↦ omega (arith, two x t)
+        ]
+      ] in
+      let late : (y : Below M) → Contains (but ∷ map refutation ds) y → 3 ≤ part y =
+      λ y t. elim (in_cases but (map refutation ds) y t) [
+        | inl same ↦ omega (arith, ap part same)
+        | inr later ↦ omega (arith, four y later)
+      ] in
+      let next : (y : Below M) → Contains (map threatened ts ++ map reply rs) y → 1 ≤ part y =
+      λ y t. elim (Contains-append_cases (map threatened ts) (map reply rs) y t) [
+        | inl s ↦ omega (arith, one y s)
+        | inr s ↦ omega (arith, two y s)
+      ] in
+      pairs_append (λ a b. a ≢ b) (w ∷ map threatened ts ++ map reply rs) (but ∷ map refutation ds)
+      (pairs_of (λ a b. a ≢ b) w (map threatened ts ++ map reply rs) (λ y t. apart w y (omega (arith, first, next y t))) shown)
+      refuted (λ x y s t. apart x y (omega (arith, early x s, late y t)))
+
+  first_part : part (faced battle game n passing q) ≡ 0
+  first_part = grind arith
+
+  -- If no position has two equal moves, nothing is shown twice below a first move, with or without its
+  -- refutations.
+  pub nothing_below_comes_twice : ((p : P) → AllPairs (λ a b. a ≢ b) (game.moves p))
+      → AllPairs (λ a b. a ≢ b) (below_first battle game n passing variation h q ++ shown_refutations battle game n q)
+  unfolding below_first
+  nothing_below_comes_twice apart_moves =
+      let order = λ (p : P). apart_moves p in
+      let strict = never_before_itself {M = M} (λ m n. m ≢ n) (λ m ne. ne refl) in
+      let all = differ (faced battle game n passing q) first_part (threat_nodes battle game n passing variation h q)
+      (reply_nodes battle game n passing variation h q) (refutations battle game n q)
+      (pairs_weaker _ _ _ strict (threats_in_order (λ m n. m ≢ n) order)) (pairs_weaker _ _ _ strict (replies_in_order (λ m n. m ≢ n) order))
+      (AllPairs-filter (λ a b. a ≢ b) _ (game.moves q) (apart_moves q)) in
+      by (game.goal q) all
+    where
+      by : (b : Bool) → AllPairs (λ a b. a ≢ b) ((faced battle game n passing q ∷ map threatened (threat_nodes battle game n passing variation h q)
+          ++ map reply (reply_nodes battle game n passing variation h q)) ++ shown_refutations battle game n q)
+          → AllPairs (λ a b. a ≢ b) (cond b [] (faced battle game n passing q ∷ map threatened (threat_nodes battle game n passing variation h q)
+          ++ map reply (reply_nodes battle game n passing variation h q)) ++ shown_refutations battle game n q)
+      by false all = all
+      by true all = pairs_back (λ a b. a ≢ b) (faced battle game n passing q ∷ map threatened (threat_nodes battle game n passing variation h q)
+          ++ map reply (reply_nodes battle game n passing variation h q)) (shown_refutations battle game n q) all
+
+-- If White threatens nothing, in check or zugzwang, below a first move stands what set play from
+-- there would show.
+pub set_play_where_nothing_threatens : {P M : Type 0} (battle : Battle) (game : Game P M) (n : ℕ) (passing : Passing P M) (variation : Bool) (k : ℕ) (q : P)
+    → has_threat battle game n passing q ≡ false
+    → reply_nodes battle game n passing variation (suc k) q ≡ flat_map (λ s. s) (set_tree battle game variation n (suc k) q)
+unfolding below_set
+set_play_where_nothing_threatens battle game n passing variation k q none =
+    let less : k ≡ suc k - 1 = omega arith in
+    let same = filter_agree (λ d. is_in_set_play battle game n (game.after q d) && is_defence battle game n passing q d)
+    (λ d. is_in_set_play battle game n (game.after q d))
+    (λ d. rw (each_is_defence_where_nothing_threatens battle game n passing q d none) (and_true (is_in_set_play battle game n (game.after q d))))
+    (game.moves q) in
+    subst (λ j. flat_map (λ d. node d (below_reply battle game n variation j (game.after q d))) (shown_replies battle game n passing q)
+    ≡ flat_map (λ s. s) (set_tree battle game variation n (suc k) q)) less
+    (ap (flat_map (λ d. node d (below_reply battle game n variation k (game.after q d)))) same ∙ sym (set_tree_paths battle game n variation k q))
+  where
+    and_true : (b : Bool) → (b && true) ≡ b
+    and_true true = refl
+    and_true false = refl

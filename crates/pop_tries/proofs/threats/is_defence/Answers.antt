@@ -1,0 +1,43 @@
+use Rattle.pop_tries.proofs.Words.{ap, keeps_win, not, position_after, rules, sym, works, ◌∙◌, ◌≡◌}
+use Rattle.pop_battle.specs.Chess.{set_start}
+use Rattle.chess_rules.specs.ties.Places.{moves_after}
+use Rattle.chess_rules.proofs.listing_moves.Calls.{playing}
+use Rattle.pop_tries.specs.Events.{chess_passing}
+use Rattle.pop_tries.specs.ties.Contests.{game_in, moves_of}
+use Rattle.pop_tries.proofs.Contests.{defence_by_loop, passed_well_formed, placed}
+use Rattle.pop_tries.proofs.Loops.{found, not_there}
+use Rattle.pop_tries.proofs.threats.is_defence.Goals as goal
+
+pub works-still-requires : goal.works-still-requires
+works-still-requires g c =
+    let t = rw c.in-Some.is at c.requires.threat in
+    let legal = rw c.loop-tried.invariant.0 at c.in-Some-next_move.ensures.next.1 in
+    let on = placed g.R.Rules.rule (set_start c.args.board.now) _ _ (passed_well_formed c.args.board.now c.requires.well_formed) legal
+    c.in-Some-next_move.ensures.place in
+    (search rules, (search rules, (t.fits, ((on.0, on.1), (c.play-undo.ensures.well_formed, search (rules, t.most))))))
+
+pub returns-then-still-clause-defence : goal.returns-then-still-clause-defence
+returns-then-still-clause-defence g c =
+    let t = rw c.in-Some.is at c.requires.threat in
+    let next = rw c.loop-tried.invariant.0 at c.in-Some-next_move.ensures.next in
+    let on = placed g.R.Rules.rule (set_start c.args.board.now) _ _ (passed_well_formed c.args.board.now c.requires.well_formed) next.1
+    c.in-Some-next_move.ensures.place in
+    let back : c.unpass.new.board ≡ c.args.board.now = c.unpass.ensures.before c.args.board.now (search rules) c.loop-tried.invariant.1 in
+    let there = found (λ m. keeps_win c.args.contest.battle (game_in g.R.Rules.rule c.args.contest) (moves_of c.in-Some.length)
+    (position_after g.R.Rules.rule (set_start c.args.board.now) m)) c.in-Some-next_move.tried _ _ next.0
+    (works c.args.contest.battle (game_in g.R.Rules.rule c.args.contest) c.args.contest.stipulation.n (chess_passing g.R.Rules.rule) (moves_of c.in-Some.length)
+    (position_after g.R.Rules.rule c.args.board.now c.args.by)) _ (search rules) (search (rules, back, on.2)) c.loop-tried.invariant.5 in
+    sym (defence_by_loop g.R.Rules.rule c.args.contest c.args.board.now c.in-Some.length c.args.by t ∙ ap not there)
+
+pub loop-tried-preserved-then-wins_by : goal.loop-tried-preserved-then-wins_by
+loop-tried-preserved-then-wins_by g c =
+    let next = rw c.loop-tried.invariant.0 at c.in-Some-next_move.ensures.next in
+    let on = placed g.R.Rules.rule (set_start c.args.board.now) _ _ (passed_well_formed c.args.board.now c.requires.well_formed) next.1
+    c.in-Some-next_move.ensures.place in
+    let back : c.unpass.new.board ≡ c.args.board.now = c.unpass.ensures.before c.args.board.now (search rules) c.loop-tried.invariant.1 in
+    let home : c.retract.new.board ≡ c.args.board.now = search (rules, playing, back) in
+    let none = not_there (λ m. keeps_win c.args.contest.battle (game_in g.R.Rules.rule c.args.contest) (moves_of c.in-Some.length)
+    (position_after g.R.Rules.rule (set_start c.args.board.now) m)) c.in-Some-next_move.tried _ _ next.0
+    (works c.args.contest.battle (game_in g.R.Rules.rule c.args.contest) c.args.contest.stipulation.n (chess_passing g.R.Rules.rule) (moves_of c.in-Some.length)
+    (position_after g.R.Rules.rule c.args.board.now c.args.by)) _ (search rules) (search (rules, back, on.2)) c.loop-tried.invariant.5 in
+    (search (rules, home), search (rules, home), search rules, search rules, c.in-Some.is, none)

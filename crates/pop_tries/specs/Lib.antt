@@ -1,0 +1,4 @@
+pub mod Tries
+pub mod Events
+pub mod Laws
+pub mod ties

@@ -1,0 +1,55 @@
+-- The battle of a problem, as the code keeps it, and what its tests leave unchanged (own).
+use Rattle.std.specs.Prelude.{◌≡◌, ◌≤◌, ◌+◌, ◌/◌, ℕ, true, false, List, Option, MatchOption}
+use Rattle.chess_core.specs.Position.{Position}
+use Rattle.chess_core.specs.declared.man.Move.{Move}
+use Rattle.chess_attacks.specs.RuleSet.{RuleSet}
+use Rattle.pop_battle.specs.Chess.{chess, set_start}
+use Rattle.pop_battle.specs.Game.{Game}
+use Rattle.pop_battle.specs.Plays.{play_of}
+use Rattle.pop_battle.specs.declared.aim.Play.TheVariants.{Battle as BattlePlay}
+use Rattle.pop_battle.specs.ties.Frames.{Frame}
+use Rattle.pop_battle.specs.ties.Values.{attacker_to_move}
+use Rattle.pop_solve.specs.Tree.{least_moves}
+use Rattle.pop_stipulation.specs.Stipulations.{half_moves}
+use Rattle.pop_tries.specs.Events.{chess_passing}
+use Rattle.pop_tries.specs.Tries.{has_threat}
+use Rattle.pop_tries.specs.declared.contest.Contest.{Contest}
+
+-- the stipulation's form is this battle, of at least one move
+pub record IsContest (contest : Contest) : Type 0 where
+  pub fought : play_of contest.stipulation.form ≡ BattlePlay contest.battle
+  pub some : 1 ≤ contest.stipulation.n
+
+-- its game under a set of rules
+abbrev pub game_in : RuleSet → Contest → Game Position Move
+game_in rule contest = chess contest.stipulation.goal rule
+
+-- board and frames are unchanged
+pub record Keeps (p now : Position) (old new : List Frame) : Type 0 where
+  pub board : now ≡ p
+  pub frames : new ≡ old
+
+-- the number of White's moves in this many half-moves, with White to move
+abbrev pub moves_of : ℕ → ℕ
+moves_of length = (length + 1) / 2
+
+-- with this many half-moves left White is to move
+pub record IsLength (contest : Contest) (length : ℕ) : Type 0 where
+  pub white : attacker_to_move contest.battle length ≡ true
+  pub some : 1 ≤ length
+
+-- White's threats after a first move that leads to q win within `length` half-moves, and no sooner
+pub record IsThreatLength (rule : RuleSet) (contest : Contest) (q : Position) (length : ℕ) : Type 0
+  where
+    pub fits : IsLength contest length
+    pub most : length ≤ half_moves contest.stipulation
+    pub threat : has_threat contest.battle (game_in rule contest) contest.stipulation.n
+        (chess_passing rule) q ≡ true
+    pub least : moves_of length ≡ least_moves contest.battle (game_in rule contest)
+        contest.stipulation.n (set_start q)
+
+-- the least length of White's threats after a first move that leads to q, if White threatens
+abbrev pub IsThreat : RuleSet → Contest → Position → Option ℕ → Type 0
+IsThreat rule contest q threat = MatchOption threat
+    (has_threat contest.battle (game_in rule contest) contest.stipulation.n
+    (chess_passing rule) q ≡ false) (IsThreatLength rule contest q)

@@ -1,0 +1,25 @@
+//! The battle of a problem.
+ghost use Rattle.std.specs.Prelude.{◌≡◌};
+
+use pop_battle::aim::{Aim, Battle};
+use pop_stipulation::stipulation::Stipulation;
+
+/// A battle: its kind, and the stipulation of which it is the form.
+#[derive(Clone, Copy, Debug)]
+pub struct Contest {
+    pub battle: Battle,
+    pub stipulation: Stipulation,
+}
+
+impl Contest {
+    /// Returns what White wants.
+    pub fn aim(self) -> Aim
+        ensures battle { result.battle ≡ self.battle }
+        ensures goal { result.goal ≡ self.stipulation.goal }
+    {
+        Aim {
+            battle: self.battle,
+            goal: self.stipulation.goal,
+        }
+    }
+}

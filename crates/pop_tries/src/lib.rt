@@ -1,0 +1,19 @@
+//! Tries, refutations and threats of a battle problem: its keys and tries, and below each the threats or
+//! zugzwang, the defences, and the refutations of a try. So far there are the definitions with their laws,
+//! and the tests that a search for tries needs; no call allocates.
+//!
+//! ```rust
+//! // A statement that the prover has checked; the call does nothing.
+//! pop_tries::refutations_are_defences();
+//! ```
+#![tactic(auto)]
+
+pub mod contest;
+pub mod laws;
+pub mod replies;
+pub mod threats;
+
+pub use laws::{
+    each_first_move_is_shown, each_is_key_or_try_or_has_more, keys_have_no_refutations,
+    no_event_comes_twice, refutations_are_defences,
+};

@@ -1,0 +1,182 @@
+//! Threats, and defences against them: Black passes, and White's moves are tried.
+ghost use Rattle.std.specs.Prelude.{◌≡◌, ◌+◌, ◌-◌, ◌≤◌, true};
+ghost use Rattle.arrayvec.specs.ArrayVec.{array_vec_len};
+ghost use Rattle.chess_core.specs.WellFormed.{IsWellFormed};
+ghost use Rattle.chess_core.specs.Position.{Position};
+ghost use Rattle.chess_rules.specs.Legal.{is_legal};
+ghost use Rattle.chess_rules.specs.Play.{position_after};
+ghost use Rattle.pop_battle.specs.Chess.{set_start};
+ghost use Rattle.pop_stipulation.specs.Stipulations.{half_moves};
+ghost use Rattle.pop_solve.specs.Tree.{keeps_win, wins_in};
+ghost use Rattle.pop_tries.specs.Events.{chess_passing};
+ghost use Rattle.pop_tries.specs.Tries.{has_threat, is_defence, works};
+ghost use Rattle.pop_tries.specs.ties.Contests.{IsContest, IsLength, IsThreat, Keeps, game_in, moves_of};
+ghost use Rattle.chess_rules.specs.ties.Places.{all_triples, triple_at};
+
+use crate::contest::Contest;
+use arrayvec::ArrayVec;
+use chess_core::board::Board;
+use chess_core::man::Move;
+use chess_core::square::Square;
+use chess_rules::{Moves, Rules, in_check, play};
+use pop_battle::chess::{next_move, reaches_goal, retract, turn_over};
+use pop_battle::frame::Frame;
+use pop_battle::search_state::SearchState;
+use pop_battle::value::value_of;
+
+/// Lets the side to move pass. Returns the en passant square, which `unpass` needs.
+pub fn pass(board: &mut Board) -> Option<Square>
+    ensures board { board.new ≡ set_start board.old }
+    ensures crossed { result ≡ board.old.crossed }
+{
+    let crossed = board.crossed();
+    turn_over(board);
+    crossed
+}
+
+/// Takes back that a side has passed; `crossed` is what `pass` returned.
+#[tactic(auto, using(crate::proofs::Contests::unpassed))]
+pub fn unpass(board: &mut Board, crossed: Option<Square>)
+    ensures before { (q : Position) → board.old ≡ set_start q → crossed ≡ q.crossed
+        → board.new ≡ q }
+{
+    board.set_turn(board.turn().other());
+    board.set_crossed(crossed);
+}
+
+/// Returns whether White wins the board's position with one move less than the whole contest has.
+#[tactic(auto, using(crate::proofs::Contests::passing))]
+fn wins_with_one_less<R: Rules, const N: usize>(
+    contest: Contest,
+    board: &mut Board,
+    frames: &mut ArrayVec<Frame<R>, N>,
+    search_state: &mut SearchState<R>,
+) -> bool
+    requires contest { IsContest contest }
+    requires well_formed { IsWellFormed board.old }
+    requires room { array_vec_len frames.old + half_moves contest.stipulation ≤ N }
+    ensures wins { result ≡ wins_in contest.battle (game_in R.rule contest)
+        (contest.stipulation.n - 1) board.old }
+    ensures rest { Keeps board.old board.new frames.old.items frames.new.items }
+{
+    let half_moves = contest.stipulation.half_moves();
+    if half_moves < 2 || reaches_goal::<R>(contest.stipulation.goal, board) {
+        return false;
+    }
+    value_of::<R, N>(contest.aim(), half_moves - 2, board, frames, search_state)
+}
+
+/// Returns whether White threatens after the first move that led to the board's position.
+#[tactic(auto, using(crate::proofs::Contests::passed_well_formed))]
+pub fn has_threat<R: Rules, const N: usize>(
+    contest: Contest,
+    board: &mut Board,
+    frames: &mut ArrayVec<Frame<R>, N>,
+    search_state: &mut SearchState<R>,
+) -> bool
+    requires contest { IsContest contest }
+    requires well_formed { IsWellFormed board.old }
+    requires room { array_vec_len frames.old + half_moves contest.stipulation ≤ N }
+    ensures threat { result ≡ has_threat contest.battle (game_in R.rule contest)
+        contest.stipulation.n (chess_passing R.rule) board.old }
+    ensures rest { Keeps board.old board.new frames.old.items frames.new.items }
+{
+    if in_check::<R>(board, board.turn()) {
+        return false;
+    }
+    let crossed = pass(board);
+    let wins = wins_with_one_less::<R, N>(contest, board, frames, search_state);
+    unpass(board, crossed);
+    wins
+}
+
+/// Returns whether White wins within `length` half-moves that begin with the legal move `by`.
+#[tactic(auto, using(chess_rules::proofs::listing_moves::Calls::playing, crate::proofs::Contests::kept_by_value))]
+fn wins_by<R: Rules, const N: usize>(
+    contest: Contest,
+    length: usize,
+    by: Move,
+    board: &mut Board,
+    frames: &mut ArrayVec<Frame<R>, N>,
+    search_state: &mut SearchState<R>,
+) -> bool
+    requires length { IsLength contest length }
+    requires well_formed { IsWellFormed board.old }
+    requires legal { is_legal R.rule board.old by ≡ true }
+    requires room { array_vec_len frames.old + length ≤ N }
+    ensures wins { result ≡ keeps_win contest.battle (game_in R.rule contest) (moves_of length)
+        (position_after R.rule board.old by) }
+    ensures rest { Keeps board.old board.new frames.old.items frames.new.items }
+{
+    let undo = play::<R>(board, by);
+    let left = length.saturating_sub(1);
+    let wins = value_of::<R, N>(contest.aim(), left, board, frames, search_state);
+    retract::<R>(board, by, undo);
+    wins
+}
+
+/// Returns whether the move at `place` is legal in the board's position and wins within `length` half-moves.
+#[tactic(auto, using(chess_rules::proofs::listing_moves::Between::stands_on, chess_rules::proofs::listing_moves::Between::stands_off))]
+fn works<R: Rules, const N: usize>(
+    contest: Contest,
+    length: usize,
+    place: Moves<R>,
+    board: &mut Board,
+    frames: &mut ArrayVec<Frame<R>, N>,
+    search_state: &mut SearchState<R>,
+) -> bool
+    requires length { IsLength contest length }
+    requires place { (1 ≤ place) × (place ≤ all_triples) }
+    requires well_formed { IsWellFormed board.old }
+    requires room { array_vec_len frames.old + length ≤ N }
+    ensures works { result ≡ works contest.battle (game_in R.rule contest) contest.stipulation.n
+        (chess_passing R.rule) (moves_of length) board.old (triple_at (place - 1)) }
+    ensures rest { Keeps board.old board.new frames.old.items frames.new.items }
+{
+    match place.legal_move(board) {
+        Some(by) => wins_by::<R, N>(contest, length, by, board, frames, search_state),
+        None => false,
+    }
+}
+
+/// Returns whether the legal reply `by` to the first move that led to the board's position is a defence.
+/// `threat` is the least number of half-moves within which White's threats win, or `None` if White threatens
+/// nothing.
+#[tactic(auto, using(crate::proofs::Loops::looking, crate::proofs::Contests::defending, pop_battle::proofs::Boards::after_start))]
+pub fn is_defence<R: Rules, const N: usize>(
+    contest: Contest,
+    threat: Option<usize>,
+    by: Move,
+    board: &mut Board,
+    frames: &mut ArrayVec<Frame<R>, N>,
+    search_state: &mut SearchState<R>,
+) -> bool
+    requires threat { IsThreat R.rule contest board.old threat }
+    requires well_formed { IsWellFormed board.old }
+    requires legal { is_legal R.rule board.old by ≡ true }
+    requires room { array_vec_len frames.old + half_moves contest.stipulation ≤ N }
+    ensures defence { result ≡ is_defence contest.battle (game_in R.rule contest)
+        contest.stipulation.n (chess_passing R.rule) board.old by }
+    ensures rest { Keeps board.old board.new frames.old.items frames.new.items }
+{
+    let Some(length) = threat else {
+        return true;
+    };
+    let mut known = None;
+    let mut place = Moves::<R>::start();
+    let mut crossed = pass(board);
+    while let Some(tried) = next_move::<R>(&mut known, &mut place, board) {
+        if wins_by::<R, N>(contest, length, tried, board, frames, search_state) {
+            unpass(board, crossed);
+            let undo = play::<R>(board, by);
+            let still = works::<R, N>(contest, length, place, board, frames, search_state);
+            retract::<R>(board, by, undo);
+            if still {
+                return false;
+            }
+            crossed = pass(board);
+        }
+    }
+    unpass(board, crossed);
+    true
+}
