@@ -27,7 +27,7 @@ use Rattle.chess_rules.specs.ties.Places.{all_triples, place_of, triple_at}
 use Rattle.chess_rules.proofs.listing_moves.Members.{from_range}
 use Rattle.chess_rules.proofs.listing_moves.Calls.{playing}
 use Rattle.chess_rules.proofs.listing_moves.Places.{place_of_triple, triples_numbered}
-use Rattle.chess_rules.proofs.listing_moves.Triples.{in_triples, made_is_triple}
+use Rattle.chess_rules.proofs.listing_moves.TripleNumbers.{in_triples, made_is_triple}
 
 module _ (rule : RuleSet) (contest : Contest) (fit : IsContest contest) where
   long : half_moves contest.stipulation ≡ halves contest.battle contest.stipulation.n
