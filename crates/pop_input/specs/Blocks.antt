@@ -162,7 +162,8 @@ entries_after_fault Broken line = Faulty (fault_at DeviceFailed line) ∷ []
 abbrev pub entries_by : Option Fault → Option ℕ → Bool → Tail → ℕ → List Token → List Entry
 entries_by fault (Some line) first tail tail_line block = closed_entry fault line
     (tokens_inside first block) ∷ []
-entries_by (Some fault) None first tail tail_line block = Faulty fault ∷ entries_after_fault tail tail_line
+entries_by (Some fault) None first tail tail_line block =
+    Faulty fault ∷ entries_after_fault tail tail_line
 entries_by None None first tail tail_line block = Faulty
     (fault_at (end_fault (has_begun first block) tail) tail_line) ∷ []
 

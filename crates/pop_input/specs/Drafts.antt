@@ -143,7 +143,8 @@ crossed_after _ text old = old
 
 -- the squares of NoCastling after a word
 abbrev pub forbidden_after : Role → List ℕ → Unmoved → Unmoved
-forbidden_after ForbiddenSquares text old = fold with_unmoved old (unwrap_or (squares_named text) [])
+forbidden_after ForbiddenSquares text old =
+    fold with_unmoved old (unwrap_or (squares_named text) [])
 forbidden_after _ text old = old
 
 -- All that the words say.

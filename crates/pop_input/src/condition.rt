@@ -1,4 +1,7 @@
-//! The fairy conditions.
+//! The fairy conditions, and the choice of their rules.
+
+/// The rules that `under_condition!` chooses from.
+pub use chess_attacks::{Circe, Madrasi, Orthodox};
 
 /// A fairy condition of a problem (Popeye manual, Circe and Madrasi).
 #[derive(Clone, Copy, Debug, PartialEq, Eq)]
@@ -7,4 +10,21 @@ pub enum Condition {
     Circe,
     /// Madrasi: a man that is attacked by an enemy man of its own kind is paralysed.
     Madrasi,
+}
+
+/// Calls a function under the rules of a condition: `under_condition!(condition, f::<_, T>(a, b))` calls `f::<R, T>(a, b)`,
+/// where `R` is the type of these rules. `f` requires `R.rule` to be `rule_of condition`, so each call proves the choice.
+#[macro_export]
+macro_rules! under_condition {
+    ($condition:expr, $function:ident::<_ $(, $other:ty)*>($($argument:expr),*)) => {
+        match $condition {
+            None => $function::<$crate::condition::Orthodox $(, $other)*>($($argument),*),
+            Some($crate::condition::Condition::Circe) => {
+                $function::<$crate::condition::Circe $(, $other)*>($($argument),*)
+            }
+            Some($crate::condition::Condition::Madrasi) => {
+                $function::<$crate::condition::Madrasi $(, $other)*>($($argument),*)
+            }
+        }
+    };
 }

@@ -110,10 +110,10 @@ impl Draft {
 
     // Reads a word that no option expects: a command, or a word of the open section.
     fn take_plain(&mut self, word: &ShortWord<'_>) -> Option<FaultKind>
-        ensures fault { result
-            ≡ role_fault self.old (plain_role (command_of word.now) self.old.context.section) word.now }
-        ensures draft { result ≡ None → self.new
-            ≡ draft_by (plain_role (command_of word.now) self.old.context.section) self.old word.now }
+        ensures fault { result ≡ role_fault self.old
+            (plain_role (command_of word.now) self.old.context.section) word.now }
+        ensures draft { result ≡ None → self.new ≡ draft_by
+            (plain_role (command_of word.now) self.old.context.section) self.old word.now }
     {
         match word.command() {
             Some(command) => self.take_command(command),

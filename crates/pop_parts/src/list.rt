@@ -11,17 +11,13 @@ ghost use Rattle.pop_parts.specs.ties.Items.{entry_in, parts_line_if};
 
 use crate::items::{is_end, status_after};
 use crate::searching::parts_in;
-use chess_core::board::Board;
-use chess_rules::{Circe, Madrasi, Orthodox, Rules, in_check};
-use pop_events::event::Phase;
-use pop_input::condition::Condition;
-use pop_input::item::Item;
-use pop_input::problem::Problem;
-use pop_input::reader::Reader;
+use chess_core::Board;
+use chess_rules::{Rules, in_check};
+use pop_events::Phase;
+use pop_input::{Item, Problem, Reader, under_condition};
 use pop_print::line::{LONGEST, LineBuffer};
-use pop_run::status::Status;
-use pop_text::sink::{Sink, SinkFault};
-use pop_text::source::Source;
+use pop_run::Status;
+use pop_text::{Sink, SinkFault, Source};
 
 /// Reads all items of the source and writes one line for each: the number of parts of its phases. `depth`
 /// moves, 1 or more, distinguish the parts of help play. Returns the status of the input.
@@ -143,11 +139,7 @@ fn count_in(problem: &Problem, phase: Phase, depth: usize) -> Option<u64>
     requires { 1 ≤ depth }
     ensures { result ≡ count_of problem.now phase depth }
 {
-    match problem.condition() {
-        None => count_under::<Orthodox>(problem, phase, depth),
-        Some(Condition::Circe) => count_under::<Circe>(problem, phase, depth),
-        Some(Condition::Madrasi) => count_under::<Madrasi>(problem, phase, depth),
-    }
+    under_condition!(problem.condition(), count_under::<_>(problem, phase, depth))
 }
 
 // Returns the number of parts of a phase under the rules of the problem's condition.

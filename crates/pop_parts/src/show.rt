@@ -17,16 +17,12 @@ use crate::part_search::PartSearch;
 use crate::parts_left::RemainingParts;
 use crate::request::{Outcome, PartRequest};
 use crate::searching::parts_in;
-use chess_rules::{Circe, Madrasi, Orthodox, Rules};
+use chess_rules::Rules;
 use pop_battle::killers::Killers;
-use pop_events::event::Phase;
-use pop_input::condition::Condition;
-use pop_input::item::{Fault, Item};
-use pop_input::problem::Problem;
-use pop_input::reader::Reader;
+use pop_events::Phase;
+use pop_input::{Fault, Item, Problem, Reader, under_condition};
 use pop_print::print_event;
-use pop_text::sink::{Sink, SinkFault};
-use pop_text::source::Source;
+use pop_text::{Sink, SinkFault, Source};
 
 /// Reads items of the source up to the requested one and writes the solutions of its requested parts.
 /// Returns the outcome.
@@ -131,11 +127,10 @@ fn show_sound<W: Sink>(
         ≡ outcome_in (rule_of problem.now.condition) request.now problem.now) }
     ensures counted { W.failures sink.new ≡ count_after result (W.failures sink.old) }
 {
-    match problem.condition() {
-        None => show_under::<Orthodox, W>(sink, request, problem),
-        Some(Condition::Circe) => show_under::<Circe, W>(sink, request, problem),
-        Some(Condition::Madrasi) => show_under::<Madrasi, W>(sink, request, problem),
-    }
+    under_condition!(
+        problem.condition(),
+        show_under::<_, W>(sink, request, problem)
+    )
 }
 
 // Prints the requested parts of a sound problem under the rules of its condition.

@@ -84,7 +84,8 @@ names_text posed = labelled_text (codes "title: ") posed.title
 
 -- the line of the stipulation and the condition
 unfoldable pub stipulation_line : Posed → List ℕ
-stipulation_line posed = stipulation_text posed.stipulation ++ condition_text posed.condition ++ codes "\n"
+stipulation_line posed = stipulation_text posed.stipulation ++ condition_text posed.condition
+    ++ codes "\n"
 
 -- the text of a sound item's head, with the board unless the problem or the settings leave it out
 unfoldable pub head_text : ℕ → Posed → Bool → List ℕ

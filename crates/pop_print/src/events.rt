@@ -7,9 +7,8 @@ ghost use Rattle.pop_print.specs.Notation.{blank};
 
 use crate::line::{LONGEST, LineBuffer};
 use crate::moves::MOVE;
-use pop_events::event::{Event, Phase};
-use pop_events::shown::Shown;
-use pop_text::sink::{Sink, SinkFault, put_all};
+use pop_events::{Event, Phase, Shown};
+use pop_text::{Sink, SinkFault, put_all};
 
 // The room in bytes for a total, or for a node of battle play with at most 64 blanks before it (own).
 const NODE: usize = 128;

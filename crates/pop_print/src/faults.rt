@@ -4,9 +4,8 @@ ghost use Rattle.pop_text.specs.Bytes.{Writes, count_after, greatest_count};
 ghost use Rattle.pop_print.specs.Faults.{fault_text, message_of as text_of_kind};
 
 use crate::line::{LONGEST, LineBuffer};
-use pop_input::fault_kind::FaultKind;
-use pop_input::item::Fault;
-use pop_text::sink::{Sink, SinkFault};
+use pop_input::{Fault, FaultKind};
+use pop_text::{Sink, SinkFault};
 
 // The most bytes of a fault's message (own).
 const MESSAGE: usize = 40;

@@ -6,14 +6,10 @@ ghost use Rattle.pop_print.specs.Heads.{board_text, cell_of as letter_on, checke
 
 use crate::line::{LONGEST, LineBuffer};
 use crate::notation::letter_of;
-use chess_core::diagram::Diagram;
-use chess_core::man::{Colour, Man};
-use chess_core::square::Square;
-use pop_input::condition::Condition;
-use pop_input::problem::Problem;
-use pop_stipulation::stipulation::{Form, Goal, Stipulation};
-use pop_text::sink::{Sink, SinkFault};
-use pop_text::text::{LONGEST_TEXT, Text};
+use chess_core::{Colour, Diagram, Man, Square};
+use pop_input::{Condition, Problem};
+use pop_stipulation::{Form, Goal, Stipulation};
+use pop_text::{LONGEST_TEXT, Sink, SinkFault, Text};
 
 // The most bytes of the line with an item's number.
 pub(crate) const ITEM_LINE: usize = 29;

@@ -4,7 +4,7 @@ ghost use Rattle.pop_text.specs.Bytes.{Writes, count_after, greatest_count};
 
 use arrayvec::ArrayVec;
 use itoa::Buffer;
-use pop_text::sink::{Sink, SinkFault, put_all};
+use pop_text::{Sink, SinkFault, put_all};
 use std::marker::Model;
 
 /// The size of a buffer for the longest line or head of any problem, in bytes (own).

@@ -4,9 +4,8 @@ ghost use Rattle.pop_print.specs.Moves.{castling_text as text_of_castling, en_pa
 
 use crate::line::LineBuffer;
 use crate::notation::{colour_letter, letter_of};
-use chess_core::man::{Kind, Man};
-use chess_core::square::Square;
-use pop_events::shown::{Mark, Shown, Side};
+use chess_core::{Kind, Man, Square};
+use pop_events::{Mark, Shown, Side};
 
 /// The most bytes of a move (own).
 pub(crate) const MOVE: usize = PLAIN_MOVE + 1;

@@ -3,8 +3,7 @@ ghost use Rattle.std.specs.Prelude.{◌++◌, ◌+◌, ◌<◌, ◌≡◌, ◌�
 ghost use Rattle.pop_print.specs.Notation.{colour_letter as letter_of_colour, letter_of as letter_of_kind, man_text, square_text};
 
 use crate::line::LineBuffer;
-use chess_core::man::{Colour, Kind};
-use chess_core::square::Square;
+use chess_core::{Colour, Kind, Square};
 
 /// Returns the capital letter of a kind of man (Popeye manual, English letters: S is the knight, N the nightrider).
 pub(crate) fn letter_of(kind: Kind) -> u8

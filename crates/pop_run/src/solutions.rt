@@ -9,12 +9,11 @@ ghost use Rattle.pop_print.specs.Events.{event_text};
 ghost use Rattle.pop_run.specs.Report.{entry_text, solutions_text};
 
 use crate::choice::Choice;
-use chess_rules::{Circe, Madrasi, Orthodox, Rules};
-use pop_input::condition::Condition;
-use pop_input::problem::Problem;
+use chess_rules::Rules;
+use pop_input::{Problem, under_condition};
 use pop_print::{print_checked, print_event, print_head};
-use pop_solve::search::Search;
-use pop_text::sink::{Sink, SinkFault, put_all};
+use pop_solve::Search;
+use pop_text::{Sink, SinkFault, put_all};
 
 // Writes the report of a sound problem: its solutions, or, if problems are only tested, that it is sound.
 #[tactic(auto, unfolding(crate::specs::Report::entry_text))]
@@ -62,11 +61,7 @@ fn print_play<W: Sink>(sink: &mut W, problem: &Problem) -> Result<(), SinkFault>
         result }
     ensures counted { W.failures sink.new ≡ count_after result (W.failures sink.old) }
 {
-    match problem.condition() {
-        None => print_solutions::<Orthodox, W>(sink, problem),
-        Some(Condition::Circe) => print_solutions::<Circe, W>(sink, problem),
-        Some(Condition::Madrasi) => print_solutions::<Madrasi, W>(sink, problem),
-    }
+    under_condition!(problem.condition(), print_solutions::<_, W>(sink, problem))
 }
 
 // Writes the events of a problem, each as soon as the search finds it.

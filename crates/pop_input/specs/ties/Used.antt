@@ -48,7 +48,8 @@ pub record IsUnclosed (old new : ReaderState) (had left : Option (List ℕ)) : T
   pub over : IsInputOver new.at
 
 -- which bytes an item uses: a word closes each sound problem
-abbrev pub UsesEntry : ReaderState → ReaderState → Option (List ℕ) → Option (List ℕ) → Entry → Type 0
+abbrev pub UsesEntry : ReaderState → ReaderState → Option (List ℕ) → Option (List ℕ) → Entry
+    → Type 0
 UsesEntry old new had left (SoundEntry posed) = IsClosed old new had left
 UsesEntry old new had left (FaultyEntry fault) = IsClosed old new had left
     ⊎ IsUnclosed old new had left

@@ -16,13 +16,11 @@ use crate::draft::Draft;
 use crate::fault_kind::FaultKind;
 use crate::item::{Fault, Item, Last};
 use crate::problem::{Problem, Texts};
-use chess_attacks::{Circe, Madrasi, Orthodox, in_check};
-use chess_core::board::Board;
-use chess_core::diagram::Diagram;
-use chess_core::man::{Colour, Unmoved};
-use chess_core::square::Square;
-use pop_stipulation::stipulation::{Form, Stipulation};
-use pop_text::text::Text;
+use crate::under_condition;
+use chess_attacks::in_check;
+use chess_core::{Board, Colour, Diagram, Square, Unmoved};
+use pop_stipulation::{Form, Stipulation};
+use pop_text::Text;
 
 impl Draft {
     /// Returns the problem that the words pose, or the fault found at its end, in this line.
@@ -148,9 +146,5 @@ fn has_king_to_mate(stipulation: Stipulation, board: &Board) -> bool
 fn is_in_check(board: &Board, condition: Option<Condition>, colour: Colour) -> bool
     ensures { result ≡ in_check (rule_of condition) board.now.men colour }
 {
-    match condition {
-        None => in_check::<Orthodox>(board, colour),
-        Some(Condition::Circe) => in_check::<Circe>(board, colour),
-        Some(Condition::Madrasi) => in_check::<Madrasi>(board, colour),
-    }
+    under_condition!(condition, in_check::<_>(board, colour))
 }

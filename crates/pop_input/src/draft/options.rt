@@ -28,7 +28,10 @@ impl Draft {
     // Sets an option without a value, or notes which value the option expects.
     fn apply(&mut self, option: OptionWord)
         ensures { self.new ≡ record self.old {
-          context = record { section = self.old.context.section; expected = expected_by (Some option) };
+          context = record {
+            section = self.old.context.section;
+            expected = expected_by (Some option);
+          };
           switches = switches_with (Some option) self.old.switches;
         } }
     {

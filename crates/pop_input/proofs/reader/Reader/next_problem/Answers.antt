@@ -10,8 +10,10 @@ use Rattle.pop_input.proofs.reader.Reader.next_problem.Goals.{in-First, in-Later
 pub loop-keyword-init : goal.loop-keyword-init
 loop-keyword-init g c = rw (← c.self.view_is) (record {
   block = elim c.match-self.branch [
-    | in-First w ↦ rw (w.block-is, w.in-First.is) (block_starts true c.self.inside.scanner (g.S.Source.remaining c.args.source.now) w.first-block.result w.first-block.ensures)
-    | in-Later w ↦ rw (w.block-is, w.in-Later.is) (block_starts false c.self.inside.scanner (g.S.Source.remaining c.args.source.now) w.later-block.result w.later-block.ensures)
+    | in-First w ↦ rw (w.block-is, w.in-First.is)
+        (block_starts true c.self.inside.scanner (g.S.Source.remaining c.args.source.now) w.first-block.result w.first-block.ensures)
+    | in-Later w ↦ rw (w.block-is, w.in-Later.is)
+        (block_starts false c.self.inside.scanner (g.S.Source.remaining c.args.source.now) w.later-block.result w.later-block.ensures)
   ];
   used = some_none c.self.inside.scanner (g.S.Source.remaining c.args.source.now);
   starts = elim c.match-self.branch [ in-First w ↦ rw w.in-First.is refl | in-Later w ↦ rw w.in-Later.is refl ];
