@@ -47,7 +47,7 @@ module _ {P M : Type 0} (game : Game P M) (plan : Plan) (battle : Battle) (fough
   is_of_set_play : (battle : Battle) (n h : ℕ) (r : P) → suc h ≡ halves battle n - 1 → value battle game h r ≡ is_in_set_play battle game n r
   is_of_set_play battle n h r e = grind (arith, value-wins game (n - 2) r, value-self_wins game (n - 1) r)
 
-  -- The replies that the walk shows are those of set play.
+  -- The walk shows the replies that set play would show.
   pub replies_walked : (n h : ℕ) (q : P) → suc h ≡ halves battle n - 1
       → shown_paths plan game true (suc h) (suc h) q (game.moves q)
       ≡ flat_map (λ d. node d (below_reply battle game n (has_variations plan.tree) h (game.after q d)))
