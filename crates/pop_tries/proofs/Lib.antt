@@ -1,4 +1,5 @@
 pub mod Words
 pub mod Contests
 pub mod Loops
+pub mod Walks
 pub mod theorems

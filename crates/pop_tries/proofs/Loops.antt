@@ -38,3 +38,24 @@ pub ruleset counting = (counted, passed_over, all_counted)
 
 -- for a loop that looks for a move
 pub ruleset looking = (not_there, not_asked, found, nowhere)
+
+-- the moves that pass, from the next move on
+module _ (test : Move → Bool) (m : Move) (old new : List Move) (next : old ≡ m ∷ new) where
+  -- the next move passes
+  pub first_passes : test m ≡ true → filter test old ≡ m ∷ filter test new
+  first_passes passes = rw (next, passes) refl
+
+  -- the next move fails, and the moves that pass stay the same
+  pub first_fails : (all : List Move) → test m ≡ false → all ≡ filter test old → all ≡ filter test new
+  first_fails all fails so_far = so_far ∙ (rw (next, fails) refl)
+
+  -- the next move passes, and it is the first of all
+  pub first_of_all : (all : List Move) → test m ≡ true → all ≡ filter test old → all ≡ m ∷ filter test new
+  first_of_all all passes so_far = so_far ∙ (rw (next, passes) refl)
+
+-- no move is left, and so none passes
+pub none_passes : (test : Move → Bool) (old all : List Move) → old ≡ [] → all ≡ filter test old → all ≡ []
+none_passes test old all none so_far = so_far ∙ (rw none refl)
+
+-- for a loop that looks for the next move that passes
+pub ruleset filtering = (first_fails, first_of_all, none_passes)

@@ -1,1 +1,2 @@
 pub mod Contests
+pub mod FirstMoves

@@ -1,6 +1,7 @@
 //! Tries, refutations and threats of a battle problem: its keys and tries, and below each the threats or
 //! zugzwang, the defences, and the refutations of a try. So far there are the definitions with their laws,
-//! and the tests that a search for tries needs; no call allocates.
+//! the tests that a search for tries needs, and the next key, try or refutation in the order of moves. No
+//! call allocates.
 //!
 //! ```rust
 //! // A statement that the prover has checked; the call does nothing.
@@ -9,6 +10,7 @@
 #![tactic(auto)]
 
 pub mod contest;
+pub mod first_moves;
 pub mod laws;
 pub mod replies;
 pub mod threats;

@@ -1,0 +1,125 @@
+//! The next key, try or refutation after a place in the order of moves.
+ghost use Rattle.std.specs.Prelude.{◌≡◌, ◌+◌, ◌≤◌, [], ◌∷◌, MatchOption, filter, true, not};
+ghost use Rattle.arrayvec.specs.ArrayVec.{array_vec_len};
+ghost use Rattle.chess_core.specs.WellFormed.{IsWellFormed};
+ghost use Rattle.chess_rules.specs.Legal.{is_legal};
+ghost use Rattle.chess_rules.specs.Play.{position_after, undo_of};
+ghost use Rattle.chess_rules.specs.ties.Places.{moves_after};
+ghost use Rattle.pop_solve.specs.Tree.{is_in_set_play};
+ghost use Rattle.pop_stipulation.specs.Stipulations.{half_moves};
+ghost use Rattle.pop_tries.specs.ties.Contests.{IsContest, Keeps, game_in};
+ghost use Rattle.pop_tries.specs.ties.FirstMoves.{belongs, IsFew};
+
+use crate::contest::Contest;
+use crate::replies::{is_key, is_try, refutes};
+use arrayvec::ArrayVec;
+use chess_core::board::Board;
+use chess_core::man::Move;
+use chess_rules::{Moves, Rules, Undo, play};
+use pop_battle::chess::{next_move, retract};
+use pop_battle::frame::Frame;
+use pop_battle::search_state::SearchState;
+
+/// Which first moves are shown.
+#[derive(Clone, Copy, Debug)]
+pub enum Group {
+    /// The keys.
+    Keys,
+    /// The tries with at most `most` refutations, 0 to 200.
+    Tries { most: u32 },
+}
+
+/// Returns whether the first move that led to the board's position belongs to the group.
+pub fn belongs<R: Rules, const N: usize>(
+    contest: Contest,
+    group: Group,
+    board: &mut Board,
+    frames: &mut ArrayVec<Frame<R>, N>,
+    search_state: &mut SearchState<R>,
+) -> bool
+    requires contest { IsContest contest }
+    requires few { IsFew group }
+    requires well_formed { IsWellFormed board.old }
+    requires room { array_vec_len frames.old + half_moves contest.stipulation ≤ N }
+    ensures belongs { result ≡ belongs R.rule contest group board.old }
+    ensures rest { Keeps board.old board.new frames.old.items frames.new.items }
+{
+    match group {
+        Group::Keys => is_key::<R, N>(contest, board, frames, search_state),
+        Group::Tries { most } => is_try::<R, N>(contest, most, board, frames, search_state),
+    }
+}
+
+/// Plays the next first move after `place` that belongs to the group, and moves `place` to it. Returns the
+/// move and what takes it back; after the last one `None`, with the board unchanged.
+#[tactic(auto, using(crate::proofs::Loops::filtering, chess_rules::proofs::listing_moves::Calls::playing))]
+pub fn play_next<R: Rules, const N: usize>(
+    contest: Contest,
+    group: Group,
+    place: &mut Moves<R>,
+    board: &mut Board,
+    frames: &mut ArrayVec<Frame<R>, N>,
+    search_state: &mut SearchState<R>,
+) -> Option<(Move, Undo)>
+    requires contest { IsContest contest }
+    requires few { IsFew group }
+    requires well_formed { IsWellFormed board.old }
+    requires room { array_vec_len frames.old + half_moves contest.stipulation ≤ N }
+    ensures frames { frames.new.items ≡ frames.old.items }
+    ensures next { MatchOption result
+        ((filter (λ m. belongs R.rule contest group (position_after R.rule board.old m))
+        (moves_after R.rule board.old place.old) ≡ [])
+        × (board.new ≡ board.old))
+        (λ found. (filter (λ m. belongs R.rule contest group (position_after R.rule board.old m))
+        (moves_after R.rule board.old place.old)
+        ≡ found.0 ∷ filter (λ m. belongs R.rule contest group (position_after R.rule board.old m))
+        (moves_after R.rule board.old place.new))
+        × (board.new ≡ position_after R.rule board.old found.0)
+        × (found.1 ≡ undo_of R.rule board.old found.0)
+        × (is_legal R.rule board.old found.0 ≡ true)) }
+{
+    let mut known = None;
+    while let Some(by) = next_move::<R>(&mut known, place, board) {
+        let undo = play::<R>(board, by);
+        if belongs::<R, N>(contest, group, board, frames, search_state) {
+            return Some((by, undo));
+        }
+        retract::<R>(board, by, undo);
+    }
+    None
+}
+
+/// Returns the next refutation after `place` of the first move that led to the board's position, and moves
+/// `place` to it; after the last one `None`. The board is unchanged.
+#[tactic(auto, using(crate::proofs::Loops::filtering))]
+pub fn next_refutation<R: Rules, const N: usize>(
+    contest: Contest,
+    place: &mut Moves<R>,
+    board: &mut Board,
+    frames: &mut ArrayVec<Frame<R>, N>,
+    search_state: &mut SearchState<R>,
+) -> Option<Move>
+    requires contest { IsContest contest }
+    requires well_formed { IsWellFormed board.old }
+    requires room { array_vec_len frames.old + half_moves contest.stipulation ≤ N }
+    ensures rest { Keeps board.old board.new frames.old.items frames.new.items }
+    ensures next { MatchOption result
+        (filter (λ d. not (is_in_set_play contest.battle (game_in R.rule contest)
+        contest.stipulation.n (position_after R.rule board.old d)))
+        (moves_after R.rule board.old place.old) ≡ [])
+        (λ found. (filter (λ d. not (is_in_set_play contest.battle (game_in R.rule contest)
+        contest.stipulation.n (position_after R.rule board.old d)))
+        (moves_after R.rule board.old place.old)
+        ≡ found ∷ filter (λ d. not (is_in_set_play contest.battle (game_in R.rule contest)
+        contest.stipulation.n (position_after R.rule board.old d)))
+        (moves_after R.rule board.old place.new))
+        × (is_legal R.rule board.old found ≡ true)) }
+{
+    let mut known = None;
+    while let Some(by) = next_move::<R>(&mut known, place, board) {
+        if refutes::<R, N>(contest, by, board, frames, search_state) {
+            return Some(by);
+        }
+    }
+    None
+}
