@@ -11,6 +11,7 @@ ghost use Rattle.chess_threats.specs.ties.KingAttack.{AreGuardsThrough, AreCheck
 use crate::king_attack::KingAttack;
 use crate::king_zone::{MOST_ATTACKERS, adjacent_squares};
 use crate::lasting_flights::{OpenTargets, kind_leaves_one};
+use chess_attacks::rules::Rules;
 use chess_attacks::words::{contains, only, pop_first};
 use chess_core::square::LAST_RANKS;
 use chess_core::{Colour, Kind, Man, Square, Squares};
@@ -203,9 +204,10 @@ fn doubtful_among(
     doubtful
 }
 
-// Returns the steps that aren't known to be safe without their risk. All, unless the attackers are plain.
+// Returns the steps that aren't known to be safe without their risk: all in Circe, and unless the attackers
+// are plain.
 #[inline(never)]
-pub(crate) fn doubtful_steps(
+pub(crate) fn doubtful_steps<R: Rules>(
     king_attack: &KingAttack,
     targets: &OpenTargets,
     steps: Squares,
@@ -214,7 +216,7 @@ pub(crate) fn doubtful_steps(
     ensures { (t : ℕ) → t < 64 → (bit_at steps t == 1) ≡ true → (bit_at result t == 1) ≡ false
         → (bit_at king_attack.now.hurdles t == 1) ≡ false → IsSafeStep king_attack.now t }
 {
-    if !are_plain(king_attack) {
+    if R::captures_do_more() || !are_plain(king_attack) {
         return steps;
     }
     doubtful_among(king_attack, targets, guards_through(king_attack), steps)

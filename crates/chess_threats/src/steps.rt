@@ -91,7 +91,7 @@ fn risky_among<R: Rules>(king_attack: &KingAttack, targets: &OpenTargets, steps:
     if empty == 0 {
         return flightless;
     }
-    let doubtful = doubtful_steps(king_attack, targets, empty);
+    let doubtful = doubtful_steps::<R>(king_attack, targets, empty);
     flightless & king_attack.hurdles | critical_steps(king_attack, doubtful)
 }
 
@@ -222,6 +222,7 @@ fn flightless_step<R: Rules>(king_attack: &KingAttack, targets: &OpenTargets, to
 
 // Returns the steps after which the king might keep no flight.
 #[tactic(auto, using(chess_attacks::proofs::HoldTaken::taken_all, chess_attacks::proofs::HoldTaken::taken_none, chess_attacks::proofs::HoldTaken::rest_falls))]
+#[inline(always)]
 pub(crate) fn flightless_steps<R: Rules>(
     king_attack: &KingAttack,
     targets: &OpenTargets,
