@@ -11,7 +11,7 @@ ghost use Rattle.chess_threats.specs.ties.KingAttack.{AreGuardsThrough, AreCheck
 use crate::king_attack::KingAttack;
 use crate::king_zone::{MOST_ATTACKERS, adjacent_squares};
 use crate::lasting_flights::{OpenTargets, kind_leaves_one};
-use chess_attacks::rules::Rules;
+use chess_attacks::Rules;
 use chess_attacks::words::{contains, only, pop_first};
 use chess_core::square::LAST_RANKS;
 use chess_core::{Colour, Kind, Man, Square, Squares};
@@ -216,7 +216,7 @@ pub(crate) fn doubtful_steps<R: Rules>(
     ensures { (t : ℕ) → t < 64 → (bit_at steps t == 1) ≡ true → (bit_at result t == 1) ≡ false
         → (bit_at king_attack.now.hurdles t == 1) ≡ false → IsSafeStep king_attack.now t }
 {
-    if R::captures_do_more() || !are_plain(king_attack) {
+    if R::captures_are_reborn() || !are_plain(king_attack) {
         return steps;
     }
     doubtful_among(king_attack, targets, guards_through(king_attack), steps)
