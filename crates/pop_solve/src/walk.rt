@@ -12,7 +12,6 @@ ghost use Rattle.pop_battle.specs.declared.aim.Battle.{Battle};
 ghost use Rattle.pop_battle.specs.declared.aim.Play.TheVariants.{Help as HelpPlay, Battle as BattlePlay};
 ghost use Rattle.pop_battle.specs.ties.Calls.{Evaluates, Restores};
 ghost use Rattle.pop_solve.specs.ties.Calls.{Counts};
-ghost use Rattle.pop_solve.specs.ties.Plans.{has_variations};
 ghost use Rattle.pop_battle.specs.ties.Frames.{CameFrom, CameFromAt, Frame as Level, opened_frame};
 ghost use Rattle.pop_battle.specs.Chess.{chess};
 ghost use Rattle.chess_mates.specs.ties.Threats.{AreThreatsOf};
@@ -108,18 +107,18 @@ fn walk_length<R: Rules, const N: usize>(
     requires well_formed { IsWellFormed board.old }
     requires room { array_vec_len frames.old + left ≤ N }
     ensures length { result
-        ≡ walk_length plan.play (has_variations plan.tree) (chess plan.goal R.rule) left board.old }
+        ≡ walk_length plan.play plan.variation (chess plan.goal R.rule) left board.old }
     ensures rest { Restores board.old board.new frames.old.items frames.new.items search_state.old.opened
         search_state.new.opened }
     ensures opened { plan.play ≡ HelpPlay → search_state.new.opened ≡ search_state.old.opened }
     ensures keys_alone { (battle : Battle) → plan.play ≡ BattlePlay battle
-        → IsTrue (not (has_variations plan.tree) && attacker_to_move battle (left + 1))
+        → IsTrue (not plan.variation && attacker_to_move battle (left + 1))
         → search_state.new.opened ≡ search_state.old.opened }
 {
     let Play::Battle(battle) = plan.play else {
         return left;
     };
-    if !plan.tree.has_variations() && attacker_to_move(battle, left + 1) {
+    if !plan.variation && attacker_to_move(battle, left + 1) {
         return 0;
     }
     let aim = Aim {
@@ -241,7 +240,7 @@ pub(crate) fn enter<R: Rules, const N: usize>(
         (position_after R.rule board.old by))
         × (board.new ≡ position_after R.rule board.old by)
         × (frames.new.items ≡ frames.old.items ++ opened_frame by (undo_of R.rule board.old by)
-        (walk_length plan.play (has_variations plan.tree) (chess plan.goal R.rule) left
+        (walk_length plan.play plan.variation (chess plan.goal R.rule) left
         (position_after R.rule board.old by))
         ∷ []) }
     ensures counts { Counts R.rule plan (array_vec_len frames.old == 1) left

@@ -24,7 +24,6 @@ use Rattle.pop_battle.specs.ties.Frames.{AreKnown, learned, moved, position, IsL
 use Rattle.pop_battle.specs.ties.Passing.{CannotBeMated, Passes}
 use Rattle.pop_solve.specs.declared.plan.Plan.{Plan}
 use Rattle.pop_battle.specs.ties.Marks.{is_for_mate}
-use Rattle.pop_solve.specs.ties.Plans.{has_variations}
 
 -- the fewest half-moves with which White, to move, can reach the aim
 abbrev pub fewest_half_moves : Battle → ℕ
@@ -74,7 +73,7 @@ module _ {P M : Type 0} where
       if is_followed plan.play game root t q
       then (if is_emitted plan.play game t q then (m ∷ []) ∷ [] else [])
       ++ map (λ path. m ∷ path) (shown_paths plan game false fuel
-      (walk_length plan.play (has_variations plan.tree) game t q) q (game.moves q))
+      (walk_length plan.play plan.variation game t q) q (game.moves q))
       else []) ms
 
   -- the fewest positions that have to be tried for a move to q, with t half-moves left: for a tested move
@@ -92,9 +91,9 @@ module _ {P M : Type 0} where
   fewest_walked plan game root (suc fuel) zero p ms = 0
   fewest_walked plan game root (suc fuel) (suc t) p ms =
       sum_by (λ m. let q = game.after p m in
-      fewest_for plan.play (has_variations plan.tree) game root t q
+      fewest_for plan.play plan.variation game root t q
       + (if is_followed plan.play game root t q then fewest_walked plan game false fuel
-      (walk_length plan.play (has_variations plan.tree) game t q) q (game.moves q) else 0)) ms
+      (walk_length plan.play plan.variation game t q) q (game.moves q) else 0)) ms
 
 -- the moves that lead to the top frame
 unfoldable pub path : List Frame → Path
@@ -153,9 +152,9 @@ are_whites battle frames = list_all (λ f. f.left == 0 || attacker_to_move battl
 -- counted and of those still to be counted doesn't grow
 pub record Opens (rule : RuleSet) (plan : Plan) (p : Position) (old new : List Frame)
     (before after : ℕ) : Type 0 where
-  pub whites : (battle : Battle) → plan.play ≡ BattlePlay battle → has_variations plan.tree ≡ false
+  pub whites : (battle : Battle) → plan.play ≡ BattlePlay battle → plan.variation ≡ false
       → are_whites battle old ≡ true → are_whites battle new ≡ true
-  pub most : (battle : Battle) → plan.play ≡ BattlePlay battle → has_variations plan.tree ≡ false
+  pub most : (battle : Battle) → plan.play ≡ BattlePlay battle → plan.variation ≡ false
       → are_whites battle old ≡ true
       → after + to_open rule p new ≤ before + to_open rule p old
   pub helped : plan.play ≡ HelpPlay
@@ -228,7 +227,7 @@ ends_at_goal (BattlePlay battle) variation left = left == 0 && (variation && att
 
 -- if the path to the top frame ends with the goal, the board's position reaches it
 abbrev pub IsEnded : RuleSet → Plan → List Frame → Position → Type 0
-IsEnded rule plan frames board = ends_at_goal plan.play (has_variations plan.tree)
+IsEnded rule plan frames board = ends_at_goal plan.play plan.variation
     (left_at_top frames) ≡ true
     → (chess plan.goal rule).goal board ≡ true
 
