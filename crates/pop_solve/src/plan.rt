@@ -3,8 +3,8 @@ ghost use Rattle.std.specs.Prelude.{◌≡◌};
 ghost use Rattle.pop_solve.specs.ties.Plans.{plan_of};
 
 use pop_battle::aim::Play;
-use pop_input::problem::Problem;
-use pop_stipulation::stipulation::Goal;
+use pop_input::Problem;
+use pop_stipulation::Goal;
 
 /// What a search walks: help play or a battle, the goal, and what is shown of a battle.
 #[derive(Clone, Copy)]

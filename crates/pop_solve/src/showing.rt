@@ -14,14 +14,14 @@ ghost use Rattle.std.specs.Prelude.{◌≡◌, ◌+◌, ◌<◌, ◌≤◌, ℕ,
 
 use crate::plan::Plan;
 use arrayvec::ArrayVec;
-use chess_core::board::Board;
+use chess_core::Board;
 use chess_rules::{Rules, play};
 use pop_battle::aim::Play;
 use pop_battle::chess::{Reached, mark_after, retract, shown_of};
 use pop_battle::frame::Frame;
 use pop_battle::value::attacker_to_move;
-use pop_events::shown::Shown;
-use pop_stipulation::stipulation::Goal;
+use pop_events::Shown;
+use pop_stipulation::Goal;
 
 /// Takes back the move of a frame.
 fn take_back<R: Rules>(frame: &Frame<R>, board: &mut Board)
@@ -39,10 +39,8 @@ fn reached_at<R: Rules>(plan: Plan, frame: &Frame<R>) -> Reached
 {
     match plan.play {
         Play::Help => Reached::Surely,
-        Play::Battle(battle)
-            if frame.left == 0 && plan.variation && attacker_to_move(battle, 1) => {
-            Reached::Surely
-        }
+        Play::Battle(battle) if frame.left == 0 && plan.variation && attacker_to_move(battle, 1) =>
+            { Reached::Surely }
         _ => Reached::Perhaps,
     }
 }

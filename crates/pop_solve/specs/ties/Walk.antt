@@ -1,29 +1,29 @@
 -- What the frames of a walk mean (own).
 use Rattle.pop_solve.specs.Events.{Path}
-use Rattle.pop_battle.specs.declared.aim.Battle.{Battle}
+pub use Rattle.pop_battle.specs.declared.aim.Battle.{Battle}
 use Rattle.pop_battle.specs.declared.aim.Battle.TheVariants.{Direct, Selfmate}
-use Rattle.pop_stipulation.specs.declared.stipulation.Goal.TheVariants.{Mate}
+pub use Rattle.pop_stipulation.specs.declared.stipulation.Goal.TheVariants.{Mate}
 use Rattle.std.specs.Prelude.{◌≡◌, ℕ, zero, suc, ◌+◌, ◌-◌, ◌/◌, ◌≤◌, ◌<◌, ◌^◌, min, ◌==◌, Bool, true, false, not, ◌&&◌, ◌||◌, if◌then◌else◌, List, [], ◌∷◌, ◌++◌, map, length, filter, Option, IfSome, MatchOption, ◌⊎◌}
 use Rattle.std.specs.List.{flat_map, list_all, sum_by}
-use Rattle.chess_core.specs.Position.{Position}
+pub use Rattle.chess_core.specs.Position.{Position}
 use Rattle.chess_core.specs.declared.man.Move.{Move}
-use Rattle.chess_core.specs.WellFormed.{IsWellFormed}
+pub use Rattle.chess_core.specs.WellFormed.{IsWellFormed}
 use Rattle.chess_rules.specs.Play.{position_after}
 use Rattle.chess_rules.specs.ties.Places.{IsPlaceIn, LegalPlace, moves_after}
 use Rattle.chess_mates.specs.ties.Mates.{is_mating}
 use Rattle.chess_rules.specs.Legal.{is_legal, is_mate}
 use Rattle.chess_attacks.specs.RuleSet.{RuleSet}
 use Rattle.pop_battle.specs.declared.aim.Play.{Play}
-use Rattle.pop_battle.specs.declared.aim.Play.TheVariants.{Help as HelpPlay, Battle as BattlePlay}
+pub use Rattle.pop_battle.specs.declared.aim.Play.TheVariants.{Help as HelpPlay, Battle as BattlePlay}
 use Rattle.pop_battle.specs.Game.{Game}
 use Rattle.pop_battle.specs.ties.Counts.{smallest_tree}
-use Rattle.pop_battle.specs.ties.Values.{attacker_to_move, value}
-use Rattle.pop_battle.specs.Chess.{chess}
+pub use Rattle.pop_battle.specs.ties.Values.{attacker_to_move, value}
+pub use Rattle.pop_battle.specs.Chess.{chess}
 pub use Rattle.pop_battle.specs.ties.Frames.{Frame}
 use Rattle.pop_battle.specs.ties.Frames.{AreKnown, learned, moved, position, IsLinked, work_after, to_open, left_at_top}
 use Rattle.pop_battle.specs.ties.Passing.{CannotBeMated, Passes}
 use Rattle.pop_solve.specs.declared.plan.Plan.{Plan}
-use Rattle.pop_battle.specs.ties.Marks.{is_for_mate}
+pub use Rattle.pop_battle.specs.ties.Marks.{is_for_mate}
 
 -- the fewest half-moves with which White, to move, can reach the aim
 abbrev pub fewest_half_moves : Battle → ℕ
@@ -223,7 +223,8 @@ pub record MovesOn (rule : RuleSet) (plan : Plan) (p : Position) (old new : List
 -- and in a direct mate with variations if it is a whole variation
 abbrev pub ends_at_goal : Play → Bool → ℕ → Bool
 ends_at_goal HelpPlay variation left = true
-ends_at_goal (BattlePlay battle) variation left = left == 0 && (variation && attacker_to_move battle 1)
+ends_at_goal (BattlePlay battle) variation left = left == 0
+    && (variation && attacker_to_move battle 1)
 
 -- if the path to the top frame ends with the goal, the board's position reaches it
 abbrev pub IsEnded : RuleSet → Plan → List Frame → Position → Type 0
