@@ -123,4 +123,5 @@ module _ (rule : RuleSet) (problem : Posed) (sound : IsSound problem) (phase : P
       → (is_help problem.stipulation.form ≡ true
       → IsCounted (walk_count (legal_moves rule) (position_after rule) (h - n) (position_after rule board m)) opened (rest_open rule problem stage new))
       → IsPartOpened rule problem phase front stage new opened
-  opens-begun stage new opened left counted help full = (ap is_unstopped (left ∙ events-begun) ∙ unstopped rule problem phase front full, rw walk-is (counted help))
+  opens-begun stage new opened left counted help full =
+      (ap is_unstopped (left ∙ events-begun) ∙ unstopped rule problem phase front full, rw walk-is (counted help))

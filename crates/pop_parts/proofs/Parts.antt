@@ -6,7 +6,7 @@ use Rattle.pop_battle.specs.declared.aim.Play.TheVariants.{Help as HelpPlay, Bat
 use Rattle.pop_events.specs.declared.event.Phase.TheVariants.{Play, Set}
 use Rattle.std.proofs.lemmas.Simd.{map-map}
 use Rattle.pop_parts.proofs.PartLists.{front-lines, filter-map, map-each, root-part}
-use Rattle.pop_solve.proofs.Solved.{IsCutInto, halves-form, lines-cut, set-cut, set_by, shown_paths-varied, tree-cut, tree_by}
+use Rattle.pop_solve.proofs.Solved.{IsCutInto, halves-form, lines-cut, set-cut, set_by, tree-cut, tree_by}
 use Rattle.pop_solve.proofs.Trees.{shown_paths-moves}
 use Rattle.pop_parts.specs.ties.PartsSeen.{are_legal}
 
@@ -102,12 +102,11 @@ module _ (rule : RuleSet) (problem : Posed) where
       → IsCutInto false problem.max_solutions (shown_paths (plan_of problem) (game_of rule problem) true (suc h) (suc h) (phase_start problem phase) (m ∷ []))
       (battle-by battle phase h (m ∷ []))
   one-cut battle fought Set h z m =
-      rw (shown_paths-varied problem.variation) at (set-cut (game_of rule problem) (plan_of problem) battle fought problem.stipulation.n h problem.max_solutions
-      (phase_start problem Set) (m ∷ []) (sym z ∙ ap (λ x. x - 1) (halves-form problem.stipulation.form problem.stipulation.n battle fought)))
+      set-cut (game_of rule problem) (plan_of problem) battle fought problem.stipulation.n h problem.max_solutions
+      (phase_start problem Set) (m ∷ []) (sym z ∙ ap (λ x. x - 1) (halves-form problem.stipulation.form problem.stipulation.n battle fought))
   one-cut battle fought Play h z m =
-      rw (shown_paths-varied problem.variation) at (tree-cut (game_of rule problem)
-      (plan_of problem) battle fought problem.stipulation.n h problem.max_solutions
-      (phase_start problem Play) (m ∷ []) (sym z ∙ halves-form problem.stipulation.form problem.stipulation.n battle fought))
+      tree-cut (game_of rule problem) (plan_of problem) battle fought problem.stipulation.n h problem.max_solutions
+      (phase_start problem Play) (m ∷ []) (sym z ∙ halves-form problem.stipulation.form problem.stipulation.n battle fought)
 
   with-none : (n h k : ℕ) (p : Position) (ms : List Move) (sols : List (List (List Move))) → h ≡ suc k
       → IsCutInto false n (shown_paths (plan_of problem) (game_of rule problem) true (suc k) (suc k) p ms) sols

@@ -59,7 +59,8 @@ found_there : (items : List Entry) (entry : Entry) (more : List Entry) (wanted :
 found_there items entry more wanted is = grind (arith, get_seam items entry more)
 
 -- the input has no item of this number
-pub item_missing : (request : PartRequest) (old new : ReaderState) (number : ℕ) (failed : Bool) (had mid left before : Option (List ℕ)) (item : Item) (answer : Outcome)
+pub item_missing : (request : PartRequest) (old new : ReaderState) (number : ℕ) (failed : Bool) (had mid left before : Option (List ℕ)) (item : Item)
+    (answer : Outcome)
     (n m v w : ℕ) → Passed request.item old number failed had mid → NextItem old new mid left item → entry_in item ≡ None → IsEndSeen new.at.end left
     → answer ≡ outcome_at request failed None → m ≡ failures_after Open new.at.end n → w ≡ v
     → IfSome had (λ r. Shows request (input_met (has_grown n m) r left) before before (has_grown v w) answer)
@@ -67,7 +68,8 @@ item_missing request old new number failed None mid left before item answer n m 
 item_missing request old new number failed (Some r) mid left before item answer n m v w p q is seen reported reads writes =
     let items = all_met old new mid left r p.items item p.reads q is seen in
     let none = not_there p.items request.item (λ some. rw p.number_is at (p.early some)) in
-    rw (grew_broken new.at.end n m reads, kept_is_reported v w writes, items, none) (appends_none before, reported ∙ ap (λ b. outcome_at request b None) p.failed_is)
+    rw (grew_broken new.at.end n m reads, kept_is_reported v w writes, items, none)
+    (appends_none before, reported ∙ ap (λ b. outcome_at request b None) p.failed_is)
 
 -- what comes of an item isn't changed by a failure elsewhere
 any_failure : (request : PartRequest) (b c : Bool) (entry : Entry) → outcome_at request b (Some entry) ≡ outcome_at request c (Some entry)
@@ -85,7 +87,8 @@ module _ (request : PartRequest) (old new : ReaderState) (number : ℕ) (failed 
       ap (λ entries. entry_numbered entries request.item) following.1 ∙ found_there p.items entry following.0 request.item (sym p.number_is ∙ one)
 
 -- the item was found, and its text written
-pub item_shown : (request : PartRequest) (old new : ReaderState) (number : ℕ) (failed : Bool) (had mid left before now : Option (List ℕ)) (item : Item) (entry : Entry)
+pub item_shown : (request : PartRequest) (old new : ReaderState) (number : ℕ) (failed : Bool) (had mid left before now : Option (List ℕ)) (item : Item)
+    (entry : Entry)
     (answer : Outcome) (n m v w : ℕ) → Passed request.item old number failed had mid → NextItem old new mid left item → entry_in item ≡ Some entry
     → IsEndSeen new.at.end left → number ≡ request.item → Appends before now (text_at request (entry_in item))
     → answer ≡ outcome_at request false (entry_in item) → m ≡ failures_after Open new.at.end n → w ≡ v
@@ -93,11 +96,14 @@ pub item_shown : (request : PartRequest) (old new : ReaderState) (number : ℕ) 
 item_shown request old new number failed None mid left before now item entry answer n m v w p q is seen one written reported reads writes = tt
 item_shown request old new number failed (Some r) mid left before now item entry answer n m v w p q is seen one written reported reads writes =
     let there = entry_met request old new number failed mid left r item entry p q is seen one in
-    rw (grew_broken new.at.end n m reads, kept_is_reported v w writes, there)
-    (rw is at written, (rw is at reported) ∙ any_failure request false (list_any reports_device_failure (entries_in (input_met (is_broken new.at.end) r left))) entry)
+    rw (grew_broken new.at.end n m reads, kept_is_reported v w writes, there) (
+      rw is at written,
+      (rw is at reported) ∙ any_failure request false (list_any reports_device_failure (entries_in (input_met (is_broken new.at.end) r left))) entry,
+    )
 
 -- the sink cuts its text off
-pub item_cut : (request : PartRequest) (old new : ReaderState) (number : ℕ) (failed : Bool) (had mid left before now : Option (List ℕ)) (item : Item) (entry : Entry)
+pub item_cut : (request : PartRequest) (old new : ReaderState) (number : ℕ) (failed : Bool) (had mid left before now : Option (List ℕ)) (item : Item)
+    (entry : Entry)
     (n m v w : ℕ) → Passed request.item old number failed had mid → NextItem old new mid left item → entry_in item ≡ Some entry
     → IsEndSeen new.at.end left → number ≡ request.item → Begins before now (text_at request (entry_in item))
     → m ≡ failures_after Open new.at.end n → w ≡ v + 1

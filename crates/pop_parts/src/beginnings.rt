@@ -2,26 +2,23 @@
 //! half-moves left, so it tries nothing after a part's first moves.
 ghost use Rattle.std.specs.Prelude.{◌≡◌, ◌+◌, ◌-◌, ◌<◌, ◌≤◌, ◌==◌, ◌^◌, ◌||◌, ℕ, min, not, [], ◌∷◌, ◌++◌, length, reverse, slice_get, true, false, MatchOption, None, Some};
 ghost use Rattle.arrayvec.specs.ArrayVec.{array_vec_len};
-ghost use Rattle.chess_core.specs.Position.{Position};
 ghost use Rattle.chess_rules.specs.Legal.{is_legal};
 ghost use Rattle.pop_stipulation.specs.declared.stipulation.Goal.{Goal};
 ghost use Rattle.pop_input.specs.Posed.{IsSound, rule_of};
 ghost use Rattle.pop_stipulation.specs.Stipulations.{half_moves};
 ghost use Rattle.pop_solve.specs.Events.{is_impossible_phase, phase_half_moves as half_moves_of_phase, phase_start, play_start};
-ghost use Rattle.pop_battle.specs.Chess.{chess};
 ghost use Rattle.pop_parts.specs.PhaseParts.{beginnings, part_depth as depth_of_parts, part_numbered, parts};
 ghost use Rattle.pop_parts.specs.ties.Beginnings.{beginnings_to_come, FindsNumbered, IsSeeking, Seeks};
 ghost use Rattle.pop_battle.specs.ties.Frames.{opened_frame};
-ghost use Rattle.pop_solve.specs.ties.Walk.{path};
+ghost use Rattle.pop_solve.specs.ties.Walk.{Position, chess, path};
 
 use arrayvec::ArrayVec;
-use chess_core::board::Board;
-use chess_core::man::Move;
+use chess_core::{Board, Move};
 use chess_rules::{Moves, Rules, Undo, play};
 use pop_battle::chess::next_move;
 use pop_battle::frame::{Frame, MoveStage, Order};
-use pop_events::event::Phase;
-use pop_input::problem::Problem;
+use pop_events::Phase;
+use pop_input::Problem;
 use pop_solve::phases::{phase_half_moves, set_up};
 use pop_solve::walk::step_back;
 

@@ -3,8 +3,8 @@ ghost use Rattle.std.specs.Prelude.{◌≡◌, is_some, not, true};
 ghost use Rattle.pop_run.specs.ties.Sessions.{status_with};
 ghost use Rattle.pop_parts.specs.ties.Items.{entry_in, is_failure, status_after as with_item};
 
-use pop_input::item::Item;
-use pop_run::status::Status;
+use pop_input::Item;
+use pop_run::Status;
 
 /// Returns whether no item is left.
 pub(crate) fn is_end(item: &Item) -> bool

@@ -1,7 +1,7 @@
 //! The parts of the phases of an input's problems: how many there are, and the solutions of chosen ones.
 //!
 //! ```rust
-//! use pop_parts::list::list_parts;
+//! use pop_parts::list_parts;
 //! use pop_text::{TrialSink, TrialSource};
 //!
 //! let text = b"BeginProblem Pieces White Kg6 Ra1 Black Kg8 Stipulation #1 EndProblem";
@@ -12,8 +12,8 @@
 //! assert!(rt; sink.text() == b"1: play 19\n".as_slice());
 //! ```
 //!
-//! `list` and `show` are the interface, with the types of `request`; `part_search` searches one part, and
-//! `beginnings` counts the parts of a phase.
+//! The interface is what the root re-exports, with `count_parts` of `beginnings`, which counts the parts of a
+//! phase.
 #![tactic(auto)]
 
 pub mod beginnings;
@@ -24,3 +24,8 @@ mod parts_left;
 pub mod request;
 mod searching;
 pub mod show;
+
+pub use list::list_parts;
+pub use part_search::PartSearch;
+pub use request::{Outcome, PartRequest};
+pub use show::show_parts;

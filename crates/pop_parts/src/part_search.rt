@@ -5,14 +5,13 @@ ghost use Rattle.pop_solve.specs.ties.Walk.{path};
 
 use crate::parts_left::RemainingParts;
 use arrayvec::ArrayVec;
-use chess_core::board::Board;
-use chess_core::man::Move;
+use chess_core::{Board, Move};
 use chess_rules::Rules;
 use pop_battle::frame::Frame;
 use pop_battle::killers::Killers;
 use pop_battle::search_state::SearchState;
-use pop_events::event::{Event, Phase};
-use pop_input::problem::Problem;
+use pop_events::{Event, Phase};
+use pop_input::Problem;
 use pop_solve::beginning::begin_after;
 use pop_solve::phases::{Stage, advance};
 use std::marker::Model;

@@ -5,12 +5,12 @@ ghost use Rattle.arrayvec.specs.ArrayVec.{array_vec_len};
 use crate::beginnings::{begin_walk, part_depth, seek_numbered};
 use crate::part_search::PartSearch;
 use arrayvec::ArrayVec;
-use chess_core::board::Board;
+use chess_core::Board;
 use chess_rules::Rules;
 use pop_battle::frame::Frame;
 use pop_battle::killers::Killers;
-use pop_events::event::Phase;
-use pop_input::problem::Problem;
+use pop_events::Phase;
+use pop_input::Problem;
 use std::marker::Model;
 
 /// The parts of a phase that are still to come. Contracts see the record `RemainingSeen`.

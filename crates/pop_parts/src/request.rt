@@ -1,5 +1,5 @@
 //! A request for parts of a phase, and its outcome.
-use pop_events::event::Phase;
+use pop_events::Phase;
 
 /// A request for the parts `first` to `last`, inclusive, of a phase of an item. Items and parts are
 /// numbered from 1.

@@ -5,8 +5,8 @@ ghost use Rattle.pop_parts.specs.PhaseParts.{parts};
 
 use crate::beginnings::count_parts;
 use chess_rules::Rules;
-use pop_events::event::Phase;
-use pop_input::problem::Problem;
+use pop_events::Phase;
+use pop_input::Problem;
 
 /// Returns the number of parts of a phase, up to the greatest u64; `depth` moves distinguish the parts of
 /// help play.

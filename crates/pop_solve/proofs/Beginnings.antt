@@ -1,5 +1,5 @@
 -- How the search of a phase after a beginning of moves begins.
-use Rattle.pop_solve.proofs.Words.{AreKnown, Bool, Counts, Frame, Game, HoldsAtStage, First, IsCounted, IsLinked, IsRoomy, IsWalking, List, Move, Part, Phase, Plan, Posed, Position, RuleSet, Stage, Within, [], after_well_formed, ap, append-nil, arith, eqb, events_along, false, false≢true, game_of, has_variations, inl, inr, is_emitted, is_followed, is_for_mate, is_help, is_legal, is_mate, is_pseudo_legal-from_legal, left_of, legal_moves, length, map, moves_after, nat_tests, opened_frame, path, phase_half_moves, phase_paths, phase_start, plan_of, position, position_after, refl, rest_open, reverse, rules, seeks_last, shown_paths, sym, to_come, to_open, true, undo_of, walk_count, walk_length, walk_of, ℕ, ◌++◌, ◌+◌, ◌-◌, ◌<◌, ◌∙◌, ◌∷◌, ◌≡◌, ◌≤◌}
+use Rattle.pop_solve.proofs.Words.{AreKnown, Bool, Counts, Frame, Game, HoldsAtStage, First, IsCounted, IsLinked, IsRoomy, IsWalking, List, Move, Part, Phase, Plan, Posed, Position, RuleSet, Stage, Within, [], after_well_formed, ap, append-nil, arith, eqb, events_along, false, false≢true, game_of, inl, inr, is_emitted, is_followed, is_for_mate, is_help, is_legal, is_mate, is_pseudo_legal-from_legal, left_of, legal_moves, length, map, moves_after, nat_tests, opened_frame, path, phase_half_moves, phase_paths, phase_start, plan_of, position, position_after, refl, rest_open, reverse, rules, seeks_last, shown_paths, sym, to_come, to_open, true, undo_of, walk_count, walk_length, walk_of, ℕ, ◌++◌, ◌+◌, ◌-◌, ◌<◌, ◌∙◌, ◌∷◌, ◌≡◌, ◌≤◌}
 use Rattle.pop_battle.proofs.Boards.{after_start, for_mate}
 use Rattle.pop_solve.proofs.GoingOn.{cases, ended-reached, follows-help, walk_length-help, walk_length-most}
 use Rattle.pop_solve.proofs.Outcomes.{counted_by}
@@ -124,7 +124,7 @@ module _ (rule : RuleSet) (problem : Posed) (phase : Phase) (n : ℕ) (frames : 
 
   -- the move is followed
   abbrev entered : List Frame
-  entered = opened_frame m (undo_of rule board m) (walk_length plan.play (has_variations plan.tree) game left q) ∷ old
+  entered = opened_frame m (undo_of rule board m) (walk_length plan.play plan.variation game left q) ∷ old
 
   come-entered : is_followed plan.play game root left q ≡ true
       → come ≡ given_path (is_emitted plan.play game left q) (path old ++ m ∷ []) ++ to_come rule plan h p entered
@@ -137,7 +137,7 @@ module _ (rule : RuleSet) (problem : Posed) (phase : Phase) (n : ℕ) (frames : 
 
   walking-entered : IsWalking rule h p entered q
   walking-entered = walking-opened rule h p old board m _ deep s.walking lawful
-      (omega (arith, walk_length-most game plan.play (has_variations plan.tree) left q, s.long, s.within))
+      (omega (arith, walk_length-most game plan.play plan.variation left q, s.long, s.within))
 
   opens-entered : (opened : ℕ) → Counts rule plan root left q 0 opened → is_help problem.stipulation.form ≡ true
       → IsCounted tried opened (to_open rule p entered)
@@ -160,7 +160,7 @@ module _ (rule : RuleSet) (problem : Posed) (phase : Phase) (n : ℕ) (frames : 
           walking-entered,
           refl,
           omega (arith, deep),
-          ended-reached game plan.play (has_variations plan.tree) root left q followed (sym g),
+          ended-reached game plan.play plan.variation root left q followed (sym g),
         );
         left = ap (λ paths. events_along problem phase 0 paths []) e;
         opens = λ help. rw (rest-is true entered) (opens-entered opened c help);
@@ -177,7 +177,7 @@ module _ (rule : RuleSet) (problem : Posed) (phase : Phase) (n : ℕ) (frames : 
   pub begun-by : (opened opened2 : ℕ) (low given : Bool) (last : List Frame) (after : Position) → opened ≡ 0
       → (is_followed plan.play game low left q ≡ false → (given ≡ false) × (after ≡ board) × (last ≡ frames))
       → (is_followed plan.play game low left q ≡ true → (given ≡ is_emitted plan.play game left q) × (after ≡ q)
-      × (last ≡ frames ++ opened_frame m (undo_of rule board m) (walk_length plan.play (has_variations plan.tree) game left q) ∷ []))
+      × (last ≡ frames ++ opened_frame m (undo_of rule board m) (walk_length plan.play plan.variation game left q) ∷ []))
       → Counts rule plan low left q opened opened2 → low ≡ root → Begun given (reverse last) after opened2
   begun-by opened opened2 low given last after z passes enters counts lowest =
       elim (cases (is_followed plan.play game low left q)) [

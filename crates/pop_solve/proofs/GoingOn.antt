@@ -1,5 +1,5 @@
 -- How many half-moves a line goes on after a move, and what is reached at its end.
-use Rattle.pop_solve.proofs.Words.{Battle, BattlePlay, Bool, Game, HelpPlay, Plan, PlayOfSides, arith, cond, ends_at_goal, eqb, false, fewest_half_moves, least_length_from, is_followed, walk_length, inl, inr, nat_tests, shown_length, refl, rules, attacker_to_move, suc, true, value, has_variations, zero, ℕ, ◌*◌, ◌+◌, ◌-◌, ◌/◌, ◌||◌, ◌≡◌, ◌≤◌, ◌⊎◌, is_emitted}
+use Rattle.pop_solve.proofs.Words.{Battle, BattlePlay, Bool, Game, HelpPlay, Plan, PlayOfSides, arith, cond, ends_at_goal, eqb, false, fewest_half_moves, least_length_from, is_followed, walk_length, inl, inr, nat_tests, shown_length, refl, rules, attacker_to_move, suc, true, value, zero, ℕ, ◌*◌, ◌+◌, ◌-◌, ◌/◌, ◌||◌, ◌≡◌, ◌≤◌, ◌⊎◌, is_emitted}
 
 -- a test by its two results
 pub cases : (b : Bool) → (b ≡ false) ⊎ (b ≡ true)
@@ -50,7 +50,7 @@ module _ {P M : Type 0} (plan : Plan) (game : Game P M) where
   given-battle battle t q fought = rw fought refl
 
   -- in help play the walk follows each move, with the half-moves that are left
-  pub walk_length-help : (t : ℕ) (q : P) → plan.play ≡ HelpPlay → walk_length plan.play (has_variations plan.tree) game t q ≡ t
+  pub walk_length-help : (t : ℕ) (q : P) → plan.play ≡ HelpPlay → walk_length plan.play plan.variation game t q ≡ t
   unfolding walk_length
   walk_length-help t q help = rw help refl
 
@@ -60,7 +60,7 @@ module _ {P M : Type 0} (plan : Plan) (game : Game P M) where
   follows-help root t q help = rw help refl
 
   -- where keys alone are shown it doesn't go on below a move of White
-  pub walk_length-keys : (t : ℕ) (q : P) (battle : Battle) → plan.play ≡ BattlePlay battle → has_variations plan.tree ≡ false
-      → attacker_to_move battle (t + 1) ≡ true → walk_length plan.play (has_variations plan.tree) game t q ≡ 0
+  pub walk_length-keys : (t : ℕ) (q : P) (battle : Battle) → plan.play ≡ BattlePlay battle → plan.variation ≡ false
+      → attacker_to_move battle (t + 1) ≡ true → walk_length plan.play plan.variation game t q ≡ 0
   unfolding walk_length
   walk_length-keys t q battle fought b c = rw (fought, b, c) refl

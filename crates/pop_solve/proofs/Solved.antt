@@ -1,5 +1,5 @@
 -- The paths to come from the root frame of a phase are the phase's solutions.
-use Rattle.pop_solve.proofs.Words.{Battle, BattlePlay, Bool, Form, Frame, Game, HelpPlay, IsSound, List, Phase, Plan, Play, PlayOfSides, Posed, RuleSet, Set, [], continuations, ap, arith, beginning_count, best_moves, cond, false, filter, flat_map, game_of, half_moves_of, help_lines, is_help_play, is_help, kept_paths, keeps_win, length, list_all, map, moves_after, nat_tests, node, nodes_below, phase_half_moves, phase_paths, phase_start, plan_of, play_of, refl, rules, attacker_to_move, is_in_set_play, set_tree, shown_paths, has_variations, solutions, solutions_by, suc, sym, take, tree_with, true, value, zero, ℕ, ◌++◌, ◌+◌, ◌-◌, ◌∙◌, ◌∷◌, ◌≡◌, legal_moves, list_all-append}
+use Rattle.pop_solve.proofs.Words.{Battle, BattlePlay, Bool, Form, Frame, Game, HelpPlay, IsSound, List, Phase, Plan, Play, PlayOfSides, Posed, RuleSet, Set, [], continuations, ap, arith, beginning_count, best_moves, cond, false, filter, flat_map, game_of, half_moves_of, help_lines, is_help_play, is_help, kept_paths, keeps_win, length, list_all, map, moves_after, nat_tests, node, nodes_below, phase_half_moves, phase_paths, phase_start, plan_of, play_of, refl, rules, attacker_to_move, is_in_set_play, set_tree, shown_paths, solutions, solutions_by, suc, sym, take, true, value, zero, ℕ, ◌++◌, ◌+◌, ◌-◌, ◌∙◌, ◌∷◌, ◌≡◌, legal_moves, list_all-append}
 use Rattle.pop_solve.proofs.Sound.{helps-form, some_way}
 use Rattle.pop_solve.proofs.Battles.{value-wins, value-self_wins}
 use Rattle.pop_solve.proofs.Trees.{as_nodes, beneath, by_test, flat-filter, halves, halves-seek, keeps-value, nodes_below-key, nodes_below-set, shown_paths-help, shown_paths-zero}
@@ -93,7 +93,7 @@ module _ {P M : Type 0} (game : Game P M) (plan : Plan) (battle : Battle) (fough
 
   -- the play: the tree
   pub tree-cut : (n h max : ℕ) (p : P) (ms : List M) → suc h ≡ halves battle n
-      → IsCutInto false max (shown_paths plan game true (suc h) (suc h) p ms) (tree_by battle game (has_variations plan.tree) n (suc h) p ms)
+      → IsCutInto false max (shown_paths plan game true (suc h) (suc h) p ms) (tree_by battle game plan.variation n (suc h) p ms)
   tree-cut n h max p ms e =
       let one : suc h - 1 ≡ h = omega arith in
       rw one (root-cut game plan battle fought h max p ms _ _ (λ m. keeps-value game battle n h (game.after p m) e)
@@ -101,7 +101,7 @@ module _ {P M : Type 0} (game : Game P M) (plan : Plan) (battle : Battle) (fough
 
   -- set play
   pub set-cut : (n h max : ℕ) (p : P) (ms : List M) → suc h ≡ halves battle n - 1
-      → IsCutInto false max (shown_paths plan game true (suc h) (suc h) p ms) (set_by battle game (has_variations plan.tree) n h p ms)
+      → IsCutInto false max (shown_paths plan game true (suc h) (suc h) p ms) (set_by battle game plan.variation n h p ms)
   set-cut n h max p ms e =
       let s : attacker_to_move battle (suc h + 1) ≡ true = halves-seek game battle n (suc h) (omega (arith, e)) in
       root-cut game plan battle fought h max p ms _ _ (λ m. set_value battle n h (game.after p m) e)
@@ -111,10 +111,6 @@ module _ {P M : Type 0} (game : Game P M) (plan : Plan) (battle : Battle) (fough
 none-cut : {M : Type 0} (help : Bool) (n : ℕ) → IsCutInto {M = M} help n [] []
 unfolding kept_paths beginning_count
 none-cut {M = M} help n = search rules
-
--- variations are shown where the problem asks for them
-pub shown_paths-varied : (variation : Bool) → has_variations (tree_with variation) ≡ variation
-shown_paths-varied variation = search rules
 
 module _ (rule : RuleSet) (problem : Posed) (stated : IsSound problem) where
   abbrev plan : Plan
@@ -128,14 +124,14 @@ module _ (rule : RuleSet) (problem : Posed) (stated : IsSound problem) where
   cut phase HelpPlay e (suc h) z = rw (z, shown_paths-help (game_of rule problem) plan e true h (phase_start problem phase)) (lines-cut _ _)
   cut Set (BattlePlay battle) e zero z = rw z (search (rules, shown_paths-zero, none-cut))
   cut Set (BattlePlay battle) e (suc h) z =
-      rw z (rw (shown_paths-varied problem.variation) at (set-cut (game_of rule problem) plan battle e problem.stipulation.n h problem.max_solutions
+      rw z (set-cut (game_of rule problem) plan battle e problem.stipulation.n h problem.max_solutions
       (phase_start problem Set) (legal_moves rule (phase_start problem Set))
-      (sym z ∙ ap (λ x. x - 1) (halves-form problem.stipulation.form problem.stipulation.n battle e))))
+      (sym z ∙ ap (λ x. x - 1) (halves-form problem.stipulation.form problem.stipulation.n battle e)))
   cut Play (BattlePlay battle) e zero z = absurd (omega (arith, z, some_way problem stated))
   cut Play (BattlePlay battle) e (suc h) z =
-      rw z (rw (shown_paths-varied problem.variation) at (tree-cut (game_of rule problem) plan battle e problem.stipulation.n h problem.max_solutions
+      rw z (tree-cut (game_of rule problem) plan battle e problem.stipulation.n h problem.max_solutions
       (phase_start problem Play) (legal_moves rule (phase_start problem Play))
-      (sym z ∙ halves-form problem.stipulation.form problem.stipulation.n battle e)))
+      (sym z ∙ halves-form problem.stipulation.form problem.stipulation.n battle e))
 
   -- what is to come from the root frame of a phase
   pub root-solutions : (phase : Phase) (f : Frame) → f.left ≡ phase_half_moves problem phase

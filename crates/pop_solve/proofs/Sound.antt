@@ -1,5 +1,5 @@
 -- What a sound problem guarantees, and how its sides play.
-use Rattle.pop_solve.proofs.Words.{Battle, BattlePlay, Form, HelpPlay, arith, false, is_help_play, is_help, play_of, rules, IsSound, IsWellFormed, Phase, Posed, half_moves, is_en_passant_square_right, phase_start, sym, ap, true, ◌≡◌, ◌≤◌, ◌∙◌}
+use Rattle.pop_solve.proofs.Words.{Battle, BattlePlay, Form, HelpPlay, Plan, arith, false, is_help_play, is_help, plan_of, play_of, rules, IsSound, IsWellFormed, Phase, Posed, half_moves, is_en_passant_square_right, phase_start, sym, ap, true, ◌≡◌, ◌≤◌, ◌∙◌}
 
 -- a problem has 1 to 32 half-moves
 pub some_way : (problem : Posed) → IsSound problem → 1 ≤ half_moves problem.stipulation
@@ -17,6 +17,10 @@ start_sound problem s phase = search rules
 -- help play and battles, by the form
 pub helps-form : (form : Form) → is_help_play (play_of form) ≡ is_help form
 helps-form form = search rules
+
+-- help play and battles, by the plan
+pub plan-helps : (plan : Plan) (problem : Posed) → plan ≡ plan_of problem → is_help_play plan.play ≡ is_help problem.stipulation.form
+plan-helps plan problem e = ap (λ (p : Plan). is_help_play p.play) e ∙ helps-form problem.stipulation.form
 
 -- the form of help play is played so
 pub help-play : (form : Form) → is_help form ≡ true → play_of form ≡ HelpPlay

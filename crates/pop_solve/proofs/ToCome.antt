@@ -1,6 +1,6 @@
 -- What the moves still to come mean for paths, turns and counts: the next move, and the moves that are
 -- skipped.
-use Rattle.pop_solve.proofs.Words.{Battle, BattlePlay, Bool, Frame, GoesTo, HelpPlay, are_whites, List, Mate, Move, Plan, Position, RuleSet, Steps, Undo, [], ap, append_assoc, append-nil, allows_mate, arith, chess, cond, eqb, false, fewest_for, fewest_left, fewest_walked, filter, is_followed, is_emitted, walk_length, is_mating, length, length-append, map, map-append, mates_after, moves_after, opened_frame, path, position, refl, rules, seeks_last, shown_paths, smallest_tree, work_from, work_after, suc, sum_by-append, sum_by-cons, to_come, to_open, true, walk_work, value, has_variations, walk_after, walk_count, zero, ℕ, ◌++◌, ◌+◌, ◌-◌, ◌<◌, ◌∙◌, ◌∷◌, ◌≡◌, ◌≤◌, ◌⊎◌, position_after, legal_moves}
+use Rattle.pop_solve.proofs.Words.{Battle, BattlePlay, Bool, Frame, GoesTo, HelpPlay, are_whites, List, Mate, Move, Plan, Position, RuleSet, Steps, Undo, [], ap, append_assoc, append-nil, allows_mate, arith, chess, cond, eqb, false, fewest_for, fewest_left, fewest_walked, filter, is_followed, is_emitted, walk_length, is_mating, length, length-append, map, map-append, mates_after, moves_after, opened_frame, path, position, refl, rules, seeks_last, shown_paths, smallest_tree, work_from, work_after, suc, sum_by-append, sum_by-cons, to_come, to_open, true, walk_work, value, walk_after, walk_count, zero, ℕ, ◌++◌, ◌+◌, ◌-◌, ◌<◌, ◌∙◌, ◌∷◌, ◌≡◌, ◌≤◌, ◌⊎◌, position_after, legal_moves}
 use Rattle.pop_battle.proofs.Boards.{after_start, each_one, none_of}
 use Rattle.pop_battle.specs.ties.Frames.{moved}
 use Rattle.pop_solve.proofs.GoingOn.{cases, no_zero, ways, walk_length-help, follows-help}
@@ -66,8 +66,8 @@ module _ (rule : RuleSet) (plan : Plan) where
     -- a move that is followed: its path, where that is given, and what stands below it
     pub come-enter : (undo : Undo) → is_followed plan.play (chess plan.goal rule) root t q ≡ true
         → to_come rule plan h p (f ∷ below) ≡ given_path (is_emitted plan.play (chess plan.goal rule) t q)
-        (path (opened_frame m undo (walk_length plan.play (has_variations plan.tree) (chess plan.goal rule) t q)
-        ∷ (moved f next ∷ below))) ++ to_come rule plan h p (opened_frame m undo (walk_length plan.play (has_variations plan.tree) (chess plan.goal rule) t q) ∷
+        (path (opened_frame m undo (walk_length plan.play plan.variation (chess plan.goal rule) t q)
+        ∷ (moved f next ∷ below))) ++ to_come rule plan h p (opened_frame m undo (walk_length plan.play plan.variation (chess plan.goal rule) t q) ∷
         (moved f next ∷ below))
     unfolding to_come position path shown_paths
     come-enter undo b =
@@ -76,15 +76,15 @@ module _ (rule : RuleSet) (plan : Plan) where
 
     -- a move that isn't followed has only its test
     pub tries-pass : is_followed plan.play (chess plan.goal rule) root t q ≡ false
-        → fewest_left rule plan h p (f ∷ below) ≡ fewest_for plan.play (has_variations plan.tree) (chess plan.goal rule) root t q + fewest_left rule plan h p
+        → fewest_left rule plan h p (f ∷ below) ≡ fewest_for plan.play plan.variation (chess plan.goal rule) root t q + fewest_left rule plan h p
         (moved f next ∷ below)
     unfolding fewest_left position fewest_walked
     tries-pass b = simp (fuel, left, e, sum_by-cons, b) (omega arith)
 
     -- one that is followed adds what is tried below it
     pub tries-enter : (undo : Undo) → is_followed plan.play (chess plan.goal rule) root t q ≡ true → fewest_left rule plan h p (f ∷ below)
-        ≡ fewest_for plan.play (has_variations plan.tree) (chess plan.goal rule) root t q + fewest_left rule plan h p
-        (opened_frame m undo (walk_length plan.play (has_variations plan.tree) (chess plan.goal rule) t q) ∷ (moved f next ∷ below))
+        ≡ fewest_for plan.play plan.variation (chess plan.goal rule) root t q + fewest_left rule plan h p
+        (opened_frame m undo (walk_length plan.play plan.variation (chess plan.goal rule) t q) ∷ (moved f next ∷ below))
     unfolding fewest_left position fewest_walked
     tries-enter undo b =
         let less : h - suc (length below) ≡ k = omega arith in

@@ -1,5 +1,5 @@
 -- The walk shows exactly the tree of the definitions.
-use Rattle.pop_solve.proofs.Words.{Battle, BattlePlay, Bool, Direct, Game, HelpPlay, List, Plan, Selfmate, [], continuations, ap, append-nil, arith, best_moves, cond, eqb, every_move, false, fewest_half_moves, filter, least_length_from, flat_map, flat_map_single, is_followed, is_emitted, walk_length, keeps_win, least_moves, lines_to_goal, list_all, map, nat_tests, node, nodes_below, not, shown_length, refl, rules, attacker_to_move, shown_paths, suc, sym, true, value, has_variations, zero, ℕ, ◌%◌, ◌*◌, ◌++◌, ◌+◌, ◌-◌, ◌/◌, ◌<◌, ◌||◌, ◌∙◌, ◌∷◌, ◌≡◌, ◌≤◌, inl, inr}
+use Rattle.pop_solve.proofs.Words.{Battle, BattlePlay, Bool, Direct, Game, HelpPlay, List, Plan, Selfmate, [], continuations, ap, append-nil, arith, best_moves, cond, eqb, every_move, false, fewest_half_moves, filter, least_length_from, flat_map, flat_map_single, is_followed, is_emitted, walk_length, keeps_win, least_moves, lines_to_goal, list_all, map, nat_tests, node, nodes_below, not, shown_length, refl, rules, attacker_to_move, shown_paths, suc, sym, true, value, zero, ℕ, ◌%◌, ◌*◌, ◌++◌, ◌+◌, ◌-◌, ◌/◌, ◌<◌, ◌||◌, ◌∙◌, ◌∷◌, ◌≡◌, ◌≤◌, inl, inr}
 use Rattle.pop_solve.proofs.Battles.{value-is_lost, value-is_self_lost, value-zero}
 use Rattle.pop_solve.proofs.Lengths.{length-more}
 use Rattle.pop_solve.proofs.GoingOn.{length_most, walk_length-keys, given-battle, walk_length-help, cases, least_length_from-least}
@@ -95,7 +95,7 @@ module _ {P M : Type 0} (game : Game P M) where
 
     -- what the walk shows by some moves, as nodes
     abbrev pub beneath : ℕ → ℕ → P → List (List M)
-    beneath k t q = shown_paths plan game false k (walk_length plan.play (has_variations plan.tree) game t q) q (game.moves q)
+    beneath k t q = shown_paths plan game false k (walk_length plan.play plan.variation game t q) q (game.moves q)
 
     -- each move that is followed is a node
     pub as_nodes : (root : Bool) (k t : ℕ) (p : P) (ms : List M)
@@ -129,7 +129,7 @@ module _ {P M : Type 0} (game : Game P M) where
     unfolding shown_length
     open-goal k q g = search (rules, shown_paths-zero)
 
-    module _ (variation : has_variations plan.tree ≡ true) where
+    module _ (variation : plan.variation ≡ true) where
       beneath-is : (k t : ℕ) (q : P) → beneath k t q ≡ shown_paths plan game false k (shown_length battle game t q) q (game.moves q)
       unfolding walk_length
       beneath-is k t q = rw (fought, variation) refl
@@ -159,10 +159,11 @@ module _ {P M : Type 0} (game : Game P M) where
       tie : (n k t : ℕ) (q : P) → value battle game t q ≡ true → t ≤ k → t ≤ 2 * n → Tie n k t q
       tie n k zero q v room most = tie-goal n k 0 q (sym (value-zero game battle q) ∙ v)
       tie n zero (suc t) q v room most = absurd (omega (arith, room))
-      tie n (suc k) (suc t) q v room most = search (rules, cases (game.goal q), cases (attacker_to_move battle (suc t)), tie-black, tie-white, tie-goal, tie n k)
+      tie n (suc k) (suc t) q v room most =
+          search (rules, cases (game.goal q), cases (attacker_to_move battle (suc t)), tie-black, tie-white, tie-goal, tie n k)
 
     -- where no variations are shown, nothing stands below a move of White
-    beneath-none : (k t : ℕ) (q : P) → has_variations plan.tree ≡ false → attacker_to_move battle (t + 1) ≡ true → beneath k t q ≡ []
+    beneath-none : (k t : ℕ) (q : P) → plan.variation ≡ false → attacker_to_move battle (t + 1) ≡ true → beneath k t q ≡ []
     beneath-none k t q v s = search (rules, walk_length-keys, shown_paths-zero)
 
     beneath-set : (k t : ℕ) (q : P) → attacker_to_move battle (t + 1) ≡ false
@@ -172,22 +173,24 @@ module _ {P M : Type 0} (game : Game P M) where
 
     -- below a key
     pub nodes_below-key : (n h : ℕ) (q : P) → attacker_to_move battle (h + 1) ≡ true → suc h ≤ 2 * n → value battle game h q ≡ true
-        → beneath h h q ≡ cond (has_variations plan.tree) (nodes_below battle game n h q) []
-    nodes_below-key n h q s most v = elim (cases (has_variations plan.tree)) [
+        → beneath h h q ≡ cond plan.variation (nodes_below battle game n h q) []
+    nodes_below-key n h q s most v = elim (cases plan.variation) [
       | inl alone ↦ search (rules, beneath-none h h q alone s)
       | inr e ↦ search (rules, beneath-is e h h q, tie e n h h q v, attacker_to_move-step)
     ]
 
     -- below a first move of Black in set play
     pub nodes_below-set : (n h : ℕ) (r : P) → attacker_to_move battle h ≡ true → h ≤ 2 * n → value battle game h r ≡ true
-        → beneath h h r ≡ cond (has_variations plan.tree) (continuations battle game n h r)
+        → beneath h h r ≡ cond plan.variation (continuations battle game n h r)
         (cond (game.goal r) [] (map (λ m. m ∷ []) (best_moves battle game n r)))
-    nodes_below-set n h r s most v = elim (cases (has_variations plan.tree)) [
-      | inl alone ↦ beneath-set h h r (attacker_to_move-step battle h ∙ ap not s) ∙ (rw alone (no_variation alone h refl (game.goal r) refl))
+    nodes_below-set n h r s most v = elim (cases plan.variation) [
+      | inl alone ↦ beneath-set h h r (attacker_to_move-step battle h ∙ ap not s) ∙ no_variation alone h refl (game.goal r) refl
+          ∙ sym (ap (λ (b : Bool). cond b (continuations battle game n h r)
+          (cond (game.goal r) [] (map (λ m. m ∷ []) (best_moves battle game n r)))) alone)
       | inr e ↦ search (rules, beneath-is e h h r, tie e n h h r v)
     ]
       where
-        no_variation : has_variations plan.tree ≡ false → (h2 : ℕ) → h ≡ h2 → (g : Bool) → game.goal r ≡ g
+        no_variation : plan.variation ≡ false → (h2 : ℕ) → h ≡ h2 → (g : Bool) → game.goal r ≡ g
             → shown_paths plan game false h2 (shown_length battle game h2 r) r (game.moves r) ≡ cond g [] (map (λ m. m ∷ []) (best_moves battle game n r))
         no_variation e h2 i true g = open-goal h2 r g
         no_variation e zero i false g = absurd (grind (arith, value-zero))

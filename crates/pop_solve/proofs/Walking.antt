@@ -1,6 +1,6 @@
 -- The outcomes of a step, with frames listed from the bottom up, as the code holds them, and what its calls
 -- return.
-use Rattle.pop_solve.proofs.Words.{all_triples, AreKnown, Bool, CameFrom, CameFromAt, Counts, Frame, GoesTo, IfSome, IsNextMate, IsNextOf, IsPlaceIn, IsRoomy, IsWalking, LegalPlace, List, MatchOption, Mate, Option, Plan, Position, RuleSet, Steps, [], ap, append-nil, arith, chess, eqb, false, is_followed, is_emitted, walk_length, inl, inr, is_legal, length, length-append, length-reverse, get_or, take, mates_after, nat_tests, moves_after, moves_after-end, position, refl, reverse, reverse-append, rules, seeks_last, suc, sym, true, undo_of, has_variations, ℕ, ◌++◌, ◌+◌, ◌-◌, ◌<◌, ◌∙◌, ◌∷◌, ◌≡◌, ◌≤◌, ◌⊎◌, Move, position_after, opened_frame, nil_from_length}
+use Rattle.pop_solve.proofs.Words.{all_triples, AreKnown, Bool, CameFrom, CameFromAt, Counts, Frame, GoesTo, IfSome, IsNextMate, IsNextOf, IsPlaceIn, IsRoomy, IsWalking, LegalPlace, List, MatchOption, Mate, Option, Plan, Position, RuleSet, Steps, [], ap, append-nil, arith, chess, eqb, false, is_followed, is_emitted, walk_length, inl, inr, is_legal, length, length-append, length-reverse, get_or, take, mates_after, nat_tests, moves_after, moves_after-end, position, refl, reverse, reverse-append, rules, seeks_last, suc, sym, true, undo_of, ℕ, ◌++◌, ◌+◌, ◌-◌, ◌<◌, ◌∙◌, ◌∷◌, ◌≡◌, ◌≤◌, ◌⊎◌, Move, position_after, opened_frame, nil_from_length}
 use Rattle.std.proofs.lemmas.List.{same_from_push, take_all, take_more}
 use Rattle.pop_battle.specs.ties.Frames.{learned, moved}
 use Rattle.pop_solve.specs.ties.Walk.{MovesOn}
@@ -83,7 +83,7 @@ module _ (rule : RuleSet) (plan : Plan) (h : ℕ) (top : Frame) (old new : List 
         → (is_followed plan.play (chess plan.goal rule) root following arrived ≡ false → (given ≡ false) × (after ≡ now) × (last ≡ mid))
         → (is_followed plan.play (chess plan.goal rule) root following arrived ≡ true → (given ≡ is_emitted plan.play (chess plan.goal rule) following arrived)
         × (after ≡ arrived)
-        × (last ≡ mid ++ opened_frame m (undo_of rule now m) (walk_length plan.play (has_variations plan.tree) (chess plan.goal rule) following arrived) ∷ []))
+        × (last ≡ mid ++ opened_frame m (undo_of rule now m) (walk_length plan.play plan.variation (chess plan.goal rule) following arrived) ∷ []))
         → Counts rule plan root following arrived between opened2
         → (p : Position) → IsWalking rule h p (reverse old) board → Steps rule plan h p (reverse old) (reverse last) after opened opened2 given
     enter_steps root given after opened2 flag passes enters counts p r =

@@ -45,7 +45,7 @@ pub use Rattle.pop_battle.specs.ties.Frames.{opened_frame}
 unfoldable pub use Rattle.pop_battle.specs.ties.Frames.{work_after, to_open, walk_after}
 pub use Rattle.pop_solve.specs.ties.Phases.{Gives, events_after, events_along, IsCountedUpTo, IsKeys, IsOpened, OpensOn, Walks, begins_solution, phase_paths}
 unfoldable pub use Rattle.pop_solve.specs.ties.Phases.{IsNarrow, HoldsAtStage, beginning_count, kept_paths, left_of, rest_fewest, rest_open}
-pub use Rattle.pop_solve.specs.ties.Plans.{goes_on, is_help_play, plan_of, has_variations, tree_with, walk_of}
+pub use Rattle.pop_solve.specs.ties.Plans.{goes_on, is_help_play, plan_of, walk_of}
 pub use Rattle.pop_solve.specs.ties.Seen.{IsAtPathOf}
 pub use Rattle.pop_solve.specs.Walks.{is_stop, is_unstopped, is_walked_once, phase_walk}
 pub use Rattle.pop_solve.specs.ties.Walk.{GoesTo, IsCounted, IsEnded, IsNextOf, IsWalking, Opens, Steps, Tries, ends_at_goal, fewest_half_moves, fewest_for, seeks_last}

@@ -86,7 +86,8 @@ solutions rule problem phase =
 
 -- the phase is set play, and its first position is impossible
 abbrev pub is_impossible_phase : RuleSet → Posed → Phase → Bool
-is_impossible_phase rule problem phase = is_set phase && is_impossible rule (set_start (play_start problem))
+is_impossible_phase rule problem phase = is_set phase
+    && is_impossible rule (set_start (play_start problem))
 
 -- the event of a path
 abbrev pub path_event : Posed → Phase → Path → BareEvent

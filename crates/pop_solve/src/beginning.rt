@@ -1,31 +1,28 @@
 //! The search of a phase after a beginning of moves: how it begins.
 ghost use Rattle.std.specs.Prelude.{◌≡◌, ◌-◌, ◌<◌, ◌≤◌, [], reverse, true, false};
 ghost use Rattle.arrayvec.specs.ArrayVec.{array_vec_len};
-ghost use Rattle.chess_core.specs.WellFormed.{IsWellFormed};
 ghost use Rattle.chess_rules.specs.Legal.{is_legal, is_mate, moves as legal_moves};
 ghost use Rattle.chess_rules.specs.Play.{position_after};
 ghost use Rattle.pop_input.specs.Posed.{IsSound};
 ghost use Rattle.pop_stipulation.specs.Stipulations.{half_moves, is_help};
 ghost use Rattle.pop_battle.specs.Walks.{walk_count};
-ghost use Rattle.pop_battle.specs.ties.Marks.{is_for_mate};
 ghost use Rattle.pop_solve.specs.Events.{phase_half_moves as half_moves_of_phase};
 ghost use Rattle.pop_solve.specs.ties.Beginnings.{IsBeginning, paths_by};
 ghost use Rattle.pop_solve.specs.ties.Phases.{events_along, left_of, rest_open, HoldsAtStage};
-ghost use Rattle.pop_solve.specs.ties.Walk.{IsCounted, IsMatedAtLast, seeks_last};
+ghost use Rattle.pop_solve.specs.ties.Walk.{IsCounted, IsMatedAtLast, IsWellFormed, is_for_mate, seeks_last};
 
 use crate::guess::guess_killers;
 use crate::phases::{Scope, Stage, Walk, phase_half_moves};
 use crate::plan::Plan;
 use crate::walk::{ends_with_mate, enter};
 use arrayvec::ArrayVec;
-use chess_core::board::Board;
-use chess_core::man::Move;
+use chess_core::{Board, Move};
 use chess_rules::{Rules, play};
 use pop_battle::chess::{reaches_goal, retract};
 use pop_battle::frame::Frame;
 use pop_battle::search_state::SearchState;
-use pop_events::event::Phase;
-use pop_input::problem::Problem;
+use pop_events::Phase;
+use pop_input::Problem;
 
 /// Returns whether a path may begin with this legal move, after which `left` half-moves are left: if each
 /// path ends with it and mates, only if it mates.

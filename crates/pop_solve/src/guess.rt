@@ -11,8 +11,7 @@ ghost use Rattle.pop_battle.specs.ties.Values.{value};
 
 use crate::plan::Plan;
 use arrayvec::ArrayVec;
-use chess_core::board::Board;
-use chess_core::man::Move;
+use chess_core::{Board, Move};
 use chess_rules::{Moves, Rules, play};
 use pop_battle::aim::{Aim, Battle, Play};
 use pop_battle::chess::next_move;

@@ -14,16 +14,15 @@ ghost use Rattle.pop_solve.specs.declared.phases.Stage.TheVariants.{Before, Firs
 
 use crate::plan::Plan;
 use crate::showing::{last_shown, line};
-use crate::walk::{opened_after, step, step_back};
+use crate::walk::{opened_with, step, step_back};
 use arrayvec::ArrayVec;
-use chess_core::board::Board;
+use chess_core::Board;
 use chess_rules::{Moves, Rules};
-use pop_battle::aim;
 use pop_battle::chess::{is_impossible, turn_back, turn_over};
 use pop_battle::frame::Frame;
 use pop_battle::search_state::SearchState;
-use pop_events::event::{Event, Phase};
-use pop_input::problem::Problem;
+use pop_events::{Event, Phase};
+use pop_input::Problem;
 
 /// What a search covers.
 #[derive(Clone, Copy)]
@@ -117,10 +116,10 @@ fn phase_half(problem: &Problem, phase: Phase) -> u32
 
 /// Returns whether the limit ends a phase here: no more solutions may begin, and none is unfinished.
 /// `limit` is how many may still begin, `depth` the number of frames.
-fn is_full(plan: Plan, depth: usize, limit: u32) -> bool
-    ensures { result ≡ ((limit == 0) && (is_help_play plan.play || (depth == 1))) }
+fn is_full(problem: &Problem, depth: usize, limit: u32) -> bool
+    ensures { result ≡ ((limit == 0) && (is_help problem.now.stipulation.form || (depth == 1))) }
 {
-    limit == 0 && (plan.play == aim::Play::Help || depth == 1)
+    limit == 0 && (problem.stipulation().form.is_help() || depth == 1)
 }
 
 /// Walks to the next path to emit, in a phase of which `count` solutions have begun. Returns whether there
@@ -133,6 +132,7 @@ fn walk_on<R: Rules, const N: usize>(
     frames: &mut ArrayVec<Frame<R>, N>,
     search_state: &mut SearchState<R>,
 ) -> bool
+    requires plan { walk.plan ≡ plan_of problem.now }
     requires room { walk.half_moves < N }
     requires count { count ≤ problem.now.max_solutions }
     requires walking { IsWalking R.rule walk.half_moves (phase_start problem.now walk.phase)
@@ -149,7 +149,7 @@ fn walk_on<R: Rules, const N: usize>(
         search_state.old.opened search_state.new.opened }
 {
     let limit = still_to_begin(problem, count);
-    while !frames.is_empty() && !is_full(walk.plan, frames.len(), limit) {
+    while !frames.is_empty() && !is_full(problem, frames.len(), limit) {
         if step::<R, N>(walk.plan, walk.half_moves, board, frames, search_state) {
             return true;
         }
@@ -269,7 +269,7 @@ fn begin<R: Rules, const N: usize>(
         known: None,
         ..Frame::default()
     });
-    search_state.opened = opened_after(search_state.opened, left, false);
+    search_state.opened = opened_with(search_state.opened, left);
     Stage::Within { walk, count: 0 }
 }
 

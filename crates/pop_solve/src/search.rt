@@ -1,13 +1,13 @@
 //! The search: an iterator over the events of a problem.
 use crate::phases::{Stage, advance, first_phase};
 use arrayvec::ArrayVec;
-use chess_core::board::Board;
+use chess_core::Board;
 use chess_rules::Rules;
 use pop_battle::frame::Frame;
 use pop_battle::killers::Killers;
 use pop_battle::search_state::SearchState;
-use pop_events::event::Event;
-use pop_input::problem::Problem;
+use pop_events::Event;
+use pop_input::Problem;
 use std::marker::Model;
 
 /// A search for the solutions of a problem, which returns its events one by one and may be dropped at any

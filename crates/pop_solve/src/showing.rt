@@ -8,21 +8,20 @@ ghost use Rattle.pop_battle.specs.Chess.{chess};
 ghost use Rattle.pop_events.specs.Shown.{shown_move};
 ghost use Rattle.pop_solve.specs.Events.{moves_shown, last_shown};
 ghost use Rattle.pop_battle.specs.ties.Frames.{CameFrom, CameFromAt, left_at_top};
-ghost use Rattle.pop_solve.specs.ties.Plans.{has_variations};
 ghost use Rattle.pop_solve.specs.ties.Walk.{ends_at_goal, IsEnded, IsWalking, path};
 ghost use Rattle.pop_battle.specs.declared.chess.Reached.TheVariants.{Perhaps, Surely};
 ghost use Rattle.std.specs.Prelude.{◌≡◌, ◌+◌, ◌<◌, ◌≤◌, ℕ, if◌then◌else◌, length, reverse, true};
 
 use crate::plan::Plan;
 use arrayvec::ArrayVec;
-use chess_core::board::Board;
+use chess_core::Board;
 use chess_rules::{Rules, play};
 use pop_battle::aim::Play;
 use pop_battle::chess::{Reached, mark_after, retract, shown_of};
 use pop_battle::frame::Frame;
 use pop_battle::value::attacker_to_move;
-use pop_events::shown::Shown;
-use pop_stipulation::stipulation::Goal;
+use pop_events::Shown;
+use pop_stipulation::Goal;
 
 /// Takes back the move of a frame.
 fn take_back<R: Rules>(frame: &Frame<R>, board: &mut Board)
@@ -35,15 +34,13 @@ fn take_back<R: Rules>(frame: &Frame<R>, board: &mut Board)
 /// Returns whether the goal is known to be reached at the frame where an emitted path ends: always in
 /// help play; in a direct mate or stalemate with variations, where a whole variation ends.
 fn reached_at<R: Rules>(plan: Plan, frame: &Frame<R>) -> Reached
-    ensures { result ≡ if ends_at_goal plan.play (has_variations plan.tree) frame.now.left
+    ensures { result ≡ if ends_at_goal plan.play plan.variation frame.now.left
         then Surely else Perhaps }
 {
     match plan.play {
         Play::Help => Reached::Surely,
-        Play::Battle(battle)
-            if frame.left == 0 && plan.tree.has_variations() && attacker_to_move(battle, 1) => {
-            Reached::Surely
-        }
+        Play::Battle(battle) if frame.left == 0 && plan.variation && attacker_to_move(battle, 1) =>
+            { Reached::Surely }
         _ => Reached::Perhaps,
     }
 }
@@ -54,7 +51,7 @@ fn reached_at<R: Rules>(plan: Plan, frame: &Frame<R>) -> Reached
 fn reached_along<R: Rules>(plan: Plan, frames: &[Frame<R>], k: usize) -> Reached
     requires { k < length frames.now }
     ensures { result ≡ Surely → (k + 1 ≡ length frames.now)
-        × (ends_at_goal plan.play (has_variations plan.tree) (left_at_top (reverse frames.now))
+        × (ends_at_goal plan.play plan.variation (left_at_top (reverse frames.now))
         ≡ true) }
 {
     if k + 1 < frames.len() {

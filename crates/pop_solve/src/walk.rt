@@ -1,31 +1,19 @@
 //! The walk over the moves of a phase, with a stack of frames.
-ghost use Rattle.chess_rules.specs.Play.{position_after};
-ghost use Rattle.chess_rules.specs.Legal.{moves as legal_moves};
-ghost use Rattle.std.specs.Prelude.{◌≡◌, ◌↔◌, ◌+◌, ◌<◌, ◌≤◌, ◌/◌, [], ◌∷◌, ◌++◌, length, reverse, take, List, IsTrue, true, false, IfSome, MatchOption, ◌⊎◌, not, ◌&&◌, ◌||◌, ◌==◌, ◌-◌, ◌^◌, min};
-ghost use Rattle.chess_core.specs.Position.{Position};
-ghost use Rattle.chess_core.specs.WellFormed.{IsWellFormed};
-ghost use Rattle.chess_rules.specs.Legal.{is_legal, is_mate};
-ghost use Rattle.chess_rules.specs.ties.Places.{IsPlaceIn, moves_after};
-ghost use Rattle.chess_rules.specs.Play.{undo_of};
+ghost use Rattle.std.specs.Prelude.{◌≡◌, ◌↔◌, ◌+◌, ◌<◌, ◌≤◌, ◌/◌, [], ◌∷◌, ◌++◌, length, reverse, take, List, IsTrue, true, false, is_some, IfSome, MatchOption, None, ◌⊎◌, not, ◌&&◌, ◌||◌, ◌==◌, ◌-◌, ◌^◌, min};
 ghost use Rattle.arrayvec.specs.ArrayVec.{array_vec_len};
-ghost use Rattle.pop_battle.specs.declared.aim.Battle.{Battle};
-ghost use Rattle.pop_battle.specs.declared.aim.Play.TheVariants.{Help as HelpPlay, Battle as BattlePlay};
-ghost use Rattle.pop_battle.specs.ties.Calls.{Evaluates, Restores};
-ghost use Rattle.pop_solve.specs.ties.Calls.{Counts};
-ghost use Rattle.pop_solve.specs.ties.Plans.{has_variations};
-ghost use Rattle.pop_battle.specs.ties.Frames.{CameFrom, CameFromAt, Frame as Level, opened_frame};
-ghost use Rattle.pop_battle.specs.Chess.{chess};
 ghost use Rattle.chess_threats.specs.ties.Threats.{AreThreatsOf};
-ghost use Rattle.pop_stipulation.specs.declared.stipulation.Goal.TheVariants.{Mate};
-ghost use Rattle.pop_battle.specs.ties.Marks.{is_for_mate};
-ghost use Rattle.pop_battle.specs.ties.Values.{attacker_to_move, value};
+ghost use Rattle.chess_rules.specs.Legal.{is_legal, is_mate, moves as legal_moves};
+ghost use Rattle.chess_rules.specs.Play.{position_after, undo_of};
+ghost use Rattle.chess_rules.specs.ties.Places.{IsPlaceIn, moves_after};
+ghost use Rattle.pop_battle.specs.ties.Calls.{Evaluates, Restores};
+ghost use Rattle.pop_battle.specs.ties.Frames.{CameFrom, CameFromAt, Frame as Level, opened_frame};
 ghost use Rattle.pop_battle.specs.ties.Passing.{IsNextMatable};
-ghost use Rattle.pop_solve.specs.ties.Walk.{MovesOn, fewest_half_moves, least_length_from, shown_length, is_followed, is_emitted, walk_length, IsMatedAtLast, IsNextOf, IsWalking, seeks_last, Steps};
+ghost use Rattle.pop_solve.specs.ties.Calls.{Counts};
+ghost use Rattle.pop_solve.specs.ties.Walk.{Battle, BattlePlay, HelpPlay, IsWellFormed, Mate, Position, attacker_to_move, chess, is_for_mate, value, MovesOn, fewest_half_moves, least_length_from, shown_length, is_followed, is_emitted, walk_length, IsMatedAtLast, IsNextOf, IsWalking, seeks_last, Steps};
 
 use crate::plan::Plan;
 use arrayvec::ArrayVec;
-use chess_core::board::Board;
-use chess_core::man::Move;
+use chess_core::{Board, Move};
 use chess_rules::{LegalCursor, Moves, Rules, play};
 use chess_threats::threats::Threats;
 use pop_battle::aim::{Aim, Battle, Play};
@@ -58,8 +46,8 @@ fn least_length<R: Rules, const N: usize>(
     requires room { array_vec_len frames.old + left ≤ N }
     ensures least { result ≡ least_length_from aim.battle (chess aim.goal R.rule) board.old
         ((left - fewest_half_moves aim.battle) / 2) (fewest_half_moves aim.battle) }
-    ensures rest { Restores board.old board.new frames.old.items frames.new.items search_state.old.opened
-        search_state.new.opened }
+    ensures rest { Restores board.old board.new frames.old.items frames.new.items
+        search_state.old.opened search_state.new.opened }
 {
     let mut tried = fewest_half_moves(aim.battle);
     while left >= 2 && tried <= left - 2 {
@@ -84,8 +72,8 @@ fn shown_length<R: Rules, const N: usize>(
     requires well_formed { IsWellFormed board.old }
     requires room { array_vec_len frames.old + left ≤ N }
     ensures length { result ≡ shown_length aim.battle (chess aim.goal R.rule) left board.old }
-    ensures rest { Restores board.old board.new frames.old.items frames.new.items search_state.old.opened
-        search_state.new.opened }
+    ensures rest { Restores board.old board.new frames.old.items frames.new.items
+        search_state.old.opened search_state.new.opened }
 {
     if left == 0 || reaches_goal::<R>(aim.goal, board) {
         return 0;
@@ -108,18 +96,18 @@ pub fn walk_length<R: Rules, const N: usize>(
     requires well_formed { IsWellFormed board.old }
     requires room { array_vec_len frames.old + left ≤ N }
     ensures length { result
-        ≡ walk_length plan.play (has_variations plan.tree) (chess plan.goal R.rule) left board.old }
-    ensures rest { Restores board.old board.new frames.old.items frames.new.items search_state.old.opened
-        search_state.new.opened }
+        ≡ walk_length plan.play plan.variation (chess plan.goal R.rule) left board.old }
+    ensures rest { Restores board.old board.new frames.old.items frames.new.items
+        search_state.old.opened search_state.new.opened }
     ensures opened { plan.play ≡ HelpPlay → search_state.new.opened ≡ search_state.old.opened }
     ensures keys_alone { (battle : Battle) → plan.play ≡ BattlePlay battle
-        → IsTrue (not (has_variations plan.tree) && attacker_to_move battle (left + 1))
+        → IsTrue (not plan.variation && attacker_to_move battle (left + 1))
         → search_state.new.opened ≡ search_state.old.opened }
 {
     let Play::Battle(battle) = plan.play else {
         return left;
     };
-    if !plan.tree.has_variations() && attacker_to_move(battle, left + 1) {
+    if !plan.variation && attacker_to_move(battle, left + 1) {
         return 0;
     }
     let aim = Aim {
@@ -130,14 +118,16 @@ pub fn walk_length<R: Rules, const N: usize>(
 }
 
 /// Returns the battle in which a move is tested before the walk follows it, with `left` half-moves left
-/// including the move: White's moves and the moves of a phase's first position are tested.
-fn tested_in(play: Play, root: bool, left: usize) -> Option<Battle>
+/// including the move: White's moves and the moves of a phase's first position are tested. `depth` is the
+/// number of frames, 1 at the first position.
+fn tested_in(play: Play, depth: usize, left: usize) -> Option<Battle>
     ensures { MatchOption result ((battle : Battle) → play ≡ BattlePlay battle
-        → (root || attacker_to_move battle left) ≡ false)
-        (λ battle. (play ≡ BattlePlay battle) × ((root || attacker_to_move battle left) ≡ true)) }
+        → ((depth == 1) || attacker_to_move battle left) ≡ false)
+        (λ battle. (play ≡ BattlePlay battle)
+        × (((depth == 1) || attacker_to_move battle left) ≡ true)) }
 {
     match play {
-        Play::Battle(battle) if root || attacker_to_move(battle, left) => Some(battle),
+        Play::Battle(battle) if depth == 1 || attacker_to_move(battle, left) => Some(battle),
         _ => None,
     }
 }
@@ -200,16 +190,28 @@ fn is_emitted<R: Rules>(plan: Plan, left: usize, board: &mut Board) -> bool
 }
 
 /// Returns the count of tried positions after a frame with `tried` half-moves has been opened. A frame
-/// without half-moves doesn't count, nor does a tested position, which its test has counted.
-pub(crate) fn opened_after(opened: u64, tried: usize, tested: bool) -> u64
-    ensures more { 0 < tried → tested ≡ false → result ≡ min (opened + 1) (2 ^ 64 - 1) }
+/// without half-moves doesn't count.
+pub(crate) fn opened_with(opened: u64, tried: usize) -> u64
+    ensures more { 0 < tried → result ≡ min (opened + 1) (2 ^ 64 - 1) }
     ensures none { tried ≡ 0 → result ≡ opened }
-    ensures tested { tested ≡ true → result ≡ opened }
 {
-    if tried > 0 && !tested {
+    if tried > 0 {
         opened.saturating_add(1)
     } else {
         opened
+    }
+}
+
+/// Returns the count of tried positions after a move whose frame has `tried` half-moves. A position that
+/// was tested in a battle isn't counted again: its test has counted it.
+fn opened_after(opened: u64, tried: usize, tested: Option<Battle>) -> u64
+    ensures more { 0 < tried → tested ≡ None → result ≡ min (opened + 1) (2 ^ 64 - 1) }
+    ensures none { tried ≡ 0 → result ≡ opened }
+    ensures tested { is_some tested ≡ true → result ≡ opened }
+{
+    match tested {
+        Some(_) => opened,
+        None => opened_with(opened, tried),
     }
 }
 
@@ -241,15 +243,15 @@ pub(crate) fn enter<R: Rules, const N: usize>(
         (position_after R.rule board.old by))
         × (board.new ≡ position_after R.rule board.old by)
         × (frames.new.items ≡ frames.old.items ++ opened_frame by (undo_of R.rule board.old by)
-        (walk_length plan.play (has_variations plan.tree) (chess plan.goal R.rule) left
+        (walk_length plan.play plan.variation (chess plan.goal R.rule) left
         (position_after R.rule board.old by))
         ∷ []) }
     ensures counts { Counts R.rule plan (array_vec_len frames.old == 1) left
         (position_after R.rule board.old by) search_state.old.opened search_state.new.opened }
 {
-    let root = frames.len() == 1;
+    let depth = frames.len();
     let undo = play::<R>(board, by);
-    let tested = tested_in(plan.play, root, left + 1);
+    let tested = tested_in(plan.play, depth, left + 1);
     if let Some(battle) = tested {
         let aim = Aim {
             battle,
@@ -270,7 +272,7 @@ pub(crate) fn enter<R: Rules, const N: usize>(
         move_stage: MoveStage::Others,
         known: None,
     });
-    search_state.opened = opened_after(search_state.opened, tried, tested.is_some());
+    search_state.opened = opened_after(search_state.opened, tried, tested);
     is_emitted::<R>(plan, left, board)
 }
 

@@ -93,5 +93,6 @@ Lists depth text shown answer = Fills Status status_number
 -- that fills the output, and the result is the number of a failed output.
 abbrev pub ShowsParts : PartRequest → List ℕ → List ℕ → ℕ → Type 0
 ShowsParts request text shown answer = Fills Outcome outcome_number
-    (λ bytes cut ending. PartsRun request (whole_input text) (Some []) (Some bytes) cut ending) shown
+    (λ bytes cut ending. PartsRun request (whole_input text) (Some []) (Some bytes) cut ending)
+    shown
     answer

@@ -4,7 +4,7 @@ ghost use Rattle.std.specs.Io.{WritesAtMost};
 ghost use Rattle.pop_text.specs.Bytes.{WriteAppends, count_after, greatest_count};
 
 use arrayvec::ArrayVec;
-use pop_text::sink::{Sink, SinkFault};
+use pop_text::{Sink, SinkFault};
 use std::marker::Model;
 
 /// A sink that keeps at most N bytes. It fails only when it is full.

@@ -4,10 +4,8 @@ ghost use Rattle.pop_web.specs.Page.{Lists, Shows, ShowsParts, depth_of as depth
 
 use crate::memory_sink::MemorySink;
 use crate::text_source::TextSource;
-use pop_events::event::Phase;
-use pop_parts::list::list_parts;
-use pop_parts::request::{Outcome, PartRequest};
-use pop_parts::show::show_parts;
+use pop_events::Phase;
+use pop_parts::{Outcome, PartRequest, list_parts, show_parts};
 use pop_run::{Choice, Status, report};
 
 /// The size of the output, in bytes. Longer texts are cut.

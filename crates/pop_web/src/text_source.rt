@@ -3,7 +3,7 @@ ghost use Rattle.std.specs.Prelude.{◌≡◌, ℕ, List, ◌<◌, ◌≤◌, �
 ghost use Rattle.std.specs.Io.{ReadsAtMost};
 ghost use Rattle.pop_text.specs.Bytes.{ReadConsumes, count_after, greatest_count};
 
-use pop_text::source::{Device, Source};
+use pop_text::{Device, Source};
 
 /// A source of a text in memory. It never fails.
 #[derive(Drop)]

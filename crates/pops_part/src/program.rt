@@ -6,17 +6,12 @@ ghost use Rattle.pop_settings.specs.pops_part.CommandLine.{HasDepth};
 ghost use Rattle.pops_part.specs.ExitStatus.{ending_flushed, ending_of_list, ending_of_parts, message_of, status_of};
 ghost use Rattle.pops_part.specs.Runs.{Answers, ReadsWanted, request_of, phase_named};
 
-use pop_events::event::Phase;
-use pop_parts::list::list_parts;
-use pop_parts::request::{Outcome, PartRequest};
-use pop_parts::show::show_parts;
+use pop_events::Phase;
+use pop_parts::{Outcome, PartRequest, list_parts, show_parts};
 use pop_run::Status;
 use pop_settings::ArgFault;
 use pop_settings::pops_part::{NamedParts, PhaseName, Wanted, settings};
-use pop_text::read_source::ReadSource;
-use pop_text::sink::Sink;
-use pop_text::source::Source;
-use pop_text::write_sink::WriteSink;
+use pop_text::{ReadSource, Sink, Source, WriteSink};
 use std::fs;
 use std::io::{Read, Write};
 use std::rt::Files;
@@ -116,7 +111,8 @@ fn answer<S: Source, W: Sink>(wanted: &Wanted, source: &mut S, sink: &mut W) -> 
         (has_grown (W.failures sink.old) (W.failures sink.new)) result) }
     ensures reads { IfSome (S.remaining source.old) (λ had.
         ReadsWanted wanted.now
-        (input_met (has_grown (S.failures source.old) (S.failures source.new)) had (S.remaining source.new))
+        (input_met (has_grown (S.failures source.old) (S.failures source.new)) had
+        (S.remaining source.new))
         (taken_of had (S.remaining source.new))) }
     ensures once { FailsOnce (S.failures source.old) (S.failures source.new)
         × FailsOnce (W.failures sink.old) (W.failures sink.new) }

@@ -26,7 +26,8 @@ parts_line_if number depth (Some entry) = parts_line number depth entry
 -- the status after one more item
 abbrev pub status_after : Status → Option Entry → Status
 status_after so_far None = so_far
-status_after so_far (Some entry) = status_with so_far (reports_device_failure entry) (is_faulty entry)
+status_after so_far (Some entry) =
+    status_with so_far (reports_device_failure entry) (is_faulty entry)
 
 -- the entry reports a failed device
 abbrev pub is_failure : Option Entry → Bool

@@ -63,7 +63,8 @@ pub record TakesItem (old new : RunState) (had left : Option (List ℕ)) (entry 
     pub reads : Reads old.at new.at had left (entry ∷ [])
     pub used : UsesEntry old.at new.at had left entry
     pub number : new.number ≡ old.number + 1
-    pub status : new.status ≡ status_with old.status (reports_device_failure entry) (is_faulty entry)
+    pub status : new.status
+        ≡ status_with old.status (reports_device_failure entry) (is_faulty entry)
     pub choice : new.choice ≡ old.choice
 
 -- what a step does

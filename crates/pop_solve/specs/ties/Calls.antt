@@ -9,7 +9,6 @@ use Rattle.pop_battle.specs.ties.Counts.{HasCounted}
 use Rattle.pop_battle.specs.declared.aim.Battle.{Battle}
 use Rattle.pop_battle.specs.declared.aim.Play.TheVariants.{Help as HelpPlay, Battle as BattlePlay}
 use Rattle.pop_solve.specs.declared.plan.Plan.{Plan}
-use Rattle.pop_solve.specs.ties.Plans.{has_variations}
 use Rattle.pop_solve.specs.ties.Walk.{fewest_for}
 use Rattle.pop_battle.specs.ties.Values.{attacker_to_move}
 use Rattle.std.specs.Prelude.{◌≡◌, ◌+◌, ◌-◌, ◌^◌, ◌<◌, ◌≤◌, min, ℕ, Bool, false, true}
@@ -21,8 +20,8 @@ pub record Counts (rule : RuleSet) (plan : Plan) (root : Bool) (left : ℕ) (q :
     (before after : ℕ) : Type 0 where
   pub more : plan.play ≡ HelpPlay → 0 < left → after ≡ min (before + 1) (2 ^ 64 - 1)
   pub none : plan.play ≡ HelpPlay → left ≡ 0 → after ≡ before
-  pub keys : (battle : Battle) → plan.play ≡ BattlePlay battle → has_variations plan.tree ≡ false
+  pub keys : (battle : Battle) → plan.play ≡ BattlePlay battle → plan.variation ≡ false
       → attacker_to_move battle (left + 1) ≡ true
       → after ≤ before + walk_count (legal_moves rule) (position_after rule) left q
-  pub tries : HasCounted before after (fewest_for plan.play (has_variations plan.tree)
+  pub tries : HasCounted before after (fewest_for plan.play plan.variation
       (chess plan.goal rule) root left q)

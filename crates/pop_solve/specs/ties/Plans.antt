@@ -10,25 +10,13 @@ use Rattle.pop_solve.specs.declared.phases.Scope.{Scope}
 use Rattle.pop_solve.specs.declared.phases.Scope.TheVariants.{Part, Whole}
 use Rattle.pop_solve.specs.declared.phases.Walk.{Walk}
 use Rattle.pop_solve.specs.declared.plan.Plan.{Plan}
-use Rattle.pop_solve.specs.declared.plan.Detail.{Detail}
-use Rattle.pop_solve.specs.declared.plan.Detail.TheVariants.{Keys, Variations}
-
--- what is shown with variations, or without
-abbrev pub tree_with : Bool → Detail
-tree_with true = Variations
-tree_with false = Keys
-
--- variations are shown
-abbrev pub has_variations : Detail → Bool
-has_variations Keys = false
-has_variations Variations = true
 
 -- the plan of a problem
 abbrev pub plan_of : Posed → Plan
 plan_of problem = record {
   play = play_of problem.stipulation.form;
   goal = problem.stipulation.goal;
-  tree = tree_with problem.variation;
+  variation = problem.variation;
 }
 
 -- how a phase of a problem is walked

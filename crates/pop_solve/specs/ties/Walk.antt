@@ -1,30 +1,29 @@
 -- What the frames of a walk mean (own).
 use Rattle.pop_solve.specs.Events.{Path}
-use Rattle.pop_battle.specs.declared.aim.Battle.{Battle}
+pub use Rattle.pop_battle.specs.declared.aim.Battle.{Battle}
 use Rattle.pop_battle.specs.declared.aim.Battle.TheVariants.{Direct, Selfmate}
-use Rattle.pop_stipulation.specs.declared.stipulation.Goal.TheVariants.{Mate}
+pub use Rattle.pop_stipulation.specs.declared.stipulation.Goal.TheVariants.{Mate}
 use Rattle.std.specs.Prelude.{◌≡◌, ℕ, zero, suc, ◌+◌, ◌-◌, ◌/◌, ◌≤◌, ◌<◌, ◌^◌, min, ◌==◌, Bool, true, false, not, ◌&&◌, ◌||◌, if◌then◌else◌, List, [], ◌∷◌, ◌++◌, map, length, filter, Option, IfSome, MatchOption, ◌⊎◌}
 use Rattle.std.specs.List.{flat_map, list_all, sum_by}
-use Rattle.chess_core.specs.Position.{Position}
+pub use Rattle.chess_core.specs.Position.{Position}
 use Rattle.chess_core.specs.declared.man.Move.{Move}
-use Rattle.chess_core.specs.WellFormed.{IsWellFormed}
+pub use Rattle.chess_core.specs.WellFormed.{IsWellFormed}
 use Rattle.chess_rules.specs.Play.{position_after}
 use Rattle.chess_rules.specs.ties.Places.{IsPlaceIn, LegalPlace, moves_after}
 use Rattle.chess_flights.specs.ties.Mates.{is_mating}
 use Rattle.chess_rules.specs.Legal.{is_legal, is_mate}
 use Rattle.chess_attacks.specs.RuleSet.{RuleSet}
 use Rattle.pop_battle.specs.declared.aim.Play.{Play}
-use Rattle.pop_battle.specs.declared.aim.Play.TheVariants.{Help as HelpPlay, Battle as BattlePlay}
+pub use Rattle.pop_battle.specs.declared.aim.Play.TheVariants.{Help as HelpPlay, Battle as BattlePlay}
 use Rattle.pop_battle.specs.Game.{Game}
 use Rattle.pop_battle.specs.ties.Counts.{smallest_tree}
-use Rattle.pop_battle.specs.ties.Values.{attacker_to_move, value}
-use Rattle.pop_battle.specs.Chess.{chess}
+pub use Rattle.pop_battle.specs.ties.Values.{attacker_to_move, value}
+pub use Rattle.pop_battle.specs.Chess.{chess}
 pub use Rattle.pop_battle.specs.ties.Frames.{Frame}
 use Rattle.pop_battle.specs.ties.Frames.{AreKnown, learned, moved, position, IsLinked, work_after, to_open, left_at_top}
 use Rattle.pop_battle.specs.ties.Passing.{CannotBeMated, Passes}
 use Rattle.pop_solve.specs.declared.plan.Plan.{Plan}
-use Rattle.pop_battle.specs.ties.Marks.{is_for_mate}
-use Rattle.pop_solve.specs.ties.Plans.{has_variations}
+pub use Rattle.pop_battle.specs.ties.Marks.{is_for_mate}
 
 -- the fewest half-moves with which White, to move, can reach the aim
 abbrev pub fewest_half_moves : Battle → ℕ
@@ -74,7 +73,7 @@ module _ {P M : Type 0} where
       if is_followed plan.play game root t q
       then (if is_emitted plan.play game t q then (m ∷ []) ∷ [] else [])
       ++ map (λ path. m ∷ path) (shown_paths plan game false fuel
-      (walk_length plan.play (has_variations plan.tree) game t q) q (game.moves q))
+      (walk_length plan.play plan.variation game t q) q (game.moves q))
       else []) ms
 
   -- the fewest positions that have to be tried for a move to q, with t half-moves left: for a tested move
@@ -92,9 +91,9 @@ module _ {P M : Type 0} where
   fewest_walked plan game root (suc fuel) zero p ms = 0
   fewest_walked plan game root (suc fuel) (suc t) p ms =
       sum_by (λ m. let q = game.after p m in
-      fewest_for plan.play (has_variations plan.tree) game root t q
+      fewest_for plan.play plan.variation game root t q
       + (if is_followed plan.play game root t q then fewest_walked plan game false fuel
-      (walk_length plan.play (has_variations plan.tree) game t q) q (game.moves q) else 0)) ms
+      (walk_length plan.play plan.variation game t q) q (game.moves q) else 0)) ms
 
 -- the moves that lead to the top frame
 unfoldable pub path : List Frame → Path
@@ -153,9 +152,9 @@ are_whites battle frames = list_all (λ f. f.left == 0 || attacker_to_move battl
 -- counted and of those still to be counted doesn't grow
 pub record Opens (rule : RuleSet) (plan : Plan) (p : Position) (old new : List Frame)
     (before after : ℕ) : Type 0 where
-  pub whites : (battle : Battle) → plan.play ≡ BattlePlay battle → has_variations plan.tree ≡ false
+  pub whites : (battle : Battle) → plan.play ≡ BattlePlay battle → plan.variation ≡ false
       → are_whites battle old ≡ true → are_whites battle new ≡ true
-  pub most : (battle : Battle) → plan.play ≡ BattlePlay battle → has_variations plan.tree ≡ false
+  pub most : (battle : Battle) → plan.play ≡ BattlePlay battle → plan.variation ≡ false
       → are_whites battle old ≡ true
       → after + to_open rule p new ≤ before + to_open rule p old
   pub helped : plan.play ≡ HelpPlay
@@ -224,11 +223,12 @@ pub record MovesOn (rule : RuleSet) (plan : Plan) (p : Position) (old new : List
 -- and in a direct mate with variations if it is a whole variation
 abbrev pub ends_at_goal : Play → Bool → ℕ → Bool
 ends_at_goal HelpPlay variation left = true
-ends_at_goal (BattlePlay battle) variation left = left == 0 && (variation && attacker_to_move battle 1)
+ends_at_goal (BattlePlay battle) variation left = left == 0
+    && (variation && attacker_to_move battle 1)
 
 -- if the path to the top frame ends with the goal, the board's position reaches it
 abbrev pub IsEnded : RuleSet → Plan → List Frame → Position → Type 0
-IsEnded rule plan frames board = ends_at_goal plan.play (has_variations plan.tree)
+IsEnded rule plan frames board = ends_at_goal plan.play plan.variation
     (left_at_top frames) ≡ true
     → (chess plan.goal rule).goal board ≡ true
 

@@ -27,4 +27,4 @@ pub returns-clause-opens : goal.returns-clause-opens
 unfolding HoldsAtStage
 returns-clause-opens g c = rw (c.of-walk.ensures, c.push-2.ensures.items, walking.reverse-push, c.requires.standing.0)
     (opened.opens-begun g.R.Rules.rule c.args.problem.now c.requires.sound c.args.phase _ (ap (λ (w : Walk). w.half_moves) c.of-walk.ensures) c.start.ensures
-    (search rules) _ _ _ _ (λ some. c.opened_after-search_state.ensures.more some refl) c.opened_after-search_state.ensures.none)
+    (search rules) _ _ _ _ c.opened_with-search_state.ensures.more c.opened_with-search_state.ensures.none)

@@ -7,7 +7,8 @@ new-frames-requires g c = omega (arith, c.requires.few)
 
 pub returns-then-not-begin_walk : goal.returns-then-not-begin_walk
 returns-then-not-begin_walk g c = record {
-  all = numbers.no-parts g.R.Rules.rule c.args.problem.now c.args.phase c.args.depth (numbers.has-none _ _ c.begin_walk.ensures.possible c.if-not-begin_walk.true);
+  all = numbers.no-parts g.R.Rules.rule c.args.problem.now c.args.phase c.args.depth
+      (numbers.has-none _ _ c.begin_walk.ensures.possible c.if-not-begin_walk.true);
 }
 
 pub invariant_of-result : goal.invariant_of-result
