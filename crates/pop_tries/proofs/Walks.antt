@@ -3,7 +3,6 @@ use Rattle.pop_tries.proofs.Words.{Battle, BattlePlay, Bool, Direct, Game, List,
 unfoldable use Rattle.pop_battle.specs.ties.Values.{value}
 use Rattle.pop_battle.specs.ties.Values.{attacker_to_move}
 use Rattle.pop_solve.specs.declared.plan.Plan.{Plan}
-use Rattle.pop_solve.specs.ties.Plans.{has_variations}
 unfoldable use Rattle.pop_solve.specs.ties.Walk.{is_followed, shown_paths, walk_length}
 use Rattle.std.proofs.lemmas.List.Elements.{filter-append}
 use Rattle.pop_solve.proofs.Battles.{value-self_wins, value-wins}
@@ -50,7 +49,7 @@ module _ {P M : Type 0} (game : Game P M) (plan : Plan) (battle : Battle) (fough
   -- The walk shows the replies that set play would show.
   pub replies_walked : (n h : ℕ) (q : P) → suc h ≡ halves battle n - 1
       → shown_paths plan game true (suc h) (suc h) q (game.moves q)
-      ≡ flat_map (λ d. node d (below_reply battle game n (has_variations plan.tree) h (game.after q d)))
+      ≡ flat_map (λ d. node d (below_reply battle game n plan.variation h (game.after q d)))
       (filter (λ d. is_in_set_play battle game n (game.after q d)) (game.moves q))
   replies_walked n h q e =
       let s : attacker_to_move battle (suc h + 1) ≡ true = halves-seek game battle n (suc h) (omega (arith, e)) in
