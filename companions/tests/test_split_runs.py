@@ -1,5 +1,6 @@
 """pops-many --split on this machine: parts that fail, limits, journals, ends and progress."""
 
+import contextlib
 import os
 import pty
 import re
@@ -261,10 +262,14 @@ class Ends(SplitRoom):
         words += self.words_of_split(self.pops_part("problem-set-8", "sleep 0.6"), "--jobs", "1")
         done = subprocess.run(words, stdin=subprocess.DEVNULL, stderr=other_side)
         os.close(other_side)
-        said = os.read(terminal, 100000).decode()
+        said = b""
+        # (a read returns at most a page of it; after the last one it fails, since the other side is closed)
+        with contextlib.suppress(OSError):
+            while more := os.read(terminal, 100000):
+                said += more
         os.close(terminal)
         self.assertEqual(done.returncode, 0)
-        return said
+        return said.decode()
 
 
 class Command(unittest.TestCase):
