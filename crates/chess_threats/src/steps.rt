@@ -222,7 +222,6 @@ fn flightless_step<R: Rules>(king_attack: &KingAttack, targets: &OpenTargets, to
 
 // Returns the steps after which the king might keep no flight.
 #[tactic(auto, using(chess_attacks::proofs::HoldTaken::taken_all, chess_attacks::proofs::HoldTaken::taken_none, chess_attacks::proofs::HoldTaken::rest_falls))]
-#[inline(always)]
 pub(crate) fn flightless_steps<R: Rules>(
     king_attack: &KingAttack,
     targets: &OpenTargets,
