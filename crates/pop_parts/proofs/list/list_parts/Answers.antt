@@ -1,4 +1,4 @@
-use Rattle.pop_parts.proofs.Words.{None, arith, entry_in, inl, limit, refl, sym, ◌∙◌, ◌≡◌}
+use Rattle.pop_parts.proofs.Words.{None, arith, entry_in, inl, limit, refl, rules, sym, ◌∙◌, ◌≡◌}
 use Rattle.pop_text.proofs.Using.{failures_then}
 use Rattle.pop_parts.proofs.Listing.{cut_stopped, ends_stopped, entry_there, item_there, list_cut, list_ends, listed_start, listed_step, none_there}
 use Rattle.pop_parts.proofs.Reading.{reads_as_a_run}
@@ -14,43 +14,37 @@ loop-reader-init g c = rw c.new-reader.ensures (record {
   few = omega arith;
 })
 
-pub returns-then-is_end-clause-headline : goal.returns-then-is_end-clause-headline
-returns-then-is_end-clause-headline g c =
+pub returns-then-is_end : goal.returns-then-is_end
+returns-then-is_end g c =
     let i = c.loop-reader.invariant in
     let next = c.next_problem-item in
     let none : entry_in next.result ≡ None = none_there _ (sym c.is_end.ensures ∙ c.if-is_end.true) in
-    list_ends _ c.loop-reader.reader next.new.self c.loop-reader.number c.loop-reader.so_far _ (g.S.Source.remaining c.loop-reader.source)
-    (g.S.Source.remaining next.new.source) _ (g.W.Sink.taken c.loop-reader.sink) next.result _ _ _ _ i.listed next.ensures.item none (next.ensures.seen i.seen)
-    (failures_then _ _ _ _ _ _ (inl refl) next.ensures.ends i.read_failures next.ensures.counted) i.write_failures
+    let fails = failures_then _ _ _ _ _ _ (inl refl) next.ensures.ends i.read_failures next.ensures.counted in
+    record {
+      headline = list_ends _ c.loop-reader.reader next.new.self c.loop-reader.number c.loop-reader.so_far _ (g.S.Source.remaining c.loop-reader.source)
+          (g.S.Source.remaining next.new.source) _ (g.W.Sink.taken c.loop-reader.sink) next.result _ _ _ _ i.listed next.ensures.item none
+          (next.ensures.seen i.seen) fails i.write_failures;
+      reads = reads_as_a_run next.new.self _ (g.S.Source.remaining next.new.source) _ _ (ends_stopped c.loop-reader.reader next.new.self _
+          (g.S.Source.remaining c.loop-reader.source) (g.S.Source.remaining next.new.source) next.result i.listed.reached next.ensures.item
+          next.ensures.used none) (next.ensures.seen i.seen) next.ensures.waits fails;
+      once = search rules;
+    }
 
-pub returns-in-Err-clause-headline : goal.returns-in-Err-clause-headline
-returns-in-Err-clause-headline g c =
+pub returns-in-Err : goal.returns-in-Err
+returns-in-Err g c =
     let i = c.loop-reader.invariant in
     let next = c.next_problem-item in
     let there = entry_there _ (sym c.is_end.ensures ∙ c.if-is_end.false) in
-    list_cut _ c.loop-reader.reader next.new.self c.loop-reader.number c.loop-reader.so_far _ (g.S.Source.remaining c.loop-reader.source)
-    (g.S.Source.remaining next.new.source) _ (g.W.Sink.taken c.loop-reader.sink) (g.W.Sink.taken c.print_item.new.sink) next.result there.0 _ _ _ _ i.listed
-    next.ensures.item there.1 (next.ensures.seen i.seen) c.in-Err.ensures.bytes
-    (failures_then _ _ _ _ _ _ (inl refl) next.ensures.ends i.read_failures next.ensures.counted) (rw (← i.write_failures) c.in-Err.ensures.counted)
-
-pub returns-then-is_end-clause-reads : goal.returns-then-is_end-clause-reads
-returns-then-is_end-clause-reads g c =
-    let i = c.loop-reader.invariant in
-    let next = c.next_problem-item in
-    let none : entry_in next.result ≡ None = none_there _ (sym c.is_end.ensures ∙ c.if-is_end.true) in
-    reads_as_a_run next.new.self _ (g.S.Source.remaining next.new.source) _ _ (ends_stopped c.loop-reader.reader next.new.self _
-    (g.S.Source.remaining c.loop-reader.source) (g.S.Source.remaining next.new.source) next.result i.listed.reached next.ensures.item next.ensures.used none)
-    (next.ensures.seen i.seen) next.ensures.waits (failures_then _ _ _ _ _ _ (inl refl) next.ensures.ends i.read_failures next.ensures.counted)
-
-pub returns-in-Err-clause-reads : goal.returns-in-Err-clause-reads
-returns-in-Err-clause-reads g c =
-    let i = c.loop-reader.invariant in
-    let next = c.next_problem-item in
-    let there = entry_there _ (sym c.is_end.ensures ∙ c.if-is_end.false) in
-    reads_as_a_run next.new.self _ (g.S.Source.remaining next.new.source) _ _ (cut_stopped c.loop-reader.reader next.new.self _
-    (g.S.Source.remaining c.loop-reader.source) (g.S.Source.remaining next.new.source) next.result there.0 i.listed.reached next.ensures.item
-    next.ensures.used there.1) (next.ensures.seen i.seen) next.ensures.waits
-    (failures_then _ _ _ _ _ _ (inl refl) next.ensures.ends i.read_failures next.ensures.counted)
+    let fails = failures_then _ _ _ _ _ _ (inl refl) next.ensures.ends i.read_failures next.ensures.counted in
+    record {
+      headline = list_cut _ c.loop-reader.reader next.new.self c.loop-reader.number c.loop-reader.so_far _ (g.S.Source.remaining c.loop-reader.source)
+          (g.S.Source.remaining next.new.source) _ (g.W.Sink.taken c.loop-reader.sink) (g.W.Sink.taken c.print_item.new.sink) next.result there.0 _ _ _ _
+          i.listed next.ensures.item there.1 (next.ensures.seen i.seen) c.in-Err.ensures.bytes fails (rw (← i.write_failures) c.in-Err.ensures.counted);
+      reads = reads_as_a_run next.new.self _ (g.S.Source.remaining next.new.source) _ _ (cut_stopped c.loop-reader.reader next.new.self _
+          (g.S.Source.remaining c.loop-reader.source) (g.S.Source.remaining next.new.source) next.result there.0 i.listed.reached next.ensures.item
+          next.ensures.used there.1) (next.ensures.seen i.seen) next.ensures.waits fails;
+      once = search rules;
+    }
 
 pub loop-reader-preserved : goal.loop-reader-preserved
 loop-reader-preserved g c =
