@@ -8,6 +8,7 @@ pub mod Steps
 pub mod StepsBelow
 pub mod SetPlay
 pub mod Goings
+pub mod GoesBelow
 pub mod Searches
 pub mod theorems
 pub mod Excluded

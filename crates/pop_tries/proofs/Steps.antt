@@ -1,5 +1,5 @@
 -- What the steps of a search for tries leave to come.
-use Rattle.pop_tries.proofs.Words.{Bool, List, Move, Position, RuleSet, [], ap, arith, below, false, false≢true, filter, flat_map, key_events, length, map, nat_tests, play_start, refl, suc, take, true, zero, ℕ, ◌+◌, ◌-◌, ◌∙◌, ◌∷◌, ◌≡◌, ◌≤◌}
+use Rattle.pop_tries.proofs.Words.{Bool, List, Move, Posed, Position, RuleSet, [], ap, arith, below, false, false≢true, filter, flat_map, key_events, length, map, nat_tests, play_start, refl, suc, take, true, zero, ℕ, ◌+◌, ◌-◌, ◌∙◌, ◌∷◌, ◌≡◌, ◌≤◌}
 use Rattle.pop_battle.proofs.Boards.{after_start}
 use Rattle.pop_battle.proofs.Words.{append-nil, append_assoc}
 use Rattle.pop_battle.specs.ties.Frames.{Frame}
@@ -17,8 +17,13 @@ use Rattle.pop_tries.specs.declared.stage.Firsts.{Firsts}
 use Rattle.pop_tries.specs.declared.stage.Task.{Task}
 use Rattle.pop_tries.specs.ties.Searching.{IsInLimit, below_and_after, after_first, beginning_of, contest_of, ending_of, events_of_first, first_event, firsts_after, firsts_left, group_left, is_stopped, shown_after, whole_group, within_limit}
 use Rattle.chess_rules.specs.Legal.{is_legal, triples}
-use Rattle.pop_tries.specs.Events.{key}
+use Rattle.pop_tries.specs.Events.{key, key_moves, try_moves}
 use Rattle.pop_tries.specs.ties.FirstMoves.{belongs}
+
+-- of nothing nothing is taken
+none_taken : (n : ℕ) (ms : List Move) → ms ≡ [] → take n ms ≡ []
+none_taken zero ms e = refl
+none_taken (suc n) ms e = rw e refl
 
 -- a filter keeps no more than there is
 short_filter : {X : Type 0} (test : X → Bool) (xs : List X) → length (filter test xs) ≤ length xs
@@ -36,11 +41,14 @@ few_moves : (rule : RuleSet) (p : Position) → length (moves_after rule p 0) �
 unfolding moves_after
 few_moves rule p = omega (arith, short_filter (is_legal rule p) triples, count_triples)
 
-module _ {A : Type 0} (rule : RuleSet) (task : Task) where
+module _ (rule : RuleSet) (task : Task) where
   -- the first moves of a group are no more than the triples
   pub few_firsts : (group : Group) → length (firsts_after rule task group 0) ≤ all_triples
   few_firsts group = omega (arith, few_moves rule (play_start task.problem),
       short_filter (λ m. belongs rule (contest_of task) group (after_first rule task m)) (moves_after rule (play_start task.problem) 0))
+
+  pub none_counted : (group : Group) → 0 + length (firsts_after rule task group 0) ≤ all_triples
+  none_counted group = omega (arith, few_firsts group)
 
   -- of keys nothing is shown below them after the replies
   key_closed : (m : Move) → events_of_first rule task Keys m ≡ key_events task.battle rule task.problem m
@@ -48,23 +56,24 @@ module _ {A : Type 0} (rule : RuleSet) (task : Task) where
 
   -- a group begins
   pub group_begins : (group : Group) → whole_group rule task group
-      ≡ beginning_of group ∷ group_left rule task {A = A} (record { group = group; place = 0; count = 0 })
+      ≡ beginning_of group ∷ group_left rule task {A = Unit {0}} (record { group = group; place = 0; count = 0 })
   group_begins Keys =
-      rw (flat-same (events_of_first rule task Keys) (key_events task.battle rule task.problem) (firsts_left rule task {A = A} (record { group = Keys; place = 0; count = 0 })) key_closed,
-      after_start rule (play_start task.problem)) refl
-  group_begins (Tries most) = rw (after_start rule (play_start task.problem)) refl
+      let all : task.problem.max_solutions - 0 ≡ task.problem.max_solutions = omega arith in
+      let shown : List Move = take task.problem.max_solutions (key_moves task.battle rule task.problem) in
+      let same : 0 + length shown ≡ length shown = omega arith in
+      rw (all, after_start rule (play_start task.problem), flat-same (events_of_first rule task Keys) (key_events task.battle rule task.problem) shown key_closed, same)
+      refl
+  group_begins (Tries most) =
+      let same : 0 + length (try_moves task.battle rule task.problem most) ≡ length (try_moves task.battle rule task.problem most) = omega arith in
+      rw (after_start rule (play_start task.problem), same) refl
 
   no_more : (group : Group) (count : ℕ) → within_limit task.problem group count [] ≡ []
-  no_more Keys count = by (task.problem.max_solutions - count)
-    where
-      by : (n : ℕ) → take n ([] {A = Move}) ≡ []
-      by zero = refl
-      by (suc n) = refl
+  no_more Keys count = none_taken (task.problem.max_solutions - count) [] refl
   no_more (Tries most) count = refl
 
   -- a group that the limit stops ends
   pub stopped_ends : (group : Group) (place count : ℕ) → is_stopped task.problem group count ≡ true
-      → group_left rule task {A = A} (record { group = group; place = place; count = count }) ≡ ending_of rule task group count
+      → group_left rule task {A = Unit {0}} (record { group = group; place = place; count = count }) ≡ ending_of rule task group count
   stopped_ends Keys place count e =
       let none : task.problem.max_solutions - count ≡ 0 = grind (arith, nat_tests) in
       let same : count + 0 ≡ count = omega arith in
@@ -73,7 +82,7 @@ module _ {A : Type 0} (rule : RuleSet) (task : Task) where
 
   -- a group without further first moves ends
   pub emptied_ends : (group : Group) (place count : ℕ) → firsts_after rule task group place ≡ []
-      → group_left rule task {A = A} (record { group = group; place = place; count = count }) ≡ ending_of rule task group count
+      → group_left rule task {A = Unit {0}} (record { group = group; place = place; count = count }) ≡ ending_of rule task group count
   emptied_ends group place count e =
       let same : count + 0 ≡ count = omega arith in
       rw (e, no_more group count, same) refl
@@ -87,10 +96,10 @@ module _ {A : Type 0} (rule : RuleSet) (task : Task) where
 
   module _ (group : Group) (place next count : ℕ) (m : Move) (found : firsts_after rule task group place ≡ m ∷ firsts_after rule task group next)
       (few : IsInLimit task.problem group count) (open_yet : is_stopped task.problem group count ≡ false) where
-    abbrev before : Firsts A
+    abbrev before : Firsts (Unit {0})
     before = record { group = group; place = place; count = count }
 
-    abbrev then : Firsts A
+    abbrev then : Firsts (Unit {0})
     then = record { group = group; place = next; count = count + 1 }
 
     -- the next first move of a group
@@ -116,3 +125,8 @@ module _ {A : Type 0} (rule : RuleSet) (task : Task) where
   pub room_to_count : (group : Group) (place count : ℕ) (m : Move) (ms : List Move) → firsts_after rule task group place ≡ m ∷ ms
       → count + length (firsts_after rule task group place) ≤ all_triples → count + 1 ≤ all_triples
   room_to_count group place count m ms e old = omega (arith, old, ap length e)
+
+-- at first the limit isn't passed
+pub at_first : (problem : Posed) (group : Group) → IsInLimit problem group 0
+at_first problem Keys = omega arith
+at_first problem (Tries most) = tt
