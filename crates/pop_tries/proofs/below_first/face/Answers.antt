@@ -5,7 +5,7 @@ use Rattle.pop_tries.proofs.Goings.{with_event, without_event}
 use Rattle.pop_tries.proofs.StepsBelow as steps
 use Rattle.pop_tries.proofs.GoesBelow as goes
 use Rattle.std.specs.Prelude.{is_some}
-use Rattle.pop_tries.specs.declared.stage.TriesStage.TheVariants.{Reply}
+use Rattle.pop_tries.specs.declared.stage.TriesStage.TheVariants.{Faced, Reply}
 use Rattle.pop_tries.specs.declared.stage.First.{First}
 use Rattle.pop_tries.proofs.below_first.face.Goals.{then-checked, else-checked}
 use Rattle.pop_tries.proofs.below_first.face.Goals as goal
@@ -29,7 +29,7 @@ returns-then-is_some g c =
     record { goes = record { holds = b.holds; emits = b.emits; falls = b.falls; }; }
 
 pub returns : goal.returns
-unfolding HoldsAt
+unfolding HoldsAt left_of
 returns g c =
     let h = c.requires.holds in
     let rule = g.R.Rules.rule in
@@ -53,10 +53,10 @@ returns g c =
       bare = record { board_at = at; none = keeps.frames ∙ h.1.none; };
     }) in
     elim c.if-checked.branch [
-    | then-checked w ↦ record { goes = with_event rule task _ _ _ _ _ holds _ _
-        (steps.faced_without rule task h.0 first c.start.result _ _ check c.start.ensures
+    | then-checked w ↦ record { goes = with_event rule task (Faced c.args.first) _ _ _ _ holds _ _
+        (steps.faced_without rule task h.0 first c.start.result c.args.frames.now.items c.threat_length-threat.new.frames.items check c.start.ensures
         (steps.shown_in_check rule task h.0 first unmet (sym checked ∙ w.if-checked.true))) w.result-is; }
-    | else-checked w ↦ record { goes = with_event rule task _ _ _ _ _ holds _ _
-        (steps.faced_without rule task h.0 first c.start.result _ _ zugzwang c.start.ensures
+    | else-checked w ↦ record { goes = with_event rule task (Faced c.args.first) _ _ _ _ holds _ _
+        (steps.faced_without rule task h.0 first c.start.result c.args.frames.now.items c.threat_length-threat.new.frames.items zugzwang c.start.ensures
         (steps.shown_in_zugzwang rule task h.0 first unmet (sym checked ∙ w.if-checked.false) no)) w.result-is; }
     ]
