@@ -25,7 +25,8 @@ from pops_companions.show.authors import persons
 from tests import run_here, support
 from tests.plain_tries import plain_tries
 
-# (from memory: the queen's square before the key isn't certain)
+# From memory, with no source at hand: the queen's square and the pawn on b3 were found with `pops`, so that
+# the key is the only one.
 ORGAN_PIPES = (
     b"BeginProblem\nTitle The Organ Pipes\nAuthor Loyd, Samuel\nOrigin Boston Gazette 1859\n"
     b"Pieces White Kg3 Qh5 Se3 Pb3 Pd2 Pf4 Black Kd4 Rd8 Re8 Bc8 Bf8 Pa6 Pb4 Pd3 Pe4 Pg4\n"
@@ -113,7 +114,7 @@ class Case(unittest.TestCase):
 
 
 class Published(Case):
-    """What is published, not what our programs print."""
+    """Solutions as published, but for the Organ Pipes: these are from memory."""
 
     def test_the_organ_pipes(self) -> None:
         """Zugzwang; rooks and bishops interfere on each of four squares, in both orders."""
@@ -382,7 +383,7 @@ class Command(Case):
             self.assertEqual(self.made(TWINS).error, "")
 
     def test_a_program_of_tries(self) -> None:
-        """It is run where no text is given, for as many refutations as are asked for."""
+        """If no text is given, the program runs, with the number of refutations that the command names."""
         words = ["--to", "text", "--pops-tries", str(self.tries)]
         outcome = self.made(OF_THE_MANUAL, *words)
         self.assertEqual((outcome.status, outcome.error), (0, ""))

@@ -19,7 +19,7 @@ ghost use Rattle.pop_battle.specs.ties.Frames.{moves_ahead, moves_unlooked};
 ghost use Rattle.pop_battle.specs.ties.Values.{value};
 
 use crate::aim::Battle;
-use crate::chess::{find_mate, is_reached_without_move, moves_at, retract};
+use crate::chess::{find_mate, is_reached_without_move, moves_at};
 use crate::frame::{MoveStage, Order};
 use crate::killers::Killers;
 use crate::move_stages::{next_tried, order_of, place_before};
@@ -27,7 +27,7 @@ use crate::search_state::SearchState;
 use chess_core::board::Board;
 use chess_core::man::{Kind, Move};
 use chess_core::square::Square;
-use chess_rules::{LegalCursor, Moves, Rules, play};
+use chess_rules::{LegalCursor, Moves, Rules, play, unplay};
 use chess_threats::kept_flights::KeptFlights;
 use pop_stipulation::stipulation::Goal;
 
@@ -58,7 +58,7 @@ fn lets_mate<R: Rules>(by: Move, board: &mut Board, search_state: &mut SearchSta
     search_state.opened = search_state.opened.saturating_add(1);
     let undo = play::<R>(board, by);
     let mates = has_mate::<R>(board, &mut search_state.killers);
-    retract::<R>(board, by, undo);
+    unplay::<R>(board, by, undo);
     mates
 }
 

@@ -13,18 +13,19 @@ ghost use Rattle.pop_battle.specs.ties.Counts.{HasCounted, smallest_below, small
 ghost use Rattle.pop_battle.specs.ties.Passing.{IsNextLeft};
 ghost use Rattle.pop_battle.specs.ties.Values.{joined_value, value};
 
-use crate::chess::{is_reached_without_move, must_mate, next_after, retract};
+use crate::chess::is_reached_without_move;
 use crate::killers::Killers;
 use crate::search_state::SearchState;
 use chess_core::board::Board;
 use chess_core::man::Move;
-use chess_rules::{LegalCursor, Rules, play};
+use chess_mates::every_move::every_move_mates;
+use chess_rules::{LegalCursor, Rules, play, unplay};
 use chess_threats::quiet_steps::QuietSteps;
 use pop_stipulation::stipulation::Goal;
 
 /// Returns whether Black must mate after this move by White. The move isn't played if Black's king has a
 /// quiet step after it, or if no reply can mate.
-#[tactic(auto, using(chess_rules::proofs::listing_moves::Calls::playing, crate::proofs::LastMoves::unforced, crate::proofs::Values::last_half_move))]
+#[tactic(auto, using(chess_rules::proofs::listing_moves::Calls::playing, crate::proofs::Boards::some_move, crate::proofs::LastMoves::unforced, crate::proofs::Values::last_half_move))]
 fn forces_mate<R: Rules>(
     steps: QuietSteps,
     by: Move,
@@ -41,14 +42,14 @@ fn forces_mate<R: Rules>(
         return false;
     }
     let undo = play::<R>(board, by);
-    let forced = must_mate::<R>(board);
-    retract::<R>(board, by, undo);
+    let forced = every_move_mates::<R>(board);
+    unplay::<R>(board, by, undo);
     forced
 }
 
 /// Returns the next legal move after the cursor, and skips moves after which the filter finds a quiet step
 /// of Black's king. Adds the number of skipped moves to `counted`.
-#[tactic(auto, using(crate::proofs::Passing::none_passed))]
+#[tactic(auto, using(crate::proofs::Passing::filtered, crate::proofs::Passing::none_passed))]
 fn next_unquiet<R: Rules>(
     steps: &mut QuietSteps,
     moves: &mut LegalCursor<R>,
@@ -65,7 +66,7 @@ fn next_unquiet<R: Rules>(
     // For the proof: the count is below 2^64.
     let _counted = *counted;
     if !steps.are_known(board) {
-        return next_after::<R>(moves, board);
+        return moves.next(board);
     }
     let filtered = moves.next_filtered(steps, board);
     *counted = counted.saturating_add(u64::from(filtered.passed));

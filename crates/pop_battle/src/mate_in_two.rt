@@ -11,14 +11,14 @@ ghost use Rattle.pop_battle.specs.ties.Counts.{HasCounted, smallest_tree};
 ghost use Rattle.pop_battle.specs.ties.Values.{value};
 
 use crate::aim::Battle;
-use crate::chess::{moves_at, retract};
+use crate::chess::moves_at;
 use crate::frame::MoveStage;
 use crate::last_defence::value_of_last_defence;
 use crate::move_stages::{next_tried, order_of};
 use crate::search_state::SearchState;
 use chess_core::board::Board;
 use chess_core::man::Move;
-use chess_rules::{Rules, play};
+use chess_rules::{Rules, play, unplay};
 
 /// Returns whether White mates next after this move, whatever Black's defence.
 #[tactic(auto, using(chess_rules::proofs::listing_moves::Calls::playing))]
@@ -39,7 +39,7 @@ fn leaves_no_defence<R: Rules>(
 {
     let undo = play::<R>(board, by);
     let mates = value_of_last_defence::<R>(board, search_state);
-    retract::<R>(board, by, undo);
+    unplay::<R>(board, by, undo);
     mates
 }
 

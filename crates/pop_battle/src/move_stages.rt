@@ -10,7 +10,6 @@ ghost use Rattle.pop_battle.specs.ties.Calls.{Finds};
 ghost use Rattle.pop_battle.specs.ties.Frames.{all_moves_of, belongs, comes_early, move_stages_after, moves_ahead, moves_here, moves_later};
 
 use crate::aim::Battle;
-use crate::chess::{next_after, next_until};
 use crate::frame::{Early, MoveStage, Order};
 use crate::killers::Killers;
 use chess_core::board::Board;
@@ -86,7 +85,7 @@ fn next_of_move_stage<R: Rules>(
         (filter (belongs board.old order move_stage)
         (moves_after R.rule board.old moves.new.place)) }
 {
-    while let Some(by) = next_after::<R>(moves, board) {
+    while let Some(by) = moves.next(board) {
         if belongs::<R>(order, move_stage, moves.place(), &by, board) {
             return Some(by);
         }
@@ -139,8 +138,8 @@ fn next_here<R: Rules>(
         (moves_here R.rule board.old order move_stage moves.new.place) }
 {
     match (move_stage, order.early) {
-        (MoveStage::Killer, _) => next_until::<R>(moves, order.killer, board),
-        (MoveStage::Earlier, _) => next_until::<R>(moves, order.earlier, board),
+        (MoveStage::Killer, _) => moves.next_until(order.killer, board),
+        (MoveStage::Earlier, _) => moves.next_until(order.earlier, board),
         (MoveStage::Aimed, Early::AimedMoves) => next_early::<R>(order, moves, board),
         (MoveStage::Aimed, Early::NoMoves) | (MoveStage::Others, _) => {
             next_of_move_stage::<R>(order, move_stage, moves, board)

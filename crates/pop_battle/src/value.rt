@@ -19,8 +19,7 @@ ghost use Rattle.pop_battle.specs.ties.Values.{attacker_to_move, joined_value, v
 
 use crate::aim::{Aim, Battle};
 use crate::chess::{
-    cursor_if_any_move, is_for_mate, is_reached_without_move, moves_at, must_mate, next_after,
-    next_until, reaches_goal, retract,
+    cursor_if_any_move, is_for_mate, is_reached_without_move, moves_at, reaches_goal,
 };
 use crate::frame::{Frame, MoveStage};
 use crate::killers::Killers;
@@ -32,7 +31,8 @@ use crate::search_state::SearchState;
 use arrayvec::ArrayVec;
 use chess_core::board::Board;
 use chess_core::man::Move;
-use chess_rules::{LegalCursor, Rules, play};
+use chess_mates::every_move::every_move_mates;
+use chess_rules::{LegalCursor, Rules, play, unplay};
 use pop_stipulation::stipulation::Goal;
 
 /// Returns whether White, who needs only one good move, is to move with `left` half-moves left.
@@ -62,7 +62,7 @@ fn value_without_move<R: Rules>(goal: Goal, left: usize, board: &Board) -> bool
 }
 
 /// Returns the value of a position with one half-move left, for mate: White mates, or Black must mate.
-#[tactic(auto, using(crate::proofs::Values::last_half_move))]
+#[tactic(auto, using(crate::proofs::Boards::some_move, crate::proofs::Values::last_half_move))]
 fn last_value<R: Rules>(battle: Battle, board: &mut Board, killers: &mut Killers<R>) -> bool
     requires well_formed { IsWellFormed board.old }
     ensures unchanged { board.new ≡ board.old }
@@ -70,7 +70,7 @@ fn last_value<R: Rules>(battle: Battle, board: &mut Board, killers: &mut Killers
 {
     match battle {
         Battle::Direct => has_mate::<R>(board, killers),
-        Battle::Selfmate => must_mate::<R>(board),
+        Battle::Selfmate => every_move_mates::<R>(board),
     }
 }
 
@@ -158,6 +158,7 @@ fn is_decided(answer: Option<bool>, seek: bool) -> bool
 }
 
 /// Closes a frame with the value of its position. Returns that value if the frame is the test's lowest.
+#[tactic(auto, using(chess_rules::proofs::listing_moves::Calls::playing))]
 fn close<R: Rules>(
     value: bool,
     floor: usize,
@@ -175,7 +176,7 @@ fn close<R: Rules>(
     if depth <= floor {
         return Some(value);
     }
-    retract::<R>(board, top.by, top.undo);
+    unplay::<R>(board, top.by, top.undo);
     *answer = Some(value);
     None
 }
@@ -226,7 +227,7 @@ fn descend<R: Rules, const N: usize>(
     let mut known = None;
     let answer = value_at_once::<R>(aim, left, board, &mut known, search_state);
     if answer.is_some() {
-        retract::<R>(board, by, undo);
+        unplay::<R>(board, by, undo);
         return answer;
     }
     search_state.opened = search_state.opened.saturating_add(1);

@@ -1,9 +1,11 @@
 -- What the calls of a search's steps below a first move yield.
-use Rattle.pop_tries.proofs.Words.{Bool, Goal, IsSound, List, Move, Posed, Position, RuleSet, [], and_parts, ap, arith, chess_passing, false, false≢true, filter, first_in, from_filter, game_of, half_moves, has_threat, is_in_set_play, length, position_after, refl, reply, rules, subst, sym, threatened, true, ℕ, ◌+◌, ◌-◌, ◌∙◌, ◌∷◌, ◌≡◌, ◌≤◌}
+use Rattle.pop_tries.proofs.Words.{Bool, Goal, IsSound, List, Move, Posed, Position, RuleSet, [], and_parts, ap, arith, chess_passing, false, false≢true, filter, first_in, from_filter, game_of, half_moves, is_pseudo_legal-from_legal, has_threat, is_in_set_play, length, position_after, refl, reply, rules, subst, sym, threatened, true, ℕ, ◌+◌, ◌-◌, ◌∙◌, ◌∷◌, ◌≡◌, ◌≤◌}
 use Rattle.std.specs.Prelude.{None, Option, Some, is_some, reverse}
 use Rattle.std.proofs.lemmas.List.{length-reverse, nil_from_length}
 use Rattle.pop_battle.specs.Chess.{set_start}
-use Rattle.pop_battle.specs.ties.Frames.{Frame}
+use Rattle.chess_core.specs.Undo.{Undo}
+use Rattle.chess_rules.specs.ties.Games.{RestoresPosition, WasPlayed}
+use Rattle.pop_battle.specs.ties.Frames.{CameBy, Frame}
 use Rattle.pop_events.specs.Shown.{Shown}
 use Rattle.pop_solve.proofs.Events.{room-length}
 use Rattle.pop_solve.proofs.Sound.{in_range}
@@ -11,8 +13,8 @@ use Rattle.pop_solve.specs.Events.{last_shown}
 use Rattle.pop_solve.specs.ties.Walk.{IsRoomy}
 use Rattle.pop_tries.specs.Shown.{shown_below_first}
 use Rattle.pop_tries.specs.declared.contest.Contest.{Contest}
-use Rattle.pop_tries.specs.declared.event.TryEvent.{TryEvent}
-use Rattle.pop_tries.specs.declared.event.TryEvent.TheVariants.{Node}
+use Rattle.pop_events.specs.declared.try_event.TryEvent.{TryEvent}
+use Rattle.pop_events.specs.declared.try_event.TryEvent.TheVariants.{Node}
 use Rattle.pop_tries.specs.ties.Contests.{IsThreat, game_in}
 use Rattle.pop_tries.specs.ties.FirstMoves.{is_shown}
 use Rattle.pop_tries.proofs.StepsBelow.{last_below}
@@ -62,3 +64,17 @@ pub threat_node : (goal : Goal) (rule : RuleSet) (q : Position) (line : List Mov
     → depth ≡ length line + 1 → half ≡ length line + 2 → shown ≡ last_shown goal rule (set_start q) line
     → Node depth half shown ≡ shown_below_first goal rule q (threatened line)
 threat_node goal rule q line depth half shown e f g = rw (e, f, g) refl
+
+-- a move that led here was played, and taking it back leads to where it was made
+module _ (rule : RuleSet) (m : Move) (undo : Undo) (q p : Position) where
+  pub played_from : CameBy rule m undo q p → WasPlayed rule q m undo
+  played_from came = record {
+    before = p;
+    well_formed = came.sound;
+    pseudo = is_pseudo_legal-from_legal rule p m came.legal;
+    after = came.led;
+    undo = came.undone;
+  }
+
+  pub taken_back : (r : Position) → CameBy rule m undo q p → RestoresPosition rule q m undo r → r ≡ p
+  taken_back r came back = back p came.sound (is_pseudo_legal-from_legal rule p m came.legal) came.led came.undone

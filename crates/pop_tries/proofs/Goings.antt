@@ -8,7 +8,7 @@ use Rattle.chess_rules.specs.Play.{undo_of}
 use Rattle.pop_battle.specs.ties.Frames.{Frame}
 use Rattle.pop_events.specs.Shown.{shown_move}
 use Rattle.pop_tries.specs.Shown.{try_event_of}
-use Rattle.pop_tries.specs.declared.event.TryEvent.{TryEvent}
+use Rattle.pop_events.specs.declared.try_event.TryEvent.{TryEvent}
 use Rattle.pop_tries.specs.declared.first_moves.Group.{Group}
 use Rattle.pop_tries.specs.declared.first_moves.Group.TheVariants.{Keys, Tries}
 use Rattle.pop_tries.specs.declared.stage.First.{First}
@@ -34,7 +34,7 @@ module _ {A : Type 0} (rule : RuleSet) (task : Task) (old new : TriesStage A) (w
 
   -- a step without an event
   pub without_event : left_of rule task old was ≡ left_of rule task new items → rank new < rank old → Goes rule task old was new items board None
-  without_event left less = record { holds = holds; emits = left; falls = λ _. less; }
+  without_event left less = record { holds = holds; emits = left; falls = λ _. less }
 
 -- a group begins
 pub group_comes : (A : Type 0) (rule : RuleSet) (task : Task) (group : Group) (place : ℕ) → place ≡ 0 → (was items : List Frame)
@@ -72,9 +72,9 @@ module _ {A : Type 0} (rule : RuleSet) (task : Task) (fit : IsContest (contest_o
   unfolding HoldsAt
   first_holds legal back items board none at = (
     fit,
-    record { board_at = at; none = none; },
+    record { board_at = at; none = none },
     record {
-      came = record { sound = s.sound.well_formed; legal = legal; led = refl; undone = back; };
+      came = record { sound = s.sound.well_formed; legal = legal; led = refl; undone = back };
       sound = after_well_formed rule (play_start task.problem) m s.sound.well_formed (is_pseudo_legal-from_legal rule (play_start task.problem) m legal);
       placed = record {
         few = placed.few;

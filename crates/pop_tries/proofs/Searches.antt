@@ -8,13 +8,13 @@ use Rattle.pop_stipulation.specs.Stipulations.{may_have}
 use Rattle.pop_stipulation.specs.declared.stipulation.Form.{Form}
 use Rattle.pop_tries.specs.Events.{events_by}
 use Rattle.pop_tries.specs.Shown.{try_event_of}
-use Rattle.pop_tries.specs.declared.event.TryEvent.{TryEvent}
+use Rattle.pop_events.specs.declared.try_event.TryEvent.{TryEvent}
 use Rattle.pop_tries.specs.declared.stage.Task.{Task}
 use Rattle.pop_tries.specs.declared.stage.TriesStage.{TriesStage}
 use Rattle.pop_events.specs.declared.event.Event.TheVariants.{Impossible as ImpossibleEvent}
 use Rattle.pop_solve.specs.Events.{impossible}
 use Rattle.pop_tries.proofs.Words.{no_tries, set_event}
-use Rattle.pop_tries.specs.declared.event.TryEvent.TheVariants.{NoTries as NoTriesEvent, Set as SetEvent}
+use Rattle.pop_events.specs.declared.try_event.TryEvent.TheVariants.{NoTries as NoTriesEvent, Set as SetEvent}
 use Rattle.pop_tries.specs.declared.first_moves.Group.TheVariants.{Keys}
 use Rattle.pop_tries.specs.declared.stage.TriesStage.TheVariants.{Beginning, Impossible, NoTries, Over}
 use Rattle.pop_tries.specs.ties.Contests.{IsContest}
@@ -52,10 +52,10 @@ module _ {A : Type 0} (rule : RuleSet) (problem : Posed) (battle : Battle) (most
       by HelpPlay set_play i e = tt
       by (BattlePlay b) true i e =
           let fought : play_of problem.stipulation.form ≡ BattlePlay battle = rw i e in
-          (record { fought = fought; some = some_move _ _ _ fought s.range; }, record { board_at = refl; none = refl; })
+          (record { fought = fought; some = some_move _ _ _ fought s.range }, record { board_at = refl; none = refl })
       by (BattlePlay b) false i e =
           let fought : play_of problem.stipulation.form ≡ BattlePlay battle = rw i e in
-          (record { fought = fought; some = some_move _ _ _ fought s.range; }, record { board_at = refl; none = refl; }, tt)
+          (record { fought = fought; some = some_move _ _ _ fought s.range }, record { board_at = refl; none = refl }, tt)
 
 module _ (rule : RuleSet) (problem : Posed) where
   -- the event returned, and the events then still to come

@@ -44,8 +44,11 @@ few_moves rule p = omega (arith, short_filter (is_legal rule p) triples, count_t
 module _ (rule : RuleSet) (task : Task) where
   -- the first moves of a group are no more than the triples
   pub few_firsts : (group : Group) → length (firsts_after rule task group 0) ≤ all_triples
-  few_firsts group = omega (arith, few_moves rule (play_start task.problem),
-      short_filter (λ m. belongs rule (contest_of task) group (after_first rule task m)) (moves_after rule (play_start task.problem) 0))
+  few_firsts group = omega (
+    arith,
+    few_moves rule (play_start task.problem),
+    short_filter (λ m. belongs rule (contest_of task) group (after_first rule task m)) (moves_after rule (play_start task.problem) 0),
+  )
 
   pub none_counted : (group : Group) → 0 + length (firsts_after rule task group 0) ≤ all_triples
   none_counted group = omega (arith, few_firsts group)

@@ -11,8 +11,8 @@ use Rattle.pop_solve.specs.Events.{event_of, last_shown, play_start}
 use Rattle.pop_stipulation.specs.declared.stipulation.Goal.{Goal}
 use Rattle.pop_tries.specs.Tries.{Below, but, check, refutation, reply, threat, threatened, zugzwang}
 use Rattle.pop_tries.specs.Events.{BareTryEvent, attempt, below, key, key_total, keys, no_tries, set_event, tries, try_total}
-use Rattle.pop_tries.specs.declared.event.TryEvent.{TryEvent}
-use Rattle.pop_tries.specs.declared.event.TryEvent.TheVariants.{NoTries, Set, Keys, Key, KeyTotal, Tries, Try, TryTotal, Check, Threat, Zugzwang, Node, But, Refutation}
+use Rattle.pop_events.specs.declared.try_event.TryEvent.{TryEvent}
+use Rattle.pop_events.specs.declared.try_event.TryEvent.TheVariants.{NoTries, Set, Keys, Key, KeyTotal, Tries, Try, TryTotal, Check, Threat, Zugzwang, Node, But, Refutation}
 
 -- what is shown below a first move that leads to q: a reply has one move above it, and a threat two, since
 -- Black has passed

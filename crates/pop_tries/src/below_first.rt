@@ -4,13 +4,12 @@ ghost use Rattle.chess_core.specs.Position.{Position};
 ghost use Rattle.pop_battle.specs.ties.Frames.{CameBy};
 ghost use Rattle.pop_solve.specs.Events.{game_of};
 ghost use Rattle.pop_stipulation.specs.Stipulations.{half_moves};
-ghost use Rattle.pop_tries.specs.declared.event.TryEvent.TheVariants.{Node};
+ghost use Rattle.pop_events.specs.declared.try_event.TryEvent.TheVariants.{Node};
 ghost use Rattle.pop_tries.specs.declared.stage.TriesStage.TheVariants.{Below as BelowReply, But, Faced, FirstMove, Refutation, Reply, Threats};
 ghost use Rattle.pop_tries.specs.ties.Contests.{IsContest, IsThreat};
 ghost use Rattle.pop_tries.specs.ties.Searching.{after_first, below_and_after, contest_of, left_of, Goes, HoldsAt, IsFirst, IsTask, rank};
 
 use crate::below::{Base, ShownNode, open_walk, shown_node, walk_on};
-use crate::event::TryEvent;
 use crate::first_moves::{Group, next_refutation, next_reply};
 use crate::shown::shown;
 use crate::stage::{First, Played, Step, Task, TriesStage};
@@ -18,19 +17,21 @@ use crate::threats::{pass, threat_length, unpass};
 use arrayvec::ArrayVec;
 use chess_core::board::Board;
 use chess_core::square::Square;
-use chess_rules::{Moves, Rules, in_check, play};
-use pop_battle::chess::{reaches_goal, retract};
+use chess_rules::{Moves, Rules, in_check, play, unplay};
+use pop_battle::chess::reaches_goal;
 use pop_battle::frame::Frame;
 use pop_battle::search_state::SearchState;
+use pop_events::TryEvent;
 use pop_solve::plan::Plan;
 
 /// Takes a first move back. Returns the next stage.
+#[tactic(auto, using(chess_rules::proofs::listing_moves::Calls::playing))]
 fn end_first<R: Rules>(first: First<R>, board: &mut Board) -> TriesStage<R>
     requires came { (p : Position) × CameBy R.rule first.by first.undo board.old p }
     ensures stage { result ≡ FirstMove first.firsts }
     ensures back { (p : Position) → CameBy R.rule first.by first.undo board.old p → board.new ≡ p }
 {
-    retract::<R>(board, first.by, first.undo);
+    unplay::<R>(board, first.by, first.undo);
     TriesStage::FirstMove {
         firsts: first.firsts,
     }
@@ -255,7 +256,7 @@ pub(crate) fn walk_reply<R: Rules, const N: usize>(
             event: Some(node_event(node)),
         };
     }
-    retract::<R>(board, reply.by, reply.undo);
+    unplay::<R>(board, reply.by, reply.undo);
     Step {
         stage: TriesStage::Reply {
             first,

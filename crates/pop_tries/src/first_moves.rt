@@ -12,8 +12,8 @@ use crate::threats::is_defence;
 use arrayvec::ArrayVec;
 use chess_core::board::Board;
 use chess_core::man::Move;
-use chess_rules::{Moves, Rules, Undo, play};
-use pop_battle::chess::{next_move, retract};
+use chess_rules::{Moves, Rules, Undo, play, unplay};
+use pop_battle::chess::next_move;
 use pop_battle::frame::Frame;
 use pop_battle::search_state::SearchState;
 
@@ -73,7 +73,7 @@ pub fn play_next<R: Rules, const N: usize>(
         if belongs::<R, N>(contest, group, board, frames, search_state) {
             return Some((by, undo));
         }
-        retract::<R>(board, by, undo);
+        unplay::<R>(board, by, undo);
     }
     None
 }

@@ -9,18 +9,16 @@ ghost use Rattle.pop_tries.specs.declared.stage.TriesStage.TheVariants.{Beginnin
 ghost use Rattle.pop_tries.specs.ties.Contests.{IsContest};
 ghost use Rattle.pop_tries.specs.ties.Searching.{contest_of, ending_of, event_of_first, first_event as bare_first, is_stopped, left_of, Emits, Goes, HoldsAt, IsBare, IsTask};
 
-use crate::event::TryEvent;
 use crate::first_moves::{Group, play_next};
 use crate::shown::shown;
 use crate::stage::{First, Firsts, Step, Task, TriesStage};
 use arrayvec::ArrayVec;
 use chess_core::board::Board;
 use chess_core::man::Move;
-use chess_rules::{Moves, Rules, Undo, play};
-use pop_battle::chess::retract;
+use chess_rules::{Moves, Rules, Undo, play, unplay};
 use pop_battle::frame::Frame;
 use pop_battle::search_state::SearchState;
-use pop_events::Shown;
+use pop_events::{Shown, TryEvent};
 
 /// Begins a group.
 #[tactic(auto, using(crate::proofs::Steps::group_begins, crate::proofs::Steps::few_firsts), unfolding(crate::specs::ties::Searching::HoldsAt, crate::specs::ties::Searching::left_of, crate::specs::ties::Searching::rank))]
@@ -159,7 +157,7 @@ fn begin_first<R: Rules>(
     ensures event { result.event ≡ Some (try_event_of R.rule task.now.problem
         (bare_first firsts.group by)) }
 {
-    retract::<R>(board, by, undo);
+    unplay::<R>(board, by, undo);
     let shown = shown::<R>(task.problem.stipulation().goal, by, board);
     let _undo = play::<R>(board, by);
     let event = first_event(firsts.group, shown);

@@ -11,8 +11,8 @@ use crate::contest::Contest;
 use arrayvec::ArrayVec;
 use chess_core::board::Board;
 use chess_core::man::Move;
-use chess_rules::{Moves, Rules, play};
-use pop_battle::chess::{next_move, retract};
+use chess_rules::{Moves, Rules, play, unplay};
+use pop_battle::chess::next_move;
 use pop_battle::frame::Frame;
 use pop_battle::search_state::SearchState;
 use pop_battle::value::value_of;
@@ -70,7 +70,7 @@ pub fn refutes<R: Rules, const N: usize>(
 {
     let undo = play::<R>(board, by);
     let refuted = is_refuted::<R, N>(contest, board, frames, search_state);
-    retract::<R>(board, by, undo);
+    unplay::<R>(board, by, undo);
     refuted
 }
 

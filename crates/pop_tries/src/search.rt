@@ -9,7 +9,6 @@ ghost use Rattle.pop_tries.specs.ties.Searching.{first_stage, is_over, IsOf, lef
 use crate::below_first::{
     begin_refutations, face, find_refutation, find_reply, walk_reply, walk_threats,
 };
-use crate::event::TryEvent;
 use crate::first_moves::Group;
 use crate::group::{begin_group, find_first};
 use crate::set_play::{begin_set_play, walk_set_play};
@@ -21,7 +20,7 @@ use pop_battle::aim::{Battle, Play};
 use pop_battle::frame::Frame;
 use pop_battle::killers::Killers;
 use pop_battle::search_state::SearchState;
-use pop_events::Event;
+use pop_events::{Event, TryEvent};
 use pop_input::problem::Problem;
 use std::marker::Model;
 

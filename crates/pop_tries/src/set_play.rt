@@ -6,7 +6,6 @@ ghost use Rattle.pop_stipulation.specs.Stipulations.{half_moves};
 ghost use Rattle.pop_tries.specs.declared.stage.TriesStage.TheVariants.{SetPlay, Within};
 ghost use Rattle.pop_tries.specs.ties.Searching.{Goes, HoldsAt, IsTask};
 
-use crate::event::TryEvent;
 use crate::first_moves::Group;
 use crate::stage::{Step, Task, TriesStage};
 use arrayvec::ArrayVec;
@@ -14,7 +13,7 @@ use chess_core::board::Board;
 use chess_rules::{Moves, Rules};
 use pop_battle::frame::Frame;
 use pop_battle::search_state::SearchState;
-use pop_events::{Event, Phase};
+use pop_events::{Event, Phase, TryEvent};
 use pop_solve::phases::{Scope, Stage, Walk, advance, phase_half_moves, set_up};
 use pop_solve::plan::Plan;
 

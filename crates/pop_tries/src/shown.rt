@@ -6,8 +6,8 @@ ghost use Rattle.pop_events.specs.Shown.{shown_move};
 
 use chess_core::board::Board;
 use chess_core::man::Move;
-use chess_rules::{Rules, play};
-use pop_battle::chess::{Reached, mark_after, retract, shown_of};
+use chess_rules::{Rules, play, unplay};
+use pop_battle::chess::{Reached, mark_after, shown_of};
 use pop_events::Shown;
 use pop_stipulation::stipulation::Goal;
 
@@ -24,6 +24,6 @@ pub fn shown<R: Rules>(goal: Goal, by: Move, board: &mut Board) -> Shown
     let undo = play::<R>(board, by);
     let mark = mark_after::<R>(goal, Reached::Perhaps, board);
     let shown = shown_of(man, there, &by, &undo, mark);
-    retract::<R>(board, by, undo);
+    unplay::<R>(board, by, undo);
     shown
 }

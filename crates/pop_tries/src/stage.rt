@@ -5,12 +5,12 @@ ghost use Rattle.pop_tries.specs.ties.Searching.{contest_of, walk_below};
 
 use crate::below::{Base, WalkBelow};
 use crate::contest::Contest;
-use crate::event::TryEvent;
 use crate::first_moves::Group;
 use chess_core::man::Move;
 use chess_core::square::Square;
 use chess_rules::{Moves, Rules, Undo};
 use pop_battle::aim::Battle;
+use pop_events::TryEvent;
 use pop_input::problem::Problem;
 use pop_solve::phases::Stage;
 use pop_solve::plan::Plan;

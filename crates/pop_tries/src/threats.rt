@@ -18,9 +18,9 @@ use arrayvec::ArrayVec;
 use chess_core::board::Board;
 use chess_core::man::Move;
 use chess_core::square::Square;
-use chess_rules::{Moves, Rules, in_check, play};
+use chess_rules::{Moves, Rules, in_check, play, unplay};
 use pop_battle::aim::Play;
-use pop_battle::chess::{next_move, reaches_goal, retract, turn_over};
+use pop_battle::chess::{next_move, reaches_goal, turn_over};
 use pop_battle::frame::Frame;
 use pop_battle::search_state::SearchState;
 use pop_battle::value::value_of;
@@ -138,7 +138,7 @@ fn wins_by<R: Rules, const N: usize>(
     let undo = play::<R>(board, by);
     let left = length.saturating_sub(1);
     let wins = value_of::<R, N>(contest.aim(), left, board, frames, search_state);
-    retract::<R>(board, by, undo);
+    unplay::<R>(board, by, undo);
     wins
 }
 
@@ -197,7 +197,7 @@ pub fn is_defence<R: Rules, const N: usize>(
             unpass(board, crossed);
             let undo = play::<R>(board, by);
             let still = works::<R, N>(contest, length, place, board, frames, search_state);
-            retract::<R>(board, by, undo);
+            unplay::<R>(board, by, undo);
             if still {
                 return false;
             }

@@ -33,8 +33,8 @@ use Rattle.pop_tries.specs.declared.below.WalkBelow.{WalkBelow}
 use Rattle.pop_tries.specs.declared.contest.Contest.{Contest}
 use Rattle.pop_tries.specs.declared.first_moves.Group.{Group}
 use Rattle.pop_tries.specs.declared.first_moves.Group.TheVariants.{Keys, Tries}
-use Rattle.pop_tries.specs.declared.event.TryEvent.{TryEvent}
-use Rattle.pop_tries.specs.declared.event.TryEvent.TheVariants.{Key, Try}
+use Rattle.pop_events.specs.declared.try_event.TryEvent.{TryEvent}
+use Rattle.pop_events.specs.declared.try_event.TryEvent.TheVariants.{Key, Try}
 use Rattle.pop_tries.specs.declared.stage.First.{First}
 use Rattle.pop_tries.specs.declared.stage.Firsts.{Firsts}
 use Rattle.pop_tries.specs.declared.stage.Task.{Task}

@@ -8,10 +8,6 @@ pub returns-in-Barred-clause-opens : goal.returns-in-Barred-clause-opens
 unfolding rest_open rest_fewest IsNarrow
 returns-in-Barred-clause-opens g c = search rules
 
-pub returns-in-Barred-clause-gives : goal.returns-in-Barred-clause-gives
-unfolding HoldsAtStage left_of
-returns-in-Barred-clause-gives g c = search rules
-
 pub returns-in-First : goal.returns-in-First
 returns-in-First g c = record {
   standing = search rules;

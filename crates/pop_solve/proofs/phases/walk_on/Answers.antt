@@ -1,10 +1,7 @@
-use Rattle.pop_solve.proofs.Words.{arith, inl, inr, length, length-reverse, nat_tests, rules, sym, ◌<◌, ◌∙◌, ◌≡◌}
+use Rattle.pop_solve.proofs.Words.{arith, inl, inr, length, length-reverse, nat_tests, rules, sym}
 use Rattle.pop_solve.proofs.Kept as kept
 use Rattle.pop_solve.proofs.Sound.{plan-helps}
 use Rattle.pop_solve.proofs.phases.walk_on.Goals as goal
-
-pub loop-frames-init : goal.loop-frames-init
-loop-frames-init g c = search rules
 
 pub loop-frames-preserved : goal.loop-frames-preserved
 loop-frames-preserved g c = search (rules, c.step.ensures.steps)

@@ -23,8 +23,10 @@ returns g c =
     let has = goes.threat_is rule (contest_of task) (after_first rule task first.by) first.threat c.requires.some c.requires.threat in
     let walking = rw (c.half_moves_below.ensures, c.pass-crossed.ensures.board, h.1.board_at) at c.open_walk.ensures.walking in
     let come = rw (c.of.ensures, c.half_moves_below.ensures, c.pass-crossed.ensures.board, h.1.board_at) at c.open_walk.ensures.come in
-    record { goes = with_event rule task _ _ _ _ _
-        (h.0, record { first_is = h.2; threat = c.requires.threat; walking = walking; }, rw h.1.board_at at c.pass-crossed.ensures.crossed) _ _
-        (steps.faced_with rule task h.0 first c.pass-crossed.result c.args.frames.now.items c.open_walk.new.frames.items
-        (steps.threat_paths rule task h.0 first) (steps.shown_with_threats rule task h.0 first c.requires.goal has)
-        (steps.all_threats rule task h.0 first c.open_walk.new.frames.items has come)) refl; }
+    record {
+      goes = with_event rule task _ _ _ _ _
+          (h.0, record { first_is = h.2; threat = c.requires.threat; walking = walking }, rw h.1.board_at at c.pass-crossed.ensures.crossed) _ _
+          (steps.faced_with rule task h.0 first c.pass-crossed.result c.args.frames.now.items c.open_walk.new.frames.items
+          (steps.threat_paths rule task h.0 first) (steps.shown_with_threats rule task h.0 first c.requires.goal has)
+          (steps.all_threats rule task h.0 first c.open_walk.new.frames.items has come)) refl;
+    }

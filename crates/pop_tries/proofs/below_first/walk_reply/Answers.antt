@@ -28,17 +28,20 @@ returns-then-walk_on g c =
     let line = path (reverse c.walk_on.new.frames.items) in
     let some : 1 ≤ length line = omega (arith, next.deep c.if-walk_on.true, path-length (reverse c.walk_on.new.frames.items)) in
     let node = rw (c.walk_below-walk-then-walk_on.ensures, c.as_slice.ensures.value) at c.shown_node-node.ensures in
-    record { goes = with_event rule task _ _ _ _ _
-        (h.0, record { first_is = h.1.first_is; threat = h.1.threat; walking = rw node.unchanged walking; }, h.2) _ _
-        (steps.reply_goes_on rule task h.0 first played _ _ line (next.next c.if-walk_on.true))
-        (c.node_event.ensures ∙ goes.reply_node task.problem.stipulation.goal rule (after_first rule task first.by) played.by line _ _ _ some node.depth node.half node.shown); }
+    record {
+      goes = with_event rule task _ _ _ _ _
+          (h.0, record { first_is = h.1.first_is; threat = h.1.threat; walking = rw node.unchanged walking }, h.2) _ _
+          (steps.reply_goes_on rule task h.0 first played _ _ line (next.next c.if-walk_on.true))
+          (c.node_event.ensures ∙ goes.reply_node task.problem.stipulation.goal rule (after_first rule task first.by) played.by line _ _ _ some node.depth node.half node.shown);
+    }
 
-pub retract-requires : goal.retract-requires
+pub unplay-requires : goal.unplay-requires
 unfolding HoldsAt
-retract-requires g c =
+unplay-requires g c =
     let h = c.requires.holds in
     let next = rw c.walk_below-walk.ensures at c.walk_on.ensures.next in
-    record { came = (after_first g.R.Rules.rule c.args.task.now c.args.first.by, rw (next.back c.if-walk_on.false) h.2); }
+    goes.played_from g.R.Rules.rule c.args.reply.by c.args.reply.undo _ (after_first g.R.Rules.rule c.args.task.now c.args.first.by)
+    (rw (next.back c.if-walk_on.false) h.2)
 
 pub returns : goal.returns
 unfolding HoldsAt rank
@@ -49,8 +52,15 @@ returns g c =
     let first = c.args.first in
     let played = c.args.reply in
     let next = rw c.walk_below-walk.ensures at c.walk_on.ensures.next in
-    let back = c.retract.ensures.before (after_first rule task first.by) (rw (next.back c.if-walk_on.false) h.2) in
-    record { goes = without_event rule task _ _ _ _ _
-        (h.0, record { first_is = h.1.first_is; threat = h.1.threat;
-        bare = record { board_at = back; none = goes.none_reversed _ (next.empty c.if-walk_on.false); }; })
-        (steps.reply_over rule task h.0 first played _ _ (next.none c.if-walk_on.false)) (omega arith); }
+    let back = goes.taken_back rule played.by played.undo _ (after_first rule task first.by) _ (rw (next.back c.if-walk_on.false) h.2) c.unplay.ensures.before in
+    record {
+      goes = without_event rule task _ _ _ _ _ (
+        h.0,
+        record {
+          first_is = h.1.first_is;
+          threat = h.1.threat;
+          bare = record { board_at = back; none = goes.none_reversed _ (next.empty c.if-walk_on.false) };
+        },
+      )
+          (steps.reply_over rule task h.0 first played _ _ (next.none c.if-walk_on.false)) (omega arith);
+    }

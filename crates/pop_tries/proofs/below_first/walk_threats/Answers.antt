@@ -26,10 +26,12 @@ returns-then-walk_on g c =
     let walking = rw c.walk_below-walk.ensures at c.walk_on.ensures.walking in
     let line = path (reverse c.walk_on.new.frames.items) in
     let node = rw (c.walk_below-walk-then-walk_on.ensures, c.as_slice.ensures.value) at c.shown_node-node.ensures in
-    record { goes = with_event rule task _ _ _ _ _
-        (h.0, record { first_is = h.1.first_is; threat = h.1.threat; walking = rw node.unchanged walking; }, h.2) _ _
-        (steps.threats_go_on rule task h.0 first c.args.crossed _ _ line (next.next c.if-walk_on.true))
-        (c.node_event.ensures ∙ goes.threat_node task.problem.stipulation.goal rule (after_first rule task first.by) line _ _ _ node.depth node.half node.shown); }
+    record {
+      goes = with_event rule task _ _ _ _ _
+          (h.0, record { first_is = h.1.first_is; threat = h.1.threat; walking = rw node.unchanged walking }, h.2) _ _
+          (steps.threats_go_on rule task h.0 first c.args.crossed _ _ line (next.next c.if-walk_on.true))
+          (c.node_event.ensures ∙ goes.threat_node task.problem.stipulation.goal rule (after_first rule task first.by) line _ _ _ node.depth node.half node.shown);
+    }
 
 pub returns : goal.returns
 unfolding HoldsAt rank
@@ -40,7 +42,14 @@ returns g c =
     let first = c.args.first in
     let next = rw c.walk_below-walk.ensures at c.walk_on.ensures.next in
     let back = c.unpass.ensures.before (after_first rule task first.by) (next.back c.if-walk_on.false) h.2 in
-    record { goes = without_event rule task _ _ _ _ _
-        (h.0, record { first_is = h.1.first_is; threat = h.1.threat;
-        bare = record { board_at = back; none = goes.none_reversed _ (next.empty c.if-walk_on.false); }; })
-        (steps.threats_over rule task h.0 first c.start.result c.args.crossed _ _ c.start.ensures (next.none c.if-walk_on.false)) (omega arith); }
+    record {
+      goes = without_event rule task _ _ _ _ _ (
+        h.0,
+        record {
+          first_is = h.1.first_is;
+          threat = h.1.threat;
+          bare = record { board_at = back; none = goes.none_reversed _ (next.empty c.if-walk_on.false) };
+        },
+      )
+          (steps.threats_over rule task h.0 first c.start.result c.args.crossed _ _ c.start.ensures (next.none c.if-walk_on.false)) (omega arith);
+    }

@@ -12,7 +12,7 @@ returns-then-not-set_up g c =
     let barred : is_impossible_phase g.R.Rules.rule c.args.task.now.problem Set ≡ true = grind (arith, c.set_up.ensures.possible, c.if-not-set_up.true) in
     let at : c.set_up.new.board ≡ play_start c.args.task.now.problem = grind (arith, c.set_up.ensures.board, c.if-not-set_up.true) in
     record {
-      goes = with_event g.R.Rules.rule c.args.task.now _ _ _ _ _ (c.requires.holds.0, record { board_at = at; none = c.requires.holds.1.none; })
+      goes = with_event g.R.Rules.rule c.args.task.now _ _ _ _ _ (c.requires.holds.0, record { board_at = at; none = c.requires.holds.1.none })
           _ (set_event (opening Set)) (left_barred _ g.R.Rules.rule c.args.task.now _ _ barred) refl;
     }
 

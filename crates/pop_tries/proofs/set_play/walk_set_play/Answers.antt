@@ -1,5 +1,5 @@
 use Rattle.pop_tries.proofs.Words.{ap, arith, set_event}
-use Rattle.pop_tries.specs.declared.event.TryEvent.TheVariants.{Set}
+use Rattle.pop_events.specs.declared.try_event.TryEvent.TheVariants.{Set}
 unfoldable use Rattle.pop_tries.specs.ties.Searching.{HoldsAt, rank}
 use Rattle.pop_tries.proofs.Goings.{with_event, without_event}
 use Rattle.pop_tries.proofs.SetPlay.{left_ends, left_goes_on, none_after, none_reversed}
@@ -21,6 +21,6 @@ returns-in-None g c =
     let none = none_after g.R.Rules.rule c.args.task.now.problem _ _ _ c.advance.ensures.standing gives.2 in
     record {
       goes = without_event g.R.Rules.rule c.args.task.now _ _ _ _ _
-          (c.requires.holds.0, record { board_at = gives.1; none = none_reversed _ none; }, tt)
+          (c.requires.holds.0, record { board_at = gives.1; none = none_reversed _ none }, tt)
           (left_ends _ g.R.Rules.rule c.args.task.now _ _ _ gives.0) (omega arith);
     }

@@ -2,9 +2,6 @@ use Rattle.pop_solve.proofs.Words.{left_of, length-append, phase_events, rest_fe
 use Rattle.pop_solve.proofs.Sound.{ways_to_play}
 use Rattle.pop_solve.proofs.search.Search.opened.Goals as goal
 
-pub returns-clause-opened : goal.returns-clause-opened
-returns-clause-opened g c = search rules
-
 pub returns-clause-all : goal.returns-clause-all
 unfolding left_of rest_open phase_events
 returns-clause-all g c = search (rules, length-append, ways_to_play)
