@@ -30,7 +30,8 @@ use Rattle.chess_rules.proofs.listing_moves.Places.{place_of_triple, triples_num
 use Rattle.chess_rules.proofs.listing_moves.TripleNumbers.{in_triples, made_is_triple}
 
 module _ (rule : RuleSet) (contest : Contest) (fit : IsContest contest) where
-  long : half_moves contest.stipulation ≡ halves contest.battle contest.stipulation.n
+  -- its number of half-moves
+  pub long : half_moves contest.stipulation ≡ halves contest.battle contest.stipulation.n
   long = halves-form contest.stipulation.form contest.stipulation.n contest.battle fit.fought
 
   -- there is a half-move

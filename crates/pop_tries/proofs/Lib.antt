@@ -1,5 +1,7 @@
 pub mod Words
 pub mod Contests
 pub mod Loops
+pub mod ThreatLengths
 pub mod Walks
 pub mod theorems
+pub mod Excluded

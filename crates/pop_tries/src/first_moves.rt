@@ -1,4 +1,4 @@
-//! The next key, try or refutation after a place in the order of moves.
+//! The next key, try, shown reply or refutation after a place in the order of moves.
 ghost use Rattle.std.specs.Prelude.{◌≡◌, ◌+◌, ◌≤◌, [], ◌∷◌, MatchOption, filter, true, not};
 ghost use Rattle.arrayvec.specs.ArrayVec.{array_vec_len};
 ghost use Rattle.chess_core.specs.WellFormed.{IsWellFormed};
@@ -7,11 +7,12 @@ ghost use Rattle.chess_rules.specs.Play.{position_after, undo_of};
 ghost use Rattle.chess_rules.specs.ties.Places.{moves_after};
 ghost use Rattle.pop_solve.specs.Tree.{is_in_set_play};
 ghost use Rattle.pop_stipulation.specs.Stipulations.{half_moves};
-ghost use Rattle.pop_tries.specs.ties.Contests.{IsContest, Keeps, game_in};
-ghost use Rattle.pop_tries.specs.ties.FirstMoves.{belongs, IsFew};
+ghost use Rattle.pop_tries.specs.ties.Contests.{IsContest, IsThreat, Keeps, game_in};
+ghost use Rattle.pop_tries.specs.ties.FirstMoves.{belongs, is_shown, IsFew};
 
 use crate::contest::Contest;
 use crate::replies::{is_key, is_try, refutes};
+use crate::threats::is_defence;
 use arrayvec::ArrayVec;
 use chess_core::board::Board;
 use chess_core::man::Move;
@@ -85,6 +86,65 @@ pub fn play_next<R: Rules, const N: usize>(
             return Some((by, undo));
         }
         retract::<R>(board, by, undo);
+    }
+    None
+}
+
+/// Returns whether the legal reply `by` to the first move that led to the board's position is shown: a
+/// defence that doesn't refute. `threat` is the length of White's threats, as for `is_defence`.
+fn is_shown<R: Rules, const N: usize>(
+    contest: Contest,
+    threat: Option<usize>,
+    by: Move,
+    board: &mut Board,
+    frames: &mut ArrayVec<Frame<R>, N>,
+    search_state: &mut SearchState<R>,
+) -> bool
+    requires contest { IsContest contest }
+    requires threat { IsThreat R.rule contest board.old threat }
+    requires well_formed { IsWellFormed board.old }
+    requires legal { is_legal R.rule board.old by ≡ true }
+    requires room { array_vec_len frames.old + half_moves contest.stipulation ≤ N }
+    ensures shown { result ≡ is_shown R.rule contest board.old by }
+    ensures rest { Keeps board.old board.new frames.old.items frames.new.items }
+{
+    if refutes::<R, N>(contest, by, board, frames, search_state) {
+        return false;
+    }
+    is_defence::<R, N>(contest, threat, by, board, frames, search_state)
+}
+
+/// Returns the next reply after `place` that is shown below the first move that led to the board's position,
+/// and moves `place` to it; after the last one `None`. The board is unchanged. `threat` is the length of
+/// White's threats, as for `is_defence`.
+#[tactic(auto, using(crate::proofs::Loops::filtering))]
+pub fn next_reply<R: Rules, const N: usize>(
+    contest: Contest,
+    threat: Option<usize>,
+    place: &mut Moves<R>,
+    board: &mut Board,
+    frames: &mut ArrayVec<Frame<R>, N>,
+    search_state: &mut SearchState<R>,
+) -> Option<Move>
+    requires contest { IsContest contest }
+    requires threat { IsThreat R.rule contest board.old threat }
+    requires well_formed { IsWellFormed board.old }
+    requires room { array_vec_len frames.old + half_moves contest.stipulation ≤ N }
+    ensures rest { Keeps board.old board.new frames.old.items frames.new.items }
+    ensures next { MatchOption result
+        (filter (is_shown R.rule contest board.old)
+        (moves_after R.rule board.old place.old) ≡ [])
+        (λ found. (filter (is_shown R.rule contest board.old)
+        (moves_after R.rule board.old place.old)
+        ≡ found ∷ filter (is_shown R.rule contest board.old)
+        (moves_after R.rule board.old place.new))
+        × (is_legal R.rule board.old found ≡ true)) }
+{
+    let mut known = None;
+    while let Some(by) = next_move::<R>(&mut known, place, board) {
+        if is_shown::<R, N>(contest, threat, by, board, frames, search_state) {
+            return Some(by);
+        }
     }
     None
 }

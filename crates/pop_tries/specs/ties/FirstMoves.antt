@@ -1,9 +1,12 @@
--- The groups of first moves that a search shows (own).
-use Rattle.std.specs.Prelude.{◌≤◌, ℕ, Bool}
+-- The groups of first moves that a search shows, and the replies shown below one (own).
+use Rattle.std.specs.Prelude.{◌≤◌, ◌&&◌, ℕ, Bool}
 use Rattle.chess_core.specs.Position.{Position}
+use Rattle.chess_core.specs.declared.man.Move.{Move}
 use Rattle.chess_attacks.specs.RuleSet.{RuleSet}
-use Rattle.pop_solve.specs.Tree.{keeps_win}
-use Rattle.pop_tries.specs.Tries.{is_try}
+use Rattle.chess_rules.specs.Play.{position_after}
+use Rattle.pop_solve.specs.Tree.{is_in_set_play, keeps_win}
+use Rattle.pop_tries.specs.Events.{chess_passing}
+use Rattle.pop_tries.specs.Tries.{is_defence, is_try}
 use Rattle.pop_tries.specs.declared.contest.Contest.{Contest}
 use Rattle.pop_tries.specs.declared.first_moves.Group.{Group}
 use Rattle.pop_tries.specs.declared.first_moves.Group.TheVariants.{Keys, Tries}
@@ -20,3 +23,11 @@ belongs rule contest (Tries most) q =
 abbrev pub IsFew : Group → Type 0
 IsFew Keys = Unit {0}
 IsFew (Tries most) = most ≤ 200
+
+-- the reply d to a first move that leads to q is shown: a defence that doesn't refute
+abbrev pub is_shown : RuleSet → Contest → Position → Move → Bool
+is_shown rule contest q d =
+    is_in_set_play contest.battle (game_in rule contest) contest.stipulation.n
+    (position_after rule q d)
+    && is_defence contest.battle (game_in rule contest) contest.stipulation.n
+    (chess_passing rule) q d
