@@ -1,5 +1,5 @@
 -- What the values of positions mean for a contest.
-use Rattle.pop_tries.proofs.Words.{IsWellFormed, Game, List, Move, [], ◌∷◌, false≢true, legal_moves, Battle, BattlePlay, Bool, Direct, Goal, Position, RuleSet, Selfmate, and_parts, arith, chess, eqb, false, is_goal_reached, is_in_set_play, is_try, keeps_win, length, list_any, nat_le, nat_tests, not, refl, refutations, rules, suc, sym, true, wins_in, zero, ℕ, ◌&&◌, ◌+◌, ◌-◌, ◌<◌, ◌∙◌, ◌≡◌, ◌≤◌, half_moves}
+use Rattle.pop_tries.proofs.Words.{IsWellFormed, Game, List, Move, [], ◌∷◌, false≢true, legal_moves, Battle, Bool, Direct, Goal, Position, RuleSet, Selfmate, and_parts, arith, chess, false, is_goal_reached, is_in_set_play, is_try, keeps_win, length, list_any, nat_le, nat_tests, not, refl, refutations, rules, suc, sym, true, wins_in, zero, ℕ, ◌&&◌, ◌+◌, ◌-◌, ◌<◌, ◌∙◌, ◌≡◌, ◌≤◌, half_moves}
 unfoldable use Rattle.pop_tries.proofs.Words.{self_wins, wins}
 unfoldable use Rattle.pop_battle.specs.ties.Values.{value}
 unfoldable use Rattle.pop_tries.proofs.Words.{is_lost}

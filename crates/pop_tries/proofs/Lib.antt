@@ -3,5 +3,6 @@ pub mod Contests
 pub mod Loops
 pub mod ThreatLengths
 pub mod Walks
+pub mod Starts
 pub mod theorems
 pub mod Excluded

@@ -1,5 +1,5 @@
 -- Loops over the moves of a position that count those which pass a test, or look for one.
-use Rattle.pop_tries.proofs.Words.{Bool, List, Move, [], ap, arith, cond, false, filter, length, list_any, refl, sym, true, ℕ, ◌+◌, ◌∙◌, ◌∷◌, ◌≡◌, ◌||◌}
+use Rattle.pop_tries.proofs.Words.{Bool, List, Move, [], arith, false, filter, length, list_any, refl, true, ℕ, ◌+◌, ◌∙◌, ◌∷◌, ◌≡◌}
 
 module _ (test : Move → Bool) (m : Move) (old new : List Move) (next : old ≡ m ∷ new) where
   -- the next move passes, and is counted

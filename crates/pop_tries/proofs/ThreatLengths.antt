@@ -10,10 +10,10 @@ unfoldable use Rattle.pop_solve.specs.ties.Walk.{least_length_from, shown_length
 use Rattle.pop_solve.proofs.GoingOn.{walk_length-most}
 use Rattle.pop_solve.proofs.Least.{least_moves-direct, least_moves-selfmate}
 use Rattle.pop_solve.proofs.Lengths.{length-more}
-use Rattle.pop_solve.proofs.Trees.{attacker_to_move-step, halves, halves-seek}
+use Rattle.pop_solve.proofs.Trees.{attacker_to_move-step, halves}
 use Rattle.pop_tries.specs.declared.contest.Contest.{Contest}
 use Rattle.pop_tries.specs.ties.Contests.{IsContest, IsThreatLength, game_in}
-use Rattle.pop_tries.proofs.Contests.{long, no_win_at_goal, no_win_in_short, passed_by_value, passed_well_formed}
+use Rattle.pop_tries.proofs.Contests.{long, no_win_at_goal, no_win_in_short, passed_by_value}
 use Rattle.pop_tries.proofs.theorems.Threats.{at_least_one, has_threat_is, no_threat_after_last_move}
 
 white_halves : (battle : Battle) (t : ℕ) → attacker_to_move battle t ≡ true → 0 < t → (k : ℕ) × (t ≡ halves battle (suc k))
@@ -49,7 +49,7 @@ halves-some : (battle : Battle) (k : ℕ) → 1 ≤ k → 1 ≤ halves battle k
 halves-some Direct k some = omega (arith, some)
 halves-some Selfmate k some = omega (arith, some)
 
-halves-most : (battle : Battle) (k : ℕ) → halves battle k ≤ 2 * k
+pub halves-most : (battle : Battle) (k : ℕ) → halves battle k ≤ 2 * k
 halves-most Direct k = omega arith
 halves-most Selfmate k = omega arith
 
@@ -57,9 +57,18 @@ moves_of-halves : (battle : Battle) (k : ℕ) → 1 ≤ k → (halves battle k +
 moves_of-halves Direct k some = omega (arith, some)
 moves_of-halves Selfmate k some = omega (arith, some)
 
+-- with some half-moves of whole moves left White is to move
+pub halves-white : (battle : Battle) (k : ℕ) → 0 < halves battle k → attacker_to_move battle (halves battle k) ≡ true
+halves-white Direct k some = grind (arith, nat_tests)
+halves-white Selfmate k some = grind (arith, nat_tests)
+
 white_first : (battle : Battle) (k : ℕ) → 1 ≤ k → attacker_to_move battle (halves battle k) ≡ true
-white_first Direct k some = grind (arith, nat_tests)
-white_first Selfmate k some = grind (arith, nat_tests)
+white_first battle k some = halves-white battle k (omega (arith, halves-some battle k some))
+
+-- two half-moves later White is to move again
+pub white_left : (battle : Battle) (n : ℕ) → 2 ≤ halves battle n → attacker_to_move battle (halves battle n - 2) ≡ true
+white_left Direct n deep = grind (arith, nat_tests)
+white_left Selfmate n deep = grind (arith, nat_tests)
 
 module _ (rule : RuleSet) (contest : Contest) (fit : IsContest contest) (q : Position)
     (h : has_threat contest.battle (game_in rule contest) contest.stipulation.n (chess_passing rule) q ≡ true) where
@@ -121,4 +130,3 @@ module _ (rule : RuleSet) (contest : Contest) (fit : IsContest contest) (q : Pos
         threat = h;
         least = rw in_halves (moves_of-halves contest.battle least some);
       }
-

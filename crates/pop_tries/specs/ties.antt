@@ -1,2 +1,3 @@
 pub mod Contests
 pub mod FirstMoves
+pub mod Starts

@@ -9,6 +9,7 @@
 //! ```
 #![tactic(auto)]
 
+pub mod below;
 pub mod contest;
 pub mod first_moves;
 pub mod laws;

@@ -1,5 +1,5 @@
 -- The groups of first moves that a search shows, and the replies shown below one (own).
-use Rattle.std.specs.Prelude.{◌≤◌, ◌&&◌, ℕ, Bool}
+use Rattle.std.specs.Prelude.{◌≤◌, ◌&&◌, Bool}
 use Rattle.chess_core.specs.Position.{Position}
 use Rattle.chess_core.specs.declared.man.Move.{Move}
 use Rattle.chess_attacks.specs.RuleSet.{RuleSet}
