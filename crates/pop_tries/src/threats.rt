@@ -10,7 +10,7 @@ ghost use Rattle.pop_stipulation.specs.Stipulations.{half_moves};
 ghost use Rattle.pop_solve.specs.Tree.{keeps_win, wins_in};
 ghost use Rattle.pop_tries.specs.Events.{chess_passing};
 ghost use Rattle.pop_tries.specs.Tries.{has_threat, is_defence, works};
-ghost use Rattle.pop_tries.specs.ties.Contests.{IsContest, IsLength, IsThreat, Keeps, game_in, moves_of};
+ghost use Rattle.pop_tries.specs.ties.Contests.{IsLength, IsReady, IsThreat, Keeps, game_in, moves_of};
 ghost use Rattle.chess_rules.specs.ties.Places.{all_triples, triple_at};
 
 use crate::contest::Contest;
@@ -55,9 +55,7 @@ fn wins_with_one_less<R: Rules, const N: usize>(
     frames: &mut ArrayVec<Frame<R>, N>,
     search_state: &mut SearchState<R>,
 ) -> bool
-    requires contest { IsContest contest }
-    requires well_formed { IsWellFormed board.old }
-    requires room { array_vec_len frames.old + half_moves contest.stipulation ≤ N }
+    requires ready { IsReady contest board.old (array_vec_len frames.old) N }
     ensures wins { result ≡ wins_in contest.battle (game_in R.rule contest)
         (contest.stipulation.n - 1) board.old }
     ensures rest { Keeps board.old board.new frames.old.items frames.new.items }
@@ -77,9 +75,7 @@ pub fn has_threat<R: Rules, const N: usize>(
     frames: &mut ArrayVec<Frame<R>, N>,
     search_state: &mut SearchState<R>,
 ) -> bool
-    requires contest { IsContest contest }
-    requires well_formed { IsWellFormed board.old }
-    requires room { array_vec_len frames.old + half_moves contest.stipulation ≤ N }
+    requires ready { IsReady contest board.old (array_vec_len frames.old) N }
     ensures threat { result ≡ has_threat contest.battle (game_in R.rule contest)
         contest.stipulation.n (chess_passing R.rule) board.old }
     ensures rest { Keeps board.old board.new frames.old.items frames.new.items }
@@ -102,9 +98,7 @@ pub fn threat_length<R: Rules, const N: usize>(
     frames: &mut ArrayVec<Frame<R>, N>,
     search_state: &mut SearchState<R>,
 ) -> Option<usize>
-    requires contest { IsContest contest }
-    requires well_formed { IsWellFormed board.old }
-    requires room { array_vec_len frames.old + half_moves contest.stipulation ≤ N }
+    requires ready { IsReady contest board.old (array_vec_len frames.old) N }
     ensures threat { IsThreat R.rule contest board.old result }
     ensures rest { Keeps board.old board.new frames.old.items frames.new.items }
 {
