@@ -5,4 +5,3 @@ pub mod ThreatLengths
 pub mod Walks
 pub mod Starts
 pub mod theorems
-pub mod Excluded
