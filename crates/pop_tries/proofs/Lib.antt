@@ -4,4 +4,10 @@ pub mod Loops
 pub mod ThreatLengths
 pub mod Walks
 pub mod Starts
+pub mod Steps
+pub mod StepsBelow
+pub mod SetPlay
+pub mod Goings
+pub mod GoesBelow
+pub mod Searches
 pub mod theorems

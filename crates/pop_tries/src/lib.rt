@@ -10,10 +10,17 @@
 #![tactic(auto)]
 
 pub mod below;
+mod below_first;
 pub mod contest;
+pub mod event;
 pub mod first_moves;
+mod group;
 pub mod laws;
 pub mod replies;
+pub mod search;
+mod set_play;
+mod shown;
+pub mod stage;
 pub mod threats;
 
 pub use laws::{
