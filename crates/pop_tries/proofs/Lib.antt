@@ -11,4 +11,3 @@ pub mod Goings
 pub mod GoesBelow
 pub mod Searches
 pub mod theorems
-pub mod Excluded
