@@ -6,6 +6,7 @@ _pops_options() {
   case $1 in
     pops) echo --check --no-board; return ;;
     pops-part) echo --list --depth --item --phase --part; return ;;
+    pops-tries) echo --check --no-board --refutations; return ;;
     fen2pop)
       own='--file --stipulation --title --author --condition --set-play --variation --no-board --max-solutions
         --keep-colours --output'
@@ -50,8 +51,8 @@ _pops() {
     pops-sheet,--language) mapfile -t COMPREPLY < <(compgen -W 'en de fr' -- "$word") ;;
     pops-part,--phase) mapfile -t COMPREPLY < <(compgen -W 'set play' -- "$word") ;;
     pops-part,--depth) mapfile -t COMPREPLY < <(compgen -W '1 2 3 4' -- "$word") ;;
-    pops-part,--item | pops-part,--part) ;;
-    pops-part,*)
+    pops-part,--item | pops-part,--part | pops-tries,--refutations) ;;
+    pops-part,* | pops-tries,*)
       mapfile -t COMPREPLY < <(compgen -f -X '!*.pop' -- "$word"; compgen -d -- "$word")
       ;;
     # Any file is offered for the value of an option, and where a report or positions are read.
@@ -62,5 +63,5 @@ _pops() {
   esac
 }
 complete -o filenames -o bashdefault -o default -F _pops \
-  pops pops-part fen2pop pops-import pops-export pops-many pops-page pops-sheet pops-diagram pops2json pops-test \
+  pops pops-part pops-tries fen2pop pops-import pops-export pops-many pops-page pops-sheet pops-diagram pops2json pops-test \
   pops-judge pops-compare pops-explain pops-find
