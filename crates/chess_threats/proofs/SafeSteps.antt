@@ -1,5 +1,5 @@
 -- King's steps after which no attacker that checks takes all flights.
-use Rattle.chess_threats.proofs.Chess.{AreAdjacent, AreApproached, AreGuardsWithout, AreReached, Attackers, Bishop, Colour, Grasshopper, IsArrival, IsAttacker, IsCastlingHarmless, IsField, IsFlight, IsLeft, IsNear, IsQuiet, IsRiskAt, IsSafeStep, IsSparedStep, IsUnguarded, IsWeak, KeepsFlight, Kind, King, KingAttack, KingZone, Knight, Man, Nightrider, Pawn, Queen, Risk, Rook, RuleSet, Some, and_parts, ap, arith, bit_and, bit_at, bit_not, bit_or, cases_Bool, eq-eqb, eqb-true, every_square_on, false, false_by, false≢true, gait_of, inl, inr, is_hopper, is_leaper, is_promoting, is_rider, is_square, men_on, not, not-false, off_left, off_right, off_zero, on_first, on_left, on_right, or_lt, other, reached_over, reaches_as, reaches_back, refl, same_kind, same_kind-true, subst, sym, true, w64, word, word_has, ℕ, ◌<◌, ◌==◌, ◌^◌, ◌∙◌, ◌≡◌, ◌≢◌, ◌⊎◌}
+use Rattle.chess_threats.proofs.Chess.{AreAdjacent, AreGuardsWithout, AreReached, Attackers, Bishop, Colour, Grasshopper, IsArrival, IsAttacker, IsCastlingHarmless, IsField, IsFlight, IsLeft, IsNear, IsRiskAt, IsSafeStep, IsSparedStep, IsUnguarded, IsWeak, KeepsFlight, Kind, King, KingAttack, KingZone, Knight, Man, Nightrider, Pawn, Queen, Risk, Rook, RuleSet, Some, ap, arith, bit_and, bit_at, bit_not, bit_or, cases_Bool, eq-eqb, eqb-true, every_square_on, false, false_by, false≢true, gait_of, inl, inr, is_hopper, is_leaper, is_promoting, is_rider, is_square, men_on, not, not-false, off_left, off_right, off_zero, on_first, on_left, on_right, or_lt, other, reached_over, reaches_back, refl, same_kind, subst, sym, true, w64, word, word_has, ℕ, ◌<◌, ◌==◌, ◌^◌, ◌∙◌, ◌≡◌, ◌≢◌, ◌⊎◌}
 use Rattle.chess_threats.specs.declared.lasting_flights.OpenTargets.{OpenTargets}
 use Rattle.chess_flights.specs.ties.Attackers.{is_promotion}
 use Rattle.chess_threats.specs.ties.KingAttack.{IsMild, AreChecksMet, AreGuardsThrough, ArePlainAttackers, AreUnhopping, IsCalm, IsCheckMet}
@@ -177,7 +177,8 @@ module _ (v : KingAttack) (w k near : ℕ) (through : AreGuardsThrough v w) (pla
           unguarded = unguarded s x i a f off l.small (off_left w z1 f out);
         }
 
-    module _ (leaves : AreChecksMet v.men o left k) (s : ℕ) (x : Man) (i : IsAttacker v.men x s) (a b : ℕ) (off : (bit_at v.hurdles a == 1) ≡ false) (here : b ≡ k) where
+    module _ (leaves : AreChecksMet v.men o left k) (s : ℕ) (x : Man) (i : IsAttacker v.men x s) (a b : ℕ)
+        (off : (bit_at v.hurdles a == 1) ≡ false) (here : b ≡ k) where
       abbrev checks : ℕ
       checks = word (λ q. reached_over v.hurdles (record { colour = other x.colour; kind = x.kind }) k q)
 

@@ -2,7 +2,7 @@
 -- king (own).
 use Rattle.std.specs.Prelude.{◌≡◌, ◌≢◌, ◌<◌, ◌==◌, ◌⊎◌, ◌+◌, ◌-◌, ℕ, true, false, List, Option, Some, is_some}
 use Rattle.std.specs.Int.{bit_at}
-use Rattle.std.specs.Int.Bits.{bit_and, bit_or}
+use Rattle.std.specs.Int.Bits.{bit_and}
 use Rattle.std.specs.List.{list_any}
 use Rattle.chess_core.specs.Castling.{has_unmoved}
 use Rattle.chess_core.specs.Position.{Position, is_fairy, is_man, is_of_colour, king_square, man_on, may_promote, other, same_kind}
@@ -10,7 +10,7 @@ use Rattle.chess_core.specs.Squares.{file_of}
 use Rattle.chess_core.specs.Steps.{gait_of, is_hopper, queen_steps, straight_steps}
 use Rattle.chess_core.specs.declared.man.Colour.{Colour}
 use Rattle.chess_core.specs.declared.man.Kind.{Kind}
-use Rattle.chess_core.specs.declared.man.Kind.TheVariants.{King, Queen, Rook, Bishop, Knight, Pawn, Nightrider}
+use Rattle.chess_core.specs.declared.man.Kind.TheVariants.{King, Rook, Bishop, Pawn, Nightrider}
 use Rattle.chess_core.specs.declared.man.Man.{Man}
 use Rattle.chess_core.specs.ties.Words.{side_of}
 use Rattle.chess_flights.specs.declared.attackers.Attackers.{Attackers}
