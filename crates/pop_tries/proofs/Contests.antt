@@ -1,5 +1,5 @@
 -- What the values of positions mean for a contest.
-use Rattle.pop_tries.proofs.Words.{IsWellFormed, Game, List, Move, [], ◌∷◌, false≢true, legal_moves, Battle, BattlePlay, Bool, Direct, Goal, Position, RuleSet, Selfmate, and_parts, arith, chess, eqb, false, is_goal_reached, is_in_set_play, is_try, keeps_win, length, list_any, nat_le, nat_tests, not, refl, refutations, rules, suc, sym, true, wins_in, zero, ℕ, ◌&&◌, ◌+◌, ◌-◌, ◌<◌, ◌∙◌, ◌≡◌, ◌≤◌, half_moves}
+use Rattle.pop_tries.proofs.Words.{IsWellFormed, Game, List, Move, [], ◌∷◌, false≢true, legal_moves, Battle, Bool, Direct, Goal, Position, RuleSet, Selfmate, and_parts, arith, chess, false, is_goal_reached, is_in_set_play, is_try, keeps_win, length, list_any, nat_le, nat_tests, not, refl, refutations, rules, suc, sym, true, wins_in, zero, ℕ, ◌&&◌, ◌+◌, ◌-◌, ◌<◌, ◌∙◌, ◌≡◌, ◌≤◌, half_moves}
 unfoldable use Rattle.pop_tries.proofs.Words.{self_wins, wins}
 unfoldable use Rattle.pop_battle.specs.ties.Values.{value}
 unfoldable use Rattle.pop_tries.proofs.Words.{is_lost}
@@ -30,7 +30,8 @@ use Rattle.chess_rules.proofs.listing_moves.Places.{place_of_triple, triples_num
 use Rattle.chess_rules.proofs.listing_moves.TripleNumbers.{in_triples, made_is_triple}
 
 module _ (rule : RuleSet) (contest : Contest) (fit : IsContest contest) where
-  long : half_moves contest.stipulation ≡ halves contest.battle contest.stipulation.n
+  -- its number of half-moves
+  pub long : half_moves contest.stipulation ≡ halves contest.battle contest.stipulation.n
   long = halves-form contest.stipulation.form contest.stipulation.n contest.battle fit.fought
 
   -- there is a half-move

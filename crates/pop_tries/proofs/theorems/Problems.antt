@@ -1,6 +1,6 @@
 -- The keys and tries of a problem, under every set of rules: their order, that with many refutations all
 -- first moves are shown, and that no event comes twice.
-use Rattle.pop_tries.proofs.Words.{AllPairs, AllPairs-filter, Battle, BattlePlay, Below, Bool, Contains, Contains-append_cases, Contains-append_left, Goal, half_moves, eqb, ◌-◌, IsWellFormed, List, Move, Play, Posed, Position, Precedes, RuleSet, [], after_well_formed, ap, arith, attempt, attempt_events, below, can_move, chess, chess_passing, false, false≢true, filter, flat_map, from_filter, from_flat_map, from_map, game_of, in_cases, in_filter, inl, inr, is_defence, is_pseudo_legal-from_legal, is_try, keeps_win, key, key_events, key_moves, key_total, keys, legal_moves, length, length-map, map, moves_are_the_legal_moves, moves_differ, moves_in_order, none_in_nil, pairs_append, pairs_flat_map, pairs_front, pairs_map, pairs_nil, pairs_of, play_events, play_of, play_start, position_after, refl, refutations, set_event, shown_below, shown_refutations, subst, sym, take, take-append-drop, drop, tries, true, try_moves, try_total, no_tries, TryEvent, ℕ, ◌++◌, ◌∙◌, ◌∷◌, ◌≡◌, ◌≢◌, ◌≤◌, ◌⊎◌}
+use Rattle.pop_tries.proofs.Words.{AllPairs, AllPairs-filter, Battle, BattlePlay, Below, Bool, Contains, Contains-append_cases, Contains-append_left, Goal, half_moves, eqb, ◌-◌, IsWellFormed, List, Move, Play, Posed, Position, Precedes, RuleSet, [], after_well_formed, ap, arith, attempt, attempt_events, below, can_move, chess, chess_passing, false, false≢true, filter, flat_map, from_filter, from_flat_map, from_map, game_of, in_cases, in_filter, inl, inr, is_defence, is_pseudo_legal-from_legal, is_try, keeps_win, key, key_events, key_moves, key_total, keys, legal_moves, length, length-map, map, moves_are_the_legal_moves, moves_differ, moves_in_order, none_in_nil, pairs_append, pairs_flat_map, pairs_front, pairs_map, pairs_nil, pairs_of, play_events, play_of, play_start, position_after, refl, refutations, set_event, shown_below, shown_refutations, subst, sym, take, take-append-drop, drop, tries, true, try_moves, try_total, no_tries, BareTryEvent, ℕ, ◌++◌, ◌∙◌, ◌∷◌, ◌≡◌, ◌≢◌, ◌≤◌, ◌⊎◌}
 unfoldable use Rattle.pop_solve.proofs.Words.{solutions}
 use Rattle.pop_tries.proofs.theorems.Refutations.{each_is_key_or_try, no_key_is_a_try, refutations_are}
 use Rattle.pop_tries.proofs.theorems.Shown.{nothing_below_comes_twice}
@@ -21,7 +21,7 @@ from_take : {X : Type 0} (k : ℕ) (xs : List X) (x : X) → Contains (take k xs
 from_take k xs x c = subst (λ l. Contains l x) (take-append-drop k xs) (Contains-append_left (take k xs) (drop k xs) x c)
 
 -- the kind of an event, by which events of the play differ
-abbrev rank : TryEvent → ℕ
+abbrev rank : BareTryEvent → ℕ
 rank no_tries = 0
 rank (set_event e) = 0
 rank keys = 1
@@ -33,7 +33,7 @@ rank (attempt m) = 5
 rank (below m e) = 5
 
 -- the first move to which an event belongs
-abbrev mover : TryEvent → List Move
+abbrev mover : BareTryEvent → List Move
 mover no_tries = []
 mover (set_event e) = []
 mover keys = []
@@ -44,7 +44,7 @@ mover (key m) = m ∷ []
 mover (attempt m) = m ∷ []
 mover (below m e) = m ∷ []
 
-unlike : (x y : TryEvent) → (rank x ≡ rank y → ⊥) → x ≢ y
+unlike : (x y : BareTryEvent) → (rank x ≡ rank y → ⊥) → x ≢ y
 unlike x y apart same = apart (ap rank same)
 
 module _ (battle : Battle) (rule : RuleSet) (problem : Posed) where
@@ -99,31 +99,31 @@ module _ (battle : Battle) (rule : RuleSet) (problem : Posed) where
       (half_moves problem.stipulation - 1) (position_after rule (play_start problem) m) (moves_differ rule)
 
   -- the events of a first move: the move, and what is below it
-  of_first : (m : Move) (head : TryEvent) → mover head ≡ m ∷ [] → rank head ≡ 5 → (bs : List (Below Move)) (x : TryEvent)
+  of_first : (m : Move) (head : BareTryEvent) → mover head ≡ m ∷ [] → rank head ≡ 5 → (bs : List (Below Move)) (x : BareTryEvent)
       → Contains (head ∷ map (below m) bs) x → (mover x ≡ m ∷ []) × (rank x ≡ 5)
   of_first m head mine five bs x c = elim (in_cases head (map (below m) bs) x c) [
     | inl same ↦ (ap mover (sym same) ∙ mine, ap rank (sym same) ∙ five)
     | inr later ↦ let w = from_map (below m) bs x later in (ap mover (sym w.2), ap rank (sym w.2))
   ]
 
-  one_first : (m : Move) (head : TryEvent) → ((e : Below Move) → head ≢ below m e) → (bs : List (Below Move)) → AllPairs (λ x y. x ≢ y) bs
+  one_first : (m : Move) (head : BareTryEvent) → ((e : Below Move) → head ≢ below m e) → (bs : List (Below Move)) → AllPairs (λ x y. x ≢ y) bs
       → AllPairs (λ x y. x ≢ y) (head ∷ map (below m) bs)
   one_first m head apart bs differ = pairs_of (λ x y. x ≢ y) head (map (below m) bs)
       (λ y c same. let w = from_map (below m) bs y c in apart w.0 (same ∙ sym w.2))
       (pairs_map (λ x y. x ≢ y) (λ x y. x ≢ y) (below m) bs (λ x y ne same. ne (grind arith)) differ)
 
-  same_mover : (m n : Move) (x y : TryEvent) → mover x ≡ m ∷ [] → mover y ≡ n ∷ [] → x ≡ y → m ≡ n
+  same_mover : (m n : Move) (x y : BareTryEvent) → mover x ≡ m ∷ [] → mover y ≡ n ∷ [] → x ≡ y → m ≡ n
   same_mover m n x y a b same = let e : m ∷ [] ≡ n ∷ [] = sym a ∙ ap mover same ∙ b in grind arith
 
-  all_firsts : (f : Move → List TryEvent) → ((m : Move) (x : TryEvent) → Contains (f m) x → (mover x ≡ m ∷ []) × (rank x ≡ 5))
+  all_firsts : (f : Move → List BareTryEvent) → ((m : Move) (x : BareTryEvent) → Contains (f m) x → (mover x ≡ m ∷ []) × (rank x ≡ 5))
       → ((m : Move) → AllPairs (λ x y. x ≢ y) (f m)) → (ms : List Move) → AllPairs (λ m n. m ≢ n) ms → AllPairs (λ x y. x ≢ y) (flat_map f ms)
   all_firsts f mine each ms differ = pairs_flat_map (λ m n. m ≢ n) (λ x y. x ≢ y) f ms differ each
       (λ m n ne x y c d same. ne (same_mover m n x y (mine m x c).0 (mine n y d).0 same))
 
-  key_first : (m : Move) (x : TryEvent) → Contains (key_events battle rule problem m) x → (mover x ≡ m ∷ []) × (rank x ≡ 5)
+  key_first : (m : Move) (x : BareTryEvent) → Contains (key_events battle rule problem m) x → (mover x ≡ m ∷ []) × (rank x ≡ 5)
   key_first m x c = of_first m (key m) refl refl (shown_below battle rule problem m) x c
 
-  try_first : (m : Move) (x : TryEvent) → Contains (attempt_events battle rule problem m) x → (mover x ≡ m ∷ []) × (rank x ≡ 5)
+  try_first : (m : Move) (x : BareTryEvent) → Contains (attempt_events battle rule problem m) x → (mover x ≡ m ∷ []) × (rank x ≡ 5)
   try_first m x c = of_first m (attempt m) refl refl (whole m) x c
 
   each_key : (m : Move) → AllPairs (λ x y. x ≢ y) (key_events battle rule problem m)
@@ -149,14 +149,14 @@ module _ (battle : Battle) (rule : RuleSet) (problem : Posed) where
     try_list : AllPairs (λ x y. x ≢ y) (flat_map (attempt_events battle rule problem) (try_moves battle rule problem most))
     try_list = all_firsts (attempt_events battle rule problem) try_first each_try (try_moves battle rule problem most) (moves_apart _)
 
-    in_tries : (y : TryEvent) → Contains (flat_map (attempt_events battle rule problem) (try_moves battle rule problem most)) y
+    in_tries : (y : BareTryEvent) → Contains (flat_map (attempt_events battle rule problem) (try_moves battle rule problem most)) y
         → (n : Move) × (Contains (try_moves battle rule problem most) n × (mover y ≡ n ∷ []) × (rank y ≡ 5))
     in_tries y c =
         let w = from_flat_map (attempt_events battle rule problem) (try_moves battle rule problem most) y c in
         let f = try_first w.0 y w.2 in
         (w.0, (w.1, f.0, f.1))
 
-    in_keys : (x : TryEvent) → Contains (flat_map (key_events battle rule problem) shown_keys) x
+    in_keys : (x : BareTryEvent) → Contains (flat_map (key_events battle rule problem) shown_keys) x
         → (m : Move) × (Contains (key_moves battle rule problem) m × (mover x ≡ m ∷ []) × (rank x ≡ 5))
     in_keys x c =
         let w = from_flat_map (key_events battle rule problem) shown_keys x c in
@@ -164,17 +164,17 @@ module _ (battle : Battle) (rule : RuleSet) (problem : Posed) where
         (w.0, (from_take problem.max_solutions (key_moves battle rule problem) w.0 w.1, f.0, f.1))
 
     -- the events from the tries on: their ranks
-    abbrev ending : ℕ → List TryEvent
+    abbrev ending : ℕ → List BareTryEvent
     ending n = flat_map (attempt_events battle rule problem) (try_moves battle rule problem most) ++ try_total n ∷ []
 
-    in_ending : (n : ℕ) (y : TryEvent) → Contains (ending n) y
+    in_ending : (n : ℕ) (y : BareTryEvent) → Contains (ending n) y
         → Contains (flat_map (attempt_events battle rule problem) (try_moves battle rule problem most)) y ⊎ (rank y ≡ 4)
     in_ending n y c = elim (Contains-append_cases (flat_map (attempt_events battle rule problem) (try_moves battle rule problem most)) (try_total n ∷ []) y c) [
       | inl a ↦ inl a
       | inr b ↦ elim (in_cases (try_total n) [] y b) [ inl same ↦ inr (ap rank (sym same)) | inr none ↦ absurd (none_in_nil y none) ]
     ]
 
-    ending_rank : (n : ℕ) (y : TryEvent) → Contains (ending n) y → 4 ≤ rank y
+    ending_rank : (n : ℕ) (y : BareTryEvent) → Contains (ending n) y → 4 ≤ rank y
     ending_rank n y c = elim (in_ending n y c) [ inl a ↦ omega (arith, (in_tries y a).1.2) | inr four ↦ omega (arith, four) ]
 
     ending_differs : (n : ℕ) → AllPairs (λ x y. x ≢ y) (ending n)
@@ -186,10 +186,10 @@ module _ (battle : Battle) (rule : RuleSet) (problem : Posed) where
           | inr none ↦ absurd (none_in_nil y none)
         ]))
 
-    tries_rank : (n : ℕ) (y : TryEvent) → Contains (tries ∷ ending n) y → 3 ≤ rank y
+    tries_rank : (n : ℕ) (y : BareTryEvent) → Contains (tries ∷ ending n) y → 3 ≤ rank y
     tries_rank n y c = elim (in_cases tries (ending n) y c) [ inl same ↦ omega (arith, ap rank same) | inr later ↦ omega (arith, ending_rank n y later) ]
 
-    rest_rank : (k n : ℕ) (stopped : Bool) (y : TryEvent) → Contains (key_total k stopped ∷ (tries ∷ ending n)) y → 2 ≤ rank y
+    rest_rank : (k n : ℕ) (stopped : Bool) (y : BareTryEvent) → Contains (key_total k stopped ∷ (tries ∷ ending n)) y → 2 ≤ rank y
     rest_rank k n stopped y c = elim (in_cases (key_total k stopped) (tries ∷ ending n) y c) [
       | inl same ↦ omega (arith, ap rank same)
       | inr later ↦ omega (arith, tries_rank n y later)
@@ -201,7 +201,7 @@ module _ (battle : Battle) (rule : RuleSet) (problem : Posed) where
         (pairs_of (λ x y. x ≢ y) tries (ending n) (λ y c. unlike tries y (λ e. omega (arith, e, ending_rank n y c))) (ending_differs n))
 
     -- an event of the rest is of rank 5 only as an event of a try
-    of_a_try : (k n : ℕ) (stopped : Bool) (y : TryEvent) → Contains (key_total k stopped ∷ (tries ∷ ending n)) y → rank y ≡ 5
+    of_a_try : (k n : ℕ) (stopped : Bool) (y : BareTryEvent) → Contains (key_total k stopped ∷ (tries ∷ ending n)) y → rank y ≡ 5
         → (m : Move) × (Contains (try_moves battle rule problem most) m × (mover y ≡ m ∷ []))
     of_a_try k n stopped y c five = elim (in_cases (key_total k stopped) (tries ∷ ending n) y c) [
       | inl same ↦ absurd (omega (arith, five, ap rank same))
@@ -214,7 +214,7 @@ module _ (battle : Battle) (rule : RuleSet) (problem : Posed) where
       ]
     ]
 
-    keys_apart : (k n : ℕ) (stopped : Bool) (x y : TryEvent) → Contains (flat_map (key_events battle rule problem) shown_keys) x
+    keys_apart : (k n : ℕ) (stopped : Bool) (x y : BareTryEvent) → Contains (flat_map (key_events battle rule problem) shown_keys) x
         → Contains (key_total k stopped ∷ (tries ∷ ending n)) y → x ≢ y
     keys_apart k n stopped x y c d same =
         let a = in_keys x c in

@@ -1,6 +1,5 @@
 use Rattle.pop_tries.proofs.Words.{ap, keeps_win, not, position_after, rules, sym, works, ◌∙◌, ◌≡◌}
 use Rattle.pop_battle.specs.Chess.{set_start}
-use Rattle.chess_rules.specs.ties.Places.{moves_after}
 use Rattle.chess_rules.proofs.listing_moves.Calls.{playing}
 use Rattle.pop_tries.specs.Events.{chess_passing}
 use Rattle.pop_tries.specs.ties.Contests.{game_in, moves_of}
