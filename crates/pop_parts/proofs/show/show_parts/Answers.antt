@@ -1,6 +1,6 @@
 use Rattle.pop_parts.proofs.Words.{None, ap, arith, entry_in, inl, is_some, limit, refl, sym, true, ◌+◌, ◌∙◌, ◌≡◌, ◌≢◌}
 use Rattle.pop_text.proofs.Using.{failures_then}
-use Rattle.pop_parts.proofs.Listing.{entry_there, item_there, none_there}
+use Rattle.pop_parts.proofs.Reading.{entry_there, item_there, none_there}
 use Rattle.pop_parts.proofs.Showing.{found_reads, item_cut, item_missing, item_shown, missing_reads, passed_start, passed_step}
 use Rattle.pop_parts.proofs.show.show_parts.Goals as goal
 

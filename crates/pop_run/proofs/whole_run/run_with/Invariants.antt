@@ -1,11 +1,11 @@
 use Rattle.pop_run.proofs.Basics.{IsEndSeen, Open, failures_after, work_left, ◌≡◌}
 use Rattle.pop_run.proofs.Running.{Progress}
-use Rattle.pop_run.proofs.whole_run.report.Given as goal
+use Rattle.pop_run.proofs.whole_run.run_with.Given as goal
 
 -- the items so far are read and reported
 abbrev pub invariant-loop-sound : goal.invariant-loop-sound
 invariant-loop-sound g l = record {
-  progress : Progress l.fn.choice l.session (g.S.Source.remaining l.fn.source) (g.S.Source.remaining l.source) (g.W.Sink.taken l.fn.sink)
+  progress : Progress g.I.ItemWriter.text l.fn.writer l.session (g.S.Source.remaining l.fn.source) (g.S.Source.remaining l.source) (g.W.Sink.taken l.fn.sink)
       (g.W.Sink.taken l.sink);
   seen : IsEndSeen l.session.at.at.end (g.S.Source.remaining l.source);
   read_failures : g.S.Source.failures l.source ≡ failures_after Open l.session.at.at.end (g.S.Source.failures l.fn.source);
