@@ -1,5 +1,5 @@
 -- What the calls of the page return (own).
-use Rattle.std.specs.Prelude.{◌≡◌, ℕ, ◌^◌, ◌==◌, List, [], length, Some, Bool, true, false, if◌then◌else◌}
+use Rattle.std.specs.Prelude.{◌≡◌, ℕ, ◌^◌, ◌==◌, min, List, [], length, Some, Bool, true, false, if◌then◌else◌}
 use Rattle.pop_text.specs.Words.{Input, Clean}
 use Rattle.pop_events.specs.declared.event.Phase.{Phase}
 use Rattle.pop_events.specs.declared.event.Phase.TheVariants.{Set, Play}
@@ -9,6 +9,7 @@ use Rattle.pop_run.specs.Run.{RunsBy}
 use Rattle.pop_run.specs.declared.status.Status.{Status}
 use Rattle.pop_run.specs.declared.status.Status.TheVariants.{Sound, Faulty, InputFailed, OutputFailed}
 use Rattle.pop_parts.specs.Parts.{parts_line}
+use Rattle.pop_tries_run.specs.Report.{tries_entry_text}
 use Rattle.pop_parts.specs.Runs.{Shows as PartsRun}
 use Rattle.pop_parts.specs.declared.request.PartRequest.{PartRequest}
 use Rattle.pop_parts.specs.declared.request.Outcome.{Outcome}
@@ -87,6 +88,15 @@ ShowsItems item_text text shown answer = Fills Status status_number
 -- the report of `pops` is shown
 abbrev pub Shows : Choice → List ℕ → List ℕ → ℕ → Type 0
 Shows choice = ShowsItems (entry_text choice)
+
+-- the greatest number of refutations of a try that the page asks for: 200 at most
+abbrev pub most_of : ℕ → ℕ
+most_of refutations = min refutations 200
+
+-- the report of `pops-tries` is shown, with all boards or none, and tries with at most this number of refutations
+abbrev pub ShowsTries : Bool → ℕ → List ℕ → List ℕ → ℕ → Type 0
+ShowsTries no_board refutations = ShowsItems
+    (tries_entry_text (record { check = false; no_board = no_board }) (most_of refutations))
 
 -- the list of parts is shown
 abbrev pub Lists : ℕ → List ℕ → List ℕ → ℕ → Type 0

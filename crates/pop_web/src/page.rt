@@ -1,15 +1,18 @@
-//! The calls of the page: a text's report, the list of its parts, the solutions of one part.
+//! The calls of the page: a text's report, with or without tries, the list of its parts, the solutions of one part.
 ghost use Rattle.std.specs.Prelude.{◌≡◌, ◌<◌, ◌≤◌, length, take};
-ghost use Rattle.pop_web.specs.Page.{Lists, Shows, ShowsItems, ShowsParts, depth_of as depth_by, status_number, outcome_number, part_of as part_by, phase_of as phase_by, room, too_small};
+ghost use Rattle.pop_web.specs.Page.{Lists, Shows, ShowsItems, ShowsParts, ShowsTries, depth_of as depth_by, status_number, outcome_number, part_of as part_by, phase_of as phase_by, room, too_small};
 
 use crate::memory_sink::MemorySink;
 use crate::text_source::TextSource;
 use pop_events::Phase;
 use pop_parts::{Outcome, PartRequest, list_parts, show_parts};
 use pop_run::{Choice, ItemWriter, Status, run_with};
+use pop_tries_run::TriesWriter;
 
 /// The size of the output, in bytes. Longer texts are cut.
 const ROOM: usize = 1 << 22;
+/// The most refutations of a try.
+const MOST_REFUTATIONS: u32 = 200;
 
 /// Writes the report of the input to the front of `output`, and its length in bytes to `written`.
 ///
@@ -39,6 +42,33 @@ pub extern "C" fn pops_report(
     ensures room { length output.new ≡ length output.old }
 {
     show_items(Choice { check, no_board }, input, output, written)
+}
+
+/// Writes the report of the input with keys, tries and refutations to the front of `output`, and its length in bytes to
+/// `written`. A try has at most `refutations` refutations; more than 200 count as 200.
+///
+/// The results are those that `pops_report` returns; the bytes are those that `pops-tries` writes.
+#[unsafe(no_mangle)]
+pub extern "C" fn pops_tries(
+    no_board: bool,
+    refutations: u32,
+    input: &[u8],
+    output: &mut [u8],
+    written: &mut usize,
+) -> u32
+    ensures shows { room ≤ length output.old → ShowsTries no_board refutations input.now
+        (take written.new output.new) result }
+    ensures short { length output.old < room → (result ≡ too_small) × (written.new ≡ 0)
+        × (output.new ≡ output.old) }
+    ensures inside { written.new ≤ length output.new }
+    ensures room { length output.new ≡ length output.old }
+{
+    let choice = Choice {
+        check: false,
+        no_board,
+    };
+    let writer = TriesWriter::new(choice, refutations.min(MOST_REFUTATIONS));
+    show_items(writer, input, output, written)
 }
 
 /// Writes the list of the input's parts to the front of `output`, one line per item, and its length in bytes to
