@@ -14,16 +14,13 @@ ghost use Rattle.pop_battle.specs.declared.chess.Reached.TheVariants.{Surely};
 ghost use Rattle.pop_battle.specs.ties.Calls.{IsOnMate};
 ghost use Rattle.pop_battle.specs.ties.Marks.{is_for_mate};
 
-use chess_core::board::Board;
-use chess_core::diagram::Diagram;
-use chess_core::man::{Man, Move};
-use chess_core::square::Square;
-use chess_mates::mating_moves::MateCursor;
+use chess_core::{Board, Diagram, Man, Move, Square};
+use chess_mates::MateCursor;
 use chess_rules::{
     LegalCursor, Moves, Rules, Undo, has_legal_move, in_check, is_castling, is_mate, is_stalemate,
 };
-use pop_events::shown::{Mark, Shown, Side};
-use pop_stipulation::stipulation::Goal;
+use pop_events::{Mark, Shown, Side};
+use pop_stipulation::Goal;
 
 /// Returns a cursor over the legal moves of the board's position, at `place`. Reuses the cursor `known` if
 /// there is one.

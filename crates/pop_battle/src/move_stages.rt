@@ -12,9 +12,8 @@ ghost use Rattle.pop_battle.specs.ties.Frames.{all_moves_of, belongs, comes_earl
 use crate::aim::Battle;
 use crate::frame::{Early, MoveStage, Order};
 use crate::killers::Killers;
-use chess_core::board::Board;
-use chess_core::man::Move;
-use chess_mates::aims::{aims_at_king, next_aimed};
+use chess_core::{Board, Move};
+use chess_mates::{aims_at_king, next_aimed};
 use chess_rules::{LegalCursor, Moves, Rules};
 
 /// Returns which moves come right after the killers: those that give check or attack next to the king, if

@@ -1,4 +1,4 @@
-use Rattle.pop_solve.proofs.Words.{arith, inl, inr, length, length-reverse, nat_tests, rules, sym}
+use Rattle.pop_solve.proofs.Words.{arith, inl, inr, length, length-reverse, nat_tests, rules, sym, ◌<◌, ◌∙◌, ◌≡◌}
 use Rattle.pop_solve.proofs.Kept as kept
 use Rattle.pop_solve.proofs.Sound.{plan-helps}
 use Rattle.pop_solve.proofs.phases.walk_on.Goals as goal
