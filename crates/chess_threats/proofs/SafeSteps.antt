@@ -1,5 +1,5 @@
 -- King's steps after which no attacker that checks takes all flights.
-use Rattle.chess_threats.proofs.Chess.{AreAdjacent, AreGuardsWithout, AreReached, Attackers, Bishop, Colour, Grasshopper, IsArrival, IsAttacker, IsCastlingHarmless, IsField, IsFlight, IsLeft, IsNear, IsRiskAt, IsSafeStep, IsSparedStep, IsUnguarded, IsWeak, KeepsFlight, Kind, King, KingAttack, KingZone, Knight, Man, Nightrider, Pawn, Queen, Risk, Rook, RuleSet, Some, ap, arith, bit_and, bit_at, bit_not, bit_or, cases_Bool, eq-eqb, eqb-true, every_square_on, false, false_by, false≢true, gait_of, inl, inr, is_hopper, is_leaper, is_promoting, is_rider, is_square, men_on, not, not-false, off_left, off_right, off_zero, on_first, on_left, on_right, or_lt, other, reached_over, reaches_back, refl, same_kind, subst, sym, true, w64, word, word_has, ℕ, ◌<◌, ◌==◌, ◌^◌, ◌∙◌, ◌≡◌, ◌≢◌, ◌⊎◌}
+use Rattle.chess_threats.proofs.Chess.{AreAdjacent, AreGuardsWithout, AreReached, Attackers, Bishop, Colour, Grasshopper, IsArrival, IsAttacker, IsCastlingHarmless, IsKingZone, IsFlight, IsLeft, IsNear, IsRiskAt, IsSafeStep, IsSparedStep, IsUnguarded, IsWeak, KeepsFlight, Kind, King, KingAttack, KingZone, Knight, Man, Nightrider, Pawn, Queen, Risk, Rook, RuleSet, Some, ap, arith, bit_and, bit_at, bit_not, bit_or, cases_Bool, eq-eqb, eqb-true, every_square_on, false, false_by, false≢true, gait_of, inl, inr, is_hopper, is_leaper, is_promoting, is_rider, is_square, men_on, not, not-false, off_left, off_right, off_zero, on_first, on_left, on_right, or_lt, other, reached_over, reaches_back, refl, same_kind, subst, sym, true, w64, word, word_has, ℕ, ◌<◌, ◌==◌, ◌^◌, ◌∙◌, ◌≡◌, ◌≢◌, ◌⊎◌}
 use Rattle.chess_threats.specs.declared.lasting_flights.OpenTargets.{OpenTargets}
 use Rattle.chess_flights.specs.ties.Attackers.{is_promotion}
 use Rattle.chess_threats.specs.ties.KingAttack.{IsMild, AreChecksMet, AreGuardsThrough, ArePlainAttackers, AreUnhopping, IsCalm, IsCheckMet}
@@ -128,7 +128,7 @@ module _ (v : KingAttack) (w k near : ℕ) (through : AreGuardsThrough v w) (pla
     off = unseen;
   }
 
-  field : IsField v g
+  field : IsKingZone v g
   field = record {
     hop_targets = record {
       near = adjacent;

@@ -320,7 +320,7 @@ pub record AreHopTargets (v : KingAttack) (k : ℕ) (i : HopTargets) : Type 0 wh
 
 -- the king zone: the squares next to the king where it may go or capture, its lines, springboards and
 -- promotion squares
-pub record IsField (v : KingAttack) (g : KingZone) : Type 0 where
+pub record IsKingZone (v : KingAttack) (g : KingZone) : Type 0 where
   pub hop_targets : AreHopTargets v g.king
       (record { near = g.near; own = g.springboards; all = g.hops })
   pub captures : AreCaptureSquares v g.king g.captures
@@ -346,7 +346,7 @@ pub record IsCastlingHarmless (v : KingAttack) (g : KingZone) : Type 0 where
 pub record IsRiskAt (v : KingAttack) (k : ℕ) (r : Risk) : Type 0 where
   pub king_zone : KingZone
   pub king : king_zone.king ≡ k
-  pub is : IsField v king_zone
+  pub is : IsKingZone v king_zone
   pub castling : (b : ℕ) → b < 64 → (bit_at r.critical b == 1) ≡ false
       → IsCastlingHarmless v king_zone
   pub lines : (a b : ℕ) → b < 64 → (bit_at r.critical b == 1) ≡ false

@@ -1,5 +1,5 @@
 use Rattle.pop_parts.proofs.Words.{array_vec_len, length, take, ◌-◌, ◌≡◌, ◌≤◌}
-use Rattle.pop_parts.proofs.parts_left.copy_of.Given as goal
+use Rattle.pop_parts.proofs.remaining_parts.copy_of.Given as goal
 
 abbrev pub invariant-loop-k : goal.invariant-loop-k
 invariant-loop-k g l = (l.copy.items ≡ take l.k l.frames.items) × (array_vec_len l.copy ≡ l.k) × (l.k ≤ length l.frames.items)

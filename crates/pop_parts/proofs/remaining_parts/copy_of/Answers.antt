@@ -1,5 +1,5 @@
 use Rattle.pop_parts.proofs.Words.{arith, cut-at, length, refl, sym, take_all, ◌+◌, ◌<◌, ◌∙◌}
-use Rattle.pop_parts.proofs.parts_left.copy_of.Goals as goal
+use Rattle.pop_parts.proofs.remaining_parts.copy_of.Goals as goal
 
 pub new-copy-requires : goal.new-copy-requires
 new-copy-requires g c = omega (arith, c.requires.few)

@@ -1,6 +1,6 @@
 use Rattle.pop_parts.proofs.Words.{arith}
 use Rattle.pop_parts.proofs.PartNumbers as numbers
-use Rattle.pop_parts.proofs.parts_left.RemainingParts.search.Goals as goal
+use Rattle.pop_parts.proofs.remaining_parts.RemainingParts.search.Goals as goal
 
 pub seek_numbered-requires : goal.seek_numbered-requires
 seek_numbered-requires g c =

@@ -1,6 +1,6 @@
 use Rattle.chess_rules.proofs.Chess.{rules, word_has}
 use Rattle.chess_rules.proofs.listing_moves.Targeting.{aimed_by, arrival_missing, nobody_moves, promotion_amiss}
-use Rattle.chess_rules.proofs.legality.alone.is_aimed.Goals as goal
+use Rattle.chess_rules.proofs.legality.single_move.is_aimed.Goals as goal
 
 pub returns-in_default-clause-idle : goal.returns-in_default-clause-idle
 returns-in_default-clause-idle g c = search (rules, nobody_moves)

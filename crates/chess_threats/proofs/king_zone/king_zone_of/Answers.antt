@@ -1,6 +1,6 @@
 use Rattle.chess_threats.proofs.Chess.{arith}
 use Rattle.chess_threats.proofs.KingAttacks.{field_is}
-use Rattle.chess_threats.proofs.king_zone.field_of.Goals as goal
+use Rattle.chess_threats.proofs.king_zone.king_zone_of.Goals as goal
 
 pub returns-clause-king_zone : goal.returns-clause-king_zone
 returns-clause-king_zone c =

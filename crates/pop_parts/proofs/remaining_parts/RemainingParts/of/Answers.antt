@@ -1,6 +1,6 @@
 use Rattle.pop_parts.proofs.Words.{arith, refl}
 use Rattle.pop_parts.proofs.PartNumbers as numbers
-use Rattle.pop_parts.proofs.parts_left.RemainingParts.of.Goals as goal
+use Rattle.pop_parts.proofs.remaining_parts.RemainingParts.of.Goals as goal
 
 pub new-frames-requires : goal.new-frames-requires
 new-frames-requires g c = omega (arith, c.requires.few)

@@ -1,5 +1,5 @@
 use Rattle.chess_rules.proofs.Chess.{rules, triple_at}
-use Rattle.chess_rules.proofs.listing_moves.triples.triple.Goals as goal
+use Rattle.chess_rules.proofs.listing_moves.triples.move_at.Goals as goal
 
 pub returns : goal.returns
 unfolding triple_at
