@@ -1,5 +1,5 @@
 -- How a search for tries begins, and its steps in set play.
-use Rattle.pop_tries.proofs.Words.{BareTryEvent, HelpPlay, BattlePlay, Battle, IsSound, List, Move, Posed, Position, RuleSet, Set, [], ap, arith, cond, false, false≢true, flat_map, half_moves, length, length-append, map, nat_tests, play_of, play_start, refl, rules, set_event, sym, take, true, zero, ℕ, ◌++◌, ◌+◌, ◌<◌, ◌∙◌, ◌∷◌, ◌≡◌, ◌≤◌}
+use Rattle.pop_tries.proofs.Words.{IsSound, List, Posed, Position, RuleSet, Set, [], ap, arith, false, flat_map, length, length-append, refl, rules, set_event, take, true, ℕ, ◌++◌, ◌∙◌, ◌∷◌, ◌≡◌, ◌≤◌}
 unfoldable use Rattle.pop_tries.proofs.Words.{phase_events}
 use Rattle.pop_battle.specs.ties.Frames.{Frame}
 use Rattle.pop_battle.proofs.Words.{append_assoc}
