@@ -14,16 +14,13 @@ ghost use Rattle.pop_battle.specs.declared.chess.Reached.TheVariants.{Surely};
 ghost use Rattle.pop_battle.specs.ties.Calls.{IsOnMate};
 ghost use Rattle.pop_battle.specs.ties.Marks.{is_for_mate};
 
-use chess_core::board::Board;
-use chess_core::diagram::Diagram;
-use chess_core::man::{Man, Move};
-use chess_core::square::Square;
-use chess_mates::mating_moves::MateCursor;
+use chess_core::{Board, Diagram, Man, Move, Square};
+use chess_mates::MateCursor;
 use chess_rules::{
     LegalCursor, Moves, Rules, Undo, has_legal_move, in_check, is_castling, is_mate, is_stalemate,
 };
-use pop_events::shown::{Mark, Shown, Side};
-use pop_stipulation::stipulation::Goal;
+use pop_events::{Mark, Shown, Side};
+use pop_stipulation::Goal;
 
 /// Returns a cursor over the legal moves of the board's position, at `place`. Reuses the cursor `known` if
 /// there is one.
@@ -86,7 +83,7 @@ pub(crate) fn cursor_if_any_move<R: Rules>(
     ensures moves { (goal : Goal) → is_some result ≡ has_move (chess goal R.rule) board.old }
 {
     let mut cursor = LegalCursor::<R>::of(board);
-    cursor.go_to(killer.back());
+    cursor.go_to(killer.previous());
     if cursor.next_until(killer, board).is_some() {
         return Some(cursor);
     }
@@ -106,7 +103,7 @@ pub(crate) fn find_mate<R: Rules>(killer: Moves<R>, board: &mut Board) -> Option
         ≡ some_move (chess Mate R.rule) (chess Mate R.rule).goal board.old }
     ensures place { IfSome result (λ place. IsOnMate R.rule board.old place) }
 {
-    let before = killer.back();
+    let before = killer.previous();
     let mut moves = MateCursor::<R>::of(board);
     moves.go_to(before);
     if moves.next(board).is_some() {

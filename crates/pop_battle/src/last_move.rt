@@ -1,27 +1,26 @@
 //! White's last move in a selfmate for mate, after which Black must mate.
-ghost use Rattle.std.specs.Prelude.{[], ◌+◌, ◌≡◌, ◌≤◌, length, true};
+ghost use Rattle.std.specs.Prelude.{[], ◌≡◌, ◌≤◌, length, true};
 ghost use Rattle.chess_core.specs.WellFormed.{IsWellFormed};
-ghost use Rattle.chess_rules.specs.Legal.{is_legal, moves as legal_moves};
+ghost use Rattle.chess_rules.specs.Legal.{is_legal};
 ghost use Rattle.chess_rules.specs.Play.{position_after};
 ghost use Rattle.chess_rules.specs.ties.Places.{IsPlaceIn, moves_after};
 ghost use Rattle.chess_flights.specs.ties.QuietSteps.{must_reply_with_mate};
 ghost use Rattle.pop_stipulation.specs.declared.stipulation.Goal.TheVariants.{Mate};
 ghost use Rattle.pop_battle.specs.Chess.{chess};
-ghost use Rattle.pop_battle.specs.Walks.{walk_count};
 ghost use Rattle.pop_battle.specs.declared.aim.Battle.TheVariants.{Selfmate};
-ghost use Rattle.pop_battle.specs.ties.Counts.{HasCounted, smallest_below, smallest_tree};
+ghost use Rattle.pop_battle.specs.ties.Calls.{EvaluatesMate};
+ghost use Rattle.pop_battle.specs.ties.Counts.{HasCounted, smallest_below};
 ghost use Rattle.pop_battle.specs.ties.Passing.{IsNextLeft};
 ghost use Rattle.pop_battle.specs.ties.Values.{joined_value, value};
 
 use crate::chess::is_reached_without_move;
 use crate::killers::Killers;
 use crate::search_state::SearchState;
-use chess_core::board::Board;
-use chess_core::man::Move;
-use chess_mates::every_move::every_move_mates;
+use chess_core::{Board, Move};
+use chess_mates::every_move_mates;
 use chess_rules::{LegalCursor, Rules, play, unplay};
-use chess_threats::quiet_steps::QuietSteps;
-use pop_stipulation::stipulation::Goal;
+use chess_threats::QuietSteps;
+use pop_stipulation::Goal;
 
 /// Returns whether Black must mate after this move by White. The move isn't played if Black's king has a
 /// quiet step after it, or if no reply can mate.
@@ -108,12 +107,8 @@ pub(crate) fn value_of_last_move<R: Rules>(
     search_state: &mut SearchState<R>,
 ) -> bool
     requires well_formed { IsWellFormed board.old }
-    ensures unchanged { board.new ≡ board.old }
-    ensures value { result ≡ value Selfmate (chess Mate R.rule) 2 board.old }
-    ensures opened { search_state.new.opened ≤ search_state.old.opened
-        + walk_count (legal_moves R.rule) (position_after R.rule) 2 board.old }
-    ensures tried { HasCounted search_state.old.opened search_state.new.opened
-        (smallest_tree Selfmate (chess Mate R.rule) 2 board.old) }
+    ensures { EvaluatesMate R.rule Selfmate 2 board.old board.new search_state.old.opened
+        search_state.new.opened result }
 {
     let moves = LegalCursor::<R>::of(board);
     let mut counted = 0;

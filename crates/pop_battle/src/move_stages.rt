@@ -12,9 +12,8 @@ ghost use Rattle.pop_battle.specs.ties.Frames.{all_moves_of, belongs, comes_earl
 use crate::aim::Battle;
 use crate::frame::{Early, MoveStage, Order};
 use crate::killers::Killers;
-use chess_core::board::Board;
-use chess_core::man::Move;
-use chess_mates::aims::{aims_at_king, next_aimed};
+use chess_core::{Board, Move};
+use chess_mates::{aims_at_king, next_aimed};
 use chess_rules::{LegalCursor, Moves, Rules};
 
 /// Returns which moves come right after the killers: those that give check or attack next to the king, if
@@ -171,9 +170,9 @@ pub(crate) fn place_before<R: Rules>(order: Order<R>, move_stage: MoveStage) -> 
         ≡ all_moves_of R.rule p order move_stage }
 {
     match move_stage {
-        MoveStage::Killer => order.killer.back(),
+        MoveStage::Killer => order.killer.previous(),
         MoveStage::Earlier if order.earlier.is(order.killer) => order.earlier,
-        MoveStage::Earlier => order.earlier.back(),
+        MoveStage::Earlier => order.earlier.previous(),
         MoveStage::Aimed | MoveStage::Others => Moves::start(),
     }
 }

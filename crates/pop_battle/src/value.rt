@@ -1,5 +1,5 @@
 //! The value of a position in battle play.
-ghost use Rattle.std.specs.Prelude.{[], ◌%◌, ◌&&◌, ◌++◌, ◌+◌, ◌-◌, ◌<◌, ◌==◌, ◌∷◌, ◌≡◌, ◌≤◌, ◌⊎◌, IfNone, IfSome, MatchBool, MatchOption, None, Option, Some, false, not, true};
+ghost use Rattle.std.specs.Prelude.{[], ◌%◌, ◌&&◌, ◌++◌, ◌+◌, ◌-◌, ◌<◌, ◌==◌, ◌∷◌, ◌≡◌, ◌≤◌, ◌⊎◌, IfNone, IfSome, MatchBool, MatchOption, None, Some, false, not, true};
 ghost use Rattle.arrayvec.specs.ArrayVec.{array_vec_len};
 ghost use Rattle.chess_core.specs.Position.{Position};
 ghost use Rattle.chess_core.specs.WellFormed.{IsWellFormed};
@@ -11,7 +11,7 @@ ghost use Rattle.pop_battle.specs.Chess.{chess};
 ghost use Rattle.pop_battle.specs.Game.{can_move as has_move};
 ghost use Rattle.pop_battle.specs.Walks.{walk_count};
 ghost use Rattle.pop_battle.specs.declared.aim.Battle.TheVariants.{Direct, Selfmate};
-ghost use Rattle.pop_battle.specs.ties.Calls.{Evaluates};
+ghost use Rattle.pop_battle.specs.ties.Calls.{Evaluates, EvaluatesMate};
 ghost use Rattle.pop_battle.specs.ties.Counts.{HasCounted, smallest_tree};
 ghost use Rattle.pop_battle.specs.ties.Frames.{CameFrom, CameFromAt, Ends, IsOpenedOn, IsTesting, Turns, left_at_top, tests};
 ghost use Rattle.pop_battle.specs.ties.Marks.{is_for_mate};
@@ -29,11 +29,10 @@ use crate::mate_in_two::mates_in_two;
 use crate::move_stages::{next_tried, order_of};
 use crate::search_state::SearchState;
 use arrayvec::ArrayVec;
-use chess_core::board::Board;
-use chess_core::man::Move;
-use chess_mates::every_move::every_move_mates;
+use chess_core::{Board, Move};
+use chess_mates::every_move_mates;
 use chess_rules::{LegalCursor, Rules, play, unplay};
-use pop_stipulation::stipulation::Goal;
+use pop_stipulation::Goal;
 
 /// Returns whether White, who needs only one good move, is to move with `left` half-moves left.
 pub fn attacker_to_move(battle: Battle, left: usize) -> bool
@@ -81,12 +80,8 @@ fn value_of_two<R: Rules>(
     search_state: &mut SearchState<R>,
 ) -> bool
     requires well_formed { IsWellFormed board.old }
-    ensures unchanged { board.new ≡ board.old }
-    ensures value { result ≡ value battle (chess Mate R.rule) 2 board.old }
-    ensures opened { search_state.new.opened ≤ search_state.old.opened
-        + walk_count (legal_moves R.rule) (position_after R.rule) 2 board.old }
-    ensures tried { HasCounted search_state.old.opened search_state.new.opened
-        (smallest_tree battle (chess Mate R.rule) 2 board.old) }
+    ensures { EvaluatesMate R.rule battle 2 board.old board.new search_state.old.opened
+        search_state.new.opened result }
 {
     match battle {
         Battle::Direct => value_of_last_defence::<R>(board, search_state),
@@ -233,7 +228,7 @@ fn descend<R: Rules, const N: usize>(
     search_state.opened = search_state.opened.saturating_add(1);
     let order = order_of(&search_state.killers, aim.battle, left);
     frames.push(Frame {
-        place: order.killer.back(),
+        place: order.killer.previous(),
         by,
         undo,
         left,
@@ -315,7 +310,7 @@ pub fn value_of<R: Rules, const N: usize>(
     search_state.opened = search_state.opened.saturating_add(1);
     let order = order_of(&search_state.killers, aim.battle, left);
     frames.push(Frame {
-        place: order.killer.back(),
+        place: order.killer.previous(),
         left,
         order,
         move_stage: MoveStage::Killer,

@@ -24,6 +24,7 @@ use pop_events::Shown;
 use pop_stipulation::Goal;
 
 /// Takes back the move of a frame.
+#[tactic(auto, using(chess_rules::proofs::listing_moves::Calls::playing))]
 fn take_back<R: Rules>(frame: &Frame<R>, board: &mut Board)
     requires came { CameFrom R.rule frame.now board.old }
     ensures before { (p : Position) → CameFromAt R.rule frame.now board.old p → board.new ≡ p }

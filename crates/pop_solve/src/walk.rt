@@ -14,9 +14,9 @@ ghost use Rattle.pop_solve.specs.ties.Walk.{Battle, BattlePlay, HelpPlay, IsWell
 use crate::plan::Plan;
 use arrayvec::ArrayVec;
 use chess_core::{Board, Move};
-use chess_mates::mating_moves::next_mate;
+use chess_mates::next_mate;
 use chess_rules::{LegalCursor, Moves, Rules, play, unplay};
-use chess_threats::threats::Threats;
+use chess_threats::Threats;
 use pop_battle::aim::{Aim, Battle, Play};
 use pop_battle::chess::{is_for_mate, next_move, reaches_goal};
 use pop_battle::frame::{Frame, MoveStage, Order};
@@ -383,6 +383,7 @@ fn next_of<R: Rules>(
 }
 
 /// Takes back the move of a closed frame, unless it is the lowest.
+#[tactic(auto, using(chess_rules::proofs::listing_moves::Calls::playing))]
 pub fn step_back<R: Rules>(depth: usize, top: Frame<R>, board: &mut Board)
     requires { 0 < depth → CameFrom R.rule top board.old }
     ensures lowest { depth ≡ 0 → board.new ≡ board.old }
