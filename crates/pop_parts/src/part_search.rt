@@ -17,7 +17,6 @@ use pop_solve::phases::{Stage, advance};
 use std::marker::Model;
 
 /// Returns the moves that lead to the top frame, followed by `by`.
-#[tactic(auto, using(crate::proofs::PartBegins::fronts))]
 fn front_of<R: Rules, const N: usize>(frames: &ArrayVec<Frame<R>, N>, by: Move) -> ArrayVec<Move, N>
     requires open { 0 < array_vec_len frames.now }
     ensures { result.items ≡ path (reverse frames.now.items) ++ by ∷ [] }
