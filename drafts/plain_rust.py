@@ -22,6 +22,8 @@ CLONE = re.compile(r"(impl(?:<[^{]*?>)? Clone for [^{]*)\{")
 DERIVED = re.compile(
     r"#\[derive_where\(([^)]*)\)\]\n((?:\s*#\[.*\]\n|\s*//.*\n)*)\s*pub(?:\(crate\))? (?:struct|enum) (\w+)<([^>]*)>"
 )
+# Such a macro belongs to the root of the one crate.
+MACRO = re.compile(r"#\[macro_export\]\s*macro_rules! (\w+)")
 ARRAYVEC = '''//! Fixed room.
 use std::mem::MaybeUninit;
 pub struct CapacityError;
@@ -169,7 +171,8 @@ def plain(text: str, crate: str, crates: list[str]) -> str:
 
 
 def write_crate(base: Path, crate: str, crates: list[str], folder: Path) -> None:
-    """Writes the files of a crate as a module."""
+    """Writes the files of a crate as a module, which names the macros that the crate exports."""
+    macros = "".join(f"pub use crate::{it};\n" for file in base.rglob("*.rt") for it in MACRO.findall(file.read_text()))
     for file in base.rglob("*.rt"):
         name = file.relative_to(base)
         if "tests" in str(name) or name.name in LEFT_OUT:
@@ -178,7 +181,7 @@ def write_crate(base: Path, crate: str, crates: list[str], folder: Path) -> None
         path = folder / name.with_suffix(".rs")
         if str(name) == "lib.rt":
             text = re.sub(r"(?m)^(pub )?(mod|use) [^;]*(trial_source|trial_sink|read_source|write_sink)[^;]*;\n", "", text)
-            text = re.sub(r"(?m)^//!.*\n", "", text)
+            text = re.sub(r"(?m)^//!.*\n", "", text) + macros
             path = folder / "mod.rs"
         path.parent.mkdir(parents=True, exist_ok=True)
         text = text.replace("#[cfg(test)]\nmod tests;\n", "")

@@ -79,8 +79,15 @@ def stored_inputs() -> list[Path]:
     return _ROW_INPUTS + examples
 
 
+def tries_inputs() -> list[Path]:
+    """The inputs beside which the text of their tries is stored: NAME.tries."""
+    inputs = sorted((REPOSITORY / "tests/tries").glob("*.pop"))
+    assert inputs
+    return inputs
+
+
 def row_options(stored_input: Path) -> list[str]:
-    """The options of `pops` for a row; none for an example."""
+    """The options of `pops` for a row, or of `pops-tries` for an input of tries; none for an example."""
     options = stored_input.with_suffix(".options")
     return options.read_text().split() if options.exists() else []
 

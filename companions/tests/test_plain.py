@@ -53,6 +53,19 @@ class BesidePops(unittest.TestCase):
 
 
 class BesidePopsTries(unittest.TestCase):
+    def test_stored_texts(self) -> None:
+        """The plain solver, and pops-tries where it is, write what is stored."""
+        program = find_tries(None, support.pops())
+        for path in support.tries_inputs():
+            options, text = support.row_options(path), path.read_bytes()
+            stored = path.with_suffix(".tries").read_text()
+            with self.subTest(path.name):
+                refutations = int(options[1]) if options else 1
+                self.assertEqual(plain_tries(text, refutations).decode(), stored)
+                if program is not None:
+                    theirs = support.run([program, *options], text).output
+                    self.assertEqual(theirs.decode(), stored)
+
     def test_made_problems(self) -> None:
         """All of the text: keys, threats, zugzwang, defences, tries and refutations."""
         program = find_tries(None, support.pops())

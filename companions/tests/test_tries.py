@@ -81,6 +81,21 @@ class Reading(unittest.TestCase):
         self.assertEqual(faulty.fault.number, 11)
         self.assertEqual((help_play.total, help_play.lines), (None, ("no tries in help play",)))
 
+    def test_stored_texts(self) -> None:
+        """The reader takes each stored text whole, with its keys, tries and refutations."""
+        for path in support.tries_inputs():
+            text = path.with_suffix(".tries").read_text()
+            first_moves = [
+                one
+                for item in read(text)
+                if isinstance(item, TriesItem)
+                for one in (*item.keys, *item.tries)
+            ]
+            refutations = [it for one in first_moves for it in one.refutations]
+            shown = [it.text for it in (*first_moves, *refutations)]
+            wanted = [it for it in text.split("\n") if it.endswith(("!", "?"))]
+            self.assertEqual(sorted(shown), sorted(wanted), path.name)
+
     def test_what_is_refused(self) -> None:
         """A text that departs from its form, with the line where it does."""
         for old, new, line in (

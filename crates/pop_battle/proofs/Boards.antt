@@ -1,7 +1,6 @@
 -- The contracts of the calls to the chess crates, in the terms of the search.
-use Rattle.pop_battle.proofs.Words.{Battle, Bool, Goal, LegalPlace, List, MatchOption, Mate, Move, Option, Position, RuleSet, [], arith, can_move, chess, cut_mates, cut_moves, false, filter, is_for_mate, is_goal_reached, is_mate, is_mating, is_nil, is_some, is_stalemate, length, length-append, list_any, mates_after, mates_between, moves, moves_after, moves_between, nat_tests, not, refl, rules, sum_by, sum_by-cons, true, value, walk_count, ℕ, ◌++◌, ◌&&◌, ◌-◌, ◌<◌, ◌∷◌, ◌≡◌, ◌≤◌, Some}
+use Rattle.pop_battle.proofs.Words.{Battle, Bool, Goal, List, MatchOption, Mate, Move, Option, Position, RuleSet, [], arith, can_move, chess, cut_mates, cut_moves, false, filter, is_for_mate, is_goal_reached, is_mate, is_mating, is_nil, is_some, is_stalemate, length, length-append, list_any, mates_after, mates_between, moves, moves_after, moves_between, nat_tests, not, refl, rules, sum_by, sum_by-cons, true, value, walk_count, ℕ, ◌++◌, ◌&&◌, ◌-◌, ◌<◌, ◌∷◌, ◌≡◌, ◌≤◌}
 use Rattle.pop_battle.specs.Game.{some_move as some_good}
-use Rattle.pop_battle.specs.ties.Calls.{Finds}
 
 -- there is a legal move exactly where the list of moves isn't empty
 pub some_move : (goal : Goal) (rule : RuleSet) (p : Position) → not (is_nil (moves rule p)) ≡ can_move (chess goal rule) p
@@ -73,14 +72,16 @@ walk_count-some moves after left p some = search rules
 -- a move that is found says that there is one, wherever it was looked for
 module _ (goal : Goal) (rule : RuleSet) (p : Position) where
   -- a killer that was found is a legal move
-  pub has_killer : (killer place next : ℕ) (o : Option Move) (board : Position) (known : LegalPlace) → place ≡ killer - 1 → is_some o ≡ true
-      → Finds rule p board (Some known) o (moves_between rule p place killer) (moves_between rule p next killer) → true ≡ can_move (chess goal rule) p
-  has_killer killer place next o board known at e f = grind (arith, cut_moves rule p place killer (omega (arith, at)), length-append, nat_tests)
+  pub has_killer : (killer place next : ℕ) (o : Option Move)
+      → MatchOption o (moves_between rule p place killer ≡ []) (λ m. moves_between rule p place killer ≡ m ∷ moves_between rule p next killer)
+      → place ≡ killer - 1 → is_some o ≡ true → true ≡ can_move (chess goal rule) p
+  has_killer killer place next o f at e = grind (arith, cut_moves rule p place killer (omega (arith, at)), length-append, nat_tests)
 
   -- the first move is found exactly where there is one
-  pub has_first : (place next : ℕ) (o : Option Move) (board : Position) (known : LegalPlace) → place ≡ 0
-      → Finds rule p board (Some known) o (moves_after rule p place) (moves_after rule p next) → is_some o ≡ can_move (chess goal rule) p
-  has_first place next o board known at f = grind (arith, after_start, nat_tests)
+  pub has_first : (place next : ℕ) (o : Option Move)
+      → MatchOption o (moves_after rule p place ≡ []) (λ m. moves_after rule p place ≡ m ∷ moves_after rule p next)
+      → place ≡ 0 → is_some o ≡ can_move (chess goal rule) p
+  has_first place next o f at = grind (arith, after_start, nat_tests)
 
   -- where there is a move the goal isn't reached
   pub unreached : can_move (chess goal rule) p ≡ true → is_goal_reached goal rule p ≡ false

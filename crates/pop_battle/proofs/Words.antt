@@ -9,18 +9,18 @@ pub use Rattle.std.specs.List.{list_all, list_any, range_with_len, sum_by}
 pub use Rattle.chess_core.specs.Position.{Position}
 pub use Rattle.chess_core.specs.declared.man.Move.{Move}
 pub use Rattle.chess_core.specs.WellFormed.{IsWellFormed}
-pub use Rattle.chess_rules.proofs.listing_moves.Between.{between-here, between-none, between-past, between-skip, cut_moves}
+pub use Rattle.chess_rules.proofs.listing_moves.Between.{between-here, between-none, between-past, between-skip, cut_moves, after_cut}
 pub use Rattle.chess_mates.proofs.MatesBetween.{cut_mates}
 pub use Rattle.chess_rules.proofs.listing_moves.Calls.{is_pseudo_legal-from_legal}
-pub use Rattle.chess_rules.proofs.listing_moves.Members.{from_map}
-pub use Rattle.chess_rules.proofs.listing_moves.Places.{moves_after-end, moves_after-here, moves_after-skip, place_of_triple}
+pub use Rattle.chess_rules.proofs.listing_moves.Members.{from_map, from_range}
+pub use Rattle.chess_rules.proofs.listing_moves.Places.{moves_after-end, moves_after-here, moves_after-skip, place_of_triple, triples_numbered}
 pub use Rattle.chess_rules.proofs.making_moves.Stays.{after_well_formed}
-pub use Rattle.chess_rules.specs.Legal.{is_nil}
+pub use Rattle.chess_rules.specs.Legal.{is_nil, moves as legal_moves}
 unfoldable pub use Rattle.chess_rules.specs.Legal.{is_legal, is_mate, is_stalemate, moves}
 pub use Rattle.chess_core.specs.Undo.{Undo}
 unfoldable pub use Rattle.chess_rules.specs.Play.{undo_of}
 pub use Rattle.chess_attacks.specs.RuleSet.{RuleSet}
-pub use Rattle.chess_rules.specs.ties.Places.{IsPlaceIn, LegalPlace}
+pub use Rattle.chess_rules.specs.ties.Places.{IsPlaceIn, LegalPlace, all_triples, place_of, triple_at}
 unfoldable pub use Rattle.chess_rules.specs.ties.Places.{moves_after, moves_between}
 pub use Rattle.chess_rules.specs.ties.Filtering.{IsFiltered}
 pub use Rattle.chess_mates.specs.ties.MatingPlaces.{MatingPlace, mates_between}
@@ -43,11 +43,6 @@ pub use Rattle.pop_battle.specs.ties.Marks.{is_for_mate}
 pub use Rattle.pop_battle.specs.ties.Values.{attacker_to_move}
 unfoldable pub use Rattle.pop_battle.specs.ties.Values.{joined_value, value}
 pub use Rattle.pop_battle.specs.ties.Passing.{AreTaken, IsNextLeft, Passes}
-pub use Rattle.chess_rules.proofs.listing_moves.Between.{after_cut}
-pub use Rattle.chess_rules.proofs.listing_moves.Members.{from_range}
-pub use Rattle.chess_rules.proofs.listing_moves.Places.{triples_numbered}
-pub use Rattle.chess_rules.specs.Legal.{moves as legal_moves}
 pub use Rattle.chess_rules.specs.Play.{position_after}
-pub use Rattle.chess_rules.specs.ties.Places.{all_triples, place_of, triple_at}
 unfoldable pub use Rattle.pop_events.specs.Shown.{mark_of, shown_of}
 pub use Rattle.pop_battle.specs.declared.aim.Aim.{Aim}

@@ -2,7 +2,7 @@
 ghost use Rattle.std.specs.Prelude.{◌≡◌};
 ghost use Rattle.pop_battle.specs.Plays.{play_of};
 
-use pop_stipulation::stipulation::{Form, Goal};
+use pop_stipulation::{Form, Goal};
 
 /// Which side is to reach the goal of a battle (Codex).
 #[derive(Clone, Copy, Debug, PartialEq, Eq)]

@@ -1,35 +1,26 @@
 //! What the search does on the board: next moves, mates, goals, and moves as they are shown.
-ghost use Rattle.std.specs.Prelude.{[], ◌&&◌, ◌∷◌, ◌≡◌, IfSome, MatchOption, Some, false, is_some, true};
+ghost use Rattle.std.specs.Prelude.{[], ◌∷◌, ◌≡◌, IfSome, MatchOption, false, is_some, true};
 ghost use Rattle.chess_core.specs.Diagrams.{position_of};
-ghost use Rattle.chess_core.specs.Position.{Position};
 ghost use Rattle.chess_core.specs.WellFormed.{IsWellFormed};
 ghost use Rattle.chess_attacks.specs.Attacks.{in_check};
 ghost use Rattle.chess_rules.specs.Legal.{is_legal};
-ghost use Rattle.chess_rules.specs.ties.Places.{IsPlaceIn, moves_after, moves_between, place_of};
-ghost use Rattle.chess_mates.specs.ties.MatingPlaces.{IsNextMate};
-ghost use Rattle.chess_flights.specs.ties.Mates.{mates_after};
+ghost use Rattle.chess_rules.specs.ties.Places.{IsPlaceIn, moves_after, place_of};
 ghost use Rattle.pop_stipulation.specs.declared.stipulation.Goal.{Goal};
 ghost use Rattle.pop_stipulation.specs.declared.stipulation.Goal.TheVariants.{Mate};
 ghost use Rattle.pop_events.specs.Shown.{castling_side, mark_of, reborn_man, shown_of};
 ghost use Rattle.pop_battle.specs.Chess.{chess, is_impossible, set_start};
-ghost use Rattle.pop_battle.specs.Game.{can_move as has_move, every_move, some_move};
+ghost use Rattle.pop_battle.specs.Game.{can_move as has_move, some_move};
 ghost use Rattle.pop_battle.specs.declared.chess.Reached.TheVariants.{Surely};
-ghost use Rattle.pop_battle.specs.ties.Calls.{Finds, IsOnMate};
-ghost use Rattle.pop_battle.specs.ties.Frames.{CameBy};
+ghost use Rattle.pop_battle.specs.ties.Calls.{IsOnMate};
 ghost use Rattle.pop_battle.specs.ties.Marks.{is_for_mate};
 
-use chess_core::board::Board;
-use chess_core::diagram::Diagram;
-use chess_core::man::{Man, Move};
-use chess_core::square::Square;
-use chess_mates::every_move::every_move_mates;
-use chess_mates::mating_moves::MateCursor;
+use chess_core::{Board, Diagram, Man, Move, Square};
+use chess_mates::MateCursor;
 use chess_rules::{
     LegalCursor, Moves, Rules, Undo, has_legal_move, in_check, is_castling, is_mate, is_stalemate,
-    unplay,
 };
-use pop_events::shown::{Mark, Shown, Side};
-use pop_stipulation::stipulation::Goal;
+use pop_events::{Mark, Shown, Side};
+use pop_stipulation::Goal;
 
 /// Returns a cursor over the legal moves of the board's position, at `place`. Reuses the cursor `known` if
 /// there is one.
@@ -48,18 +39,6 @@ pub(crate) fn moves_at<R: Rules>(
     };
     moves.go_to(place);
     moves
-}
-
-/// Returns the next legal move after the cursor, and moves the cursor to it.
-pub(crate) fn next_after<R: Rules>(moves: &mut LegalCursor<R>, board: &mut Board) -> Option<Move>
-    requires well_formed { IsWellFormed board.old }
-    requires known { IsPlaceIn R.rule board.old moves.old }
-    ensures found { Finds R.rule board.old board.new (Some moves.new) result
-        (moves_after R.rule board.old moves.old.place)
-        (moves_after R.rule board.old moves.new.place) }
-    ensures place { moves.new.place ≡ place_of result }
-{
-    moves.next(board)
 }
 
 /// Returns the next legal move after `place` and moves `place` to it, or to the end if there is none.
@@ -87,24 +66,9 @@ pub fn next_move<R: Rules>(
         return None;
     };
     moves.go_to(*place);
-    let found = next_after::<R>(moves, board);
+    let found = moves.next(board);
     *place = moves.place();
     found
-}
-
-/// Returns the next legal move after the cursor, up to and including `end`, and moves the cursor to it.
-pub(crate) fn next_until<R: Rules>(
-    moves: &mut LegalCursor<R>,
-    end: Moves<R>,
-    board: &mut Board,
-) -> Option<Move>
-    requires well_formed { IsWellFormed board.old }
-    requires known { IsPlaceIn R.rule board.old moves.old }
-    ensures { Finds R.rule board.old board.new (Some moves.new) result
-        (moves_between R.rule board.old moves.old.place end)
-        (moves_between R.rule board.old moves.new.place end) }
-{
-    moves.next_until(end, board)
 }
 
 /// Returns a cursor at some legal move, or `None` if the board's position has none. Tests the killer first.
@@ -118,27 +82,16 @@ pub(crate) fn cursor_if_any_move<R: Rules>(
     ensures within { IfSome result (λ k. IsPlaceIn R.rule board.old k) }
     ensures moves { (goal : Goal) → is_some result ≡ has_move (chess goal R.rule) board.old }
 {
-    let mut moves = LegalCursor::<R>::of(board);
-    moves.go_to(killer.back());
-    if next_until::<R>(&mut moves, killer, board).is_some() {
-        return Some(moves);
+    let mut cursor = LegalCursor::<R>::of(board);
+    cursor.go_to(killer.previous());
+    if cursor.next_until(killer, board).is_some() {
+        return Some(cursor);
     }
-    moves.go_to(Moves::start());
-    if next_after::<R>(&mut moves, board).is_some() {
-        return Some(moves);
+    cursor.go_to(Moves::start());
+    if cursor.next(board).is_some() {
+        return Some(cursor);
     }
     None
-}
-
-/// Returns the next legal move after `place` that mates, and moves `place` to it. The board is unchanged.
-pub fn next_mate<R: Rules>(place: &mut Moves<R>, board: &mut Board) -> Option<Move>
-    requires well_formed { IsWellFormed board.old }
-    ensures unchanged { board.new ≡ board.old }
-    ensures next { MatchOption result (mates_after R.rule board.old place.old ≡ [])
-        (λ m. IsNextMate R.rule board.old place.old place.new m
-        × (is_legal R.rule board.old m ≡ true)) }
-{
-    chess_mates::mating_moves::next_mate::<R>(place, board)
 }
 
 /// Returns the place of a legal move that mates, or `None` if no move does. It may be any mating move: the
@@ -150,7 +103,7 @@ pub(crate) fn find_mate<R: Rules>(killer: Moves<R>, board: &mut Board) -> Option
         ≡ some_move (chess Mate R.rule) (chess Mate R.rule).goal board.old }
     ensures place { IfSome result (λ place. IsOnMate R.rule board.old place) }
 {
-    let before = killer.back();
+    let before = killer.previous();
     let mut moves = MateCursor::<R>::of(board);
     moves.go_to(before);
     if moves.next(board).is_some() {
@@ -161,27 +114,6 @@ pub(crate) fn find_mate<R: Rules>(killer: Moves<R>, board: &mut Board) -> Option
         return Some(moves.place());
     }
     None
-}
-
-/// Returns whether the side to move has a legal move and each of its legal moves mates. The board is
-/// unchanged.
-#[tactic(auto, using(crate::proofs::Boards::some_move))]
-pub(crate) fn must_mate<R: Rules>(board: &mut Board) -> bool
-    requires well_formed { IsWellFormed board.old }
-    ensures unchanged { board.new ≡ board.old }
-    ensures mates { result ≡ (has_move (chess Mate R.rule) board.old
-        && every_move (chess Mate R.rule) (chess Mate R.rule).goal board.old) }
-{
-    every_move_mates::<R>(board)
-}
-
-/// Takes a move back.
-#[tactic(auto, using(chess_rules::proofs::listing_moves::Calls::playing))]
-pub fn retract<R: Rules>(board: &mut Board, by: Move, undo: Undo)
-    requires came { (p : Position) × CameBy R.rule by undo board.old p }
-    ensures before { (p : Position) → CameBy R.rule by undo board.old p → board.new ≡ p }
-{
-    unplay::<R>(board, by, undo);
 }
 
 /// Returns what the last move did to the side to move: check, mate, stalemate or nothing. It looks for

@@ -2,7 +2,7 @@
 ghost use Rattle.std.specs.Prelude.{◌≡◌, ⊤};
 ghost use Rattle.pop_battle.specs.ties.Frames.{unordered};
 
-use chess_core::man::Move;
+use chess_core::Move;
 use chess_rules::{LegalCursor, Moves, Rules, Undo};
 use std::alloc::AllocError;
 use std::marker::Model;

@@ -9,10 +9,9 @@ ghost use Rattle.chess_threats.specs.ties.Threats.{AreThreatsOf};
 ghost use Rattle.pop_battle.specs.declared.aim.Battle.TheVariants.{Direct};
 
 use crate::aim::Battle;
-use chess_core::board::Board;
-use chess_core::man::Move;
+use chess_core::{Board, Move};
 use chess_rules::{Moves, Rules};
-use chess_threats::threats::Threats;
+use chess_threats::Threats;
 
 /// For each number of half-moves below 32, the last two moves that decided a position with that many
 /// half-moves left. A direct mate tries them first in the next position with as many half-moves left. A

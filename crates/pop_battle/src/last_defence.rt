@@ -3,33 +3,30 @@ ghost use Rattle.std.specs.Prelude.{◌+◌, ◌-◌, ◌≡◌, ◌≤◌, IfSo
 ghost use Rattle.chess_core.specs.Position.{king_square};
 ghost use Rattle.chess_core.specs.WellFormed.{IsWellFormed};
 ghost use Rattle.chess_attacks.specs.RuleSet.{captures_are_reborn};
-ghost use Rattle.chess_rules.specs.Legal.{is_legal, moves as legal_moves};
+ghost use Rattle.chess_rules.specs.Legal.{is_legal};
 ghost use Rattle.chess_rules.specs.Play.{position_after};
 ghost use Rattle.chess_rules.specs.ties.Filtering.{SomeFails};
 ghost use Rattle.chess_rules.specs.ties.Places.{IsPlaceIn};
 ghost use Rattle.chess_flights.specs.ties.Mates.{allows_mate};
 ghost use Rattle.pop_stipulation.specs.declared.stipulation.Goal.TheVariants.{Mate};
 ghost use Rattle.pop_battle.specs.Chess.{chess};
-ghost use Rattle.pop_battle.specs.Walks.{walk_count};
 ghost use Rattle.pop_battle.specs.declared.aim.Battle.TheVariants.{Direct};
 ghost use Rattle.pop_battle.specs.declared.frame.MoveStage.TheVariants.{Killer};
-ghost use Rattle.pop_battle.specs.ties.Calls.{Finds};
-ghost use Rattle.pop_battle.specs.ties.Counts.{HasCounted, smallest_tree};
+ghost use Rattle.pop_battle.specs.ties.Calls.{EvaluatesMate, Finds};
+ghost use Rattle.pop_battle.specs.ties.Counts.{HasCounted};
 ghost use Rattle.pop_battle.specs.ties.Frames.{moves_ahead, moves_unlooked};
 ghost use Rattle.pop_battle.specs.ties.Values.{value};
 
 use crate::aim::Battle;
-use crate::chess::{find_mate, is_reached_without_move, moves_at, retract};
+use crate::chess::{find_mate, is_reached_without_move, moves_at};
 use crate::frame::{MoveStage, Order};
 use crate::killers::Killers;
 use crate::move_stages::{next_tried, order_of, place_before};
 use crate::search_state::SearchState;
-use chess_core::board::Board;
-use chess_core::man::{Kind, Move};
-use chess_core::square::Square;
-use chess_rules::{LegalCursor, Moves, Rules, play};
-use chess_threats::kept_flights::KeptFlights;
-use pop_stipulation::stipulation::Goal;
+use chess_core::{Board, Kind, Move, Square};
+use chess_rules::{LegalCursor, Moves, Rules, play, unplay};
+use chess_threats::KeptFlights;
+use pop_stipulation::Goal;
 
 /// Returns whether White, to move, mates at once. The mating move becomes the killer; without one the
 /// killer is cleared.
@@ -58,7 +55,7 @@ fn lets_mate<R: Rules>(by: Move, board: &mut Board, search_state: &mut SearchSta
     search_state.opened = search_state.opened.saturating_add(1);
     let undo = play::<R>(board, by);
     let mates = has_mate::<R>(board, &mut search_state.killers);
-    retract::<R>(board, by, undo);
+    unplay::<R>(board, by, undo);
     mates
 }
 
@@ -120,12 +117,8 @@ fn place_of_last<R: Rules>(order: Order<R>, moves: &Option<LegalCursor<R>>) -> M
 #[inline(always)]
 fn value_by_trial<R: Rules>(board: &mut Board, search_state: &mut SearchState<R>) -> bool
     requires well_formed { IsWellFormed board.old }
-    ensures unchanged { board.new ≡ board.old }
-    ensures value { result ≡ value Direct (chess Mate R.rule) 2 board.old }
-    ensures opened { search_state.new.opened ≤ search_state.old.opened
-        + walk_count (legal_moves R.rule) (position_after R.rule) 2 board.old }
-    ensures tried { HasCounted search_state.old.opened search_state.new.opened
-        (smallest_tree Direct (chess Mate R.rule) 2 board.old) }
+    ensures { EvaluatesMate R.rule Direct 2 board.old board.new search_state.old.opened
+        search_state.new.opened result }
 {
     let order = order_of(&search_state.killers, Battle::Direct, 2);
     let mut moves: Option<LegalCursor<R>> = None;
@@ -202,12 +195,8 @@ pub(crate) fn value_of_last_defence<R: Rules>(
     search_state: &mut SearchState<R>,
 ) -> bool
     requires well_formed { IsWellFormed board.old }
-    ensures unchanged { board.new ≡ board.old }
-    ensures value { result ≡ value Direct (chess Mate R.rule) 2 board.old }
-    ensures opened { search_state.new.opened ≤ search_state.old.opened
-        + walk_count (legal_moves R.rule) (position_after R.rule) 2 board.old }
-    ensures tried { HasCounted search_state.old.opened search_state.new.opened
-        (smallest_tree Direct (chess Mate R.rule) 2 board.old) }
+    ensures { EvaluatesMate R.rule Direct 2 board.old board.new search_state.old.opened
+        search_state.new.opened result }
 {
     if surely_escapes::<R>(board) {
         search_state.opened = search_state.opened.saturating_add(2);

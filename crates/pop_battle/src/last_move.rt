@@ -1,30 +1,30 @@
 //! White's last move in a selfmate for mate, after which Black must mate.
-ghost use Rattle.std.specs.Prelude.{[], ◌+◌, ◌≡◌, ◌≤◌, length, true};
+ghost use Rattle.std.specs.Prelude.{[], ◌≡◌, ◌≤◌, length, true};
 ghost use Rattle.chess_core.specs.WellFormed.{IsWellFormed};
-ghost use Rattle.chess_rules.specs.Legal.{is_legal, moves as legal_moves};
+ghost use Rattle.chess_rules.specs.Legal.{is_legal};
 ghost use Rattle.chess_rules.specs.Play.{position_after};
 ghost use Rattle.chess_rules.specs.ties.Places.{IsPlaceIn, moves_after};
 ghost use Rattle.chess_flights.specs.ties.QuietSteps.{must_reply_with_mate};
 ghost use Rattle.pop_stipulation.specs.declared.stipulation.Goal.TheVariants.{Mate};
 ghost use Rattle.pop_battle.specs.Chess.{chess};
-ghost use Rattle.pop_battle.specs.Walks.{walk_count};
 ghost use Rattle.pop_battle.specs.declared.aim.Battle.TheVariants.{Selfmate};
-ghost use Rattle.pop_battle.specs.ties.Counts.{HasCounted, smallest_below, smallest_tree};
+ghost use Rattle.pop_battle.specs.ties.Calls.{EvaluatesMate};
+ghost use Rattle.pop_battle.specs.ties.Counts.{HasCounted, smallest_below};
 ghost use Rattle.pop_battle.specs.ties.Passing.{IsNextLeft};
 ghost use Rattle.pop_battle.specs.ties.Values.{joined_value, value};
 
-use crate::chess::{is_reached_without_move, must_mate, next_after, retract};
+use crate::chess::is_reached_without_move;
 use crate::killers::Killers;
 use crate::search_state::SearchState;
-use chess_core::board::Board;
-use chess_core::man::Move;
-use chess_rules::{LegalCursor, Rules, play};
-use chess_threats::quiet_steps::QuietSteps;
-use pop_stipulation::stipulation::Goal;
+use chess_core::{Board, Move};
+use chess_mates::every_move_mates;
+use chess_rules::{LegalCursor, Rules, play, unplay};
+use chess_threats::QuietSteps;
+use pop_stipulation::Goal;
 
 /// Returns whether Black must mate after this move by White. The move isn't played if Black's king has a
 /// quiet step after it, or if no reply can mate.
-#[tactic(auto, using(chess_rules::proofs::listing_moves::Calls::playing, crate::proofs::LastMoves::unforced, crate::proofs::Values::last_half_move))]
+#[tactic(auto, using(chess_rules::proofs::listing_moves::Calls::playing, crate::proofs::Boards::some_move, crate::proofs::LastMoves::unforced, crate::proofs::Values::last_half_move))]
 fn forces_mate<R: Rules>(
     steps: QuietSteps,
     by: Move,
@@ -41,14 +41,14 @@ fn forces_mate<R: Rules>(
         return false;
     }
     let undo = play::<R>(board, by);
-    let forced = must_mate::<R>(board);
-    retract::<R>(board, by, undo);
+    let forced = every_move_mates::<R>(board);
+    unplay::<R>(board, by, undo);
     forced
 }
 
 /// Returns the next legal move after the cursor, and skips moves after which the filter finds a quiet step
 /// of Black's king. Adds the number of skipped moves to `counted`.
-#[tactic(auto, using(crate::proofs::Passing::none_passed))]
+#[tactic(auto, using(crate::proofs::Passing::filtered, crate::proofs::Passing::none_passed))]
 fn next_unquiet<R: Rules>(
     steps: &mut QuietSteps,
     moves: &mut LegalCursor<R>,
@@ -65,7 +65,7 @@ fn next_unquiet<R: Rules>(
     // For the proof: the count is below 2^64.
     let _counted = *counted;
     if !steps.are_known(board) {
-        return next_after::<R>(moves, board);
+        return moves.next(board);
     }
     let filtered = moves.next_filtered(steps, board);
     *counted = counted.saturating_add(u64::from(filtered.passed));
@@ -107,12 +107,8 @@ pub(crate) fn value_of_last_move<R: Rules>(
     search_state: &mut SearchState<R>,
 ) -> bool
     requires well_formed { IsWellFormed board.old }
-    ensures unchanged { board.new ≡ board.old }
-    ensures value { result ≡ value Selfmate (chess Mate R.rule) 2 board.old }
-    ensures opened { search_state.new.opened ≤ search_state.old.opened
-        + walk_count (legal_moves R.rule) (position_after R.rule) 2 board.old }
-    ensures tried { HasCounted search_state.old.opened search_state.new.opened
-        (smallest_tree Selfmate (chess Mate R.rule) 2 board.old) }
+    ensures { EvaluatesMate R.rule Selfmate 2 board.old board.new search_state.old.opened
+        search_state.new.opened result }
 {
     let moves = LegalCursor::<R>::of(board);
     let mut counted = 0;

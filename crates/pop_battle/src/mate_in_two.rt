@@ -7,18 +7,18 @@ ghost use Rattle.pop_stipulation.specs.declared.stipulation.Goal.TheVariants.{Ma
 ghost use Rattle.pop_battle.specs.Chess.{chess};
 ghost use Rattle.pop_battle.specs.Walks.{walk_count};
 ghost use Rattle.pop_battle.specs.declared.aim.Battle.TheVariants.{Direct};
+ghost use Rattle.pop_battle.specs.ties.Calls.{EvaluatesMate};
 ghost use Rattle.pop_battle.specs.ties.Counts.{HasCounted, smallest_tree};
 ghost use Rattle.pop_battle.specs.ties.Values.{value};
 
 use crate::aim::Battle;
-use crate::chess::{moves_at, retract};
+use crate::chess::moves_at;
 use crate::frame::MoveStage;
 use crate::last_defence::value_of_last_defence;
 use crate::move_stages::{next_tried, order_of};
 use crate::search_state::SearchState;
-use chess_core::board::Board;
-use chess_core::man::Move;
-use chess_rules::{Rules, play};
+use chess_core::{Board, Move};
+use chess_rules::{Rules, play, unplay};
 
 /// Returns whether White mates next after this move, whatever Black's defence.
 #[tactic(auto, using(chess_rules::proofs::listing_moves::Calls::playing))]
@@ -39,7 +39,7 @@ fn leaves_no_defence<R: Rules>(
 {
     let undo = play::<R>(board, by);
     let mates = value_of_last_defence::<R>(board, search_state);
-    retract::<R>(board, by, undo);
+    unplay::<R>(board, by, undo);
     mates
 }
 
@@ -47,16 +47,12 @@ fn leaves_no_defence<R: Rules>(
 /// Counts the position even if it has no legal move.
 pub(crate) fn mates_in_two<R: Rules>(board: &mut Board, search_state: &mut SearchState<R>) -> bool
     requires well_formed { IsWellFormed board.old }
-    ensures unchanged { board.new ≡ board.old }
-    ensures value { result ≡ value Direct (chess Mate R.rule) 3 board.old }
-    ensures opened { search_state.new.opened ≤ search_state.old.opened
-        + walk_count (legal_moves R.rule) (position_after R.rule) 3 board.old }
-    ensures tried { HasCounted search_state.old.opened search_state.new.opened
-        (smallest_tree Direct (chess Mate R.rule) 3 board.old) }
+    ensures { EvaluatesMate R.rule Direct 3 board.old board.new search_state.old.opened
+        search_state.new.opened result }
 {
     search_state.opened = search_state.opened.saturating_add(1);
     let order = order_of(&search_state.killers, Battle::Direct, 3);
-    let mut moves = moves_at::<R>(None, order.killer.back(), board);
+    let mut moves = moves_at::<R>(None, order.killer.previous(), board);
     let mut move_stage = MoveStage::Killer;
     while let Some(by) = next_tried::<R>(order, &mut move_stage, &mut moves, board) {
         if leaves_no_defence::<R>(by, board, search_state) {

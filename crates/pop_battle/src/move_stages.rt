@@ -10,12 +10,10 @@ ghost use Rattle.pop_battle.specs.ties.Calls.{Finds};
 ghost use Rattle.pop_battle.specs.ties.Frames.{all_moves_of, belongs, comes_early, move_stages_after, moves_ahead, moves_here, moves_later};
 
 use crate::aim::Battle;
-use crate::chess::{next_after, next_until};
 use crate::frame::{Early, MoveStage, Order};
 use crate::killers::Killers;
-use chess_core::board::Board;
-use chess_core::man::Move;
-use chess_mates::aims::{aims_at_king, next_aimed};
+use chess_core::{Board, Move};
+use chess_mates::{aims_at_king, next_aimed};
 use chess_rules::{LegalCursor, Moves, Rules};
 
 /// Returns which moves come right after the killers: those that give check or attack next to the king, if
@@ -86,7 +84,7 @@ fn next_of_move_stage<R: Rules>(
         (filter (belongs board.old order move_stage)
         (moves_after R.rule board.old moves.new.place)) }
 {
-    while let Some(by) = next_after::<R>(moves, board) {
+    while let Some(by) = moves.next(board) {
         if belongs::<R>(order, move_stage, moves.place(), &by, board) {
             return Some(by);
         }
@@ -139,8 +137,8 @@ fn next_here<R: Rules>(
         (moves_here R.rule board.old order move_stage moves.new.place) }
 {
     match (move_stage, order.early) {
-        (MoveStage::Killer, _) => next_until::<R>(moves, order.killer, board),
-        (MoveStage::Earlier, _) => next_until::<R>(moves, order.earlier, board),
+        (MoveStage::Killer, _) => moves.next_until(order.killer, board),
+        (MoveStage::Earlier, _) => moves.next_until(order.earlier, board),
         (MoveStage::Aimed, Early::AimedMoves) => next_early::<R>(order, moves, board),
         (MoveStage::Aimed, Early::NoMoves) | (MoveStage::Others, _) => {
             next_of_move_stage::<R>(order, move_stage, moves, board)
@@ -172,9 +170,9 @@ pub(crate) fn place_before<R: Rules>(order: Order<R>, move_stage: MoveStage) -> 
         ≡ all_moves_of R.rule p order move_stage }
 {
     match move_stage {
-        MoveStage::Killer => order.killer.back(),
+        MoveStage::Killer => order.killer.previous(),
         MoveStage::Earlier if order.earlier.is(order.killer) => order.earlier,
-        MoveStage::Earlier => order.earlier.back(),
+        MoveStage::Earlier => order.earlier.previous(),
         MoveStage::Aimed | MoveStage::Others => Moves::start(),
     }
 }

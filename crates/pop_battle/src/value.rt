@@ -1,5 +1,5 @@
 //! The value of a position in battle play.
-ghost use Rattle.std.specs.Prelude.{[], ◌%◌, ◌&&◌, ◌++◌, ◌+◌, ◌-◌, ◌<◌, ◌==◌, ◌∷◌, ◌≡◌, ◌≤◌, ◌⊎◌, IfNone, IfSome, MatchBool, MatchOption, None, Option, Some, false, not, true};
+ghost use Rattle.std.specs.Prelude.{[], ◌%◌, ◌&&◌, ◌++◌, ◌+◌, ◌-◌, ◌<◌, ◌==◌, ◌∷◌, ◌≡◌, ◌≤◌, ◌⊎◌, IfNone, IfSome, MatchBool, MatchOption, None, Some, false, not, true};
 ghost use Rattle.arrayvec.specs.ArrayVec.{array_vec_len};
 ghost use Rattle.chess_core.specs.Position.{Position};
 ghost use Rattle.chess_core.specs.WellFormed.{IsWellFormed};
@@ -11,7 +11,7 @@ ghost use Rattle.pop_battle.specs.Chess.{chess};
 ghost use Rattle.pop_battle.specs.Game.{can_move as has_move};
 ghost use Rattle.pop_battle.specs.Walks.{walk_count};
 ghost use Rattle.pop_battle.specs.declared.aim.Battle.TheVariants.{Direct, Selfmate};
-ghost use Rattle.pop_battle.specs.ties.Calls.{Evaluates};
+ghost use Rattle.pop_battle.specs.ties.Calls.{Evaluates, EvaluatesMate};
 ghost use Rattle.pop_battle.specs.ties.Counts.{HasCounted, smallest_tree};
 ghost use Rattle.pop_battle.specs.ties.Frames.{CameFrom, CameFromAt, Ends, IsOpenedOn, IsTesting, Turns, left_at_top, tests};
 ghost use Rattle.pop_battle.specs.ties.Marks.{is_for_mate};
@@ -19,8 +19,7 @@ ghost use Rattle.pop_battle.specs.ties.Values.{attacker_to_move, joined_value, v
 
 use crate::aim::{Aim, Battle};
 use crate::chess::{
-    cursor_if_any_move, is_for_mate, is_reached_without_move, moves_at, must_mate, next_after,
-    next_until, reaches_goal, retract,
+    cursor_if_any_move, is_for_mate, is_reached_without_move, moves_at, reaches_goal,
 };
 use crate::frame::{Frame, MoveStage};
 use crate::killers::Killers;
@@ -30,10 +29,10 @@ use crate::mate_in_two::mates_in_two;
 use crate::move_stages::{next_tried, order_of};
 use crate::search_state::SearchState;
 use arrayvec::ArrayVec;
-use chess_core::board::Board;
-use chess_core::man::Move;
-use chess_rules::{LegalCursor, Rules, play};
-use pop_stipulation::stipulation::Goal;
+use chess_core::{Board, Move};
+use chess_mates::every_move_mates;
+use chess_rules::{LegalCursor, Rules, play, unplay};
+use pop_stipulation::Goal;
 
 /// Returns whether White, who needs only one good move, is to move with `left` half-moves left.
 pub fn attacker_to_move(battle: Battle, left: usize) -> bool
@@ -62,7 +61,7 @@ fn value_without_move<R: Rules>(goal: Goal, left: usize, board: &Board) -> bool
 }
 
 /// Returns the value of a position with one half-move left, for mate: White mates, or Black must mate.
-#[tactic(auto, using(crate::proofs::Values::last_half_move))]
+#[tactic(auto, using(crate::proofs::Boards::some_move, crate::proofs::Values::last_half_move))]
 fn last_value<R: Rules>(battle: Battle, board: &mut Board, killers: &mut Killers<R>) -> bool
     requires well_formed { IsWellFormed board.old }
     ensures unchanged { board.new ≡ board.old }
@@ -70,7 +69,7 @@ fn last_value<R: Rules>(battle: Battle, board: &mut Board, killers: &mut Killers
 {
     match battle {
         Battle::Direct => has_mate::<R>(board, killers),
-        Battle::Selfmate => must_mate::<R>(board),
+        Battle::Selfmate => every_move_mates::<R>(board),
     }
 }
 
@@ -81,12 +80,8 @@ fn value_of_two<R: Rules>(
     search_state: &mut SearchState<R>,
 ) -> bool
     requires well_formed { IsWellFormed board.old }
-    ensures unchanged { board.new ≡ board.old }
-    ensures value { result ≡ value battle (chess Mate R.rule) 2 board.old }
-    ensures opened { search_state.new.opened ≤ search_state.old.opened
-        + walk_count (legal_moves R.rule) (position_after R.rule) 2 board.old }
-    ensures tried { HasCounted search_state.old.opened search_state.new.opened
-        (smallest_tree battle (chess Mate R.rule) 2 board.old) }
+    ensures { EvaluatesMate R.rule battle 2 board.old board.new search_state.old.opened
+        search_state.new.opened result }
 {
     match battle {
         Battle::Direct => value_of_last_defence::<R>(board, search_state),
@@ -158,6 +153,7 @@ fn is_decided(answer: Option<bool>, seek: bool) -> bool
 }
 
 /// Closes a frame with the value of its position. Returns that value if the frame is the test's lowest.
+#[tactic(auto, using(chess_rules::proofs::listing_moves::Calls::playing))]
 fn close<R: Rules>(
     value: bool,
     floor: usize,
@@ -175,7 +171,7 @@ fn close<R: Rules>(
     if depth <= floor {
         return Some(value);
     }
-    retract::<R>(board, top.by, top.undo);
+    unplay::<R>(board, top.by, top.undo);
     *answer = Some(value);
     None
 }
@@ -226,13 +222,13 @@ fn descend<R: Rules, const N: usize>(
     let mut known = None;
     let answer = value_at_once::<R>(aim, left, board, &mut known, search_state);
     if answer.is_some() {
-        retract::<R>(board, by, undo);
+        unplay::<R>(board, by, undo);
         return answer;
     }
     search_state.opened = search_state.opened.saturating_add(1);
     let order = order_of(&search_state.killers, aim.battle, left);
     frames.push(Frame {
-        place: order.killer.back(),
+        place: order.killer.previous(),
         by,
         undo,
         left,
@@ -314,7 +310,7 @@ pub fn value_of<R: Rules, const N: usize>(
     search_state.opened = search_state.opened.saturating_add(1);
     let order = order_of(&search_state.killers, aim.battle, left);
     frames.push(Frame {
-        place: order.killer.back(),
+        place: order.killer.previous(),
         left,
         order,
         move_stage: MoveStage::Killer,

@@ -8,11 +8,14 @@
 //! }
 //! ```
 //!
-//! The interface is `Event`, `Phase`, `Shown`, `Mark` and `Side`. `specs/Shown.antt` defines what is shown of a move.
+//! The interface is `Event`, `Phase`, `TryEvent`, `Shown`, `Mark` and `Side`. `specs/Shown.antt` defines what is shown of
+//! a move.
 #![tactic(auto)]
 
 pub mod event;
 pub mod shown;
+pub mod try_event;
 
 pub use event::{Event, Phase};
 pub use shown::{Mark, Shown, Side};
+pub use try_event::TryEvent;

@@ -8,7 +8,6 @@ pub mod PartBegins
 pub mod PartsJoined
 pub mod theorems
 pub mod Excluded
-pub mod Listing
 pub mod Ranges
 pub mod Reading
 pub mod Showing

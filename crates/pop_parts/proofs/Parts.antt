@@ -129,30 +129,22 @@ module _ (rule : RuleSet) (problem : Posed) where
       (battle-by battle phase h (m ∷ [])) z (one-cut battle fought phase h z m))
 
 -- after a part's first moves, the last of which is still to be made, the walk shows the part's solutions
-pub part_cut : (rule : RuleSet) (problem : Posed) (sound : IsSound problem) (phase : Phase) (front : List Move) (m : Move)
-    → length front + 1 ≤ phase_half_moves problem phase → (is_help problem.stipulation.form ≡ false → front ≡ [])
-    → are_legal rule (phase_start problem phase) (front ++ m ∷ []) ≡ true
-    → IsCutInto (is_help problem.stipulation.form) problem.max_solutions
+abbrev pub IsPartCut : RuleSet → Posed → Phase → Bool → List Move → Move → Type 0
+IsPartCut rule problem phase help front m = IsCutInto help problem.max_solutions
     (map (λ line. front ++ line) (shown_paths (plan_of problem) (chess problem.stipulation.goal rule) (eqb (length front) 0)
     (phase_half_moves problem phase - length front) (phase_half_moves problem phase - length front)
-    (path_end (position_after rule) (phase_start problem phase) front) (m ∷ [])))
-    (part_solutions rule problem phase (front ++ m ∷ []))
+    (path_end (position_after rule) (phase_start problem phase) front) (m ∷ []))) (part_solutions rule problem phase (front ++ m ∷ []))
+
+-- so it does in help play and in battles
+pub part_cut : (rule : RuleSet) (problem : Posed) (sound : IsSound problem) (phase : Phase) (front : List Move) (m : Move)
+    → length front + 1 ≤ phase_half_moves problem phase → (is_help problem.stipulation.form ≡ false → front ≡ [])
+    → are_legal rule (phase_start problem phase) (front ++ m ∷ []) ≡ true → IsPartCut rule problem phase (is_help problem.stipulation.form) front m
 part_cut rule problem sound phase front m room alone may =
     rw (← helps-form problem.stipulation.form) (by_play (play_of problem.stipulation.form) refl)
   where
-    by_play : (play : PlayOfSides) → play_of problem.stipulation.form ≡ play
-        → IsCutInto (is_help_play play) problem.max_solutions
-        (map (λ line. front ++ line) (shown_paths (plan_of problem) (chess problem.stipulation.goal rule) (eqb (length front) 0)
-        (phase_half_moves problem phase - length front) (phase_half_moves problem phase - length front)
-        (path_end (position_after rule) (phase_start problem phase) front) (m ∷ [])))
-        (part_solutions rule problem phase (front ++ m ∷ []))
+    by_play : (play : PlayOfSides) → play_of problem.stipulation.form ≡ play → IsPartCut rule problem phase (is_help_play play) front m
     by_play HelpPlay help = help-cut rule problem help sound phase front m room may (eqb (length front) 0)
     by_play (BattlePlay battle) fought =
-        let Cut : List Move → Type 0 =
-        λ front. length front + 1 ≤ phase_half_moves problem phase → are_legal rule (phase_start problem phase) (front ++ m ∷ []) ≡ true
-        → IsCutInto false problem.max_solutions
-        (map (λ line. front ++ line) (shown_paths (plan_of problem) (chess problem.stipulation.goal rule) (eqb (length front) 0)
-        (phase_half_moves problem phase - length front) (phase_half_moves problem phase - length front)
-        (path_end (position_after rule) (phase_start problem phase) front) (m ∷ [])))
-        (part_solutions rule problem phase (front ++ m ∷ [])) in
+        let Cut : List Move → Type 0 = λ front. length front + 1 ≤ phase_half_moves problem phase
+        → are_legal rule (phase_start problem phase) (front ++ m ∷ []) ≡ true → IsPartCut rule problem phase false front m in
         subst Cut (sym (alone (battle-form problem.stipulation.form battle fought))) (battle-cut rule problem battle fought sound phase m) room may

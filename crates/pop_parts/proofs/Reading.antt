@@ -1,5 +1,5 @@
 -- What was read of an input, item by item.
-use Rattle.pop_parts.proofs.Words.{Entry, FaultyEntry, IfSome, Input, IsEndSeen, Item, List, NextItem, None, Open, Option, Reads, ReadsItems, ReadsUpTo, Some, SoundEntry, ReaderState, Stopped, UsesEntry, UsesItem, [], all_to_come, ap, append-nil, arith, closings, entries_in, entries_left, entry_in, failures_after, false, initial_state, grew_broken, grew_more, grew_same, has_grown, input_met, length, reads_then, refl, still_more, stopped_reads, stopped_reads_words, sym, taken_of, true, ℕ, ◌++◌, ◌+◌, ◌∙◌, ◌∷◌, ◌≡◌, ◌≤◌}
+use Rattle.pop_parts.proofs.Words.{Entry, FaultyEntry, IfSome, Input, IsEndSeen, Item, List, NextItem, None, Open, Option, Reads, ReadsItems, Some, SoundEntry, ReaderState, Stopped, UsesEntry, UsesItem, [], all_to_come, ap, append-nil, arith, closings, entries_in, entries_left, entry_in, failures_after, false, initial_state, is_item, is_some, grew_broken, grew_more, grew_same, has_grown, input_met, length, not, reads_then, refl, still_more, stopped_reads_words, sym, taken_of, true, ℕ, ◌++◌, ◌+◌, ◌∙◌, ◌∷◌, ◌≡◌, ◌≤◌}
 use Rattle.pop_input.proofs.Taking.{some_rest}
 use Rattle.pop_input.specs.declared.item.Item.TheVariants.{Sound, Faulty, End as NoItem}
 use Rattle.pop_input.specs.declared.reader.Next.TheVariants.{Nothing}
@@ -41,6 +41,20 @@ kept_is_reported n m is = rw (is, grew_same) refl
 pub failure_is_reported : (n m : ℕ) → m ≡ n + 1 → has_grown n m ≡ true
 failure_is_reported n m is = rw (is, grew_more) refl
 
+-- an item that isn't the end is an entry
+pub entry_there : (found : Option Entry) → not (is_some found) ≡ false → (entry : Entry) × (found ≡ Some entry)
+entry_there None h = absurd (let no : true ≡ false = h in cc)
+entry_there (Some entry) h = (entry, refl)
+
+-- an absent entry is `None`
+pub none_there : (found : Option Entry) → not (is_some found) ≡ true → found ≡ None
+none_there None h = refl
+none_there (Some entry) h = absurd (let no : false ≡ true = h in cc)
+
+-- an entry is an item
+pub item_there : (item : Item) (entry : Entry) → entry_in item ≡ Some entry → is_item item ≡ true
+item_there item entry is = grind arith
+
 -- How far a call reads.
 
 -- where an item was read one was still to come, and its bytes are used
@@ -56,13 +70,6 @@ pub last_read : (old new : ReaderState) (mid left : Option (List ℕ)) (item : I
 last_read old new mid left NoItem (nothing, same, over) u none = (rw nothing refl, same, u.1)
 last_read old new mid left (Sound posed last) p u none = absurd (let no : Some (SoundEntry posed) ≡ None = none in cc)
 last_read old new mid left (Faulty fault last) p u none = absurd (let no : Some (FaultyEntry fault) ≡ None = none in cc)
-
--- a call that stops has read as a run does
-pub reads_as_a_run : (new : ReaderState) (had left : Option (List ℕ)) (n m : ℕ) → Stopped new had left → IsEndSeen new.at.end left
-    → length new.at.window ≤ 4096 → m ≡ failures_after Open new.at.end n
-    → IfSome had (λ r. ReadsUpTo (input_met (has_grown n m) r left) (taken_of r left))
-reads_as_a_run new None left n m s seen few reads = tt
-reads_as_a_run new (Some r) left n m s seen few reads = rw (grew_broken new.at.end n m reads) (stopped_reads new r left s seen few)
 
 -- a call that stops has read no further than an item, where no more of the words used close one
 pub reads_items : (number : ℕ) (new : ReaderState) (had left : Option (List ℕ)) (n m : ℕ) (s : Stopped new had left) → (1 ≤ number → closings s.tokens ≤ number)

@@ -6,8 +6,8 @@ pub use Rattle.pop_events.specs.declared.event.Phase.{Phase}
 pub use Rattle.pop_parts.specs.PhaseParts.{begins_so, part_count, part_depth, part_numbered}
 unfoldable pub use Rattle.pop_parts.specs.PhaseParts.{beginnings, begins_path, part_events, part_solutions, parts}
 pub use Rattle.pop_solve.proofs.Sound.{battle-form, help-form, help-play, helps-form, in_range, some_way, start_sound}
-pub use Rattle.pop_parts.specs.ties.Items.{entry_in, is_failure, parts_line_if, status_after, text_if}
-pub use Rattle.pop_parts.specs.Parts.{entry_numbered, lines_from, outcome_at, part_text, parts_line, text_at}
+pub use Rattle.pop_parts.specs.ties.Items.{entry_in, is_failure, text_if}
+pub use Rattle.pop_parts.specs.Parts.{entry_numbered, outcome_at, part_text, text_at}
 unfoldable pub use Rattle.pop_parts.specs.Parts.{text_in}
 pub use Rattle.pop_text.specs.declared.scanner.End.TheVariants.{Open}
 pub use Rattle.pop_text.specs.ties.Reading.{IsEndSeen, failures_after}
@@ -17,9 +17,9 @@ pub use Rattle.pop_text.specs.Words.{Input, Word}
 unfoldable pub use Rattle.pop_text.specs.Words.{limit}
 pub use Rattle.pop_input.specs.Blocks.{Entry, Faulty, Faulty as FaultyEntry, Sound, Sound as SoundEntry}
 pub use Rattle.std.specs.List.{count_by, list_any}
-pub use Rattle.pop_run.specs.Report.{entries_in, is_faulty, reports_device_failure}
+pub use Rattle.pop_run.specs.Report.{entries_in, reports_device_failure}
 unfoldable pub use Rattle.pop_run.specs.Report.{status_of}
-pub use Rattle.pop_run.specs.Run.{ReadsUpTo, closings, has_grown, input_met, taken_of}
+pub use Rattle.pop_run.specs.Run.{closings, has_grown, input_met, taken_of}
 pub use Rattle.pop_parts.specs.Runs.{Lists, ReadsItems, Shows}
 pub use Rattle.pop_solve.proofs.theorems.Lists.{IsPlayable, StandsBefore, never_before_itself}
 pub use Rattle.pop_solve.proofs.Paths.{cut-at, path-length, path-more, path_end-append, path_end-path, position-more, some-taken}
@@ -32,5 +32,5 @@ pub use Rattle.chess_rules.specs.Play.{position_after}
 pub use Rattle.pop_solve.proofs.Kept.{beginning_count-next, keep-next}
 pub use Rattle.pop_input.specs.declared.item.Item.{Item}
 pub use Rattle.pop_input.specs.ties.Used.{UsesEntry, UsesItem}
-pub use Rattle.pop_run.proofs.Reached.{Reached, Stopped, item_reached, item_stops, last_few, reached_few, reached_start, start_few, still_more, stopped_last, stopped_reads, stopped_reads_words, stops_few}
-pub use Rattle.pop_run.proofs.Running.{all_to_come, any_more, grew_broken, grew_more, grew_same, reads_then, status_more}
+pub use Rattle.pop_run.proofs.Reached.{Reached, Stopped, item_reached, item_stops, last_few, reached_few, reached_start, start_few, still_more, stopped_last, stopped_reads_words, stops_few}
+pub use Rattle.pop_run.proofs.Running.{all_to_come, any_more, grew_broken, grew_more, grew_same, reads_then}

@@ -1,5 +1,5 @@
 -- The list of an input's parts, and the text of requested parts (own layout).
-use Rattle.std.specs.Prelude.{ℕ, ◌+◌, ◌-◌, ◌^◌, ◌==◌, nat_le, min, Bool, true, not, ◌&&◌, if◌then◌else◌, List, [], ◌∷◌, ◌++◌, map, take, drop, length, slice_get, codes, decimal, Option, Some, None}
+use Rattle.std.specs.Prelude.{ℕ, ◌+◌, ◌-◌, ◌^◌, ◌==◌, nat_le, min, Bool, true, not, ◌&&◌, if◌then◌else◌, List, [], ◌++◌, map, take, drop, length, slice_get, codes, decimal, Option, Some, None}
 use Rattle.std.specs.List.{flat_map, list_any}
 use Rattle.chess_attacks.specs.RuleSet.{RuleSet}
 use Rattle.pop_text.specs.Words.{Input}
@@ -10,7 +10,7 @@ use Rattle.pop_parts.specs.PhaseParts.{parts, part_events}
 use Rattle.pop_events.specs.declared.event.Phase.{Phase}
 use Rattle.pop_events.specs.declared.event.Phase.TheVariants.{Set, Play}
 use Rattle.pop_print.specs.Events.{event_text}
-use Rattle.pop_run.specs.Report.{entries_in, reports_device_failure}
+use Rattle.pop_run.specs.Report.{ItemText, entries_in, report_by, reports_device_failure}
 use Rattle.pop_parts.specs.declared.request.PartRequest.{PartRequest}
 use Rattle.pop_parts.specs.declared.request.Outcome.{Outcome}
 use Rattle.pop_parts.specs.declared.request.Outcome.TheVariants.{Shown, NoItem, FaultyItem, NoPhase, NoPart, InputFailed}
@@ -36,20 +36,14 @@ set_text posed depth =
     else []
 
 -- the line of an item
-unfoldable pub parts_line : ℕ → ℕ → Entry → List ℕ
-parts_line number depth (Sound posed) = decimal number ++ codes ": " ++ set_text posed depth
+unfoldable pub parts_line : ℕ → ItemText
+parts_line depth number (Sound posed) = decimal number ++ codes ": " ++ set_text posed depth
     ++ codes "play " ++ count_text (count_of posed Play depth) ++ codes "\n"
-parts_line number depth (Faulty fault) = decimal number ++ codes ": faulty\n"
-
--- the lines of items, the first with this number
-abbrev pub lines_from : ℕ → ℕ → List Entry → List ℕ
-lines_from depth number [] = []
-lines_from depth number (entry ∷ entries) = parts_line number depth entry
-    ++ lines_from depth (number + 1) entries
+parts_line depth number (Faulty fault) = decimal number ++ codes ": faulty\n"
 
 -- the list of an input: the lines of its items, numbered from 1
 abbrev pub list_text : ℕ → Input → List ℕ
-list_text depth input = lines_from depth 1 (entries_in input)
+list_text depth input = report_by (parts_line depth) input
 
 -- the item with this number, counted from 1
 abbrev pub entry_numbered : List Entry → ℕ → Option Entry

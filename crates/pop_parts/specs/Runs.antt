@@ -2,11 +2,9 @@
 use Rattle.std.specs.Prelude.{◌≡◌, ◌≤◌, ℕ, List, Option, Bool, true, false}
 use Rattle.pop_text.specs.Bytes.{Appends, Begins}
 use Rattle.pop_text.specs.Words.{Input}
-use Rattle.pop_run.specs.Report.{status}
-use Rattle.pop_run.specs.Run.{ReadsUpTo, closings}
+use Rattle.pop_run.specs.Run.{ReadsUpTo, RunsBy, closings}
 use Rattle.pop_run.specs.declared.status.Status.{Status}
-use Rattle.pop_run.specs.declared.status.Status.TheVariants.{OutputFailed as ListCut}
-use Rattle.pop_parts.specs.Parts.{list_text, outcome_of, text_of}
+use Rattle.pop_parts.specs.Parts.{outcome_of, parts_line, text_of}
 use Rattle.pop_parts.specs.declared.request.PartRequest.{PartRequest}
 use Rattle.pop_parts.specs.declared.request.Outcome.{Outcome}
 use Rattle.pop_parts.specs.declared.request.Outcome.TheVariants.{OutputFailed}
@@ -14,10 +12,7 @@ use Rattle.pop_parts.specs.declared.request.Outcome.TheVariants.{OutputFailed}
 -- The list of the input was written, and its status returned; if the sink failed, a beginning of the list
 -- was written.
 abbrev pub Lists : ℕ → Input → Option (List ℕ) → Option (List ℕ) → Bool → Status → Type 0
-Lists depth input before now false answer = Appends before now (list_text depth input)
-    × (answer ≡ status input)
-Lists depth input before now true answer = Begins before now (list_text depth input)
-    × (answer ≡ ListCut)
+Lists depth = RunsBy (parts_line depth)
 
 -- The text of the requested parts was written, and the outcome returned; if the sink failed, a beginning of
 -- the text was written.

@@ -1,23 +1,71 @@
 //! The list of an input's parts.
-ghost use Rattle.std.specs.Prelude.{◌≡◌, ◌<◌, ◌≤◌, ◌+◌, ◌++◌, IfSome, length};
-ghost use Rattle.pop_text.specs.Bytes.{Writes, count_after, greatest_count};
+ghost use Rattle.std.specs.Prelude.{◌≡◌, ◌<◌, ◌≤◌, ◌+◌, ◌++◌, IfSome, codes, decimal, length};
+ghost use Rattle.pop_text.specs.Bytes.{greatest_count};
 ghost use Rattle.pop_input.specs.Blocks.{Sound as SoundEntry};
 ghost use Rattle.pop_input.specs.Posed.{rule_of};
 ghost use Rattle.pop_solve.specs.Events.{is_impossible_phase as barred};
 ghost use Rattle.pop_run.specs.Run.{FailsOnce, ReadsUpTo, has_grown, input_met, taken_of};
 ghost use Rattle.pop_parts.specs.Parts.{count_of, count_text, parts_line, set_text, reported_count};
 ghost use Rattle.pop_parts.specs.Runs.{Lists};
-ghost use Rattle.pop_parts.specs.ties.Items.{entry_in, parts_line_if};
 
-use crate::items::{is_end, status_after};
 use crate::searching::parts_in;
 use chess_core::Board;
 use chess_rules::{Rules, in_check};
 use pop_events::Phase;
-use pop_input::{Item, Problem, Reader, under_condition};
+use pop_input::{Fault, Problem, under_condition};
 use pop_print::line::{LONGEST, LineBuffer};
-use pop_run::Status;
+use pop_run::{ItemWriter, Status, run_with};
 use pop_text::{Sink, SinkFault, Source};
+use std::marker::Model;
+
+// Writes one line for each item: the number of parts of its phases. `depth` moves, 1 or more, distinguish the parts
+// of help play.
+#[derive(Clone, Copy)]
+struct PartLines {
+    depth: usize,
+}
+
+impl Model for PartLines {
+    ghost use Rattle.std.specs.Prelude.{◌≤◌, ℕ};
+
+    ghost Value = { ℕ };
+
+    ghost view = { λ s. s.depth };
+
+    ghost invariant = { λ s. 1 ≤ s.depth };
+
+    ghost inverse = { λ n. record { depth = n } };
+}
+
+impl ItemWriter for PartLines {
+    ghost use Rattle.pop_parts.specs.Parts.{parts_line};
+
+    ghost text = { parts_line };
+
+    #[tactic(auto, unfolding(crate::specs::Parts::parts_line))]
+    fn write_sound<W: Sink>(
+        &self,
+        sink: &mut W,
+        number: u64,
+        problem: &Problem,
+    ) -> Result<(), SinkFault> {
+        let mut line = LineBuffer::<LONGEST>::new();
+        add_sound(&mut line, number, self.depth, problem);
+        line.put(sink)
+    }
+
+    #[tactic(auto, unfolding(crate::specs::Parts::parts_line))]
+    fn write_fault<W: Sink>(
+        &self,
+        sink: &mut W,
+        number: u64,
+        _fault: &Fault,
+    ) -> Result<(), SinkFault> {
+        let mut line = LineBuffer::<LONGEST>::new();
+        add_faulty(&mut line, number);
+        line.put(sink)
+    }
+}
 
 /// Reads all items of the source and writes one line for each: the number of parts of its phases. `depth`
 /// moves, 1 or more, distinguish the parts of help play. Returns the status of the input.
@@ -40,56 +88,16 @@ pub fn list_parts<S: Source, W: Sink>(depth: usize, source: &mut S, sink: &mut W
     ensures once { FailsOnce (S.failures source.old) (S.failures source.new)
         × FailsOnce (W.failures sink.old) (W.failures sink.new) }
 {
-    let mut reader = Reader::new();
-    let mut number: u64 = 1;
-    let mut so_far = Status::Sound;
-    loop {
-        let item = reader.next_problem(source);
-        if is_end(&item) {
-            return so_far;
-        }
-        match print_item(sink, number, depth, &item) {
-            Ok(()) => {}
-            Err(_) => return Status::OutputFailed,
-        }
-        so_far = status_after(so_far, &item);
-        number += 1;
-    }
+    run_with(PartLines { depth }, source, sink)
 }
 
-// Writes the line of an item, in one call to the sink.
-fn print_item<W: Sink>(
-    sink: &mut W,
-    number: u64,
-    depth: usize,
-    item: &Item,
-) -> Result<(), SinkFault>
-    requires depth { 1 ≤ depth }
-    requires sink { W.failures sink.old < greatest_count }
-    ensures bytes { Writes (W.taken sink.old) (W.taken sink.new)
-        (parts_line_if number depth (entry_in item.now)) result }
-    ensures counted { W.failures sink.new ≡ count_after result (W.failures sink.old) }
+// Adds the line of a faulty item.
+fn add_faulty<const N: usize>(line: &mut LineBuffer<N>, number: u64)
+    requires { length line.old + 100 ≤ N }
+    ensures { line.new ≡ line.old ++ decimal number ++ codes ": faulty\n" }
 {
-    let mut line = LineBuffer::<LONGEST>::new();
-    add_item(&mut line, number, depth, item);
-    line.put(sink)
-}
-
-// Adds the line of an item.
-#[tactic(auto, unfolding(crate::specs::Parts::parts_line))]
-fn add_item<const N: usize>(line: &mut LineBuffer<N>, number: u64, depth: usize, item: &Item)
-    requires depth { 1 ≤ depth }
-    requires room { length line.old + 100 ≤ N }
-    ensures { line.new ≡ line.old ++ parts_line_if number depth (entry_in item.now) }
-{
-    match item {
-        Item::End => {}
-        Item::Sound(problem, _) => add_sound(line, number, depth, problem),
-        Item::Faulty(_, _) => {
-            line.add_number(number);
-            line.add(b": faulty\n");
-        }
-    }
+    line.add_number(number);
+    line.add(b": faulty\n");
 }
 
 // Adds the line of a sound problem.
@@ -97,7 +105,7 @@ fn add_item<const N: usize>(line: &mut LineBuffer<N>, number: u64, depth: usize,
 fn add_sound<const N: usize>(line: &mut LineBuffer<N>, number: u64, depth: usize, problem: &Problem)
     requires depth { 1 ≤ depth }
     requires room { length line.old + 100 ≤ N }
-    ensures { line.new ≡ line.old ++ parts_line number depth (SoundEntry problem.now) }
+    ensures { line.new ≡ line.old ++ parts_line depth number (SoundEntry problem.now) }
 {
     line.add_number(number);
     line.add(b": ");

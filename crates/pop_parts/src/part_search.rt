@@ -3,7 +3,7 @@ ghost use Rattle.std.specs.Prelude.{◌≡◌, ◌<◌, [], ◌∷◌, ◌++◌,
 ghost use Rattle.arrayvec.specs.ArrayVec.{array_vec_len};
 ghost use Rattle.pop_solve.specs.ties.Walk.{path};
 
-use crate::parts_left::RemainingParts;
+use crate::remaining_parts::RemainingParts;
 use arrayvec::ArrayVec;
 use chess_core::{Board, Move};
 use chess_rules::Rules;

@@ -3,3 +3,4 @@ pub mod Heads
 pub mod Moves
 pub mod Events
 pub mod Faults
+pub mod Tries

@@ -1,11 +1,11 @@
 //! The text of events.
-ghost use Rattle.std.specs.Prelude.{◌++◌, ◌+◌, ◌<◌, ◌^◌, ◌≡◌, ◌≤◌, codes, length, replicate, true};
+ghost use Rattle.std.specs.Prelude.{◌*◌, ◌++◌, ◌+◌, ◌<◌, ◌^◌, ◌≡◌, ◌≤◌, decimal, length, replicate, true};
 ghost use Rattle.pop_text.specs.Bytes.{Writes, count_after, greatest_count};
-ghost use Rattle.pop_print.specs.Events.{event_text, line_text, move_number_text, moves_text, node_text, prefix_text, stopped_text as text_of_stopped, total_text};
+ghost use Rattle.pop_print.specs.Events.{event_text, line_text, move_number_text, moves_text, prefix_text, stopped_text as text_of_stopped, total_text};
 ghost use Rattle.pop_print.specs.Moves.{move_text};
 ghost use Rattle.pop_print.specs.Notation.{blank};
 
-use crate::line::{LONGEST, LineBuffer};
+use crate::line::{LONGEST, LONGEST_NUMBER, LineBuffer};
 use crate::moves::MOVE;
 use pop_events::{Event, Phase, Shown};
 use pop_text::{Sink, SinkFault, put_all};
@@ -22,8 +22,8 @@ const MOVE_NUMBER: usize = PREFIX + 1;
 // The most bytes of a line's moves: 32, each with its number.
 const MOVES: usize = 32 * (MOVE_NUMBER + MOVE);
 
-// The most bytes of a total.
-const TOTAL: usize = 41;
+// The most bytes of what comes before a count, and of what follows it.
+const LABEL: usize = 16;
 
 /// Writes an event as one line.
 ///
@@ -42,7 +42,7 @@ pub fn print_event<W: Sink>(sink: &mut W, event: &Event) -> Result<(), SinkFault
         Event::Phase(Phase::Set) => put_all(sink, b"set\n"),
         Event::Phase(Phase::Play) => put_all(sink, b"play\n"),
         Event::Line { half, moves } => print_line(sink, *half, moves.as_slice()),
-        Event::Node { depth, half, shown } => print_node(sink, *depth, *half, shown),
+        Event::Node { depth, half, shown } => print_node(sink, *depth, *half, shown, b"\n"),
         Event::Impossible => put_all(sink, b"not possible\n"),
         Event::Total { count, stopped } => print_total(sink, *count, *stopped),
     }
@@ -60,19 +60,30 @@ fn print_line<W: Sink>(sink: &mut W, half: u32, moves: &[Shown]) -> Result<(), S
     line.put(sink)
 }
 
-// Writes a node of battle play. No node of a problem has more than 64 blanks before it. The code for more blanks is for
-// the prover alone, since `depth` may be any number.
-fn print_node<W: Sink>(sink: &mut W, depth: u32, half: u32, shown: &Shown) -> Result<(), SinkFault>
-    requires { W.failures sink.old < greatest_count }
-    ensures bytes { Writes (W.taken sink.old) (W.taken sink.new) (node_text depth half shown.now)
-        result }
+/// Writes a move of battle play that has `depth` moves above it, and the line's ending after it. No move of a problem has
+/// more than 64 blanks before it. The code for more blanks is for the prover alone, since `depth` may be any number.
+///
+/// # Errors
+///
+/// `SinkFault` if the sink fails: a beginning of the line is then written.
+pub(crate) fn print_node<W: Sink>(
+    sink: &mut W,
+    depth: u32,
+    half: u32,
+    shown: &Shown,
+    ending: &[u8],
+) -> Result<(), SinkFault>
+    requires sink { W.failures sink.old < greatest_count }
+    requires ending { length ending.now ≤ 2 }
+    ensures bytes { Writes (W.taken sink.old) (W.taken sink.new) (replicate (2 * depth) blank
+        ++ prefix_text half ++ move_text shown.now ++ ending.now) result }
     ensures counted { W.failures sink.new ≡ count_after result (W.failures sink.old) }
 {
     let blanks = 2 * u64::from(depth);
     let apart = blanks.saturating_sub(64);
     put_blanks(sink, apart)?;
     let mut line = LineBuffer::<NODE>::new();
-    line.add_node(blanks - apart, half, shown);
+    line.add_node(blanks - apart, half, shown, ending);
     line.put(sink)
 }
 
@@ -87,13 +98,39 @@ fn put_blanks<W: Sink>(sink: &mut W, count: u64) -> Result<(), SinkFault>
     Ok(())
 }
 
-fn print_total<W: Sink>(sink: &mut W, count: u32, stopped: bool) -> Result<(), SinkFault>
+/// Writes the count at the end of a phase.
+///
+/// # Errors
+///
+/// `SinkFault` if the sink fails: a beginning of the line is then written.
+pub(crate) fn print_total<W: Sink>(sink: &mut W, count: u32, stopped: bool) -> Result<(), SinkFault>
     requires { W.failures sink.old < greatest_count }
     ensures bytes { Writes (W.taken sink.old) (W.taken sink.new) (total_text count stopped) result }
     ensures counted { W.failures sink.new ≡ count_after result (W.failures sink.old) }
 {
+    print_count(sink, b"solutions: ", count, stopped_text(stopped))
+}
+
+/// Writes a count between a label and the line's ending.
+///
+/// # Errors
+///
+/// `SinkFault` if the sink fails: a beginning of the line is then written.
+pub(crate) fn print_count<W: Sink>(
+    sink: &mut W,
+    label: &[u8],
+    count: u32,
+    ending: &[u8],
+) -> Result<(), SinkFault>
+    requires sink { W.failures sink.old < greatest_count }
+    requires label { length label.now ≤ LABEL }
+    requires ending { length ending.now ≤ LABEL }
+    ensures bytes { Writes (W.taken sink.old) (W.taken sink.new) (label.now ++ decimal count
+        ++ ending.now) result }
+    ensures counted { W.failures sink.new ≡ count_after result (W.failures sink.old) }
+{
     let mut line = LineBuffer::<NODE>::new();
-    line.add_total(count, stopped);
+    line.add_count(label, count, ending);
     line.put(sink)
 }
 
@@ -166,25 +203,26 @@ impl<const N: usize> LineBuffer<N> {
         self.add(b"\n");
     }
 
-    // Adds a node of battle play, after `blanks` blanks.
-    fn add_node(&mut self, blanks: u64, half: u32, shown: &Shown)
-        requires { length self.old + blanks + PREFIX + MOVE + 1 ≤ N }
+    // Adds a move of battle play, after `blanks` blanks and before the line's ending.
+    fn add_node(&mut self, blanks: u64, half: u32, shown: &Shown, ending: &[u8])
+        requires { length self.old + blanks + PREFIX + MOVE + length ending.now ≤ N }
         ensures { self.new ≡ self.old ++ (replicate blanks blank ++ prefix_text half
-            ++ move_text shown.now ++ codes "\n") }
+            ++ move_text shown.now ++ ending.now) }
     {
         self.add_blanks(blanks);
         self.add_prefix(u64::from(half));
         self.add_move(shown);
-        self.add(b"\n");
+        self.add(ending);
     }
 
-    fn add_total(&mut self, count: u32, stopped: bool)
-        requires { length self.old + TOTAL ≤ N }
-        ensures { self.new ≡ self.old ++ total_text count stopped }
+    // Adds a count between a label and the line's ending.
+    fn add_count(&mut self, label: &[u8], count: u32, ending: &[u8])
+        requires { length self.old + length label.now + LONGEST_NUMBER + length ending.now ≤ N }
+        ensures { self.new ≡ self.old ++ (label.now ++ decimal count ++ ending.now) }
     {
-        self.add(b"solutions: ");
+        self.add(label);
         self.add_number(u64::from(count));
-        self.add(stopped_text(stopped));
+        self.add(ending);
     }
 
     fn add_blanks(&mut self, count: u64)

@@ -1,5 +1,5 @@
 -- The report of an input, and its status (own layout and statuses).
-use Rattle.std.specs.Prelude.{ℕ, ◌+◌, ◌==◌, List, [], ◌∷◌, ◌++◌, Bool, true, false, if◌then◌else◌, codes}
+use Rattle.std.specs.Prelude.{ℕ, ◌+◌, List, [], ◌∷◌, ◌++◌, Bool, true, false, if◌then◌else◌, codes}
 use Rattle.std.specs.List.{flat_map, list_any}
 use Rattle.pop_text.specs.Words.{Input, words_of}
 use Rattle.pop_input.specs.Blocks.{Entry, Sound as SoundEntry, Faulty as FaultyEntry, entries_of}
@@ -23,25 +23,33 @@ abbrev pub solutions_text : Bool → Posed → List ℕ
 solutions_text true posed = codes "sound\n"
 solutions_text false posed = flat_map event_text (events_of posed)
 
--- the text of an item with this number
-unfoldable pub entry_text : Choice → ℕ → Entry → List ℕ
+-- the text of an item, by its number
+abbrev pub ItemText : Type 0
+ItemText = ℕ → Entry → List ℕ
+
+-- the text of an item in the report of `pops`
+unfoldable pub entry_text : Choice → ItemText
 entry_text choice number (SoundEntry posed) = head_text number posed choice.no_board
     ++ solutions_text choice.check posed ++ codes "\n"
 entry_text choice number (FaultyEntry fault) = fault_text number fault
 
 -- the joined texts of items, the first with this number
-abbrev pub report_from : Choice → ℕ → List Entry → List ℕ
-report_from choice number [] = []
-report_from choice number (entry ∷ entries) = entry_text choice number entry
-    ++ report_from choice (number + 1) entries
+abbrev pub report_from : ItemText → ℕ → List Entry → List ℕ
+report_from text number [] = []
+report_from text number (entry ∷ entries) = text number entry
+    ++ report_from text (number + 1) entries
 
 -- the entries of an input
 unfoldable pub entries_in : Input → List Entry
 entries_in input = entries_of true (words_of input)
 
--- the report of an input: the texts of its items, numbered from 1
+-- the texts of an input's items, numbered from 1
+abbrev pub report_by : ItemText → Input → List ℕ
+report_by text input = report_from text 1 (entries_in input)
+
+-- the report of an input
 abbrev pub report : Choice → Input → List ℕ
-report choice input = report_from choice 1 (entries_in input)
+report choice input = report_by (entry_text choice) input
 
 -- whether an item is the fault that the input device failed
 abbrev pub reports_device_failure : Entry → Bool

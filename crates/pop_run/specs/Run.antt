@@ -7,7 +7,7 @@ use Rattle.pop_input.specs.Blocks.{closing_of}
 use Rattle.pop_input.specs.Names.{closes, command_of}
 use Rattle.pop_input.specs.declared.names.Command.{Command}
 use Rattle.pop_input.specs.declared.names.Command.TheVariants.{Begin, Enter, Next, Last}
-use Rattle.pop_run.specs.Report.{Choice, report, status}
+use Rattle.pop_run.specs.Report.{Choice, ItemText, entry_text, report_by, status}
 use Rattle.pop_run.specs.declared.status.Status.{Status}
 use Rattle.pop_run.specs.declared.status.Status.TheVariants.{OutputFailed}
 
@@ -80,10 +80,14 @@ pub record ReadsUpTo (input : Input) (taken : List ℕ) : Type 0 where
   pub words : (words_of input).tokens ≡ tokens ++ (words_after used input).tokens
   pub stops : EndsWithItem used tokens ⊎ EndsWithInput input used tokens
 
--- A run writes the report of the input and returns its status. If the sink fails, it writes a beginning of the report
--- and returns `OutputFailed`.
-abbrev pub Runs : Choice → Input → Option (List ℕ) → Option (List ℕ) → Bool → Status → Type 0
-Runs choice input before now false answer = Appends before now (report choice input)
+-- A run writes the texts of the input's items and returns the input's status. If the sink fails, it writes a beginning
+-- of these texts and returns `OutputFailed`.
+abbrev pub RunsBy : ItemText → Input → Option (List ℕ) → Option (List ℕ) → Bool → Status → Type 0
+RunsBy text input before now false answer = Appends before now (report_by text input)
     × (answer ≡ status input)
-Runs choice input before now true answer = Begins before now (report choice input)
+RunsBy text input before now true answer = Begins before now (report_by text input)
     × (answer ≡ OutputFailed)
+
+-- a run that writes the report of the input
+abbrev pub Runs : Choice → Input → Option (List ℕ) → Option (List ℕ) → Bool → Status → Type 0
+Runs choice = RunsBy (entry_text choice)

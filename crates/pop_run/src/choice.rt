@@ -2,6 +2,11 @@
 ghost use Rattle.std.specs.Prelude.{◌≡◌};
 ghost use Rattle.pop_run.specs.Report.{choice_of};
 
+use crate::item_writer::ItemWriter;
+use crate::solutions::print_sound;
+use pop_input::{Fault, Problem};
+use pop_print::print_fault;
+use pop_text::{Sink, SinkFault};
 use run_settings::Settings;
 
 /// The settings that a report depends on: two flags. Callers without an allocator can make a `Choice`, since it owns no
@@ -23,5 +28,30 @@ impl Choice {
             check: settings.check,
             no_board: settings.no_board,
         }
+    }
+}
+
+impl ItemWriter for Choice {
+    ghost use Rattle.pop_run.specs.Report.{entry_text};
+
+    ghost text = { entry_text };
+
+    fn write_sound<W: Sink>(
+        &self,
+        sink: &mut W,
+        number: u64,
+        problem: &Problem,
+    ) -> Result<(), SinkFault> {
+        print_sound(sink, number, problem, *self)
+    }
+
+    #[tactic(auto, unfolding(crate::specs::Report::entry_text))]
+    fn write_fault<W: Sink>(
+        &self,
+        sink: &mut W,
+        number: u64,
+        fault: &Fault,
+    ) -> Result<(), SinkFault> {
+        print_fault(sink, number, fault)
     }
 }

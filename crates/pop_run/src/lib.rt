@@ -14,11 +14,12 @@
 //! ```
 //!
 //! The interface is `run`, `report` and `Session`, which reports one item a call, with `Settings`, `Choice`, `Status` and
-//! `Step`. The module `solutions` is internal. `specs/Report.antt` defines the report, `specs/Run.antt` what a run does.
-//! No call allocates.
+//! `Step`. `run_with` and `Session::with` write items in the way of an `ItemWriter`. The module `solutions` is internal.
+//! `specs/Report.antt` defines the report, `specs/Run.antt` what a run does. No call allocates.
 #![tactic(auto)]
 
 pub mod choice;
+pub mod item_writer;
 pub mod laws;
 pub mod session;
 mod solutions;
@@ -26,8 +27,9 @@ pub mod status;
 pub mod whole_run;
 
 pub use choice::Choice;
+pub use item_writer::ItemWriter;
 pub use laws::no_neighbour_changes_a_text;
 pub use run_settings::Settings;
 pub use session::Session;
 pub use status::{Status, Step};
-pub use whole_run::{report, run};
+pub use whole_run::{report, run, run_with};

@@ -10,41 +10,40 @@ ghost use Rattle.pop_run.specs.Report.{choice_of};
 ghost use Rattle.pop_run.specs.ties.Sessions.{HasMore, Steps, first_state, is_problem, status_with as with_item, step_of};
 
 use crate::choice::Choice;
-use crate::solutions::print_sound;
+use crate::item_writer::ItemWriter;
 use crate::status::{Status, Step};
 use pop_input::item::{Fault, Item, Last};
 use pop_input::reader::Reader;
-use pop_print::print_fault;
 use pop_text::sink::{Sink, SinkFault};
 use pop_text::source::Source;
 use run_settings::Settings;
 use std::marker::Model;
 
-/// A run over the items of one input. Contracts see it as a `RunState`.
+/// A run over the items of one input, which it writes in the way of an `ItemWriter`. Contracts see it as a `RunState`.
 #[derive(Drop)]
-pub struct Session {
+pub struct Session<I: ItemWriter = Choice> {
     reader: Reader,
     next_number: u64,
     so_far: Status,
     last: Last,
     has_stopped: bool,
-    choice: Choice,
+    writer: I,
 }
 
-impl Model for Session {
+impl<I: ItemWriter> Model for Session<I> {
     ghost use Rattle.std.specs.Prelude.{◌≡◌, ◌≤◌, ◌+◌, ◌^◌, length};
     ghost use Rattle.pop_text.specs.Words.{limit, window_size};
     ghost use Rattle.pop_input.specs.ties.ReaderState.{work_left};
     ghost use Rattle.pop_run.specs.ties.Sessions.{RunState, ends, is_last};
 
-    ghost Value = { RunState };
+    ghost Value = { RunState I };
 
     ghost view = { λ s. record {
       at = s.reader;
       number = s.next_number;
       status = s.so_far;
       stopped = s.has_stopped;
-      choice = s.choice;
+      writer = s.writer;
     } };
 
     ghost invariant = { λ s. (s.next_number + work_left s.reader ≤ 2 ^ 31)
@@ -52,18 +51,20 @@ impl Model for Session {
         × (ends s.reader.next ≡ is_last s.last) };
 }
 
-impl Session {
+impl Session<Choice> {
     /// Returns a session before its first item. Only the two flags of the settings matter; `file` is for the caller.
-    pub fn new(settings: &Settings) -> Session
+    pub fn new(settings: &Settings) -> Session<Choice>
         ensures { result ≡ first_state (choice_of settings.now) }
     {
         Session::with(Choice::of(settings))
     }
+}
 
-    // Returns a session before its first item, with these flags.
+impl<I: ItemWriter> Session<I> {
+    /// Returns a session before its first item, which writes items in this way.
     #[tactic(auto, unfolding(pop_text::specs::Words::limit))]
-    pub(crate) fn with(choice: Choice) -> Session
-        ensures { result ≡ first_state choice }
+    pub fn with(writer: I) -> Session<I>
+        ensures { result ≡ first_state writer }
     {
         Session {
             reader: Reader::new(),
@@ -71,7 +72,7 @@ impl Session {
             so_far: Status::Sound,
             last: Last::No,
             has_stopped: false,
-            choice,
+            writer,
         }
     }
 
@@ -92,7 +93,7 @@ impl Session {
             → S.failures source.old < greatest_count }
         requires sink { HasMore self.old → W.failures sink.old < greatest_count }
         ensures does { self.old.stopped ≡ false
-            → Steps self.old self.new (S.remaining source.old) (S.remaining source.new)
+            → Steps I.text self.old self.new (S.remaining source.old) (S.remaining source.new)
             (W.taken sink.old) (W.taken sink.new) result }
         ensures stopped { self.old.stopped ≡ true
             → IsErr result × (self.new ≡ self.old) × (source.new ≡ source.old)
@@ -121,14 +122,14 @@ impl Session {
             Item::Sound(problem, last) => {
                 self.next_number += 1;
                 self.last = *last;
-                let printed = print_sound(sink, number, problem, self.choice);
+                let printed = self.writer.write_sound(sink, number, problem);
                 self.step_after(printed, Step::Problem { sound: true })
             }
             Item::Faulty(fault, last) => {
                 self.next_number += 1;
                 self.last = *last;
                 self.so_far = status_with(self.so_far, fault);
-                let printed = print_fault(sink, number, fault);
+                let printed = self.writer.write_fault(sink, number, fault);
                 self.step_after(printed, Step::Problem { sound: false })
             }
         }

@@ -3,9 +3,10 @@ ghost use Rattle.std.specs.Prelude.{◌+◌, ◌<◌, ◌^◌, ◌≤◌, IfSome
 ghost use Rattle.pop_text.specs.Bytes.{greatest_count};
 ghost use Rattle.pop_text.specs.Words.{window_size};
 ghost use Rattle.pop_run.specs.Report.{choice_of};
-ghost use Rattle.pop_run.specs.Run.{FailsOnce, ReadsUpTo, Runs, has_grown, input_met, taken_of};
+ghost use Rattle.pop_run.specs.Run.{FailsOnce, ReadsUpTo, Runs, RunsBy, has_grown, input_met, taken_of};
 
 use crate::choice::Choice;
+use crate::item_writer::ItemWriter;
 use crate::session::Session;
 use crate::status::{Status, Step};
 use pop_text::sink::Sink;
@@ -57,7 +58,32 @@ pub fn report<S: Source, W: Sink>(choice: Choice, source: &mut S, sink: &mut W) 
     ensures taken { IfSome (S.remaining source.old)
         (λ had. length (taken_of had (S.remaining source.new)) ≤ 2 ^ 30 + window_size) }
 {
-    let mut session = Session::with(choice);
+    run_with(choice, source, sink)
+}
+
+/// Does what `run` does, but writes items in the way of the writer. Returns the status.
+pub fn run_with<I: ItemWriter, S: Source, W: Sink>(
+    writer: I,
+    source: &mut S,
+    sink: &mut W,
+) -> Status
+    requires source { S.failures source.old < greatest_count }
+    requires sink { W.failures sink.old < greatest_count }
+    ensures headline { IfSome (S.remaining source.old) (λ had.
+        RunsBy (I.text writer)
+        (input_met (has_grown (S.failures source.old) (S.failures source.new))
+        had (S.remaining source.new))
+        (W.taken sink.old) (W.taken sink.new)
+        (has_grown (W.failures sink.old) (W.failures sink.new)) result) }
+    ensures reads { IfSome (S.remaining source.old) (λ had.
+        ReadsUpTo (input_met (has_grown (S.failures source.old) (S.failures source.new))
+        had (S.remaining source.new)) (taken_of had (S.remaining source.new))) }
+    ensures once { FailsOnce (S.failures source.old) (S.failures source.new)
+        × FailsOnce (W.failures sink.old) (W.failures sink.new) }
+    ensures taken { IfSome (S.remaining source.old)
+        (λ had. length (taken_of had (S.remaining source.new)) ≤ 2 ^ 30 + window_size) }
+{
+    let mut session = Session::with(writer);
     loop {
         match session.step(source, sink) {
             Ok(Step::Problem { sound: _sound }) => {}

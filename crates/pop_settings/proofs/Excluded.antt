@@ -7,6 +7,7 @@ use Rattle.clap.specs.declared.builder.value_parser.Reading.TheVariants.{AsWritt
 use Rattle.run_settings.specs.declared.Settings.{Settings as PopsSettings}
 use Rattle.pop_settings.specs.pops.CommandLine as pops
 use Rattle.pop_settings.specs.pops_part.CommandLine as part
+use Rattle.pop_settings.specs.pops_tries.CommandLine as tries
 unfoldable use Rattle.pop_settings.specs.pops_part.CommandLine.{wanted_by}
 unfoldable use Rattle.pop_settings.specs.pops_part.Numbers.{depth_in, number_in, phase_in, range_in}
 use Rattle.pop_settings.specs.declared.arg_fault.ArgFault.TheVariants.{Usage}
@@ -93,3 +94,9 @@ depths = (refl, refl, refl, refl, refl)
 phases : (phase_in (codes "set") ≡ Some Set) × (phase_in (codes "play") ≡ Some Play) × (phase_in (codes "Set") ≡ None)
 unfolding phase_in
 phases = (refl, refl, refl)
+
+-- `pops-tries`: a try has at most one refutation without `--refutations`, and at most 200 can be asked for
+refutations : (tries.refutations_by [] ≡ Some 1) × (tries.refutations_in (codes "0") ≡ Some 0) × (tries.refutations_in (codes "200") ≡ Some 200)
+    × (tries.refutations_in (codes "201") ≡ None) × (tries.refutations_in (codes "-1") ≡ None)
+unfolding number_in
+refutations = (refl, refl, refl, refl, refl)

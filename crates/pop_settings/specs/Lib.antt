@@ -1,3 +1,4 @@
 pub mod Commands
 pub mod pops
 pub mod pops_part
+pub mod pops_tries

@@ -1,10 +1,11 @@
 //! The options and values of a command line.
-ghost use Rattle.std.specs.Prelude.{◌≡◌, IfOk, false, option_map};
+ghost use Rattle.std.specs.Prelude.{◌≡◌, IfErr, IfOk, codes, false, option_map, string_bytes};
 ghost use Rattle.clap.specs.Simple.{App, app_of, new_rule, with_rule};
 ghost use Rattle.clap.specs.Matches.{found_of};
 ghost use Rattle.clap.specs.Walk.{first_of, rows_of, rule_of};
 ghost use Rattle.pop_settings.specs.Commands.{flag, is_set, option_with_value};
 
+use crate::arg_fault::ArgFault;
 use clap::{Arg, ArgAction, ArgMatches, Command};
 use std::alloc::{AllocError, Global};
 
@@ -66,6 +67,21 @@ pub(crate) fn text_of<'a>(matches: &ArgMatches<'a>, name: &str) -> Option<&'a st
     ensures { option_map (λ s. s.now) result ≡ first_of name.now (rows_of (found_of matches.now)) }
 {
     matches.get_str(name)
+}
+
+// Returns the path of the input file, or `None` without one. Fails only with `Memory`.
+pub(crate) fn file_of(alloc: Global, matches: &ArgMatches<'_>) -> Result<Option<String>, ArgFault>
+    ensures path { IfOk result (λ file. option_map string_bytes file
+        ≡ first_of (codes "file") (rows_of (found_of matches.now))) }
+    ensures refused { IfErr result (λ fault. fault ≡ ArgFault.Memory) }
+{
+    match text_of(matches, "file") {
+        Some(file) => match String::from_str(alloc, file) {
+            Ok(file) => Ok(Some(file)),
+            Err(_) => Err(ArgFault::Memory),
+        },
+        None => Ok(None),
+    }
 }
 
 // Returns whether the flag `name` is set.

@@ -1,4 +1,4 @@
-//! The command lines of `pops` and `pops-part`: reads their settings with `clap`.
+//! The command lines of `pops`, `pops-part` and `pops-tries`: reads their settings with `clap`.
 //!
 //! ```rust
 //! use pop_settings::settings;
@@ -8,7 +8,7 @@
 //! assert!(rt; settings.file.is_some());
 //! ```
 //!
-//! The interface is `settings` with `Settings` and `ArgFault` for `pops`, and the module `pops_part` for `pops-part`.
+//! The interface is `settings` with `Settings` and `ArgFault` for `pops`, and the modules `pops_part` and `pops_tries`.
 //! The module `commands` is internal. `specs/` define the command lines by clap's own definitions. Only `settings`
 //! allocates.
 #![tactic(auto)]
@@ -17,6 +17,7 @@ pub mod arg_fault;
 mod commands;
 pub mod pops;
 pub mod pops_part;
+pub mod pops_tries;
 
 pub use arg_fault::ArgFault;
 pub use pops::command_line::settings;

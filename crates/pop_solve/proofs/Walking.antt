@@ -113,10 +113,10 @@ module _ (rule : RuleSet) (plan : Plan) (h : ℕ) (top : Frame) (old new : List 
 -- the next mate is the next move where play ends with it
 pub next_mating : (rule : RuleSet) (plan : Plan) (left : ℕ) (p : Position) (place next before after : ℕ) (o : Option Move) → plan.goal ≡ Mate
     → seeks_last plan.play ≡ true → left ≡ 1 → after ≡ before
-    → MatchOption o (mates_after rule p place ≡ []) (λ m. IsNextMate rule p place next m × (is_legal rule p m ≡ true))
-    → IsNextOf rule plan left p place next before after o
+    → MatchOption o (mates_after rule p place ≡ []) (λ m. mates_after rule p place ≡ m ∷ mates_after rule p next)
+    → IfSome o (IsNextMate rule p place next) → IfSome o (λ m. is_legal rule p m ≡ true) → IsNextOf rule plan left p place next before after o
 unfolding mates_after
-next_mating rule plan left p place next before after o for last single e same =
+next_mating rule plan left p place next before after o for last single e rest mates legal =
     grind (arith, moves_after-end rule p all_triples (omega arith), append-nil)
 
 -- a frame is closed, whatever is walked

@@ -3,7 +3,7 @@ pub use Rattle.pop_battle.proofs.Words.{Bool, CameFrom, CameFromAt, Frame, Game,
 unfoldable pub use Rattle.pop_battle.proofs.Words.{AreKnown, IsLinked, is_legal, is_mate, mates_after, moves_after, position, smallest_tree, undo_of, value, walk_count, work_from}
 pub use Rattle.std.proofs.Common.{get_or, length-take, map, slice_get, subst, ◌*◌, ◌/◌, ◌↔◌, ◌≢◌}
 pub use Rattle.std.proofs.lemmas.Bool.{false≢true, or_cases}
-pub use Rattle.std.proofs.lemmas.List.{map-append, take-append-drop, take-map, take_more}
+pub use Rattle.std.proofs.lemmas.List.{map-append, take-append-drop, take-map, take_more, drop-drop, map-id, nil_from_length}
 pub use Rattle.std.proofs.lemmas.List.Concat.{flat_map-append, flat_map_single}
 pub use Rattle.std.proofs.lemmas.List.Elements.{Contains-append_cases, filter-append}
 pub use Rattle.std.proofs.lemmas.List.Kept.{AllPairs-filter}
@@ -37,7 +37,7 @@ pub use Rattle.pop_events.specs.declared.event.Phase.{Phase}
 pub use Rattle.pop_events.specs.declared.event.Phase.TheVariants.{Play, Set}
 pub use Rattle.pop_solve.specs.declared.phases.Stage.{Stage}
 pub use Rattle.pop_solve.specs.declared.phases.Walk.{Walk}
-pub use Rattle.pop_solve.specs.declared.phases.Stage.TheVariants.{Barred, Before, First, After, Within}
+pub use Rattle.pop_solve.specs.declared.phases.Stage.TheVariants.{NotPossible, Before, First, After, Within}
 pub use Rattle.pop_solve.specs.declared.phases.Scope.TheVariants.{Part, Whole}
 pub use Rattle.pop_solve.specs.declared.plan.Plan.{Plan}
 pub use Rattle.pop_solve.specs.ties.Calls.{Counts}
@@ -50,5 +50,4 @@ pub use Rattle.pop_solve.specs.ties.Seen.{IsAtPathOf}
 pub use Rattle.pop_solve.specs.Walks.{is_stop, is_unstopped, is_walked_once, phase_walk}
 pub use Rattle.pop_solve.specs.ties.Walk.{GoesTo, IsCounted, IsEnded, IsNextOf, IsWalking, Opens, Steps, Tries, ends_at_goal, fewest_half_moves, fewest_for, seeks_last}
 unfoldable pub use Rattle.pop_solve.specs.ties.Walk.{IsRoomy, are_whites, fewest_left, fewest_walked, least_length_from, is_followed, is_emitted, walk_length, shown_length, path, shown_paths, to_come, walk_work}
-pub use Rattle.std.proofs.lemmas.List.{drop-drop, map-id, nil_from_length}
 pub use Rattle.std.proofs.lemmas.List.Folds.{flat_map-map, list_all-append}

@@ -17,8 +17,8 @@ use crate::plan::Plan;
 use crate::walk::{ends_with_mate, enter};
 use arrayvec::ArrayVec;
 use chess_core::{Board, Move};
-use chess_rules::{Rules, play};
-use pop_battle::chess::{reaches_goal, retract};
+use chess_rules::{Rules, play, unplay};
+use pop_battle::chess::reaches_goal;
 use pop_battle::frame::Frame;
 use pop_battle::search_state::SearchState;
 use pop_events::Phase;
@@ -42,7 +42,7 @@ fn may_lead<R: Rules>(plan: Plan, left: usize, by: Move, board: &mut Board) -> b
     }
     let undo = play::<R>(board, by);
     let mates = reaches_goal::<R>(plan.goal, board);
-    retract::<R>(board, by, undo);
+    unplay::<R>(board, by, undo);
     mates
 }
 

@@ -15,20 +15,21 @@ ghost use Rattle.std.specs.Prelude.{◌≡◌, ◌+◌, ◌<◌, ◌≤◌, ℕ,
 use crate::plan::Plan;
 use arrayvec::ArrayVec;
 use chess_core::Board;
-use chess_rules::{Rules, play};
+use chess_rules::{Rules, play, unplay};
 use pop_battle::aim::Play;
-use pop_battle::chess::{Reached, mark_after, retract, shown_of};
+use pop_battle::chess::{Reached, mark_after, shown_of};
 use pop_battle::frame::Frame;
 use pop_battle::value::attacker_to_move;
 use pop_events::Shown;
 use pop_stipulation::Goal;
 
 /// Takes back the move of a frame.
+#[tactic(auto, using(chess_rules::proofs::listing_moves::Calls::playing))]
 fn take_back<R: Rules>(frame: &Frame<R>, board: &mut Board)
     requires came { CameFrom R.rule frame.now board.old }
     ensures before { (p : Position) → CameFromAt R.rule frame.now board.old p → board.new ≡ p }
 {
-    retract::<R>(board, frame.by, frame.undo);
+    unplay::<R>(board, frame.by, frame.undo);
 }
 
 /// Returns whether the goal is known to be reached at the frame where an emitted path ends: always in

@@ -14,10 +14,11 @@ ghost use Rattle.pop_solve.specs.ties.Walk.{Battle, BattlePlay, HelpPlay, IsWell
 use crate::plan::Plan;
 use arrayvec::ArrayVec;
 use chess_core::{Board, Move};
-use chess_rules::{LegalCursor, Moves, Rules, play};
-use chess_threats::threats::Threats;
+use chess_mates::next_mate;
+use chess_rules::{LegalCursor, Moves, Rules, play, unplay};
+use chess_threats::Threats;
 use pop_battle::aim::{Aim, Battle, Play};
-use pop_battle::chess::{is_for_mate, next_mate, next_move, reaches_goal, retract};
+use pop_battle::chess::{is_for_mate, next_move, reaches_goal};
 use pop_battle::frame::{Frame, MoveStage, Order};
 use pop_battle::search_state::SearchState;
 use pop_battle::value::{attacker_to_move, value_of};
@@ -154,6 +155,7 @@ pub(crate) fn ends_with_mate(plan: Plan, left: usize) -> bool
 
 /// Returns the value of the position that a move has reached, with `left` half-moves left. It tests
 /// nothing after a last move that is known to mate.
+#[tactic(auto, unfolding(pop_battle::specs::ties::Counts::smallest_tree, pop_battle::specs::ties::Values::value))]
 fn value_after<R: Rules, const N: usize>(
     aim: Aim,
     left: usize,
@@ -218,7 +220,7 @@ fn opened_after(opened: u64, tried: usize, tested: Option<Battle>) -> u64
 /// Plays a legal move, after which `left` half-moves are left, and opens a frame for the position after
 /// it if the walk follows the move; otherwise takes it back. Returns whether its path is emitted. Inlined
 /// by hand: it is called for each move, and the compiler wouldn't inline it.
-#[tactic(auto, using(chess_rules::proofs::listing_moves::Calls::playing), unfolding(crate::specs::ties::Walk::is_followed, crate::specs::ties::Walk::walk_length))]
+#[tactic(auto, using(chess_rules::proofs::listing_moves::Calls::playing, chess_rules::proofs::making_moves::Stays::after_well_formed), unfolding(crate::specs::ties::Walk::is_followed, crate::specs::ties::Walk::walk_length))]
 #[inline(always)]
 pub(crate) fn enter<R: Rules, const N: usize>(
     plan: Plan,
@@ -258,7 +260,7 @@ pub(crate) fn enter<R: Rules, const N: usize>(
             goal: plan.goal,
         };
         if !value_after::<R, N>(aim, left, board, frames, search_state) {
-            retract::<R>(board, by, undo);
+            unplay::<R>(board, by, undo);
             return false;
         }
     }
@@ -288,6 +290,7 @@ fn may_pass_over(plan: Plan, left: usize) -> bool
 /// Returns the next legal move after `place`, and skips moves for which the threats rule out that a reply
 /// mates. Adds the number of skipped moves to `opened`: each counts as the position that it would have
 /// reached.
+#[tactic(auto, using(pop_battle::proofs::Passing::filtered))]
 fn next_risky<R: Rules>(
     threats: &mut Threats,
     known: &mut Option<LegalCursor<R>>,
@@ -349,6 +352,7 @@ fn next_matable<R: Rules>(
 /// Returns the next move to try after `place`, in a position with `left` half-moves left: the next mate, if
 /// the path ends with it; with two half-moves left in help play for mate, the next move to which a reply
 /// may mate; otherwise the next legal move.
+#[tactic(auto, using(crate::proofs::Walking::next_mating, pop_battle::proofs::Boards::for_mate))]
 fn next_of<R: Rules>(
     plan: Plan,
     left: usize,
@@ -379,6 +383,7 @@ fn next_of<R: Rules>(
 }
 
 /// Takes back the move of a closed frame, unless it is the lowest.
+#[tactic(auto, using(chess_rules::proofs::listing_moves::Calls::playing))]
 pub fn step_back<R: Rules>(depth: usize, top: Frame<R>, board: &mut Board)
     requires { 0 < depth → CameFrom R.rule top board.old }
     ensures lowest { depth ≡ 0 → board.new ≡ board.old }
@@ -386,7 +391,7 @@ pub fn step_back<R: Rules>(depth: usize, top: Frame<R>, board: &mut Board)
         → board.new ≡ p }
 {
     if depth > 0 {
-        retract::<R>(board, top.by, top.undo);
+        unplay::<R>(board, top.by, top.undo);
     }
 }
 

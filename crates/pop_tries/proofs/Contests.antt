@@ -1,5 +1,5 @@
 -- What the values of positions mean for a contest.
-use Rattle.pop_tries.proofs.Words.{IsWellFormed, Game, List, Move, [], ◌∷◌, false≢true, legal_moves, Battle, BattlePlay, Bool, Direct, Goal, Position, RuleSet, Selfmate, and_parts, arith, chess, eqb, false, is_goal_reached, is_in_set_play, is_try, keeps_win, length, list_any, nat_le, nat_tests, not, refl, refutations, rules, suc, sym, true, wins_in, zero, ℕ, ◌&&◌, ◌+◌, ◌-◌, ◌<◌, ◌∙◌, ◌≡◌, ◌≤◌, half_moves}
+use Rattle.pop_tries.proofs.Words.{IsWellFormed, Game, List, Move, [], ◌∷◌, false≢true, legal_moves, Battle, Bool, Direct, Goal, Position, RuleSet, Selfmate, and_parts, arith, chess, false, is_goal_reached, is_in_set_play, is_try, keeps_win, length, list_any, nat_le, nat_tests, not, refl, refutations, rules, suc, sym, true, wins_in, zero, ℕ, ◌&&◌, ◌+◌, ◌-◌, ◌<◌, ◌∙◌, ◌≡◌, ◌≤◌, half_moves}
 unfoldable use Rattle.pop_tries.proofs.Words.{self_wins, wins}
 unfoldable use Rattle.pop_battle.specs.ties.Values.{value}
 unfoldable use Rattle.pop_tries.proofs.Words.{is_lost}
@@ -30,7 +30,8 @@ use Rattle.chess_rules.proofs.listing_moves.Places.{place_of_triple, triples_num
 use Rattle.chess_rules.proofs.listing_moves.TripleNumbers.{in_triples, made_is_triple}
 
 module _ (rule : RuleSet) (contest : Contest) (fit : IsContest contest) where
-  long : half_moves contest.stipulation ≡ halves contest.battle contest.stipulation.n
+  -- its number of half-moves
+  pub long : half_moves contest.stipulation ≡ halves contest.battle contest.stipulation.n
   long = halves-form contest.stipulation.form contest.stipulation.n contest.battle fit.fought
 
   -- there is a half-move
@@ -92,20 +93,16 @@ unfolding is_mate is_stalemate
 no_moves_at_goal Mate rule r h = (and_parts _ _ h).1
 no_moves_at_goal Stalemate rule r h = (and_parts _ _ h).1
 
+none_any : (ms : List Move) → is_nil ms ≡ true → (test : Move → Bool) → list_any test ms ≡ false
+none_any [] e test = refl
+none_any (m ∷ ms) e test = absurd (false≢true e)
+
 no_win_without_move : (battle : Battle) (game : Game Position Move) (k : ℕ) (r : Position) → is_nil (game.moves r) ≡ true → wins_in battle game k r ≡ false
 unfolding wins self_wins
 no_win_without_move Direct game zero r none = refl
-no_win_without_move Direct game (suc k) r none = by (game.moves r) none
-  where
-    by : (ms : List Move) → is_nil ms ≡ true → list_any (λ m. is_lost game k (game.after r m)) ms ≡ false
-    by [] e = refl
-    by (m ∷ ms) e = absurd (false≢true e)
+no_win_without_move Direct game (suc k) r none = none_any (game.moves r) none _
 no_win_without_move Selfmate game zero r none = refl
-no_win_without_move Selfmate game (suc k) r none = by (game.moves r) none _
-  where
-    by : (ms : List Move) → is_nil ms ≡ true → (test : Move → Bool) → list_any test ms ≡ false
-    by [] e test = refl
-    by (m ∷ ms) e test = absurd (false≢true e)
+no_win_without_move Selfmate game (suc k) r none = none_any (game.moves r) none _
 
 -- where the goal is reached the side to move wins nothing
 pub no_win_at_goal : (battle : Battle) (goal : Goal) (rule : RuleSet) (k : ℕ) (r : Position) → is_goal_reached goal rule r ≡ true

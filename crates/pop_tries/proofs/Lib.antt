@@ -1,5 +1,13 @@
 pub mod Words
 pub mod Contests
 pub mod Loops
+pub mod ThreatLengths
 pub mod Walks
+pub mod Starts
+pub mod Steps
+pub mod StepsBelow
+pub mod SetPlay
+pub mod Goings
+pub mod GoesBelow
+pub mod Searches
 pub mod theorems

@@ -1,5 +1,8 @@
 -- Loops over the moves of a position that count those which pass a test, or look for one.
-use Rattle.pop_tries.proofs.Words.{Bool, List, Move, [], ap, arith, cond, false, filter, length, list_any, refl, sym, true, ℕ, ◌+◌, ◌∙◌, ◌∷◌, ◌≡◌, ◌||◌}
+use Rattle.std.specs.Prelude.{IfSome, Option}
+use Rattle.chess_rules.specs.ties.Places.{IsPlaceIn, LegalPlace, moves_after}
+use Rattle.pop_battle.specs.ties.Frames.{Frame}
+use Rattle.pop_tries.proofs.Words.{Position, RuleSet, Bool, List, Move, [], arith, false, filter, length, list_any, refl, true, ℕ, ◌+◌, ◌∙◌, ◌∷◌, ◌≡◌}
 
 module _ (test : Move → Bool) (m : Move) (old new : List Move) (next : old ≡ m ∷ new) where
   -- the next move passes, and is counted
@@ -59,3 +62,8 @@ none_passes test old all none so_far = so_far ∙ (rw none refl)
 
 -- for a loop that looks for the next move that passes
 pub ruleset filtering = (first_fails, first_of_all, none_passes)
+
+-- In a loop over the moves of p, board and frames are unchanged, and no move between two places passes the test.
+abbrev pub NoneSoFar : RuleSet → Position → (Move → Bool) → (place now : ℕ) → Position → (old new : List Frame) → Option LegalPlace → Type 0
+NoneSoFar rule p test place now board old new known = (board ≡ p) × (new ≡ old) × IfSome known (λ k. IsPlaceIn rule p k)
+    × (filter test (moves_after rule p place) ≡ filter test (moves_after rule p now))

@@ -1,38 +1,13 @@
--- What the walks below a first move show: the threats after Black has passed, and the replies.
-use Rattle.pop_tries.proofs.Words.{Battle, BattlePlay, Bool, Direct, Game, List, Selfmate, [], ap, arith, below_reply, false, filter, flat_map, is_in_set_play, map, node, refl, rules, suc, sym, true, zero, ℕ, ◌++◌, ◌+◌, ◌-◌, ◌∙◌, ◌∷◌, ◌≡◌, ◌≤◌, ◌||◌}
+-- What the walks below a first move show: the threats after Black has passed, and the continuations after a reply.
+use Rattle.pop_tries.proofs.Words.{Battle, BattlePlay, Bool, Game, List, arith, below_reply, false, least_moves, suc, sym, true, zero, ℕ, ◌+◌, ◌<◌, ◌∙◌, ◌≡◌, ◌≤◌, refl}
+use Rattle.std.proofs.Common.{◌*◌}
 unfoldable use Rattle.pop_battle.specs.ties.Values.{value}
 use Rattle.pop_battle.specs.ties.Values.{attacker_to_move}
 use Rattle.pop_solve.specs.declared.plan.Plan.{Plan}
-unfoldable use Rattle.pop_solve.specs.ties.Walk.{is_followed, shown_paths, walk_length}
-use Rattle.std.proofs.lemmas.List.Elements.{filter-append}
-use Rattle.pop_solve.proofs.Battles.{value-self_wins, value-wins}
-use Rattle.pop_solve.proofs.Trees.{as_nodes, attacker_to_move-step, beneath, by_test, flat-filter, flat-same, halves, halves-seek, nodes_below-set, shown_paths-zero}
-
--- the first move of a path passes a test
-abbrev pub begins_with : {M : Type 0} → (M → Bool) → List M → Bool
-begins_with test [] = true
-begins_with test (m ∷ path) = test m
-
-module _ {M : Type 0} (test : M → Bool) (below : M → List (List M)) where
-  kept_whole : (m : M) → test m ≡ true → (paths : List (List M)) → filter (begins_with test) (map (λ path. m ∷ path) paths) ≡ map (λ path. m ∷ path) paths
-  kept_whole m fits [] = refl
-  kept_whole m fits (x ∷ paths) = rw fits (ap (λ l. (m ∷ x) ∷ l) (kept_whole m fits paths))
-
-  left_out : (m : M) → test m ≡ false → (paths : List (List M)) → filter (begins_with test) (map (λ path. m ∷ path) paths) ≡ []
-  left_out m fails [] = refl
-  left_out m fails (x ∷ paths) = rw fails (left_out m fails paths)
-
-  -- of nodes, those remain whose first moves pass, with all that is below them
-  pub nodes_filtered : (ms : List M) → filter (begins_with test) (flat_map (λ m. node m (below m)) ms) ≡ flat_map (λ m. node m (below m)) (filter test ms)
-  nodes_filtered [] = refl
-  nodes_filtered (m ∷ ms) = filter-append (begins_with test) (node m (below m)) (flat_map (λ m. node m (below m)) ms) ∙ by (test m) refl (nodes_filtered ms)
-    where
-      by : (b : Bool) → test m ≡ b
-          → filter (begins_with test) (flat_map (λ m. node m (below m)) ms) ≡ flat_map (λ m. node m (below m)) (filter test ms)
-          → filter (begins_with test) (node m (below m)) ++ filter (begins_with test) (flat_map (λ m. node m (below m)) ms)
-          ≡ flat_map (λ m. node m (below m)) (filter test (m ∷ ms))
-      by true e rest = rw (e, kept_whole m e (below m), rest) refl
-      by false e rest = rw (e, left_out m e (below m), rest) refl
+unfoldable use Rattle.pop_solve.specs.ties.Walk.{is_followed, shown_length, shown_paths, walk_length}
+use Rattle.pop_solve.proofs.GoingOn.{walk_length-most}
+use Rattle.pop_solve.proofs.Trees.{as_nodes, by_test, flat-same, halves, nodes_below-set, shown_paths-zero}
+use Rattle.pop_tries.proofs.ThreatLengths.{halves-white, walked_length}
 
 module _ {P M : Type 0} (game : Game P M) (plan : Plan) (battle : Battle) (fought : plan.play ≡ BattlePlay battle) where
   -- a walk that begins with a move of White tests it in any frame
@@ -43,18 +18,29 @@ module _ {P M : Type 0} (game : Game P M) (plan : Plan) (battle : Battle) (fough
       λ m. by_test game plan battle fought true t (game.after p m) refl ∙ sym (by_test game plan battle fought false t (game.after p m) s) in
       as_nodes game plan battle fought true k t p ms ∙ flat-same _ _ ms (λ m. rw (same m) refl) ∙ sym (as_nodes game plan battle fought false k t p ms)
 
-  is_of_set_play : (battle : Battle) (n h : ℕ) (r : P) → suc h ≡ halves battle n - 1 → value battle game h r ≡ is_in_set_play battle game n r
-  is_of_set_play battle n h r e = grind (arith, value-wins game (n - 2) r, value-self_wins game (n - 1) r)
+  -- a walk that begins with a move of White, or with none, shows the same in any frame
+  any_frame : (h length : ℕ) (p : P) (ms : List M) → (0 < length → attacker_to_move battle length ≡ true)
+      → shown_paths plan game true h length p ms ≡ shown_paths plan game false h length p ms
+  unfolding shown_paths
+  any_frame h zero p ms white = shown_paths-zero game plan true h p ms ∙ sym (shown_paths-zero game plan false h p ms)
+  any_frame zero (suc t) p ms white = refl
+  any_frame (suc k) (suc t) p ms white =
+      let up : suc t ≡ t + 1 = omega arith in
+      white_first k t p ms (rw up at (white (omega arith)))
 
-  -- The walk shows the replies that set play would show.
-  pub replies_walked : (n h : ℕ) (q : P) → suc h ≡ halves battle n - 1
-      → shown_paths plan game true (suc h) (suc h) q (game.moves q)
-      ≡ flat_map (λ d. node d (below_reply battle game n plan.variation h (game.after q d)))
-      (filter (λ d. is_in_set_play battle game n (game.after q d)) (game.moves q))
-  replies_walked n h q e =
-      let s : attacker_to_move battle (suc h + 1) ≡ true = halves-seek game battle n (suc h) (omega (arith, e)) in
-      as_nodes game plan battle fought true h h q (game.moves q)
-      ∙ flat-filter _ (λ d. is_in_set_play battle game n (game.after q d)) _ _ (game.moves q)
-      (λ d. by_test game plan battle fought true h (game.after q d) refl ∙ is_of_set_play battle n h (game.after q d) e)
-      (λ d v. ap (node d) (nodes_below-set game plan battle fought n h (game.after q d) (search (rules, s, attacker_to_move-step game)) (grind arith)
-      (sym (by_test game plan battle fought true h (game.after q d) refl) ∙ v)))
+  white_walks : (n h : ℕ) (r : P) → attacker_to_move battle h ≡ true → h ≤ 2 * n → value battle game h r ≡ true → (b : Bool) → game.goal r ≡ b
+      → 0 < walk_length plan.play plan.variation game h r → attacker_to_move battle (walk_length plan.play plan.variation game h r) ≡ true
+  unfolding walk_length shown_length
+  white_walks n h r s most v true g some = absurd (grind (arith, fought, g))
+  white_walks n h r s most v false g some =
+      let room = walk_length-most game plan.play plan.variation h r in
+      let long : walk_length plan.play plan.variation game h r ≡ halves battle (least_moves battle game n r) =
+      rw fought (walked_length game battle plan.variation n h r s (omega (arith, some, room)) most g v) in
+      rw long (halves-white battle (least_moves battle game n r) (rw long at some))
+
+  -- The walk below a reply, and the walk where Black has passed, show what stands below a reply.
+  pub below_walked : (n h : ℕ) (r : P) → attacker_to_move battle h ≡ true → h ≤ 2 * n → value battle game h r ≡ true
+      → shown_paths plan game true h (walk_length plan.play plan.variation game h r) r (game.moves r) ≡ below_reply battle game n plan.variation h r
+  below_walked n h r s most v =
+      any_frame h (walk_length plan.play plan.variation game h r) r (game.moves r) (white_walks n h r s most v (game.goal r) refl)
+      ∙ nodes_below-set game plan battle fought n h r s most v

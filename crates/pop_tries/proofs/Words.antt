@@ -4,7 +4,7 @@ unfoldable pub use Rattle.pop_solve.proofs.Words.{continuations, is_legal, is_lo
 pub use Rattle.std.specs.Prelude.{nat_le}
 pub use Rattle.pop_tries.specs.Tries.{Below, Passing, below_reply, but, check, faced, has_threat, is_defence, is_try, refutation, refutations, reply, reply_nodes, shown_refutations, shown_replies, threat, threat_nodes, threatened, threats, works, zugzwang}
 unfoldable pub use Rattle.pop_tries.specs.Tries.{below_first}
-pub use Rattle.pop_tries.specs.Events.{TryEvent, attempt, attempt_events, below, chess_passing, events_of_tries, key, key_events, key_moves, key_total, keys, no_tries, play_events, set_event, shown_below, tries, try_moves, try_total}
+pub use Rattle.pop_tries.specs.Events.{BareTryEvent, attempt, attempt_events, below, chess_passing, events_of_tries, key, key_events, key_moves, key_total, keys, no_tries, play_events, set_event, shown_below, tries, try_moves, try_total}
 unfoldable pub use Rattle.pop_tries.specs.Events.{try_events}
 pub use Rattle.chess_rules.proofs.listing_moves.Members.{pairs_later}
 pub use Rattle.chess_rules.proofs.listing_moves.Calls.{is_pseudo_legal-from_legal}

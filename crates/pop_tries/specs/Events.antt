@@ -29,22 +29,22 @@ chess_passing rule = record {
 }
 
 -- an event before it is shown
-pub data TryEvent : Type 0 where
+pub data BareTryEvent : Type 0 where
   -- help play has no tries
-  no_tries : TryEvent
+  no_tries : BareTryEvent
   -- an event of set play
-  set_event : BareEvent → TryEvent
+  set_event : BareEvent → BareTryEvent
   -- the play begins; its keys, with the moves that lead to what is shown below them; their number, and
   -- whether the limit of solutions stopped them
-  keys : TryEvent
-  key : Move → TryEvent
-  key_total : ℕ → Bool → TryEvent
+  keys : BareTryEvent
+  key : Move → BareTryEvent
+  key_total : ℕ → Bool → BareTryEvent
   -- the tries begin; a try; their number
-  tries : TryEvent
-  attempt : Move → TryEvent
-  try_total : ℕ → TryEvent
+  tries : BareTryEvent
+  attempt : Move → BareTryEvent
+  try_total : ℕ → BareTryEvent
   -- what is shown below a first move
-  below : Move → Below Move → TryEvent
+  below : Move → Below Move → BareTryEvent
 
 module _ (battle : Battle) (rule : RuleSet) (problem : Posed) where
   -- the first moves that are keys, in the order of moves
@@ -65,38 +65,38 @@ module _ (battle : Battle) (rule : RuleSet) (problem : Posed) where
       (position_after rule (play_start problem) m)
 
   -- the events of a key
-  abbrev pub key_events : Move → List TryEvent
+  abbrev pub key_events : Move → List BareTryEvent
   key_events m = key m ∷ map (below m) (shown_below m)
 
   -- the events of a try
-  abbrev pub attempt_events : Move → List TryEvent
+  abbrev pub attempt_events : Move → List BareTryEvent
   attempt_events m = attempt m ∷ map (below m) (shown_below m
       ++ shown_refutations battle (game_of rule problem) problem.stipulation.n
       (position_after rule (play_start problem) m))
 
   -- the events of the tries
-  abbrev pub events_of_tries : ℕ → List TryEvent
+  abbrev pub events_of_tries : ℕ → List BareTryEvent
   events_of_tries most = tries ∷ (flat_map attempt_events (try_moves most)
       ++ try_total (length (try_moves most)) ∷ [])
 
   -- the events of the play: the first keys, up to the limit of solutions, their number, and the tries
-  abbrev pub play_events : ℕ → List TryEvent
+  abbrev pub play_events : ℕ → List BareTryEvent
   play_events most =
       let shown = take problem.max_solutions key_moves in
       keys ∷ (flat_map key_events shown
       ++ key_total (length shown) (length shown == problem.max_solutions) ∷ events_of_tries most)
 
   -- the events of a battle
-  abbrev pub battle_events : ℕ → List TryEvent
+  abbrev pub battle_events : ℕ → List BareTryEvent
   battle_events most =
       (if problem.set_play then map set_event (phase_events rule problem Set) else [])
       ++ play_events most
 
 -- the events of a problem
-abbrev pub events_by : PlayOfSides → RuleSet → Posed → ℕ → List TryEvent
+abbrev pub events_by : PlayOfSides → RuleSet → Posed → ℕ → List BareTryEvent
 events_by HelpPlay rule problem most = no_tries ∷ []
 events_by (BattlePlay battle) rule problem most = battle_events battle rule problem most
 
 -- the events of a problem, with tries of at most `most` refutations
-unfoldable pub try_events : RuleSet → Posed → ℕ → List TryEvent
+unfoldable pub try_events : RuleSet → Posed → ℕ → List BareTryEvent
 try_events rule problem most = events_by (play_of problem.stipulation.form) rule problem most

@@ -1,2 +1,4 @@
 pub mod Contests
 pub mod FirstMoves
+pub mod Searching
+pub mod Starts

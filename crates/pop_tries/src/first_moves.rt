@@ -1,22 +1,19 @@
-//! The next key, try or refutation after a place in the order of moves.
-ghost use Rattle.std.specs.Prelude.{◌≡◌, ◌+◌, ◌≤◌, [], ◌∷◌, MatchOption, filter, true, not};
+//! The next key, try, shown reply or refutation after a place in the order of moves.
+ghost use Rattle.std.specs.Prelude.{◌≡◌, [], ◌∷◌, MatchOption, true};
 ghost use Rattle.arrayvec.specs.ArrayVec.{array_vec_len};
-ghost use Rattle.chess_core.specs.WellFormed.{IsWellFormed};
 ghost use Rattle.chess_rules.specs.Legal.{is_legal};
 ghost use Rattle.chess_rules.specs.Play.{position_after, undo_of};
-ghost use Rattle.chess_rules.specs.ties.Places.{moves_after};
-ghost use Rattle.pop_solve.specs.Tree.{is_in_set_play};
-ghost use Rattle.pop_stipulation.specs.Stipulations.{half_moves};
-ghost use Rattle.pop_tries.specs.ties.Contests.{IsContest, Keeps, game_in};
-ghost use Rattle.pop_tries.specs.ties.FirstMoves.{belongs, IsFew};
+ghost use Rattle.pop_tries.specs.ties.Contests.{IsReady, IsThreat, Keeps};
+ghost use Rattle.pop_tries.specs.ties.FirstMoves.{belongs, firsts_after, is_shown, refutes, IsFew, IsNext};
 
 use crate::contest::Contest;
 use crate::replies::{is_key, is_try, refutes};
+use crate::threats::is_defence;
 use arrayvec::ArrayVec;
 use chess_core::board::Board;
 use chess_core::man::Move;
-use chess_rules::{Moves, Rules, Undo, play};
-use pop_battle::chess::{next_move, retract};
+use chess_rules::{Moves, Rules, Undo, play, unplay};
+use pop_battle::chess::next_move;
 use pop_battle::frame::Frame;
 use pop_battle::search_state::SearchState;
 
@@ -37,10 +34,8 @@ pub fn belongs<R: Rules, const N: usize>(
     frames: &mut ArrayVec<Frame<R>, N>,
     search_state: &mut SearchState<R>,
 ) -> bool
-    requires contest { IsContest contest }
+    requires ready { IsReady contest board.old (array_vec_len frames.old) N }
     requires few { IsFew group }
-    requires well_formed { IsWellFormed board.old }
-    requires room { array_vec_len frames.old + half_moves contest.stipulation ≤ N }
     ensures belongs { result ≡ belongs R.rule contest group board.old }
     ensures rest { Keeps board.old board.new frames.old.items frames.new.items }
 {
@@ -61,19 +56,13 @@ pub fn play_next<R: Rules, const N: usize>(
     frames: &mut ArrayVec<Frame<R>, N>,
     search_state: &mut SearchState<R>,
 ) -> Option<(Move, Undo)>
-    requires contest { IsContest contest }
+    requires ready { IsReady contest board.old (array_vec_len frames.old) N }
     requires few { IsFew group }
-    requires well_formed { IsWellFormed board.old }
-    requires room { array_vec_len frames.old + half_moves contest.stipulation ≤ N }
     ensures frames { frames.new.items ≡ frames.old.items }
     ensures next { MatchOption result
-        ((filter (λ m. belongs R.rule contest group (position_after R.rule board.old m))
-        (moves_after R.rule board.old place.old) ≡ [])
-        × (board.new ≡ board.old))
-        (λ found. (filter (λ m. belongs R.rule contest group (position_after R.rule board.old m))
-        (moves_after R.rule board.old place.old)
-        ≡ found.0 ∷ filter (λ m. belongs R.rule contest group (position_after R.rule board.old m))
-        (moves_after R.rule board.old place.new))
+        ((firsts_after R.rule contest group board.old place.old ≡ []) × (board.new ≡ board.old))
+        (λ found. (firsts_after R.rule contest group board.old place.old
+        ≡ found.0 ∷ firsts_after R.rule contest group board.old place.new)
         × (board.new ≡ position_after R.rule board.old found.0)
         × (found.1 ≡ undo_of R.rule board.old found.0)
         × (is_legal R.rule board.old found.0 ≡ true)) }
@@ -84,7 +73,56 @@ pub fn play_next<R: Rules, const N: usize>(
         if belongs::<R, N>(contest, group, board, frames, search_state) {
             return Some((by, undo));
         }
-        retract::<R>(board, by, undo);
+        unplay::<R>(board, by, undo);
+    }
+    None
+}
+
+/// Returns whether the legal reply `by` to the first move that led to the board's position is shown: a
+/// defence that doesn't refute. `threat` is the length of White's threats, as for `is_defence`.
+fn is_shown<R: Rules, const N: usize>(
+    contest: Contest,
+    threat: Option<usize>,
+    by: Move,
+    board: &mut Board,
+    frames: &mut ArrayVec<Frame<R>, N>,
+    search_state: &mut SearchState<R>,
+) -> bool
+    requires ready { IsReady contest board.old (array_vec_len frames.old) N }
+    requires threat { IsThreat R.rule contest board.old threat }
+    requires legal { is_legal R.rule board.old by ≡ true }
+    ensures shown { result ≡ is_shown R.rule contest board.old by }
+    ensures rest { Keeps board.old board.new frames.old.items frames.new.items }
+{
+    if refutes::<R, N>(contest, by, board, frames, search_state) {
+        return false;
+    }
+    is_defence::<R, N>(contest, threat, by, board, frames, search_state)
+}
+
+/// Returns the next reply after `place` that is shown below the first move that led to the board's position,
+/// and moves `place` to it; after the last one `None`. The board is unchanged. `threat` is the length of
+/// White's threats, as for `is_defence`.
+#[tactic(auto, using(crate::proofs::Loops::filtering))]
+pub fn next_reply<R: Rules, const N: usize>(
+    contest: Contest,
+    threat: Option<usize>,
+    place: &mut Moves<R>,
+    board: &mut Board,
+    frames: &mut ArrayVec<Frame<R>, N>,
+    search_state: &mut SearchState<R>,
+) -> Option<Move>
+    requires ready { IsReady contest board.old (array_vec_len frames.old) N }
+    requires threat { IsThreat R.rule contest board.old threat }
+    ensures rest { Keeps board.old board.new frames.old.items frames.new.items }
+    ensures next { IsNext R.rule board.old (is_shown R.rule contest board.old)
+        place.old place.new result }
+{
+    let mut known = None;
+    while let Some(by) = next_move::<R>(&mut known, place, board) {
+        if is_shown::<R, N>(contest, threat, by, board, frames, search_state) {
+            return Some(by);
+        }
     }
     None
 }
@@ -99,21 +137,10 @@ pub fn next_refutation<R: Rules, const N: usize>(
     frames: &mut ArrayVec<Frame<R>, N>,
     search_state: &mut SearchState<R>,
 ) -> Option<Move>
-    requires contest { IsContest contest }
-    requires well_formed { IsWellFormed board.old }
-    requires room { array_vec_len frames.old + half_moves contest.stipulation ≤ N }
+    requires ready { IsReady contest board.old (array_vec_len frames.old) N }
     ensures rest { Keeps board.old board.new frames.old.items frames.new.items }
-    ensures next { MatchOption result
-        (filter (λ d. not (is_in_set_play contest.battle (game_in R.rule contest)
-        contest.stipulation.n (position_after R.rule board.old d)))
-        (moves_after R.rule board.old place.old) ≡ [])
-        (λ found. (filter (λ d. not (is_in_set_play contest.battle (game_in R.rule contest)
-        contest.stipulation.n (position_after R.rule board.old d)))
-        (moves_after R.rule board.old place.old)
-        ≡ found ∷ filter (λ d. not (is_in_set_play contest.battle (game_in R.rule contest)
-        contest.stipulation.n (position_after R.rule board.old d)))
-        (moves_after R.rule board.old place.new))
-        × (is_legal R.rule board.old found ≡ true)) }
+    ensures next { IsNext R.rule board.old (refutes R.rule contest board.old)
+        place.old place.new result }
 {
     let mut known = None;
     while let Some(by) = next_move::<R>(&mut known, place, board) {

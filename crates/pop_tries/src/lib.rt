@@ -1,7 +1,6 @@
-//! Tries, refutations and threats of a battle problem: its keys and tries, and below each the threats or
-//! zugzwang, the defences, and the refutations of a try. So far there are the definitions with their laws,
-//! the tests that a search for tries needs, and the next key, try or refutation in the order of moves. No
-//! call allocates.
+//! The search for the keys and tries of a battle problem, and for what stands below each: the threats or
+//! zugzwang, the defences, and the refutations of a try. `TriesSearch` returns its events one by one; the other
+//! modules are the tests and walks that it calls, and the laws of the definitions. No call allocates.
 //!
 //! ```rust
 //! // A statement that the prover has checked; the call does nothing.
@@ -9,13 +8,22 @@
 //! ```
 #![tactic(auto)]
 
+pub mod below;
+mod below_first;
 pub mod contest;
 pub mod first_moves;
+mod group;
 pub mod laws;
 pub mod replies;
+pub mod search;
+mod set_play;
+mod shown;
+pub mod stage;
 pub mod threats;
 
 pub use laws::{
     each_first_move_is_shown, each_is_key_or_try_or_has_more, keys_have_no_refutations,
     no_event_comes_twice, refutations_are_defences,
 };
+pub use pop_events::TryEvent;
+pub use search::TriesSearch;

@@ -1,20 +1,18 @@
 //! Keys, tries and refutations: tests of first moves and of the replies to them.
 ghost use Rattle.std.specs.Prelude.{◌≡◌, ◌+◌, ◌≤◌, not, min, true, length};
 ghost use Rattle.arrayvec.specs.ArrayVec.{array_vec_len};
-ghost use Rattle.chess_core.specs.WellFormed.{IsWellFormed};
 ghost use Rattle.chess_rules.specs.Legal.{is_legal};
-ghost use Rattle.chess_rules.specs.Play.{position_after};
-ghost use Rattle.pop_stipulation.specs.Stipulations.{half_moves};
 ghost use Rattle.pop_solve.specs.Tree.{is_in_set_play, keeps_win};
 ghost use Rattle.pop_tries.specs.Tries.{is_try, refutations};
-ghost use Rattle.pop_tries.specs.ties.Contests.{IsContest, Keeps, game_in};
+ghost use Rattle.pop_tries.specs.ties.Contests.{IsReady, Keeps, game_in};
+ghost use Rattle.pop_tries.specs.ties.FirstMoves.{refutes};
 
 use crate::contest::Contest;
 use arrayvec::ArrayVec;
 use chess_core::board::Board;
 use chess_core::man::Move;
-use chess_rules::{Moves, Rules, play};
-use pop_battle::chess::{next_move, retract};
+use chess_rules::{Moves, Rules, play, unplay};
+use pop_battle::chess::next_move;
 use pop_battle::frame::Frame;
 use pop_battle::search_state::SearchState;
 use pop_battle::value::value_of;
@@ -27,9 +25,7 @@ pub fn is_key<R: Rules, const N: usize>(
     frames: &mut ArrayVec<Frame<R>, N>,
     search_state: &mut SearchState<R>,
 ) -> bool
-    requires contest { IsContest contest }
-    requires well_formed { IsWellFormed board.old }
-    requires room { array_vec_len frames.old + half_moves contest.stipulation ≤ N }
+    requires ready { IsReady contest board.old (array_vec_len frames.old) N }
     ensures key { result ≡ keeps_win contest.battle (game_in R.rule contest)
         contest.stipulation.n board.old }
     ensures rest { Keeps board.old board.new frames.old.items frames.new.items }
@@ -46,9 +42,7 @@ fn is_refuted<R: Rules, const N: usize>(
     frames: &mut ArrayVec<Frame<R>, N>,
     search_state: &mut SearchState<R>,
 ) -> bool
-    requires contest { IsContest contest }
-    requires well_formed { IsWellFormed board.old }
-    requires room { array_vec_len frames.old + half_moves contest.stipulation ≤ N }
+    requires ready { IsReady contest board.old (array_vec_len frames.old) N }
     ensures refuted { result ≡ not (is_in_set_play contest.battle (game_in R.rule contest)
         contest.stipulation.n board.old) }
     ensures rest { Keeps board.old board.new frames.old.items frames.new.items }
@@ -69,17 +63,14 @@ pub fn refutes<R: Rules, const N: usize>(
     frames: &mut ArrayVec<Frame<R>, N>,
     search_state: &mut SearchState<R>,
 ) -> bool
-    requires contest { IsContest contest }
-    requires well_formed { IsWellFormed board.old }
+    requires ready { IsReady contest board.old (array_vec_len frames.old) N }
     requires legal { is_legal R.rule board.old by ≡ true }
-    requires room { array_vec_len frames.old + half_moves contest.stipulation ≤ N }
-    ensures refutes { result ≡ not (is_in_set_play contest.battle (game_in R.rule contest)
-        contest.stipulation.n (position_after R.rule board.old by)) }
+    ensures refutes { result ≡ refutes R.rule contest board.old by }
     ensures rest { Keeps board.old board.new frames.old.items frames.new.items }
 {
     let undo = play::<R>(board, by);
     let refuted = is_refuted::<R, N>(contest, board, frames, search_state);
-    retract::<R>(board, by, undo);
+    unplay::<R>(board, by, undo);
     refuted
 }
 
@@ -93,10 +84,8 @@ fn count_refutations<R: Rules, const N: usize>(
     frames: &mut ArrayVec<Frame<R>, N>,
     search_state: &mut SearchState<R>,
 ) -> u32
-    requires contest { IsContest contest }
+    requires ready { IsReady contest board.old (array_vec_len frames.old) N }
     requires few { most ≤ 200 }
-    requires well_formed { IsWellFormed board.old }
-    requires room { array_vec_len frames.old + half_moves contest.stipulation ≤ N }
     ensures count { result ≡ min (length (refutations contest.battle (game_in R.rule contest)
         contest.stipulation.n board.old)) (most + 1) }
     ensures rest { Keeps board.old board.new frames.old.items frames.new.items }
@@ -124,10 +113,8 @@ pub fn is_try<R: Rules, const N: usize>(
     frames: &mut ArrayVec<Frame<R>, N>,
     search_state: &mut SearchState<R>,
 ) -> bool
-    requires contest { IsContest contest }
+    requires ready { IsReady contest board.old (array_vec_len frames.old) N }
     requires few { most ≤ 200 }
-    requires well_formed { IsWellFormed board.old }
-    requires room { array_vec_len frames.old + half_moves contest.stipulation ≤ N }
     ensures tried { result ≡ is_try contest.battle (game_in R.rule contest) contest.stipulation.n
         most board.old }
     ensures rest { Keeps board.old board.new frames.old.items frames.new.items }

@@ -10,7 +10,7 @@ ghost use Rattle.pop_stipulation.specs.Stipulations.{half_moves};
 ghost use Rattle.pop_solve.specs.Tree.{keeps_win, wins_in};
 ghost use Rattle.pop_tries.specs.Events.{chess_passing};
 ghost use Rattle.pop_tries.specs.Tries.{has_threat, is_defence, works};
-ghost use Rattle.pop_tries.specs.ties.Contests.{IsContest, IsLength, IsThreat, Keeps, game_in, moves_of};
+ghost use Rattle.pop_tries.specs.ties.Contests.{IsLength, IsReady, IsThreat, Keeps, game_in, moves_of};
 ghost use Rattle.chess_rules.specs.ties.Places.{all_triples, triple_at};
 
 use crate::contest::Contest;
@@ -18,11 +18,14 @@ use arrayvec::ArrayVec;
 use chess_core::board::Board;
 use chess_core::man::Move;
 use chess_core::square::Square;
-use chess_rules::{Moves, Rules, in_check, play};
-use pop_battle::chess::{next_move, reaches_goal, retract, turn_over};
+use chess_rules::{Moves, Rules, in_check, play, unplay};
+use pop_battle::aim::Play;
+use pop_battle::chess::{next_move, reaches_goal, turn_over};
 use pop_battle::frame::Frame;
 use pop_battle::search_state::SearchState;
 use pop_battle::value::value_of;
+use pop_solve::plan::Plan;
+use pop_solve::walk::walk_length;
 
 /// Lets the side to move pass. Returns the en passant square, which `unpass` needs.
 pub fn pass(board: &mut Board) -> Option<Square>
@@ -52,9 +55,7 @@ fn wins_with_one_less<R: Rules, const N: usize>(
     frames: &mut ArrayVec<Frame<R>, N>,
     search_state: &mut SearchState<R>,
 ) -> bool
-    requires contest { IsContest contest }
-    requires well_formed { IsWellFormed board.old }
-    requires room { array_vec_len frames.old + half_moves contest.stipulation ≤ N }
+    requires ready { IsReady contest board.old (array_vec_len frames.old) N }
     ensures wins { result ≡ wins_in contest.battle (game_in R.rule contest)
         (contest.stipulation.n - 1) board.old }
     ensures rest { Keeps board.old board.new frames.old.items frames.new.items }
@@ -74,9 +75,7 @@ pub fn has_threat<R: Rules, const N: usize>(
     frames: &mut ArrayVec<Frame<R>, N>,
     search_state: &mut SearchState<R>,
 ) -> bool
-    requires contest { IsContest contest }
-    requires well_formed { IsWellFormed board.old }
-    requires room { array_vec_len frames.old + half_moves contest.stipulation ≤ N }
+    requires ready { IsReady contest board.old (array_vec_len frames.old) N }
     ensures threat { result ≡ has_threat contest.battle (game_in R.rule contest)
         contest.stipulation.n (chess_passing R.rule) board.old }
     ensures rest { Keeps board.old board.new frames.old.items frames.new.items }
@@ -88,6 +87,34 @@ pub fn has_threat<R: Rules, const N: usize>(
     let wins = wins_with_one_less::<R, N>(contest, board, frames, search_state);
     unpass(board, crossed);
     wins
+}
+
+/// Returns the least number of half-moves within which White's threats win after the first move that led to
+/// the board's position, or `None` if White threatens nothing.
+#[tactic(auto, using(crate::proofs::Contests::passed_well_formed))]
+pub fn threat_length<R: Rules, const N: usize>(
+    contest: Contest,
+    board: &mut Board,
+    frames: &mut ArrayVec<Frame<R>, N>,
+    search_state: &mut SearchState<R>,
+) -> Option<usize>
+    requires ready { IsReady contest board.old (array_vec_len frames.old) N }
+    ensures threat { IsThreat R.rule contest board.old result }
+    ensures rest { Keeps board.old board.new frames.old.items frames.new.items }
+{
+    if !has_threat::<R, N>(contest, board, frames, search_state) {
+        return None;
+    }
+    let plan = Plan {
+        play: Play::Battle(contest.battle),
+        goal: contest.stipulation.goal,
+        variation: false,
+    };
+    let left = contest.stipulation.half_moves().saturating_sub(2);
+    let crossed = pass(board);
+    let length = walk_length::<R, N>(plan, left, board, frames, search_state);
+    unpass(board, crossed);
+    Some(length)
 }
 
 /// Returns whether White wins within `length` half-moves that begin with the legal move `by`.
@@ -111,7 +138,7 @@ fn wins_by<R: Rules, const N: usize>(
     let undo = play::<R>(board, by);
     let left = length.saturating_sub(1);
     let wins = value_of::<R, N>(contest.aim(), left, board, frames, search_state);
-    retract::<R>(board, by, undo);
+    unplay::<R>(board, by, undo);
     wins
 }
 
@@ -170,7 +197,7 @@ pub fn is_defence<R: Rules, const N: usize>(
             unpass(board, crossed);
             let undo = play::<R>(board, by);
             let still = works::<R, N>(contest, length, place, board, frames, search_state);
-            retract::<R>(board, by, undo);
+            unplay::<R>(board, by, undo);
             if still {
                 return false;
             }

@@ -8,6 +8,8 @@ use Rattle.chess_rules.specs.ties.Places.{IsPlaceIn, LegalPlace, place_of}
 use Rattle.chess_flights.specs.ties.Mates.{mates}
 use Rattle.pop_battle.specs.Chess.{chess}
 use Rattle.pop_battle.specs.declared.aim.Aim.{Aim}
+use Rattle.pop_battle.specs.declared.aim.Battle.{Battle}
+use Rattle.pop_stipulation.specs.declared.stipulation.Goal.TheVariants.{Mate}
 use Rattle.pop_battle.specs.Walks.{walk_count}
 use Rattle.pop_battle.specs.ties.Counts.{HasCounted, smallest_tree}
 use Rattle.pop_battle.specs.ties.Frames.{Frame}
@@ -35,8 +37,16 @@ pub record Restores (p now : Position) (old new : List Frame) (before after : �
   pub frames : new ≡ old
   pub grows : HasCounted before after 0
 
--- v is the value of p with `left` half-moves left; board and frames are unchanged; the count grew by at
--- most the walk count, and by at least the positions of a smallest tree
+-- v is the value of p with `left` half-moves left in a battle for mate; the board is unchanged; the count
+-- grew by at most the walk count, and by at least the positions of a smallest tree
+pub record EvaluatesMate (rule : RuleSet) (battle : Battle) (left : ℕ) (p now : Position)
+    (before after : ℕ) (v : Bool) : Type 0 where
+  pub unchanged : now ≡ p
+  pub value : v ≡ value battle (chess Mate rule) left p
+  pub opened : after ≤ before + walk_count (legal_moves rule) (position_after rule) left p
+  pub tried : HasCounted before after (smallest_tree battle (chess Mate rule) left p)
+
+-- the same of any aim, with frames, which are unchanged
 pub record Evaluates (rule : RuleSet) (aim : Aim) (left : ℕ) (p now : Position)
     (old new : List Frame) (before after : ℕ) (v : Bool) : Type 0 where
   pub value : v ≡ value aim.battle (chess aim.goal rule) left p

@@ -1,5 +1,6 @@
--- The report of an input is the texts of its items joined. Each text depends on its own block, its number and the flags: no neighbour changes it.
-use Rattle.pop_run.proofs.Basics.{Choice, Entry, Input, List, None, Words, [], ap, arith, drop, entries_in, entries_of, entry_text, enumerate_from, flat_map, get_or, length, limit, map, put_before, refl, report, report_from, sym, words_from, words_of, ℕ, ◌++◌, ◌+◌, ◌-◌, ◌<◌, ◌∙◌, ◌∷◌, ◌≡◌, ◌≤◌}
+-- The report of an input is the texts of its items joined. Each text depends on its own block and its number: no neighbour changes it. `text` is the text
+-- of an item, by its number: for `pops` it is `entry_text choice`.
+use Rattle.pop_run.proofs.Basics.{Entry, Input, ItemText, List, None, Words, [], ap, arith, drop, entries_in, entries_of, enumerate_from, flat_map, get_or, length, limit, map, put_before, refl, report_by, report_from, sym, words_from, words_of, ℕ, ◌++◌, ◌+◌, ◌-◌, ◌<◌, ◌∙◌, ◌∷◌, ◌≡◌, ◌≤◌}
 use Rattle.pop_run.proofs.Running.{report-append}
 use Rattle.pop_input.proofs.theorems.Entries.{AreNext, ClosedBlock, blocks_first, entries_are, entries_after, is_first, length-own_entries, own_entries, own_entry, tokens_in}
 use Rattle.pop_input.proofs.Pieces.{tokens_at}
@@ -13,31 +14,31 @@ same_first (x ∷ xs) (y ∷ ys) e = refl
 same_first [] (y ∷ ys) e = absurd (omega (arith, e))
 same_first (x ∷ xs) [] e = absurd (omega (arith, e))
 
-module _ (choice : Choice) where
+module _ (text : ItemText) where
   -- The texts of items, the first with this number.
   abbrev pub texts_from : ℕ → List Entry → List (List ℕ)
-  texts_from number entries = map (λ item. entry_text choice item.0 item.1) (enumerate_from number entries)
+  texts_from number entries = map (λ item. text item.0 item.1) (enumerate_from number entries)
 
   -- The texts of an input's items, numbered from 1.
   abbrev pub texts : Input → List (List ℕ)
   texts input = texts_from 1 (entries_in input)
 
   -- The report of items is their texts joined.
-  pub report_from_is_texts : (number : ℕ) (entries : List Entry) → report_from choice number entries ≡ flat_map (λ text. text) (texts_from number entries)
+  pub report_from_is_texts : (number : ℕ) (entries : List Entry) → report_from text number entries ≡ flat_map (λ bytes. bytes) (texts_from number entries)
   report_from_is_texts number [] = refl
-  report_from_is_texts number (entry ∷ entries) = ap (λ r. entry_text choice number entry ++ r) (report_from_is_texts (number + 1) entries)
+  report_from_is_texts number (entry ∷ entries) = ap (λ r. text number entry ++ r) (report_from_is_texts (number + 1) entries)
 
   -- The report of an input is the texts of its items joined.
-  pub report_is_texts : (input : Input) → report choice input ≡ flat_map (λ text. text) (texts input)
+  pub report_is_texts : (input : Input) → report_by text input ≡ flat_map (λ bytes. bytes) (texts input)
   report_is_texts input = report_from_is_texts 1 (entries_in input)
 
   -- The report of two lists of items joined is the report of the first, then the report of the second, with numbers that continue.
   pub report_of_both : (number : ℕ) (first others : List Entry)
-      → report_from choice number (first ++ others) ≡ report_from choice number first ++ report_from choice (number + length first) others
-  report_of_both number first others = report-append choice number first others
+      → report_from text number (first ++ others) ≡ report_from text number first ++ report_from text (number + length first) others
+  report_of_both number first others = report-append text number first others
 
   text_after : (number : ℕ) (first : List Entry) (entry : Entry) (others : List Entry)
-      → get_or (texts_from number (first ++ entry ∷ others)) (length first) [] ≡ entry_text choice (number + length first) entry
+      → get_or (texts_from number (first ++ entry ∷ others)) (length first) [] ≡ text (number + length first) entry
   text_after number [] entry others = let e : number + 0 ≡ number = omega arith in rw e refl
   text_after number (other ∷ first) entry others = grind (arith, text_after (number + 1) first entry others)
 
@@ -50,16 +51,16 @@ module _ (choice : Choice) where
   -- of the block's own entry, with its number; then the report of the rest, none after EndProblem.
   pub report_around_a_block : (input : Input) (before : List ClosedBlock) (block : ClosedBlock) (words : Words) → AreNext before
       → words_of input ≡ put_before (flat_map tokens_in before) (put_before (tokens_in block) words)
-      → report choice input
-      ≡ report_from choice 1 (own_entries before) ++ (entry_text choice (1 + length before) (own_entry (is_first before) block)
-      ++ report_from choice (1 + length before + 1) (entries_after (command_of block.closer) words))
+      → report_by text input
+      ≡ report_from text 1 (own_entries before) ++ (text (1 + length before) (own_entry (is_first before) block)
+      ++ report_from text (1 + length before + 1) (entries_after (command_of block.closer) words))
   unfolding entries_in
   report_around_a_block input before block words next are = grind (arith, entries_are, report_of_both, length-own_entries)
 
   -- In an input of blocks, one more closed block and any words after it, the text at the block's position is the text of its own entry.
   pub text_of_a_block : (input : Input) (before : List ClosedBlock) (block : ClosedBlock) (words : Words) → AreNext before
       → words_of input ≡ put_before (flat_map tokens_in before) (put_before (tokens_in block) words)
-      → get_or (texts input) (length before) [] ≡ entry_text choice (1 + length before) (own_entry (is_first before) block)
+      → get_or (texts input) (length before) [] ≡ text (1 + length before) (own_entry (is_first before) block)
   unfolding entries_in
   text_of_a_block input before block words next are = grind (arith, entries_are before block words next, length-own_entries before, text_after)
 

@@ -9,7 +9,7 @@ ghost use Rattle.clap.specs.Kinds.{FailsBy};
 ghost use Rattle.pop_settings.specs.pops.CommandLine.{command, refusals, IsChosen, IsMemoryIfTaken, IsSettings, IsUsageIfRefused};
 
 use crate::arg_fault::{ArgFault, fault_of_error};
-use crate::commands::{is_set, text_of, with_flag, with_value};
+use crate::commands::{file_of, is_set, with_flag, with_value};
 use clap::error::ErrorKind;
 use clap::{ArgMatches, Command, Error};
 use run_settings::Settings;
@@ -38,15 +38,8 @@ fn settings_of(alloc: Global, matches: &ArgMatches<'_>) -> Result<Settings, ArgF
     ensures chosen { IfOk result (IsChosen (rows_of (found_of matches.now))) }
     ensures refused { IfErr result (λ fault. fault ≡ ArgFault.Memory) }
 {
-    let file = match text_of(matches, "file") {
-        Some(file) => match String::from_str(alloc, file) {
-            Ok(file) => Some(file),
-            Err(_) => return Err(ArgFault::Memory),
-        },
-        None => None,
-    };
     Ok(Settings {
-        file,
+        file: file_of(alloc, matches)?,
         check: is_set(matches, "check"),
         no_board: is_set(matches, "no-board"),
     })

@@ -11,7 +11,7 @@ ghost use Rattle.pop_settings.specs.pops_part.CommandLine.{command, depth_said, 
 ghost use Rattle.pop_settings.specs.pops_part.Numbers.{number_in, phase_in, range_in};
 
 use crate::arg_fault::{ArgFault, fault_of_error};
-use crate::commands::{is_set, text_of, with_flag, with_option, with_value};
+use crate::commands::{file_of, is_set, text_of, with_flag, with_option, with_value};
 use crate::pops_part::values::{depth_of, number_of, phase_of, range_of};
 use crate::pops_part::wanted::{NamedParts, Settings, Wanted};
 use clap::error::ErrorKind;
@@ -46,14 +46,10 @@ fn settings_of(alloc: Global, matches: &ArgMatches<'_>) -> Result<Settings, ArgF
     let Some(wanted) = wanted_of(matches) else {
         return Err(ArgFault::Usage);
     };
-    let file = match text_of(matches, "file") {
-        Some(file) => match String::from_str(alloc, file) {
-            Ok(file) => Some(file),
-            Err(_) => return Err(ArgFault::Memory),
-        },
-        None => None,
-    };
-    Ok(Settings { file, wanted })
+    Ok(Settings {
+        file: file_of(alloc, matches)?,
+        wanted,
+    })
 }
 
 // Returns what the options want, if they have one of the two forms.

@@ -100,7 +100,8 @@ module _ {P M : Type 0} (battle : Battle) (game : Game P M) (n : ℕ) (passing :
   answered_where_won Direct r h = h
   answered_where_won Selfmate r h = grind arith
 
-  at_least_one : has_threat battle game n passing q ≡ true → 1 ≤ threat_length
+  -- A threat takes at least one move.
+  pub at_least_one : has_threat battle game n passing q ≡ true → 1 ≤ threat_length
   at_least_one h = elim (cases_lt 0 threat_length) [
     | inl less ↦ omega (arith, less)
     | inr le ↦ absurd (false≢true (sym (no_win_in_none game battle (passing.passed q))

@@ -1,5 +1,6 @@
 -- The battle of a problem, as the code keeps it, and what its tests leave unchanged (own).
 use Rattle.std.specs.Prelude.{◌≡◌, ◌≤◌, ◌+◌, ◌/◌, ℕ, true, false, List, Option, MatchOption}
+use Rattle.chess_core.specs.WellFormed.{IsWellFormed}
 use Rattle.chess_core.specs.Position.{Position}
 use Rattle.chess_core.specs.declared.man.Move.{Move}
 use Rattle.chess_attacks.specs.RuleSet.{RuleSet}
@@ -19,6 +20,12 @@ use Rattle.pop_tries.specs.declared.contest.Contest.{Contest}
 pub record IsContest (contest : Contest) : Type 0 where
   pub fought : play_of contest.stipulation.form ≡ BattlePlay contest.battle
   pub some : 1 ≤ contest.stipulation.n
+
+-- a test of the contest may begin in p: the frames in use leave room for its half-moves
+pub record IsReady (contest : Contest) (p : Position) (used most : ℕ) : Type 0 where
+  pub fits : IsContest contest
+  pub well_formed : IsWellFormed p
+  pub room : used + half_moves contest.stipulation ≤ most
 
 -- its game under a set of rules
 abbrev pub game_in : RuleSet → Contest → Game Position Move

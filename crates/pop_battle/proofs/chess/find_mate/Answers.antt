@@ -18,8 +18,5 @@ returns-clause-mates g c =
     let cut = ap (λ (v : MatingPlace). v.place) c.go_to.ensures in
     search (rules, none, place, cut)
 
-pub returns-then-is_some-clause-place : goal.returns-then-is_some-clause-place
-returns-then-is_some-clause-place g c = search rules
-
 pub returns-then-is_some-2-clause-place : goal.returns-then-is_some-2-clause-place
 returns-then-is_some-2-clause-place g c = search (rules, c.next_until.ensures.place)

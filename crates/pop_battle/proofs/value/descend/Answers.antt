@@ -1,9 +1,6 @@
 use Rattle.pop_battle.proofs.Words.{after_well_formed, is_pseudo_legal-from_legal, rules}
 use Rattle.pop_battle.proofs.value.descend.Goals as goal
 
-pub returns-clause-answer : goal.returns-clause-answer
-returns-clause-answer g c = search rules
-
 pub value_at_once-answer-requires : goal.value_at_once-answer-requires
 value_at_once-answer-requires g c =
     let well = after_well_formed g.R.Rules.rule _ _ c.requires.well_formed (is_pseudo_legal-from_legal _ _ _ c.requires.legal) in

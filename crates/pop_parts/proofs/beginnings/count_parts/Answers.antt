@@ -2,12 +2,6 @@ use Rattle.pop_parts.proofs.Words.{arith, rules}
 use Rattle.pop_parts.proofs.PartNumbers as numbers
 use Rattle.pop_parts.proofs.beginnings.count_parts.Goals as goal
 
-pub new-frames-requires : goal.new-frames-requires
-new-frames-requires g c = search rules
-
-pub begin_walk-requires : goal.begin_walk-requires
-begin_walk-requires g c = search rules
-
 pub returns-then-not-begin_walk : goal.returns-then-not-begin_walk
 returns-then-not-begin_walk g c = search (rules, numbers.no-parts)
 

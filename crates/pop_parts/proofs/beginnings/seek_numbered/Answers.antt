@@ -2,9 +2,6 @@ use Rattle.pop_parts.proofs.Words.{arith, nat_tests, rules}
 use Rattle.pop_parts.proofs.Seeking as seeking
 use Rattle.pop_parts.proofs.beginnings.seek_numbered.Goals as goal
 
-pub loop-board-init : goal.loop-board-init
-loop-board-init g c = search rules
-
 pub returns-then-left-eq1 : goal.returns-then-left-eq1
 returns-then-left-eq1 g c =
     let x = c.seek-found.ensures.attacker_to_move _ _ c.loop-board.invariant.seeking in search (rules, nat_tests, x)

@@ -1,9 +1,6 @@
-use Rattle.pop_solve.proofs.Words.{arith, length-reverse, rules}
+use Rattle.pop_solve.proofs.Words.{arith, length-reverse}
 use Rattle.pop_solve.proofs.Paths.{path-length}
 use Rattle.pop_solve.proofs.phases.event_at.Goals as goal
-
-pub returns-then-is_help-clause-event : goal.returns-then-is_help-clause-event
-returns-then-is_help-clause-event g c = search rules
 
 pub returns-clause-event : goal.returns-clause-event
 returns-clause-event g c = grind (arith, path-length, length-reverse)

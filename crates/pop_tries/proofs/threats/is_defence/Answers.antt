@@ -1,6 +1,5 @@
 use Rattle.pop_tries.proofs.Words.{ap, keeps_win, not, position_after, rules, sym, works, ◌∙◌, ◌≡◌}
 use Rattle.pop_battle.specs.Chess.{set_start}
-use Rattle.chess_rules.specs.ties.Places.{moves_after}
 use Rattle.chess_rules.proofs.listing_moves.Calls.{playing}
 use Rattle.pop_tries.specs.Events.{chess_passing}
 use Rattle.pop_tries.specs.ties.Contests.{game_in, moves_of}
@@ -35,7 +34,7 @@ loop-tried-preserved-then-wins_by g c =
     let on = placed g.R.Rules.rule (set_start c.args.board.now) _ _ (passed_well_formed c.args.board.now c.requires.well_formed) next.1
     c.in-Some-next_move.ensures.place in
     let back : c.unpass.new.board ≡ c.args.board.now = c.unpass.ensures.before c.args.board.now (search rules) c.loop-tried.invariant.1 in
-    let home : c.retract.new.board ≡ c.args.board.now = search (rules, playing, back) in
+    let home : c.unplay.new.board ≡ c.args.board.now = search (rules, playing, back) in
     let none = not_there (λ m. keeps_win c.args.contest.battle (game_in g.R.Rules.rule c.args.contest) (moves_of c.in-Some.length)
     (position_after g.R.Rules.rule (set_start c.args.board.now) m)) c.in-Some-next_move.tried _ _ next.0
     (works c.args.contest.battle (game_in g.R.Rules.rule c.args.contest) c.args.contest.stipulation.n (chess_passing g.R.Rules.rule) (moves_of c.in-Some.length)

@@ -1,0 +1,91 @@
+-- What a step of a search for tries leaves, with an event or without.
+use Rattle.pop_tries.proofs.Words.{BareTryEvent, List, Move, Posed, Position, RuleSet, [], after_well_formed, ap, false, false≢true, is_pseudo_legal-from_legal, play_start, refl, sym, true, ℕ, ◌+◌, ◌<◌, ◌∙◌, ◌∷◌, ◌≡◌}
+use Rattle.std.specs.Prelude.{None, Option, Some, is_some}
+use Rattle.std.proofs.lemmas.Option.{none-some}
+use Rattle.chess_core.specs.Undo.{Undo}
+use Rattle.chess_rules.specs.Legal.{is_legal}
+use Rattle.chess_rules.specs.Play.{undo_of}
+use Rattle.pop_battle.specs.ties.Frames.{Frame}
+use Rattle.pop_events.specs.Shown.{shown_move}
+use Rattle.pop_tries.specs.Shown.{try_event_of}
+use Rattle.pop_events.specs.declared.try_event.TryEvent.{TryEvent}
+use Rattle.pop_tries.specs.declared.first_moves.Group.{Group}
+use Rattle.pop_tries.specs.declared.first_moves.Group.TheVariants.{Keys, Tries}
+use Rattle.pop_tries.specs.declared.stage.First.{First}
+use Rattle.pop_tries.specs.declared.stage.Firsts.{Firsts}
+use Rattle.pop_tries.specs.declared.stage.Task.{Task}
+use Rattle.pop_tries.specs.declared.stage.TriesStage.{TriesStage}
+use Rattle.pop_tries.specs.declared.stage.TriesStage.TheVariants.{Beginning, Faced, FirstMove}
+use Rattle.pop_tries.specs.ties.Contests.{IsContest}
+use Rattle.pop_tries.specs.ties.Searching.{Emits, Goes, IsPlaced, IsTask, after_first, beginning_of, contest_of, ending_of, event_of_first, first_event, firsts_after, group_left, is_stopped, rank}
+unfoldable use Rattle.pop_tries.specs.ties.Searching.{HoldsAt, left_of}
+use Rattle.pop_tries.proofs.Steps.{group_begins, next_first, still_few, still_limited}
+
+module _ {A : Type 0} (rule : RuleSet) (task : Task) (old new : TriesStage A) (was items : List Frame) (board : Position)
+    (holds : HoldsAt rule task new items board) where
+  -- a step with an event
+  pub with_event : (shown : TryEvent) (bare : BareTryEvent) → left_of rule task old was ≡ bare ∷ left_of rule task new items
+      → shown ≡ try_event_of rule task.problem bare → Goes rule task old was new items board (Some shown)
+  with_event shown bare left e = record {
+    holds = holds;
+    emits = (bare, left, e);
+    falls = λ n. absurd (none-some shown (sym n));
+  }
+
+  -- a step without an event
+  pub without_event : left_of rule task old was ≡ left_of rule task new items → rank new < rank old → Goes rule task old was new items board None
+  without_event left less = record { holds = holds; emits = left; falls = λ _. less }
+
+-- a group begins
+pub group_comes : (A : Type 0) (rule : RuleSet) (task : Task) (group : Group) (place : ℕ) → place ≡ 0 → (was items : List Frame)
+    → left_of rule task {A = A} (Beginning group) was
+    ≡ beginning_of group ∷ left_of rule task {A = A} (FirstMove (record { group = group; place = place; count = 0 })) items
+unfolding left_of
+group_comes A rule task group place e was items = rw e (group_begins rule task group)
+
+-- a group ends
+pub group_ended : {A : Type 0} (rule : RuleSet) (task : Task) (firsts : Firsts A) (new : TriesStage A) (was items : List Frame) (board : Position)
+    (event : Option TryEvent) → HoldsAt rule task new items board
+    → Emits rule task (ending_of rule task firsts.group firsts.count) (left_of rule task new items) event → is_some event ≡ true
+    → group_left rule task firsts ≡ ending_of rule task firsts.group firsts.count → Goes rule task (FirstMove firsts) was new items board event
+unfolding left_of
+group_ended rule task firsts new was items board event h e s l = record {
+  holds = h;
+  emits = rw l e;
+  falls = λ n. absurd (false≢true (sym (ap is_some n) ∙ s));
+}
+
+-- a first move begins
+module _ {A : Type 0} (rule : RuleSet) (task : Task) (fit : IsContest (contest_of task)) (s : IsTask task) (firsts : Firsts A)
+    (placed : IsPlaced rule task firsts) (next : ℕ) (m : Move) (undo : Undo)
+    (found : firsts_after rule task firsts.group firsts.place ≡ m ∷ firsts_after rule task firsts.group next)
+    (open_yet : is_stopped task.problem firsts.group firsts.count ≡ false) where
+  abbrev first : First A
+  first = record { firsts = record { group = firsts.group; place = next; count = firsts.count + 1 }; by = m; undo = undo; threat = None }
+
+  pub first_comes : (was items : List Frame) → left_of rule task (FirstMove firsts) was ≡ first_event firsts.group m ∷ left_of rule task (Faced first) items
+  unfolding left_of
+  first_comes was items = next_first rule task firsts.group firsts.place next firsts.count m found placed.limited open_yet undo None
+
+  pub first_holds : is_legal rule (play_start task.problem) m ≡ true → undo ≡ undo_of rule (play_start task.problem) m
+      → (items : List Frame) (board : Position) → items ≡ [] → board ≡ after_first rule task m → HoldsAt rule task (Faced first) items board
+  unfolding HoldsAt
+  first_holds legal back items board none at = (
+    fit,
+    record { board_at = at; none = none },
+    record {
+      came = record { sound = s.sound.well_formed; legal = legal; led = refl; undone = back };
+      sound = after_well_formed rule (play_start task.problem) m s.sound.well_formed (is_pseudo_legal-from_legal rule (play_start task.problem) m legal);
+      placed = record {
+        few = placed.few;
+        counted = still_few rule task firsts.group firsts.place next firsts.count m found placed.limited open_yet placed.counted;
+        limited = still_limited rule task firsts.group firsts.count placed.limited open_yet;
+      };
+    },
+  )
+
+-- the event of a first move
+pub first_shown : (rule : RuleSet) (problem : Posed) (group : Group) (m : Move)
+    → event_of_first group (shown_move problem.stipulation.goal rule (play_start problem) m) ≡ try_event_of rule problem (first_event group m)
+first_shown rule problem Keys m = refl
+first_shown rule problem (Tries most) m = refl

@@ -1,0 +1,84 @@
+-- How a search for tries begins, and what a call of `next` returns.
+use Rattle.pop_tries.proofs.Words.{BareTryEvent, Battle, BattlePlay, Bool, HelpPlay, IsSound, List, PlayOfSides, Posed, Position, RuleSet, [], arith, drop, false, nat_tests, play_of, play_start, refl, rules, true, ℕ, ◌∷◌, ◌≡◌, ◌≤◌}
+unfoldable use Rattle.pop_tries.proofs.Words.{try_events}
+use Rattle.std.specs.Prelude.{MatchOption, None, Option, Some, slice_get}
+use Rattle.std.specs.Option.{option_map}
+use Rattle.pop_battle.specs.ties.Frames.{Frame}
+use Rattle.pop_stipulation.specs.Stipulations.{may_have}
+use Rattle.pop_stipulation.specs.declared.stipulation.Form.{Form}
+use Rattle.pop_tries.specs.Events.{events_by}
+use Rattle.pop_tries.specs.Shown.{try_event_of}
+use Rattle.pop_events.specs.declared.try_event.TryEvent.{TryEvent}
+use Rattle.pop_tries.specs.declared.stage.Task.{Task}
+use Rattle.pop_tries.specs.declared.stage.TriesStage.{TriesStage}
+use Rattle.pop_events.specs.declared.event.Event.TheVariants.{Impossible as ImpossibleEvent}
+use Rattle.pop_solve.specs.Events.{impossible}
+use Rattle.pop_tries.proofs.Words.{no_tries, set_event}
+use Rattle.pop_events.specs.declared.try_event.TryEvent.TheVariants.{NoTries as NoTriesEvent, Set as SetEvent}
+use Rattle.pop_tries.specs.declared.first_moves.Group.TheVariants.{Keys}
+use Rattle.pop_tries.specs.declared.stage.TriesStage.TheVariants.{Beginning, Impossible, NoTries, Over}
+use Rattle.pop_tries.proofs.Goings.{with_event}
+use Rattle.pop_tries.specs.ties.Searching.{Goes, IsOf, first_stage, is_over, stage_by}
+unfoldable use Rattle.pop_tries.specs.ties.Searching.{HoldsAt, left_of}
+
+-- a battle has a move
+some_move : (form : Form) (battle : Battle) (n : ℕ) → play_of form ≡ BattlePlay battle → may_have form n ≡ true → 1 ≤ n
+some_move form battle n e r = grind (arith, nat_tests)
+
+module _ {A : Type 0} (rule : RuleSet) (problem : Posed) (battle : Battle) (most : ℕ) (is : IsOf (play_of problem.stipulation.form) battle)
+    (stage : TriesStage A) (at_first : stage ≡ first_stage problem) (items : List Frame) (none : items ≡ []) where
+  abbrev task : Task
+  task = record { problem = problem; battle = battle; most = most }
+
+  -- at first all events are to come
+  pub all_to_come : left_of rule task stage items ≡ try_events rule problem most
+  unfolding left_of try_events
+  all_to_come = rw (at_first, none) (by (play_of problem.stipulation.form) problem.set_play is refl)
+    where
+      by : (p : PlayOfSides) (set_play : Bool) → IsOf p battle → problem.set_play ≡ set_play
+          → left_of rule task {A = A} (stage_by p set_play) [] ≡ events_by p rule problem most
+      by HelpPlay set_play i e = refl
+      by (BattlePlay b) true i e = rw (i, e) refl
+      by (BattlePlay b) false i e = rw (i, e) refl
+
+  -- at first the board has the play's first position, and no frame is in use
+  pub holds_first : IsSound problem → (board : Position) → board ≡ play_start problem → HoldsAt rule task stage items board
+  unfolding HoldsAt
+  holds_first s board at = rw (at_first, none, at) (by (play_of problem.stipulation.form) problem.set_play is refl)
+    where
+      by : (p : PlayOfSides) (set_play : Bool) → IsOf p battle → play_of problem.stipulation.form ≡ p
+          → HoldsAt rule task {A = A} (stage_by p set_play) [] (play_start problem)
+      by HelpPlay set_play i e = tt
+      by (BattlePlay b) true i e =
+          let fought : play_of problem.stipulation.form ≡ BattlePlay battle = rw i e in
+          (record { fought = fought; some = some_move _ _ _ fought s.range }, record { board_at = refl; none = refl })
+      by (BattlePlay b) false i e =
+          let fought : play_of problem.stipulation.form ≡ BattlePlay battle = rw i e in
+          (record { fought = fought; some = some_move _ _ _ fought s.range }, record { board_at = refl; none = refl }, tt)
+
+module _ (rule : RuleSet) (problem : Posed) where
+  -- the event returned, and the events then still to come
+  pub next_shown : (old new : List BareTryEvent) (result : Option TryEvent)
+      → MatchOption result ((old ≡ []) × (new ≡ [])) (λ shown. (bare : BareTryEvent) × (old ≡ bare ∷ new) × (shown ≡ try_event_of rule problem bare))
+      → (result ≡ option_map (try_event_of rule problem) (slice_get old 0)) × (new ≡ drop 1 old)
+  next_shown old new None m = (rw m.0 refl, rw (m.0, m.1) refl)
+  next_shown old new (Some shown) m = (rw (m.1, m.2) refl, rw m.1 refl)
+
+-- nothing is left to come
+pub over_empty : {A : Type 0} (rule : RuleSet) (task : Task) (stage : TriesStage A) (items : List Frame) → is_over stage ≡ true
+    → left_of rule task stage items ≡ []
+unfolding left_of
+over_empty rule task stage items e = search rules
+
+-- steps that only return an event
+module _ {A : Type 0} (rule : RuleSet) (task : Task) (stage : TriesStage A) (items : List Frame) (board : Position) where
+  pub no_tries_step : stage ≡ NoTries → Goes rule task stage items Over items board (Some NoTriesEvent)
+  unfolding HoldsAt left_of
+  no_tries_step e = rw e (with_event rule task NoTries Over items items board tt NoTriesEvent no_tries refl refl)
+
+  pub impossible_step : stage ≡ Impossible → HoldsAt rule task stage items board
+      → Goes rule task stage items (Beginning Keys) items board (Some (SetEvent ImpossibleEvent))
+  unfolding HoldsAt left_of
+  impossible_step e h =
+      let now : HoldsAt rule task {A = A} Impossible items board = rw e at h in
+      rw e (with_event rule task Impossible (Beginning Keys) items items board (now.0, now.1, tt) (SetEvent ImpossibleEvent) (set_event impossible) refl refl)

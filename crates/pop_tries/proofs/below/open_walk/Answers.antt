@@ -1,0 +1,14 @@
+use Rattle.pop_tries.proofs.Words.{rules}
+unfoldable use Rattle.pop_battle.specs.ties.Frames.{AreKnown, IsLinked, position}
+unfoldable use Rattle.pop_solve.specs.ties.Walk.{IsRoomy}
+use Rattle.pop_solve.proofs.GoingOn.{walk_length-most}
+use Rattle.pop_solve.proofs.Walking.{reverse-push}
+use Rattle.pop_tries.proofs.Starts.{shows_below}
+use Rattle.pop_tries.proofs.below.open_walk.Goals as goal
+
+pub returns-clause-walking : goal.returns-clause-walking
+unfolding IsLinked IsRoomy AreKnown position
+returns-clause-walking g c = search (rules, reverse-push, walk_length-most)
+
+pub returns-clause-come : goal.returns-clause-come
+returns-clause-come g c = search (rules, reverse-push, shows_below)

@@ -1,0 +1,71 @@
+use Rattle.pop_tries.proofs.Words.{arith, rules, sym, ◌∙◌, ◌≡◌, [], false, check, zugzwang}
+unfoldable use Rattle.pop_tries.specs.ties.Searching.{HoldsAt, left_of, rank}
+use Rattle.pop_tries.specs.ties.Searching.{after_first, contest_of}
+use Rattle.pop_tries.proofs.Goings.{with_event, without_event}
+use Rattle.pop_tries.proofs.StepsBelow as steps
+use Rattle.pop_tries.proofs.GoesBelow as goes
+use Rattle.std.specs.Prelude.{is_some}
+use Rattle.pop_tries.specs.declared.stage.TriesStage.TheVariants.{Faced, Reply}
+use Rattle.pop_tries.specs.declared.stage.First.{First}
+use Rattle.pop_tries.proofs.below_first.face.Goals.{then-checked, else-checked}
+use Rattle.pop_tries.proofs.below_first.face.Goals as goal
+
+pub returns-then-reaches_goal : goal.returns-then-reaches_goal
+unfolding HoldsAt rank
+returns-then-reaches_goal g c =
+    let h = c.requires.holds in
+    let rule = g.R.Rules.rule in
+    let task = c.args.task.now in
+    let first = c.args.first in
+    let met = rw (c.stipulation.ensures.stipulation, h.1.board_at) at (sym c.reaches_goal.ensures.reached ∙ c.if-reaches_goal.true) in
+    record {
+      goes = rw h.1.none (without_event rule task _ _ _ _ _ c.end_replies.ensures.holds
+          (steps.faced_at_goal rule task h.0 first [] (steps.shown_at_goal rule task h.0 first met) ∙ c.end_replies.ensures.left)
+          (omega (arith, c.end_replies.ensures.rank)));
+    }
+
+pub returns-then-is_some : goal.returns-then-is_some
+unfolding left_of rank
+returns-then-is_some g c =
+    let b = c.begin_threats.ensures.goes in
+    record { goes = record { holds = b.holds; emits = b.emits; falls = b.falls } }
+
+pub returns : goal.returns
+unfolding HoldsAt left_of
+returns g c =
+    let h = c.requires.holds in
+    let rule = g.R.Rules.rule in
+    let task = c.args.task.now in
+    let first : First g.row.R.Denot = record {
+      firsts = c.args.first.firsts;
+      by = c.args.first.by;
+      undo = c.args.first.undo;
+      threat = c.threat_length-threat.result;
+    } in
+    let keeps = c.threat_length-threat.ensures.rest in
+    let at = keeps.board ∙ (c.reaches_goal.ensures.unchanged ∙ h.1.board_at) in
+    let t = rw (c.contest.ensures, c.reaches_goal.ensures.unchanged, h.1.board_at) at c.threat_length-threat.ensures.threat in
+    let none : is_some c.threat_length-threat.result ≡ false = search rules in
+    let unmet = rw (c.stipulation.ensures.stipulation, h.1.board_at) at (sym c.reaches_goal.ensures.reached ∙ c.if-reaches_goal.false) in
+    let no = goes.no_threat_is rule (contest_of task) (after_first rule task first.by) first.threat none t in
+    let checked = rw (c.turn.ensures, at) at c.in_check-checked.ensures in
+    let holds : HoldsAt rule task (Reply first c.start.result) c.threat_length-threat.new.frames.items c.threat_length-threat.new.board = (
+      h.0,
+      record {
+        first_is = record { came = h.2.came; sound = h.2.sound; placed = h.2.placed };
+        threat = t;
+        bare = record { board_at = at; none = keeps.frames ∙ h.1.none };
+      },
+    ) in
+    elim c.if-checked.branch [
+      | then-checked w ↦ record {
+        goes = with_event rule task (Faced c.args.first) _ _ _ _ holds _ _
+            (steps.faced_without rule task h.0 first c.start.result c.args.frames.now.items c.threat_length-threat.new.frames.items check c.start.ensures
+            (steps.shown_in_check rule task h.0 first unmet (sym checked ∙ w.if-checked.true))) w.result-is;
+      }
+      | else-checked w ↦ record {
+        goes = with_event rule task (Faced c.args.first) _ _ _ _ holds _ _
+            (steps.faced_without rule task h.0 first c.start.result c.args.frames.now.items c.threat_length-threat.new.frames.items zugzwang c.start.ensures
+            (steps.shown_in_zugzwang rule task h.0 first unmet (sym checked ∙ w.if-checked.false) no)) w.result-is;
+      }
+    ]

@@ -1,0 +1,35 @@
+use Rattle.pop_tries.proofs.Words.{refl, sym, ◌∙◌}
+unfoldable use Rattle.pop_tries.specs.ties.Searching.{HoldsAt, left_of}
+use Rattle.pop_tries.specs.ties.Searching.{beginning_of}
+use Rattle.pop_tries.specs.declared.stage.TriesStage.TheVariants.{FirstMove}
+use Rattle.pop_tries.proofs.Goings as goes
+use Rattle.pop_tries.proofs.Steps as steps
+use Rattle.pop_tries.proofs.group.begin_group.Goals as goal
+use Rattle.pop_tries.proofs.group.begin_group.Goals.{in-Keys, in-Tries}
+
+pub returns : goal.returns
+unfolding HoldsAt
+returns g c =
+    let h = c.requires.holds in
+    let rule = g.R.Rules.rule in
+    let task = c.args.task.now in
+    let group = c.args.group in
+    let holds : HoldsAt rule task {A = g.row.R.Denot} (FirstMove (record { group = group; place = c.start.result; count = 0 })) c.args.frames.now.items c.args.board.now = (
+      h.0,
+      h.1,
+      record {
+        few = h.2;
+        counted = rw c.start.ensures (steps.none_counted rule task group);
+        limited = steps.at_first task.problem group;
+      },
+    ) in
+    elim c.match-group.branch [
+      | in-Keys w ↦ record {
+        goes = goes.with_event rule task _ _ _ _ _ holds _ (beginning_of group)
+            (goes.group_comes g.row.R.Denot rule task group c.start.result c.start.ensures _ _) (w.result-is ∙ sym (rw w.in-Keys.is refl));
+      }
+      | in-Tries w ↦ record {
+        goes = goes.with_event rule task _ _ _ _ _ holds _ (beginning_of group)
+            (goes.group_comes g.row.R.Denot rule task group c.start.result c.start.ensures _ _) (w.result-is ∙ sym (rw w.in-Tries.is refl));
+      }
+    ]

@@ -1,0 +1,15 @@
+use Rattle.pop_tries.proofs.Words.{no_tries, refl, set_event}
+unfoldable use Rattle.pop_tries.specs.ties.Searching.{HoldsAt, left_of}
+use Rattle.pop_solve.specs.Events.{impossible}
+use Rattle.pop_tries.proofs.Goings.{with_event}
+use Rattle.pop_tries.proofs.search.take_step.Goals as goal
+
+pub returns-in-NoTries : goal.returns-in-NoTries
+unfolding HoldsAt left_of
+returns-in-NoTries g c = rw c.in-NoTries.is (record { goes = with_event g.R.Rules.rule c.args.task.now _ _ _ _ _ tt _ no_tries refl refl })
+
+pub returns-in-Impossible : goal.returns-in-Impossible
+unfolding HoldsAt left_of
+returns-in-Impossible g c =
+    let h = rw c.in-Impossible.is at c.requires.holds in
+    rw c.in-Impossible.is (record { goes = with_event g.R.Rules.rule c.args.task.now _ _ _ _ _ (h.0, h.1, tt) _ (set_event impossible) refl refl })

@@ -1,0 +1,319 @@
+-- How far a search for tries has come: what it has still to return, and what holds of its board and frames
+-- (own).
+use Rattle.std.specs.Prelude.{◌≡◌, ◌≤◌, ◌<◌, ℕ, ◌+◌, ◌-◌, ◌==◌, Bool, true, false, if◌then◌else◌, not, List, [], ◌∷◌, ◌++◌, map, take, filter, length, reverse, Option, None, MatchOption}
+use Rattle.std.specs.List.{flat_map}
+use Rattle.chess_core.specs.WellFormed.{IsWellFormed}
+use Rattle.chess_core.specs.Position.{Position}
+use Rattle.chess_core.specs.declared.man.Move.{Move}
+use Rattle.chess_attacks.specs.RuleSet.{RuleSet}
+use Rattle.chess_rules.specs.Play.{position_after}
+use Rattle.chess_rules.specs.ties.Places.{all_triples, moves_after}
+use Rattle.pop_battle.specs.Chess.{set_start}
+use Rattle.pop_battle.specs.Plays.{play_of}
+use Rattle.pop_battle.specs.declared.aim.Battle.{Battle}
+use Rattle.pop_battle.specs.declared.aim.Play.{Play as PlayOfSides}
+use Rattle.pop_battle.specs.declared.aim.Play.TheVariants.{Help as HelpPlay, Battle as BattlePlay}
+use Rattle.pop_battle.specs.ties.Frames.{CameBy, Frame}
+use Rattle.pop_events.specs.Shown.{Shown}
+use Rattle.pop_events.specs.declared.event.Phase.TheVariants.{Set}
+use Rattle.pop_input.specs.Posed.{IsSound, Posed}
+use Rattle.pop_solve.specs.Events.{game_of, impossible, phase_events, play_start}
+use Rattle.pop_solve.specs.Tree.{is_in_set_play, node}
+use Rattle.pop_solve.specs.ties.Phases.{HoldsAtStage, left_of as set_play_left}
+use Rattle.pop_solve.specs.ties.Plans.{plan_of}
+use Rattle.pop_solve.specs.ties.Walk.{IsWalking, to_come}
+use Rattle.pop_stipulation.specs.Stipulations.{half_moves}
+use Rattle.pop_tries.specs.Tries.{Below, below_reply, refutation, reply, shown_refutations, threatened}
+use Rattle.pop_tries.specs.Events.{BareTryEvent, attempt, below, events_of_tries, key, key_total, keys, no_tries, play_events, set_event, shown_below, tries, try_total}
+use Rattle.pop_tries.specs.Shown.{try_event_of}
+use Rattle.pop_tries.specs.ties.Contests.{IsContest, IsThreat}
+use Rattle.pop_tries.specs.ties.FirstMoves.{belongs, is_shown, IsFew}
+use Rattle.pop_tries.specs.declared.below.Base.{Base}
+use Rattle.pop_tries.specs.declared.below.WalkBelow.{WalkBelow}
+use Rattle.pop_tries.specs.declared.contest.Contest.{Contest}
+use Rattle.pop_tries.specs.declared.first_moves.Group.{Group}
+use Rattle.pop_tries.specs.declared.first_moves.Group.TheVariants.{Keys, Tries}
+use Rattle.pop_events.specs.declared.try_event.TryEvent.{TryEvent}
+use Rattle.pop_events.specs.declared.try_event.TryEvent.TheVariants.{Key, Try}
+use Rattle.pop_tries.specs.declared.stage.First.{First}
+use Rattle.pop_tries.specs.declared.stage.Firsts.{Firsts}
+use Rattle.pop_tries.specs.declared.stage.Task.{Task}
+use Rattle.pop_tries.specs.declared.stage.TriesStage.{TriesStage}
+use Rattle.pop_tries.specs.declared.stage.TriesStage.TheVariants.{NoTries, SetPlay, Impossible, Within, Beginning, FirstMove, Faced, Threats, Reply, Below as BelowReply, But, Refutation, Over}
+
+-- what contracts see of a search for tries: the problem, the most refutations of a try, and the events
+-- still to come
+pub record TriesState : Type 0 where
+  pub problem : Posed
+  pub most : ℕ
+  pub left : List BareTryEvent
+
+-- the battle of a task
+abbrev pub contest_of : Task → Contest
+contest_of task = record {
+  battle = task.battle;
+  stipulation = task.problem.stipulation;
+}
+
+-- the first moves of a group, as they are returned
+abbrev pub first_event : Group → Move → BareTryEvent
+first_event Keys m = key m
+first_event (Tries most) m = attempt m
+
+-- the beginning of a group
+abbrev pub beginning_of : Group → BareTryEvent
+beginning_of Keys = keys
+beginning_of (Tries most) = tries
+
+-- of this many moves, the most that a group shows after `count` have been shown
+abbrev pub within_limit : Posed → Group → ℕ → List Move → List Move
+within_limit problem Keys count ms = take (problem.max_solutions - count) ms
+within_limit problem (Tries most) count ms = ms
+
+-- a group has shown no more than the limit of solutions
+abbrev pub IsInLimit : Posed → Group → ℕ → Type 0
+IsInLimit problem Keys count = count ≤ problem.max_solutions
+IsInLimit problem (Tries most) count = Unit {0}
+
+-- the first stage of a problem's search
+abbrev pub stage_by : {A : Type 0} → PlayOfSides → Bool → TriesStage A
+stage_by HelpPlay set_play = NoTries
+stage_by (BattlePlay battle) set_play = if set_play then SetPlay else Beginning Keys
+
+abbrev pub first_stage : {A : Type 0} → Posed → TriesStage A
+first_stage problem = stage_by (play_of problem.stipulation.form) problem.set_play
+
+-- the battle belongs to the form, unless both sides help
+abbrev pub IsOf : PlayOfSides → Battle → Type 0
+IsOf HelpPlay battle = Unit {0}
+IsOf (BattlePlay fought) battle = battle ≡ fought
+
+-- nothing is left to return
+abbrev pub is_over : {A : Type 0} → TriesStage A → Bool
+is_over NoTries = false
+is_over SetPlay = false
+is_over Impossible = false
+is_over (Within stage) = false
+is_over (Beginning group) = false
+is_over (FirstMove firsts) = false
+is_over (Faced first) = false
+is_over (Threats first crossed) = false
+is_over (Reply first place) = false
+is_over (BelowReply first played) = false
+is_over (But first) = false
+is_over (Refutation first place) = false
+is_over Over = true
+
+-- the walk below a first move from a position
+abbrev pub walk_below : Task → Move → Base → WalkBelow
+walk_below task first base = record {
+  plan = plan_of task.problem;
+  half_moves = half_moves task.problem.stipulation - 2;
+  first = first;
+  base = base;
+}
+
+-- the limit of solutions stops a group that has shown `count` first moves
+abbrev pub is_stopped : Posed → Group → ℕ → Bool
+is_stopped problem Keys count = count == problem.max_solutions
+is_stopped problem (Tries most) count = false
+
+-- the event of a first move of a group
+abbrev pub event_of_first : Group → Shown → TryEvent
+event_of_first Keys shown = Key shown
+event_of_first (Tries most) shown = Try shown
+
+-- the board has this position, and no frame is in use
+pub record IsBare (p : Position) (items : List Frame) (board : Position) : Type 0 where
+  pub board_at : board ≡ p
+  pub none : items ≡ []
+
+module _ (rule : RuleSet) (task : Task) where
+  -- the position after a first move
+  abbrev pub after_first : Move → Position
+  after_first m = position_after rule (play_start task.problem) m
+
+  -- the first moves of a group after a place
+  abbrev pub firsts_after : Group → ℕ → List Move
+  firsts_after group place = filter (λ m. belongs rule (contest_of task) group (after_first m))
+      (moves_after rule (play_start task.problem) place)
+
+  -- those of them that are still to be shown, after `count` have been shown
+  abbrev pub firsts_left : {A : Type 0} → Firsts A → List Move
+  firsts_left firsts = within_limit task.problem firsts.group firsts.count
+      (firsts_after firsts.group firsts.place)
+
+  -- what is shown below a first move after its replies
+  abbrev pub closing : Group → Position → List (Below Move)
+  closing Keys q = []
+  closing (Tries most) q =
+      shown_refutations task.battle (game_of rule task.problem) task.problem.stipulation.n q
+
+  -- what is shown below a first move
+  abbrev pub shown_after : Move → List (Below Move)
+  shown_after m = shown_below task.battle rule task.problem m
+
+  -- the events of a first move
+  abbrev pub events_of_first : Group → Move → List BareTryEvent
+  events_of_first group m =
+      first_event group m ∷ map (below m) (shown_after m ++ closing group (after_first m))
+
+  -- the end of a group that has shown `count` first moves, and what follows it
+  abbrev pub ending_of : Group → ℕ → List BareTryEvent
+  ending_of Keys count = key_total count (count == task.problem.max_solutions)
+      ∷ events_of_tries task.battle rule task.problem task.most
+  ending_of (Tries most) count = try_total count ∷ []
+
+  -- the events from a place among the first moves of a group on
+  abbrev pub group_left : {A : Type 0} → Firsts A → List BareTryEvent
+  group_left firsts = flat_map (events_of_first firsts.group) (firsts_left firsts)
+      ++ ending_of firsts.group (firsts.count + length (firsts_left firsts))
+
+  -- the events of a group, and what follows it
+  abbrev pub whole_group : Group → List BareTryEvent
+  whole_group Keys = play_events task.battle rule task.problem task.most
+  whole_group (Tries most) = events_of_tries task.battle rule task.problem most
+
+  -- some things shown below a first move, and what follows them
+  abbrev pub below_and_after : {A : Type 0} → First A → List (Below Move) → List BareTryEvent
+  below_and_after first shown =
+      map (below first.by) (shown ++ closing first.firsts.group (after_first first.by))
+      ++ group_left first.firsts
+
+  -- the paths below the replies after a place
+  abbrev pub replies_after : Position → ℕ → List (List Move)
+  replies_after q place = flat_map
+      (λ d. node d (below_reply task.battle (game_of rule task.problem)
+      task.problem.stipulation.n task.problem.variation
+      (half_moves task.problem.stipulation - 2) (position_after rule q d)))
+      (filter (is_shown rule (contest_of task) q) (moves_after rule q place))
+
+  -- the paths still to come of a walk below a first move
+  abbrev pub walk_left : Position → List Frame → List (List Move)
+  walk_left p items = to_come rule (plan_of task.problem)
+      (half_moves task.problem.stipulation - 2) p (reverse items)
+
+  -- the refutations after a place
+  abbrev pub refutations_after : Position → ℕ → List Move
+  refutations_after q place =
+      filter (λ d. not (is_in_set_play task.battle (game_of rule task.problem)
+      task.problem.stipulation.n (position_after rule q d)))
+      (moves_after rule q place)
+
+  -- the events still to come
+  unfoldable pub left_of : {A : Type 0} → TriesStage A → List Frame → List BareTryEvent
+  left_of NoTries items = no_tries ∷ []
+  left_of SetPlay items =
+      map set_event (phase_events rule task.problem Set) ++ whole_group Keys
+  left_of Impossible items = set_event impossible ∷ whole_group Keys
+  left_of (Within stage) items =
+      map set_event (set_play_left rule task.problem stage (reverse items)) ++ whole_group Keys
+  left_of (Beginning group) items = whole_group group
+  left_of (FirstMove firsts) items = group_left firsts
+  left_of (Faced first) items = below_and_after first (shown_after first.by)
+  left_of (Threats first crossed) items = below_and_after first
+      (map threatened (walk_left (set_start (after_first first.by)) items)
+      ++ map reply (replies_after (after_first first.by) 0))
+  left_of (Reply first place) items = below_and_after first
+      (map reply (replies_after (after_first first.by) place))
+  left_of (BelowReply first played) items = below_and_after first
+      (map reply (map (λ path. played.by ∷ path)
+      (walk_left (position_after rule (after_first first.by) played.by) items)
+      ++ replies_after (after_first first.by) played.place))
+  left_of (But first) items = map (below first.by) (shown_refutations task.battle
+      (game_of rule task.problem) task.problem.stipulation.n (after_first first.by))
+      ++ group_left first.firsts
+  left_of (Refutation first place) items = map (below first.by)
+      (map refutation (refutations_after (after_first first.by) place))
+      ++ group_left first.firsts
+  left_of Over items = []
+
+  -- a place among the first moves of a group: counts fit
+  pub record IsPlaced {A : Type 0} (firsts : Firsts A) : Type 0 where
+    pub few : IsFew firsts.group
+    pub counted : firsts.count + length (firsts_after firsts.group firsts.place) ≤ all_triples
+    pub limited : IsInLimit task.problem firsts.group firsts.count
+
+  -- a first move that has been shown
+  pub record IsFirst {A : Type 0} (first : First A) : Type 0 where
+    pub came : CameBy rule first.by first.undo (after_first first.by) (play_start task.problem)
+    pub sound : IsWellFormed (after_first first.by)
+    pub placed : IsPlaced first.firsts
+
+  -- the board has the position after a first move, whose threats have been looked for
+  pub record IsAnswered {A : Type 0} (first : First A) (items : List Frame) (board : Position) : Type 0 where
+    pub first_is : IsFirst first
+    pub threat : IsThreat rule (contest_of task) (after_first first.by) first.threat
+    pub bare : IsBare (after_first first.by) items board
+
+  -- a walk from p below a first move
+  pub record IsWalkedBelow {A : Type 0} (first : First A) (p : Position) (items : List Frame)
+      (board : Position) : Type 0 where
+    pub first_is : IsFirst first
+    pub threat : IsThreat rule (contest_of task) (after_first first.by) first.threat
+    pub walking : IsWalking rule (half_moves task.problem.stipulation - 2) p (reverse items) board
+
+  -- what holds of board and frames
+  unfoldable pub HoldsAt : {A : Type 0} → TriesStage A → List Frame → Position → Type 0
+  HoldsAt NoTries items board = Unit {0}
+  HoldsAt SetPlay items board =
+      IsContest (contest_of task) × IsBare (play_start task.problem) items board
+  HoldsAt Impossible items board =
+      IsContest (contest_of task) × IsBare (play_start task.problem) items board
+  HoldsAt (Within stage) items board = IsContest (contest_of task)
+      × HoldsAtStage rule task.problem stage (reverse items) board
+  HoldsAt (Beginning group) items board = IsContest (contest_of task)
+      × IsBare (play_start task.problem) items board × IsFew group
+  HoldsAt (FirstMove firsts) items board = IsContest (contest_of task)
+      × IsBare (play_start task.problem) items board × IsPlaced firsts
+  HoldsAt (Faced first) items board = IsContest (contest_of task)
+      × IsBare (after_first first.by) items board × IsFirst first
+  HoldsAt (Threats first crossed) items board = IsContest (contest_of task)
+      × IsWalkedBelow first (set_start (after_first first.by)) items board
+      × (crossed ≡ (after_first first.by).crossed)
+  HoldsAt (Reply first place) items board = IsContest (contest_of task)
+      × IsAnswered first items board
+  HoldsAt (BelowReply first played) items board = IsContest (contest_of task)
+      × IsWalkedBelow first (position_after rule (after_first first.by) played.by) items board
+      × CameBy rule played.by played.undo (position_after rule (after_first first.by) played.by)
+      (after_first first.by)
+  HoldsAt (But first) items board = IsContest (contest_of task)
+      × IsBare (after_first first.by) items board × IsFirst first
+  HoldsAt (Refutation first place) items board = IsContest (contest_of task)
+      × IsBare (after_first first.by) items board × IsFirst first
+  HoldsAt Over items board = Unit {0}
+
+  -- an event is the next one still to come, as it is shown; without an event nothing has changed
+  abbrev pub Emits : List BareTryEvent → List BareTryEvent → Option TryEvent → Type 0
+  Emits old new event = MatchOption event (old ≡ new)
+      (λ shown. (bare : BareTryEvent) × (old ≡ bare ∷ new)
+      × (shown ≡ try_event_of rule task.problem bare))
+
+-- what is known of a task: the problem is sound, and tries have at most 200 refutations
+pub record IsTask (task : Task) : Type 0 where
+  pub sound : IsSound task.problem
+  pub few : task.most ≤ 200
+
+-- how many more steps may return no event
+unfoldable pub rank : {A : Type 0} → TriesStage A → ℕ
+rank NoTries = 0
+rank SetPlay = 0
+rank Impossible = 0
+rank (Within stage) = 1
+rank (Beginning group) = 0
+rank (FirstMove firsts) = 0
+rank (Faced first) = 2
+rank (Threats first crossed) = 2
+rank (Reply first place) = 1
+rank (BelowReply first played) = 2
+rank (But first) = 0
+rank (Refutation first place) = 1
+rank Over = 0
+
+-- what a step of a search for tries leaves
+pub record Goes {A : Type 0} (rule : RuleSet) (task : Task) (old : TriesStage A) (was : List Frame)
+    (new : TriesStage A) (items : List Frame) (board : Position) (event : Option TryEvent) : Type 0
+  where
+    pub holds : HoldsAt rule task new items board
+    pub emits : Emits rule task (left_of rule task old was) (left_of rule task new items) event
+    pub falls : event ≡ None → rank new < rank old

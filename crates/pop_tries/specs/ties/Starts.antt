@@ -1,0 +1,42 @@
+-- Where the walks below a first move start, and what they show (own).
+use Rattle.std.specs.Prelude.{◌≡◌, ◌*◌, ◌≤◌, ℕ, Bool, true, false, List, [], ◌∷◌, length}
+use Rattle.chess_core.specs.Position.{Position}
+use Rattle.chess_core.specs.declared.man.Move.{Move}
+use Rattle.chess_attacks.specs.RuleSet.{RuleSet}
+use Rattle.chess_rules.specs.Play.{position_after}
+use Rattle.pop_battle.specs.Chess.{chess, set_start}
+use Rattle.pop_battle.specs.declared.aim.Battle.{Battle}
+use Rattle.pop_battle.specs.declared.aim.Play.TheVariants.{Battle as BattlePlay}
+use Rattle.pop_battle.specs.ties.Frames.{Frame}
+use Rattle.pop_battle.specs.ties.Values.{attacker_to_move, value}
+use Rattle.pop_input.specs.Posed.{Posed}
+use Rattle.pop_solve.specs.Events.{play_start}
+use Rattle.pop_solve.specs.declared.plan.Plan.{Plan}
+use Rattle.pop_solve.specs.ties.Walk.{IsEnded, path, to_come}
+use Rattle.pop_tries.specs.Tries.{below_reply}
+use Rattle.pop_tries.specs.declared.below.Base.{Base}
+use Rattle.pop_tries.specs.declared.below.Base.TheVariants.{Passed, Reply}
+
+-- the position where a walk starts
+abbrev pub base_position : RuleSet → Posed → Move → Base → Position
+base_position rule problem first Passed = set_start (position_after rule (play_start problem) first)
+base_position rule problem first (Reply by) =
+    position_after rule (position_after rule (play_start problem) first) by
+
+-- a walk from p with h half-moves left shows what stands below a reply, if White, to move, wins there
+abbrev pub ShowsBelow : RuleSet → Plan → ℕ → Position → List Frame → Type 0
+ShowsBelow rule plan h p frames = (battle : Battle) (n : ℕ) → plan.play ≡ BattlePlay battle
+    → attacker_to_move battle h ≡ true → h ≤ 2 * n
+    → value battle (chess plan.goal rule) h p ≡ true
+    → to_come rule plan h p frames
+    ≡ below_reply battle (chess plan.goal rule) n plan.variation h p
+
+-- a walk from p shows the next of the nodes still to come, or there is none
+pub record ShowsNext (rule : RuleSet) (plan : Plan) (h : ℕ) (p : Position) (old new : List Frame)
+    (board : Position) (shown : Bool) : Type 0 where
+  pub next : shown ≡ true → to_come rule plan h p old ≡ path new ∷ to_come rule plan h p new
+  pub deep : shown ≡ true → 2 ≤ length new
+  pub ended : shown ≡ true → IsEnded rule plan new board
+  pub none : shown ≡ false → to_come rule plan h p old ≡ []
+  pub back : shown ≡ false → board ≡ p
+  pub empty : shown ≡ false → new ≡ []

@@ -1,0 +1,125 @@
+//! Walks over what is shown below the replies to a first move, and below its threats.
+ghost use Rattle.std.specs.Prelude.{◌≡◌, ◌<◌, ◌≤◌, ◌+◌, [], length, reverse};
+ghost use Rattle.chess_core.specs.WellFormed.{IsWellFormed};
+ghost use Rattle.pop_solve.specs.Events.{last_shown};
+ghost use Rattle.pop_solve.specs.ties.Walk.{IsEnded, IsWalking, path};
+ghost use Rattle.pop_tries.specs.ties.Starts.{base_position, ShowsBelow, ShowsNext};
+
+use arrayvec::ArrayVec;
+use chess_core::board::Board;
+use chess_core::man::Move;
+use chess_rules::{Moves, Rules};
+use pop_battle::frame::Frame;
+use pop_battle::search_state::SearchState;
+use pop_events::Shown;
+use pop_input::Problem;
+use pop_solve::plan::Plan;
+use pop_solve::showing::last_shown;
+use pop_solve::walk::{step, walk_length};
+
+/// Where a walk below a first move starts.
+#[derive(Clone, Copy)]
+pub enum Base {
+    /// After Black has passed: the walk shows the threats.
+    Passed,
+    /// After a reply.
+    Reply { by: Move },
+}
+
+/// A walk below a first move: what it walks, the number of half-moves left where it starts, the first move, and
+/// where it starts.
+#[derive(Clone, Copy)]
+pub struct WalkBelow {
+    pub plan: Plan,
+    pub half_moves: usize,
+    pub first: Move,
+    pub base: Base,
+}
+
+/// Opens the walk over what is shown below the board's position, which White, to move, wins with
+/// `half_moves` half-moves left: below a reply, or where Black has passed. No frame is in use before.
+pub fn open_walk<R: Rules, const N: usize>(
+    plan: Plan,
+    half_moves: usize,
+    board: &mut Board,
+    frames: &mut ArrayVec<Frame<R>, N>,
+    search_state: &mut SearchState<R>,
+)
+    requires well_formed { IsWellFormed board.old }
+    requires empty { frames.old.items ≡ [] }
+    requires room { half_moves < N }
+    ensures walking { IsWalking R.rule half_moves board.old (reverse frames.new.items) board.new }
+    ensures come { ShowsBelow R.rule plan half_moves board.old (reverse frames.new.items) }
+{
+    let left = walk_length::<R, N>(plan, half_moves, board, frames, search_state);
+    frames.push(Frame {
+        place: Moves::start(),
+        left,
+        known: None,
+        ..Frame::default()
+    });
+}
+
+/// Walks to the next node below a reply or below the threats. Returns whether there is one; if not, no frame
+/// is left, and the board has the position where the walk started.
+pub fn walk_on<R: Rules, const N: usize>(
+    problem: &Problem,
+    walk: WalkBelow,
+    board: &mut Board,
+    frames: &mut ArrayVec<Frame<R>, N>,
+    search_state: &mut SearchState<R>,
+) -> bool
+    requires room { walk.half_moves < N }
+    requires walking { IsWalking R.rule walk.half_moves
+        (base_position R.rule problem.now walk.first walk.base)
+        (reverse frames.old.items) board.old }
+    ensures walking { IsWalking R.rule walk.half_moves
+        (base_position R.rule problem.now walk.first walk.base)
+        (reverse frames.new.items) board.new }
+    ensures next { ShowsNext R.rule walk.plan walk.half_moves
+        (base_position R.rule problem.now walk.first walk.base)
+        (reverse frames.old.items) (reverse frames.new.items) board.new result }
+{
+    while !frames.is_empty() {
+        if step::<R, N>(walk.plan, walk.half_moves, board, frames, search_state) {
+            return true;
+        }
+    }
+    false
+}
+
+/// A node below a first move, as it is shown: the number of moves above it, where 1 is the depth of a reply, the
+/// number of its half-move, counted from 1, and its move.
+#[derive(Clone, Copy)]
+pub struct ShownNode {
+    pub depth: u32,
+    pub half: u32,
+    pub shown: Shown,
+}
+
+/// Returns the node at the top frame, whose position the board has. Where Black has passed, the missing reply
+/// counts as a move.
+pub fn shown_node<R: Rules>(
+    problem: &Problem,
+    walk: WalkBelow,
+    frames: &[Frame<R>],
+    board: &mut Board,
+) -> ShownNode
+    requires deep { 2 ≤ length frames.now }
+    requires shallow { length frames.now ≤ 33 }
+    requires walking { IsWalking R.rule walk.half_moves
+        (base_position R.rule problem.now walk.first walk.base) (reverse frames.now) board.old }
+    requires ended { IsEnded R.rule walk.plan (reverse frames.now) board.old }
+    ensures unchanged { board.new ≡ board.old }
+    ensures depth { result.depth ≡ length (path (reverse frames.now)) + 1 }
+    ensures half { result.half ≡ length (path (reverse frames.now)) + 2 }
+    ensures shown { result.shown ≡ last_shown walk.plan.goal R.rule
+        (base_position R.rule problem.now walk.first walk.base) (path (reverse frames.now)) }
+{
+    let depth = frames.len() as u32;
+    ShownNode {
+        depth,
+        half: depth + 1,
+        shown: last_shown::<R>(walk.plan, frames, board),
+    }
+}

@@ -1,0 +1,352 @@
+//! The steps of a search for tries below a first move.
+ghost use Rattle.std.specs.Prelude.{◌≡◌, ◌<◌, ◌-◌, [], false, is_some, reverse, true};
+ghost use Rattle.chess_core.specs.WellFormed.{IsWellFormed};
+ghost use Rattle.chess_rules.specs.Legal.{is_legal};
+ghost use Rattle.chess_rules.specs.Play.{position_after, undo_of};
+ghost use Rattle.pop_events.specs.Shown.{shown_move};
+ghost use Rattle.pop_solve.specs.ties.Plans.{plan_of};
+ghost use Rattle.pop_solve.specs.ties.Walk.{IsWalking};
+ghost use Rattle.pop_tries.specs.ties.Starts.{ShowsBelow};
+ghost use Rattle.chess_core.specs.Position.{Position};
+ghost use Rattle.pop_battle.specs.ties.Frames.{CameBy};
+ghost use Rattle.pop_solve.specs.Events.{game_of};
+ghost use Rattle.pop_stipulation.specs.Stipulations.{half_moves};
+ghost use Rattle.pop_events.specs.declared.try_event.TryEvent.TheVariants.{Node};
+ghost use Rattle.pop_tries.specs.declared.stage.TriesStage.TheVariants.{Below as BelowReply, But, Faced, FirstMove, Refutation, Reply, Threats};
+ghost use Rattle.pop_tries.specs.ties.Contests.{IsContest, IsThreat};
+ghost use Rattle.pop_tries.specs.ties.Searching.{after_first, below_and_after, contest_of, left_of, Goes, HoldsAt, IsFirst, IsTask, rank};
+
+use crate::below::{Base, ShownNode, open_walk, shown_node, walk_on};
+use crate::first_moves::{Group, next_refutation, next_reply};
+use crate::shown::shown;
+use crate::stage::{First, Played, Step, Task, TriesStage};
+use crate::threats::{pass, threat_length, unpass};
+use arrayvec::ArrayVec;
+use chess_core::board::Board;
+use chess_core::man::Move;
+use chess_core::square::Square;
+use chess_rules::{Moves, Rules, Undo, in_check, play, unplay};
+use pop_battle::chess::reaches_goal;
+use pop_battle::frame::Frame;
+use pop_battle::search_state::SearchState;
+use pop_events::TryEvent;
+use pop_solve::plan::Plan;
+
+/// Takes a first move back. Returns the next stage.
+#[tactic(auto, using(chess_rules::proofs::listing_moves::Calls::playing))]
+fn end_first<R: Rules>(first: First<R>, board: &mut Board) -> TriesStage<R>
+    requires came { (p : Position) × CameBy R.rule first.by first.undo board.old p }
+    ensures stage { result ≡ FirstMove first.firsts }
+    ensures back { (p : Position) → CameBy R.rule first.by first.undo board.old p → board.new ≡ p }
+{
+    unplay::<R>(board, first.by, first.undo);
+    TriesStage::FirstMove {
+        firsts: first.firsts,
+    }
+}
+
+/// Ends what is shown below a first move, but for the refutations of a try. Returns the next stage.
+#[tactic(auto, unfolding(crate::specs::ties::Searching::HoldsAt, crate::specs::ties::Searching::left_of, crate::specs::ties::Searching::rank))]
+fn end_replies<R: Rules>(task: &Task, first: First<R>, board: &mut Board) -> TriesStage<R>
+    requires contest { IsContest (contest_of task.now) }
+    requires first { IsFirst R.rule task.now first }
+    requires board { board.old ≡ after_first R.rule task.now first.by }
+    ensures holds { HoldsAt R.rule task.now result [] board.new }
+    ensures left { below_and_after R.rule task.now first [] ≡ left_of R.rule task.now result [] }
+    ensures rank { rank result ≡ 0 }
+{
+    match first.firsts.group {
+        Group::Keys => end_first(first, board),
+        Group::Tries { .. } => TriesStage::But { first },
+    }
+}
+
+/// Finds what Black faces after a first move: check, a threat or zugzwang; nothing if the goal is reached.
+#[tactic(auto, unfolding(crate::specs::ties::Searching::HoldsAt, crate::specs::ties::Searching::rank))]
+pub(crate) fn face<R: Rules, const N: usize>(
+    task: &Task,
+    first: First<R>,
+    board: &mut Board,
+    frames: &mut ArrayVec<Frame<R>, N>,
+    search_state: &mut SearchState<R>,
+) -> Step<R>
+    requires task { IsTask task.now }
+    requires room { half_moves task.now.problem.stipulation < N }
+    requires holds { HoldsAt R.rule task.now (Faced first) frames.old.items board.old }
+    ensures goes { Goes R.rule task.now (Faced first) frames.old.items result.stage
+        frames.new.items board.new result.event }
+{
+    if reaches_goal::<R>(task.problem.stipulation().goal, board) {
+        return Step {
+            stage: end_replies(task, first, board),
+            event: None,
+        };
+    }
+    let threat = threat_length::<R, N>(task.contest(), board, frames, search_state);
+    let first = First { threat, ..first };
+    if threat.is_some() {
+        return begin_threats::<R, N>(task, first, board, frames, search_state);
+    }
+    let checked = in_check::<R>(board, board.turn());
+    Step {
+        stage: TriesStage::Reply {
+            first,
+            place: Moves::start(),
+        },
+        event: Some(if checked {
+            TryEvent::Check
+        } else {
+            TryEvent::Zugzwang
+        }),
+    }
+}
+
+/// Lets Black pass and opens the walk over the threats.
+#[tactic(auto, unfolding(crate::specs::ties::Searching::HoldsAt, crate::specs::ties::Searching::rank))]
+fn begin_threats<R: Rules, const N: usize>(
+    task: &Task,
+    first: First<R>,
+    board: &mut Board,
+    frames: &mut ArrayVec<Frame<R>, N>,
+    search_state: &mut SearchState<R>,
+) -> Step<R>
+    requires task { IsTask task.now }
+    requires room { half_moves task.now.problem.stipulation < N }
+    requires holds { HoldsAt R.rule task.now (Faced first) frames.old.items board.old }
+    requires threat { IsThreat R.rule (contest_of task.now) (after_first R.rule task.now first.by)
+        first.threat }
+    requires some { is_some first.threat ≡ true }
+    requires goal { (game_of R.rule task.now.problem).goal
+        (after_first R.rule task.now first.by) ≡ false }
+    ensures goes { Goes R.rule task.now (Faced first) frames.old.items result.stage
+        frames.new.items board.new result.event }
+{
+    let crossed = pass(board);
+    open_walk::<R, N>(
+        Plan::of(&task.problem),
+        task.half_moves_below(),
+        board,
+        frames,
+        search_state,
+    );
+    Step {
+        stage: TriesStage::Threats { first, crossed },
+        event: Some(TryEvent::Threat),
+    }
+}
+
+/// Returns the event of a node.
+fn node_event(node: ShownNode) -> TryEvent
+    ensures { result ≡ Node node.depth node.half node.shown }
+{
+    TryEvent::Node {
+        depth: node.depth,
+        half: node.half,
+        shown: node.shown,
+    }
+}
+
+/// Shows the next node below the threats; after the last one Black's replies follow.
+#[tactic(auto, unfolding(crate::specs::ties::Searching::HoldsAt, crate::specs::ties::Searching::rank))]
+pub(crate) fn walk_threats<R: Rules, const N: usize>(
+    task: &Task,
+    first: First<R>,
+    crossed: Option<Square>,
+    board: &mut Board,
+    frames: &mut ArrayVec<Frame<R>, N>,
+    search_state: &mut SearchState<R>,
+) -> Step<R>
+    requires task { IsTask task.now }
+    requires room { half_moves task.now.problem.stipulation < N }
+    requires holds { HoldsAt R.rule task.now (Threats first crossed) frames.old.items board.old }
+    ensures goes { Goes R.rule task.now (Threats first crossed) frames.old.items result.stage
+        frames.new.items board.new result.event }
+{
+    let walk = task.walk_below(first.by, Base::Passed);
+    if walk_on::<R, N>(&task.problem, walk, board, frames, search_state) {
+        let walk = task.walk_below(first.by, Base::Passed);
+        let node = shown_node::<R>(&task.problem, walk, frames.as_slice(), board);
+        return Step {
+            stage: TriesStage::Threats { first, crossed },
+            event: Some(node_event(node)),
+        };
+    }
+    unpass(board, crossed);
+    Step {
+        stage: TriesStage::Reply {
+            first,
+            place: Moves::start(),
+        },
+        event: None,
+    }
+}
+
+/// Plays a reply and opens the walk over what stands below it. Returns what takes it back, and its event.
+#[tactic(auto, using(chess_rules::proofs::listing_moves::Calls::playing))]
+fn play_reply<R: Rules, const N: usize>(
+    task: &Task,
+    by: Move,
+    board: &mut Board,
+    frames: &mut ArrayVec<Frame<R>, N>,
+    search_state: &mut SearchState<R>,
+) -> (Undo, TryEvent)
+    requires room { half_moves task.now.problem.stipulation < N }
+    requires well_formed { IsWellFormed board.old }
+    requires legal { is_legal R.rule board.old by ≡ true }
+    requires empty { frames.old.items ≡ [] }
+    ensures undo { result.0 ≡ undo_of R.rule board.old by }
+    ensures event { result.1 ≡ Node 1 2 (shown_move task.now.problem.stipulation.goal R.rule
+        board.old by) }
+    ensures walking { IsWalking R.rule (half_moves task.now.problem.stipulation - 2)
+        (position_after R.rule board.old by) (reverse frames.new.items) board.new }
+    ensures come { ShowsBelow R.rule (plan_of task.now.problem)
+        (half_moves task.now.problem.stipulation - 2)
+        (position_after R.rule board.old by) (reverse frames.new.items) }
+{
+    let shown = shown::<R>(task.problem.stipulation().goal, by, board);
+    let undo = play::<R>(board, by);
+    open_walk::<R, N>(
+        Plan::of(&task.problem),
+        task.half_moves_below(),
+        board,
+        frames,
+        search_state,
+    );
+    let event = TryEvent::Node {
+        depth: 1,
+        half: 2,
+        shown,
+    };
+    (undo, event)
+}
+
+/// Finds the next reply that is shown, plays it, and opens the walk over what stands below it; after the last
+/// one what is shown below the first move ends.
+#[tactic(auto, using(chess_rules::proofs::listing_moves::Calls::playing), unfolding(crate::specs::ties::Searching::HoldsAt, crate::specs::ties::Searching::rank))]
+pub(crate) fn find_reply<R: Rules, const N: usize>(
+    task: &Task,
+    first: First<R>,
+    place: Moves<R>,
+    board: &mut Board,
+    frames: &mut ArrayVec<Frame<R>, N>,
+    search_state: &mut SearchState<R>,
+) -> Step<R>
+    requires task { IsTask task.now }
+    requires room { half_moves task.now.problem.stipulation < N }
+    requires holds { HoldsAt R.rule task.now (Reply first place) frames.old.items board.old }
+    ensures goes { Goes R.rule task.now (Reply first place) frames.old.items result.stage
+        frames.new.items board.new result.event }
+{
+    let mut next = place;
+    let found = next_reply::<R, N>(
+        task.contest(),
+        first.threat,
+        &mut next,
+        board,
+        frames,
+        search_state,
+    );
+    let Some(by) = found else {
+        return Step {
+            stage: end_replies(task, first, board),
+            event: None,
+        };
+    };
+    let (undo, event) = play_reply::<R, N>(task, by, board, frames, search_state);
+    let reply = Played {
+        place: next,
+        by,
+        undo,
+    };
+    Step {
+        stage: TriesStage::Below { first, reply },
+        event: Some(event),
+    }
+}
+
+/// Shows the next node below a reply; after the last one takes the reply back.
+#[tactic(auto, unfolding(crate::specs::ties::Searching::HoldsAt, crate::specs::ties::Searching::rank))]
+pub(crate) fn walk_reply<R: Rules, const N: usize>(
+    task: &Task,
+    first: First<R>,
+    reply: Played<R>,
+    board: &mut Board,
+    frames: &mut ArrayVec<Frame<R>, N>,
+    search_state: &mut SearchState<R>,
+) -> Step<R>
+    requires task { IsTask task.now }
+    requires room { half_moves task.now.problem.stipulation < N }
+    requires holds { HoldsAt R.rule task.now (BelowReply first reply) frames.old.items board.old }
+    ensures goes { Goes R.rule task.now (BelowReply first reply) frames.old.items result.stage
+        frames.new.items board.new result.event }
+{
+    let walk = task.walk_below(first.by, Base::Reply { by: reply.by });
+    if walk_on::<R, N>(&task.problem, walk, board, frames, search_state) {
+        let walk = task.walk_below(first.by, Base::Reply { by: reply.by });
+        let node = shown_node::<R>(&task.problem, walk, frames.as_slice(), board);
+        return Step {
+            stage: TriesStage::Below { first, reply },
+            event: Some(node_event(node)),
+        };
+    }
+    unplay::<R>(board, reply.by, reply.undo);
+    Step {
+        stage: TriesStage::Reply {
+            first,
+            place: reply.place,
+        },
+        event: None,
+    }
+}
+
+/// Begins the refutations of a try.
+#[tactic(auto, using(crate::proofs::StepsBelow::refutations_begin), unfolding(crate::specs::ties::Searching::HoldsAt, crate::specs::ties::Searching::rank))]
+pub(crate) fn begin_refutations<R: Rules, const N: usize>(
+    task: &Task,
+    first: First<R>,
+    board: &Board,
+    frames: &ArrayVec<Frame<R>, N>,
+) -> Step<R>
+    requires holds { HoldsAt R.rule task.now (But first) frames.now.items board.now }
+    ensures goes { Goes R.rule task.now (But first) frames.now.items result.stage
+        frames.now.items board.now result.event }
+{
+    Step {
+        stage: TriesStage::Refutation {
+            first,
+            place: Moves::start(),
+        },
+        event: Some(TryEvent::But),
+    }
+}
+
+/// Finds the next refutation of a try, or takes the try back.
+#[tactic(auto, using(crate::proofs::StepsBelow::refutations_over, crate::proofs::StepsBelow::refutation_found), unfolding(crate::specs::ties::Searching::HoldsAt, crate::specs::ties::Searching::rank))]
+pub(crate) fn find_refutation<R: Rules, const N: usize>(
+    task: &Task,
+    first: First<R>,
+    place: Moves<R>,
+    board: &mut Board,
+    frames: &mut ArrayVec<Frame<R>, N>,
+    search_state: &mut SearchState<R>,
+) -> Step<R>
+    requires task { IsTask task.now }
+    requires room { half_moves task.now.problem.stipulation < N }
+    requires holds { HoldsAt R.rule task.now (Refutation first place) frames.old.items board.old }
+    ensures goes { Goes R.rule task.now (Refutation first place) frames.old.items result.stage
+        frames.new.items board.new result.event }
+{
+    let mut next = place;
+    let found = next_refutation::<R, N>(task.contest(), &mut next, board, frames, search_state);
+    let Some(by) = found else {
+        return Step {
+            stage: end_first(first, board),
+            event: None,
+        };
+    };
+    let shown = shown::<R>(task.problem.stipulation().goal, by, board);
+    Step {
+        stage: TriesStage::Refutation { first, place: next },
+        event: Some(TryEvent::Refutation(shown)),
+    }
+}

@@ -1,0 +1,174 @@
+//! The steps of a search for tries among the first moves of a group.
+ghost use Rattle.std.specs.Prelude.{◌≡◌, ◌<◌, ◌≤◌, List, None, Some, is_some, true};
+ghost use Rattle.chess_core.specs.Position.{Position};
+ghost use Rattle.pop_battle.specs.ties.Frames.{CameBy, Frame as Level};
+ghost use Rattle.pop_solve.specs.Events.{play_start};
+ghost use Rattle.pop_stipulation.specs.Stipulations.{half_moves};
+ghost use Rattle.pop_tries.specs.Shown.{try_event_of};
+ghost use Rattle.pop_tries.specs.declared.stage.TriesStage.TheVariants.{Beginning, Faced, FirstMove};
+ghost use Rattle.pop_tries.specs.ties.Contests.{IsContest};
+ghost use Rattle.pop_tries.specs.ties.Searching.{contest_of, ending_of, event_of_first, first_event as bare_first, is_stopped, left_of, Emits, Goes, HoldsAt, IsBare, IsTask};
+
+use crate::first_moves::{Group, play_next};
+use crate::shown::shown;
+use crate::stage::{First, Firsts, Step, Task, TriesStage};
+use arrayvec::ArrayVec;
+use chess_core::board::Board;
+use chess_core::man::Move;
+use chess_rules::{Moves, Rules, Undo, play, unplay};
+use pop_battle::frame::Frame;
+use pop_battle::search_state::SearchState;
+use pop_events::{Shown, TryEvent};
+
+/// Begins a group.
+#[tactic(auto, using(crate::proofs::Steps::group_begins, crate::proofs::Steps::few_firsts), unfolding(crate::specs::ties::Searching::HoldsAt, crate::specs::ties::Searching::left_of, crate::specs::ties::Searching::rank))]
+pub(crate) fn begin_group<R: Rules, const N: usize>(
+    task: &Task,
+    group: Group,
+    board: &Board,
+    frames: &ArrayVec<Frame<R>, N>,
+) -> Step<R>
+    requires task { IsTask task.now }
+    requires holds { HoldsAt R.rule task.now {A = R} (Beginning group) frames.now.items board.now }
+    ensures goes { Goes R.rule task.now (Beginning group) frames.now.items result.stage
+        frames.now.items board.now result.event }
+{
+    Step {
+        stage: TriesStage::FirstMove {
+            firsts: Firsts {
+                group,
+                place: Moves::start(),
+                count: 0,
+            },
+        },
+        event: Some(match group {
+            Group::Keys => TryEvent::Keys,
+            Group::Tries { .. } => TryEvent::Tries,
+        }),
+    }
+}
+
+/// Returns whether the limit of solutions stops the group after this many first moves.
+fn is_stopped(task: &Task, group: Group, count: u32) -> bool
+    ensures { result ≡ is_stopped task.now.problem group count }
+{
+    match group {
+        Group::Keys => count == task.problem.max_solutions(),
+        Group::Tries { .. } => false,
+    }
+}
+
+/// Returns the event of a first move.
+fn first_event(group: Group, shown: Shown) -> TryEvent
+    ensures { result ≡ event_of_first group shown }
+{
+    match group {
+        Group::Keys => TryEvent::Key(shown),
+        Group::Tries { .. } => TryEvent::Try(shown),
+    }
+}
+
+/// Ends a group with its total.
+#[tactic(auto, unfolding(crate::specs::ties::Searching::HoldsAt, crate::specs::ties::Searching::left_of, crate::specs::ties::Searching::rank))]
+fn end_group<R: Rules>(task: &Task, group: Group, count: u32) -> Step<R>
+    requires task { IsTask task.now }
+    requires contest { IsContest (contest_of task.now) }
+    ensures goes { (items : List Level) (p : Position)
+        → IsBare (play_start task.now.problem) items p
+        → HoldsAt R.rule task.now result.stage items p }
+    ensures emits { (items : List Level)
+        → Emits R.rule task.now (ending_of R.rule task.now group count)
+        (left_of R.rule task.now result.stage items) result.event }
+    ensures event { is_some result.event ≡ true }
+{
+    match group {
+        Group::Keys => Step {
+            stage: TriesStage::Beginning {
+                group: Group::Tries { most: task.most },
+            },
+            event: Some(TryEvent::KeyTotal {
+                count,
+                stopped: count == task.problem.max_solutions(),
+            }),
+        },
+        Group::Tries { .. } => Step {
+            stage: TriesStage::Over,
+            event: Some(TryEvent::TryTotal { count }),
+        },
+    }
+}
+
+/// Finds the next first move of a group and plays it, or ends the group.
+#[tactic(auto, using(chess_rules::proofs::listing_moves::Calls::playing), unfolding(crate::specs::ties::Searching::HoldsAt, crate::specs::ties::Searching::rank))]
+pub(crate) fn find_first<R: Rules, const N: usize>(
+    task: &Task,
+    firsts: Firsts<R>,
+    board: &mut Board,
+    frames: &mut ArrayVec<Frame<R>, N>,
+    search_state: &mut SearchState<R>,
+) -> Step<R>
+    requires task { IsTask task.now }
+    requires room { half_moves task.now.problem.stipulation < N }
+    requires holds { HoldsAt R.rule task.now (FirstMove firsts) frames.old.items board.old }
+    ensures goes { Goes R.rule task.now (FirstMove firsts) frames.old.items result.stage
+        frames.new.items board.new result.event }
+{
+    let group = firsts.group;
+    if is_stopped(task, group, firsts.count) {
+        return end_group(task, group, firsts.count);
+    }
+    let mut place = firsts.place;
+    let found = play_next::<R, N>(
+        task.contest(),
+        group,
+        &mut place,
+        board,
+        frames,
+        search_state,
+    );
+    let Some((by, undo)) = found else {
+        return end_group(task, group, firsts.count);
+    };
+    begin_first(
+        task,
+        Firsts {
+            place,
+            count: firsts.count + 1,
+            ..firsts
+        },
+        by,
+        undo,
+        board,
+    )
+}
+
+/// Shows a first move that has been played.
+#[tactic(auto, using(chess_rules::proofs::listing_moves::Calls::playing))]
+fn begin_first<R: Rules>(
+    task: &Task,
+    firsts: Firsts<R>,
+    by: Move,
+    undo: Undo,
+    board: &mut Board,
+) -> Step<R>
+    requires came { CameBy R.rule by undo board.old (play_start task.now.problem) }
+    ensures unchanged { board.new ≡ board.old }
+    ensures stage { result.stage ≡ Faced (record { firsts = firsts; by = by; undo = undo; threat = None }) }
+    ensures event { result.event ≡ Some (try_event_of R.rule task.now.problem
+        (bare_first firsts.group by)) }
+{
+    unplay::<R>(board, by, undo);
+    let shown = shown::<R>(task.problem.stipulation().goal, by, board);
+    let _undo = play::<R>(board, by);
+    let event = first_event(firsts.group, shown);
+    let first = First {
+        firsts,
+        by,
+        undo,
+        threat: None,
+    };
+    Step {
+        stage: TriesStage::Faced { first },
+        event: Some(event),
+    }
+}

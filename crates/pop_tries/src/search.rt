@@ -1,0 +1,203 @@
+//! The search for keys and tries: an iterator over the events of a problem with its tries.
+ghost use Rattle.std.specs.Prelude.{◌≡◌, ◌<◌, [], ◌∷◌, false, MatchOption};
+ghost use Rattle.pop_battle.specs.Plays.{play_of};
+ghost use Rattle.pop_stipulation.specs.Stipulations.{half_moves};
+ghost use Rattle.pop_tries.specs.Events.{BareTryEvent};
+ghost use Rattle.pop_tries.specs.Shown.{try_event_of};
+ghost use Rattle.pop_tries.specs.ties.Searching.{first_stage, is_over, IsOf, left_of, Goes, HoldsAt, IsTask};
+
+use crate::below_first::{
+    begin_refutations, face, find_refutation, find_reply, walk_reply, walk_threats,
+};
+use crate::first_moves::Group;
+use crate::group::{begin_group, find_first};
+use crate::set_play::{begin_set_play, walk_set_play};
+use crate::stage::{Step, Task, TriesStage};
+use arrayvec::ArrayVec;
+use chess_core::board::Board;
+use chess_rules::Rules;
+use pop_battle::aim::{Battle, Play};
+use pop_battle::frame::Frame;
+use pop_battle::killers::Killers;
+use pop_battle::search_state::SearchState;
+use pop_events::{Event, TryEvent};
+use pop_input::problem::Problem;
+use std::marker::Model;
+
+/// A search for the keys and tries of a problem, which returns its events one by one and may be dropped at any
+/// time. It holds one board, on which it plays moves and takes them back, and a frame for each half-move of its
+/// walks. Contracts see the record `TriesState`: the problem, the most refutations of a try, and the events
+/// still to come.
+#[derive(Drop)]
+pub struct TriesSearch<R: Rules, const N: usize> {
+    task: Task,
+    stage: TriesStage<R>,
+    board: Board,
+    frames: ArrayVec<Frame<R>, N>,
+    search_state: SearchState<R>,
+}
+
+impl<R: Rules, const N: usize> Model for TriesSearch<R, N> {
+    ghost use Rattle.std.specs.Prelude.{◌≡◌, ◌<◌};
+    ghost use Rattle.pop_stipulation.specs.Stipulations.{half_moves};
+    ghost use Rattle.pop_tries.specs.ties.Searching.{left_of, HoldsAt, IsTask, TriesState};
+
+    ghost Value = { TriesState };
+
+    ghost view = { λ s. record {
+      problem = s.task.problem;
+      most = s.task.most;
+      left = left_of R.rule s.task s.stage s.frames.items;
+    } };
+
+    ghost invariant = { λ s. IsTask s.task
+        × (half_moves s.task.problem.stipulation < N)
+        × HoldsAt R.rule s.task s.stage s.frames.items s.board };
+}
+
+impl<R: Rules, const N: usize> TriesSearch<R, N> {
+    ghost use Rattle.std.specs.Prelude.{◌≡◌, ◌<◌, ◌≤◌, slice_get, drop};
+    ghost use Rattle.std.specs.Option.{option_map};
+    ghost use Rattle.pop_stipulation.specs.Stipulations.{half_moves};
+    ghost use Rattle.pop_tries.specs.Events.{try_events};
+    ghost use Rattle.pop_tries.specs.Shown.{try_event_of};
+
+    /// Returns a search before its first event. Tries have at most `most` refutations, 0 to 200. `N` must be
+    /// more than the half-moves of the play.
+    pub fn new(problem: &Problem, most: u32) -> Self
+        requires room { half_moves problem.now.stipulation < N }
+        requires few { most ≤ 200 }
+        ensures problem { result.problem ≡ problem.now }
+        ensures most { result.most ≡ most }
+        ensures left { result.left ≡ try_events R.rule problem.now most }
+    {
+        let (battle, stage) = first_stage::<R>(problem);
+        TriesSearch {
+            task: Task {
+                problem: *problem,
+                battle,
+                most,
+            },
+            stage,
+            board: Board::of(&problem.diagram()),
+            frames: ArrayVec::new(),
+            search_state: SearchState::with(Killers::none()),
+        }
+    }
+
+    /// Returns the next event, or `None` after the last one and on every later call.
+    pub fn next(&mut self) -> Option<TryEvent>
+        ensures event { result ≡ option_map (try_event_of R.rule self.old.problem)
+            (slice_get self.old.left 0) }
+        ensures left { self.new.left ≡ drop 1 self.old.left }
+        ensures problem { self.new.problem ≡ self.old.problem }
+        ensures most { self.new.most ≡ self.old.most }
+    {
+        next_event::<R, N>(
+            &self.task,
+            &mut self.stage,
+            &mut self.board,
+            &mut self.frames,
+            &mut self.search_state,
+        )
+    }
+}
+
+/// Returns the battle of a problem, any in help play, and the first stage of its search.
+fn first_stage<R: Rules>(problem: &Problem) -> (Battle, TriesStage<R>)
+    ensures stage { result.1 ≡ first_stage problem.now }
+    ensures battle { IsOf (play_of problem.now.stipulation.form) result.0 }
+{
+    match Play::of(problem.stipulation().form) {
+        Play::Help => (Battle::Direct, TriesStage::NoTries),
+        Play::Battle(battle) if problem.set_play() => (battle, TriesStage::SetPlay),
+        Play::Battle(battle) => (battle, TriesStage::Beginning { group: Group::Keys }),
+    }
+}
+
+/// Returns whether nothing is left to return.
+fn is_over<R: Rules>(stage: TriesStage<R>) -> bool
+    ensures { result ≡ is_over stage }
+{
+    match stage {
+        TriesStage::Over => true,
+        _ => false,
+    }
+}
+
+/// Takes one step of a search.
+#[tactic(auto, unfolding(crate::specs::ties::Searching::HoldsAt, crate::specs::ties::Searching::left_of, crate::specs::ties::Searching::rank))]
+fn take_step<R: Rules, const N: usize>(
+    task: &Task,
+    stage: TriesStage<R>,
+    board: &mut Board,
+    frames: &mut ArrayVec<Frame<R>, N>,
+    search_state: &mut SearchState<R>,
+) -> Step<R>
+    requires task { IsTask task.now }
+    requires room { half_moves task.now.problem.stipulation < N }
+    requires holds { HoldsAt R.rule task.now stage frames.old.items board.old }
+    requires open { is_over stage ≡ false }
+    ensures goes { Goes R.rule task.now stage frames.old.items result.stage
+        frames.new.items board.new result.event }
+{
+    match stage {
+        TriesStage::NoTries => Step {
+            stage: TriesStage::Over,
+            event: Some(TryEvent::NoTries),
+        },
+        TriesStage::SetPlay => begin_set_play(task, board, frames),
+        TriesStage::Impossible => Step {
+            stage: TriesStage::Beginning { group: Group::Keys },
+            event: Some(TryEvent::Set(Event::Impossible)),
+        },
+        TriesStage::Within { stage } => walk_set_play(task, stage, board, frames, search_state),
+        TriesStage::Beginning { group } => begin_group(task, group, board, frames),
+        TriesStage::FirstMove { firsts } => find_first(task, firsts, board, frames, search_state),
+        TriesStage::Faced { first } => face(task, first, board, frames, search_state),
+        TriesStage::Threats { first, crossed } => {
+            walk_threats(task, first, crossed, board, frames, search_state)
+        }
+        TriesStage::Reply { first, place } => {
+            find_reply(task, first, place, board, frames, search_state)
+        }
+        TriesStage::Below { first, reply } => {
+            walk_reply(task, first, reply, board, frames, search_state)
+        }
+        TriesStage::But { first } => begin_refutations(task, first, board, frames),
+        TriesStage::Refutation { first, place } => {
+            find_refutation(task, first, place, board, frames, search_state)
+        }
+        TriesStage::Over => Step { stage, event: None },
+    }
+}
+
+/// Takes steps up to the next event, and updates the stage. Returns `None` after the last event.
+fn next_event<R: Rules, const N: usize>(
+    task: &Task,
+    stage: &mut TriesStage<R>,
+    board: &mut Board,
+    frames: &mut ArrayVec<Frame<R>, N>,
+    search_state: &mut SearchState<R>,
+) -> Option<TryEvent>
+    requires task { IsTask task.now }
+    requires room { half_moves task.now.problem.stipulation < N }
+    requires holds { HoldsAt R.rule task.now stage.old frames.old.items board.old }
+    ensures holds { HoldsAt R.rule task.now stage.new frames.new.items board.new }
+    ensures next { MatchOption result
+        ((left_of R.rule task.now stage.old frames.old.items ≡ [])
+        × (left_of R.rule task.now stage.new frames.new.items ≡ []))
+        (λ shown. (bare : BareTryEvent)
+        × (left_of R.rule task.now stage.old frames.old.items
+        ≡ bare ∷ left_of R.rule task.now stage.new frames.new.items)
+        × (shown ≡ try_event_of R.rule task.now.problem bare)) }
+{
+    while !is_over(*stage) {
+        let step = take_step::<R, N>(task, *stage, board, frames, search_state);
+        *stage = step.stage;
+        if step.event.is_some() {
+            return step.event;
+        }
+    }
+    None
+}

@@ -1,0 +1,143 @@
+//! How far a search for tries has come.
+ghost use Rattle.std.specs.Prelude.{◌≡◌, ◌-◌};
+ghost use Rattle.pop_stipulation.specs.Stipulations.{half_moves};
+ghost use Rattle.pop_tries.specs.ties.Searching.{contest_of, walk_below};
+
+use crate::below::{Base, WalkBelow};
+use crate::contest::Contest;
+use crate::first_moves::Group;
+use chess_core::man::Move;
+use chess_core::square::Square;
+use chess_rules::{Moves, Rules, Undo};
+use pop_battle::aim::Battle;
+use pop_events::TryEvent;
+use pop_input::problem::Problem;
+use pop_solve::phases::Stage;
+use pop_solve::plan::Plan;
+
+/// What a search for tries covers: a problem, its battle (any in help play), and the most refutations of a
+/// try, 0 to 200.
+#[derive(Clone, Copy)]
+pub struct Task {
+    pub problem: Problem,
+    pub battle: Battle,
+    pub most: u32,
+}
+
+impl Task {
+    /// Returns the battle with its stipulation.
+    pub fn contest(&self) -> Contest
+        ensures { result ≡ contest_of self.now }
+    {
+        Contest {
+            battle: self.battle,
+            stipulation: self.problem.stipulation(),
+        }
+    }
+
+    /// Returns the number of half-moves left after a first move and a reply.
+    pub fn half_moves_below(&self) -> usize
+        ensures { result ≡ half_moves self.now.problem.stipulation - 2 }
+    {
+        self.problem.stipulation().half_moves().saturating_sub(2)
+    }
+
+    /// Returns the walk below a first move from `base`.
+    pub fn walk_below(&self, first: Move, base: Base) -> WalkBelow
+        ensures { result ≡ walk_below self.now first base }
+    {
+        WalkBelow {
+            plan: Plan::of(&self.problem),
+            half_moves: self.half_moves_below(),
+            first,
+            base,
+        }
+    }
+}
+
+/// A place among the first moves of a group: the place in the order of moves, and how many first moves of the
+/// group have been shown.
+#[derive(Clone, Copy)]
+pub struct Firsts<R: Rules> {
+    pub group: Group,
+    pub place: Moves<R>,
+    pub count: u32,
+}
+
+/// A first move that has been shown: its place, the move and what takes it back, and the least number of
+/// half-moves within which White's threats win, if White threatens.
+#[derive(Clone, Copy)]
+pub struct First<R: Rules> {
+    pub firsts: Firsts<R>,
+    pub by: Move,
+    pub undo: Undo,
+    pub threat: Option<usize>,
+}
+
+/// A reply that has been played: its place in the order of moves, the move and what takes it back.
+#[derive(Clone, Copy)]
+pub struct Played<R: Rules> {
+    pub place: Moves<R>,
+    pub by: Move,
+    pub undo: Undo,
+}
+
+/// What a search for tries returns next.
+#[derive(Clone, Copy)]
+pub enum TriesStage<R: Rules> {
+    /// The only event of a problem of help play.
+    NoTries,
+    /// The beginning of set play.
+    SetPlay,
+    /// That set play isn't possible.
+    Impossible,
+    /// The other events of set play.
+    Within {
+        stage: Stage,
+    },
+    /// The beginning of a group.
+    Beginning {
+        group: Group,
+    },
+    /// The next first move of a group.
+    FirstMove {
+        firsts: Firsts<R>,
+    },
+    /// What Black faces after a first move.
+    Faced {
+        first: First<R>,
+    },
+    /// The threats, in the position after Black has passed; `crossed` is the en passant square before.
+    Threats {
+        first: First<R>,
+        crossed: Option<Square>,
+    },
+    /// The next reply after a place.
+    Reply {
+        first: First<R>,
+        place: Moves<R>,
+    },
+    /// What stands below a reply.
+    Below {
+        first: First<R>,
+        reply: Played<R>,
+    },
+    /// The refutations of a try.
+    But {
+        first: First<R>,
+    },
+    /// The next refutation after a place.
+    Refutation {
+        first: First<R>,
+        place: Moves<R>,
+    },
+    /// Nothing.
+    Over,
+}
+
+/// What a step of a search for tries leaves: the next stage, and the event, if there is one.
+#[derive(Drop)]
+pub struct Step<R: Rules> {
+    pub stage: TriesStage<R>,
+    pub event: Option<TryEvent>,
+}

@@ -1,0 +1,38 @@
+//! The program `pops-tries`: reads chess problems like `pops` and reports their keys, tries and refutations.
+//!
+//! ```sh
+//! pops-tries --refutations 2 mate.pop
+//! ```
+//!
+//! `program` is the whole program except its streams; `main` passes it the words and the standard streams.
+#![tactic(auto)]
+
+pub mod program;
+
+use program::program as run_program;
+use std::process::ExitCode;
+use std::{env, io};
+
+fn main(rt: HostRuntime) -> ExitCode {
+    match run_words(&rt) {
+        Ok(status) => ExitCode::from(status),
+        Err(_) => {
+            let _reported = rt.stderr().write_all(b"pops-tries: out of memory\n");
+            ExitCode::from(4)
+        }
+    }
+}
+
+// Runs the program on the words of the command line and the standard streams. Fails if a word isn't UTF-8 or there is
+// too little memory for the words.
+fn run_words(rt: &HostRuntime) -> io::Result<u8> {
+    let mut words = Vec::new(rt.alloc());
+    for word in env::args(rt)? {
+        words.push(word)?;
+    }
+    let mut texts = Vec::new(rt.alloc());
+    for word in &words {
+        texts.push(word.as_str())?;
+    }
+    Ok(run_program(rt, texts.as_slice(), rt.stdin(), rt.stdout(), rt.stderr()))
+}
