@@ -1,10 +1,11 @@
 // Solves texts as the page does, in Node: with the page's modules, and workers that are threads with the page's own worker and
 // engine, or made workers with a made engine. The made engine divides the report of the program pops: a part for each beginning
-// of its solutions, and empty parts between them; or it uses the program pops-part to list and solve the parts.
+// of its solutions, and empty parts between them; or it uses the program pops-part to list and solve the parts. For reports with
+// tries it uses the program pops-tries.
 //
-// Standard input: a line with { worker, engine } in base64 or { program, parts }, then a line for each text with { text } in
-// base64 and { check, noBoard, least, workers, stopAfter, seconds }, for the made engine also { breaks, room }: how it breaks, and
-// for how many bytes it has room. Standard output: a line for each text, how solving ended and { report }.
+// Standard input: a line with { worker, engine } in base64 or { program, parts, tries }, then a line for each text with { text } in
+// base64 and { check, noBoard, refutations, least, workers, stopAfter, seconds }, for the made engine also { breaks, room }: how it
+// breaks, and for how many bytes it has room. Standard output: a line for each text, how solving ended and { report }.
 import { spawnSync } from 'node:child_process';
 import { readFileSync } from 'node:fs';
 import * as threads from 'node:worker_threads';
@@ -79,10 +80,14 @@ class Program {
   }
 }
 
-// The made engine: the three calls.
+// The made engine: the four calls.
 class MadeEngine {
-  constructor(program) {
-    this.program = program;
+  constructor(program, tries) {
+    Object.assign(this, { program, triesProgram: tries });
+  }
+
+  tries({ text, noBoard, refutations }) {
+    return this.triesProgram.run([...(noBoard ? ['--no-board'] : []), '--refutations', String(refutations)], text);
   }
 
   report({ text, check, noBoard }) {
@@ -163,9 +168,9 @@ class EngineOfPrograms extends MadeEngine {
   }
 }
 
-function madeEngine({ program, parts }) {
+function madeEngine({ program, parts, tries }) {
   if (!program) return null;
-  return parts ? new EngineOfPrograms(new Program(program), new Program(parts)) : new MadeEngine(new Program(program));
+  return parts ? new EngineOfPrograms(new Program(program), new Program(parts)) : new MadeEngine(new Program(program), new Program(tries));
 }
 
 // A worker with the made engine, which replies after a while; a broken one fails, a hanging one never replies.

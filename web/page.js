@@ -12,7 +12,7 @@ import { buildFields, showFields } from './page/fields.js';
 import { listenToFiles } from './page/files.js';
 import { forgetAll, showKept } from './page/kept.js';
 import { OUTS } from './page/outs.js';
-import { loadEngine, solve, stopSolving } from './page/solving.js';
+import { loadEngine, showMost, solve, stopSolving } from './page/solving.js';
 import { state, textNow } from './page/state.js';
 import { kept } from './page/storage.js';
 import { buildViews, notes, tree } from './page/views.js';
@@ -89,6 +89,7 @@ function listen() {
   element('problems').onchange = () => goToProblem(Number(element('problems').value));
   element('solve').onclick = solve;
   element('stop').onclick = stopSolving;
+  element('tries').onchange = showMost;
   element('forget').onclick = forgetAll;
   element('fen').oninput = () => notes.check();
   element('fen').onchange = fenWritten;
@@ -109,6 +110,7 @@ function begin() {
   state.beginSteps(textNow());
   state.addFollowers(showProblem, showFields, showContents, showTail, keepText, () => notes.check());
   listen();
+  showMost();
   showKept();
   state.follow();
   loadEngine();

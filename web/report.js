@@ -1,5 +1,6 @@
 // @ts-check
-// Reads a report or a beginning of one: items, phases, trees of moves; writes items as the companion pops2json does.
+// Reads a report, with or without tries, or a beginning of one: items, phases, trees of moves; writes items as the companion
+// pops2json does.
 import { menOfRanks } from './position.js';
 
 /** @type {Record<string, string>} */
@@ -15,6 +16,9 @@ const MARKS = { '+': 'check', '#': 'mate' };
 const MOVE = new RegExp('^(?:(0-0-0|0-0)|([KQRBSGN])?([a-h][1-8])([-*])([a-h][1-8])( ep\\.)?(?:=([QRBSGN]))?'
   + '(?:\\[\\+([wb])([QRBSPGN])([a-h][1-8])\\])?)([+#=])?$');
 const HALF = /(?:([1-9][0-9]*)(\.\.\.|\.))?((?:[^ ]+)(?: ep\.[^ ]*)?)/g;
+// The words below a first move: what it threatens, or that it threatens nothing; what refutes it.
+const WORD = /^  (threat|zugzwang|check|but)$/;
+const NO_TRIES = 'no tries in help play';
 const ASKED = /^([sh]?)([#=])([0-9]+)(\.5)?(?: (Circe|Madrasi))?$/;
 
 /**
@@ -72,23 +76,48 @@ export function askedOf(line) {
 }
 
 /**
+ * Reads a line of solutions: its moves, or a word below a first move. After the last move "!" marks keys and refutations, "?"
+ * tries; the label keeps this sign.
+ * @param {string} line
+ * @param {boolean} isHelp
+ * @returns {Solution | null}
+ */
+function solutionOf(line, isHelp) {
+  const level = (line.length - line.trimStart().length) / 2;
+  const word = isHelp ? null : WORD.exec(line);
+  if (word) return { line, moves: [], level, word: word[1] };
+  const sign = isHelp ? '' : /[!?]?$/.exec(line)?.[0] ?? '';
+  const moves = movesOf(line.slice(0, line.length - sign.length), isHelp);
+  if (!moves) return null;
+  moves[moves.length - 1].label += sign;
+  return { line, moves, level };
+}
+
+/**
  * Reads a line of a phase.
  * @param {string} line
  * @param {Phase} phase
  * @param {SoundItem} item
  */
 function readSolution(line, phase, item) {
-  const total = /^solutions: ([0-9]+)(, stopped)?$/.exec(line);
+  const total = (phase.kind === 'tries' ? /^tries: ([0-9]+)()$/ : /^solutions: ([0-9]+)(, stopped)?$/).exec(line);
   if (total) Object.assign(phase, { count: Number(total[1]), isStopped: Boolean(total[2]), total: line });
   else if (line === 'not possible') Object.assign(phase, { isPossible: false, total: line });
   else {
-    const moves = movesOf(line, item.asked.isHelp);
-    if (!moves) return false;
+    const solution = solutionOf(line, item.asked.isHelp);
+    if (!solution || (solution.word && !phase.solutions.length)) return false;
     phase.lines.push(line);
-    phase.solutions.push({ line, moves, level: (line.length - line.trimStart().length) / 2 });
+    phase.solutions.push(solution);
   }
   return true;
 }
+
+/**
+ * Makes a phase without lines.
+ * @param {string} kind
+ * @returns {Phase}
+ */
+const newPhase = kind => ({ kind, isPossible: true, lines: [], solutions: [], count: null, total: null });
 
 /**
  * Reads a line of an item after its number; returns false if it doesn't belong there.
@@ -101,8 +130,9 @@ function readLine(line, item) {
   if (phase && !phase.total && line !== 'play') return readSolution(line, phase, /** @type {SoundItem} */ (item));
   if (item.asked) {
     if (line === 'sound') item.isChecked = true;
-    else if (line !== 'set' && line !== 'play') return false;
-    else item.phases.push({ kind: line, isPossible: true, lines: [], solutions: [], count: null, total: null });
+    else if (line === NO_TRIES && item.asked.isHelp) item.phases.push({ ...newPhase('tries'), isPossible: false, total: line });
+    else if (line !== 'set' && line !== 'play' && (line !== 'tries' || phase?.kind !== 'play')) return false;
+    else item.phases.push(newPhase(line));
   } else if (fault && !item.ranks.length) item.fault = { line: Number(fault[1]), number: Number(fault[2]), text: fault[3] };
   else if (/^[1-8] [KQRBSPGNkqrbspgn.]{8}$/.test(line)) item.ranks.push(line.slice(2));
   else if (line !== '  abcdefgh') item.asked = askedOf(line);
@@ -152,12 +182,14 @@ function nestedRows(solutions) {
   /** @type {Row} */
   const root = { moves: [], path: [], below: [] };
   const open = [root];
-  for (const { moves: [move], level } of solutions) {
+  for (const { moves: all, level, word } of solutions) {
     const parent = open[Math.min(level, open.length - 1)];
-    const row = { moves: [move], path: parent.path, below: [] };
+    const moves = all.slice(0, 1);
+    /** @type {Row} */
+    const row = { moves, path: parent.path, below: [], ...(word && { word }) };
     const place = open.indexOf(parent);
     parent.below.push(row);
-    open.splice(place + 1, open.length, { ...row, path: [...parent.path, move], below: row.below });
+    open.splice(place + 1, open.length, { ...row, path: [...parent.path, ...moves], below: row.below });
   }
   return root.below;
 }
@@ -206,6 +238,12 @@ export function foundIn(item) {
 }
 
 /**
+ * Returns the number of tries of a problem; null while they aren't complete, and for a report without tries.
+ * @param {Item} item
+ */
+export const triesIn = item => item.phases.find(phase => phase.kind === 'tries')?.count ?? null;
+
+/**
  * Makes the objects that pops2json writes for a report; the problem's text adds its origin.
  * @param {Item} item
  * @param {Given | null} [given]
@@ -239,7 +277,7 @@ function phaseObject(phase, asked, placed) {
     mark: it.mark && (MARKS[it.mark] ?? 'stalemate'),
   });
   /** @type {(row: Row) => object} */
-  const node = row => ({ text: labelOf(row.moves[0]), move: move(row.moves[0]), below: row.below.map(node) });
+  const node = row => ({ text: row.word ?? labelOf(row.moves[0]), move: row.word ? null : move(row.moves[0]), below: row.below.map(node) });
   const solutions = asked.isHelp
     ? phase.solutions.map(({ line, moves }) => ({ text: line, moves: moves.map(move) }))
     : nestedRows(phase.solutions).map(node);

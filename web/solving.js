@@ -1,6 +1,6 @@
 // @ts-check
 // Solves a text by several workers: problem by problem, each phase by parts, several parts at a time. A problem with few
-// half-moves is solved whole; so is a text that the page can't divide into its problems.
+// half-moves, or with tries, is solved whole; so is a text that the page can't divide into its problems.
 import {
   afterNumber, headsOf, itemTexts, limitOf, listOf, PhasePiece, Piece, ReportText, solutionsIn, solutionsOf,
   SOUND_LINE,
@@ -18,18 +18,21 @@ class CutWrong extends Error {}
 
 export class Solving {
   /**
-   * CHECK and NOBOARD are the settings; a problem with LEAST half-moves or more is solved by parts. SAID receives each new
-   * part of the report, and null if the report begins again.
+   * CHECK and NOBOARD are the settings. REFUTATIONS is the most refutations of a try, or null for a report without tries. A
+   * problem with LEAST half-moves or more is solved by parts. SAID receives each new part of the report, and null if the report
+   * begins again.
    * @param {string} text
-   * @param {{ check?: boolean, noBoard?: boolean, least?: number }} settings
+   * @param {{ check?: boolean, noBoard?: boolean, refutations?: number | null, least?: number }} settings
    * @param {Crew} crew
    * @param {(text: string | null) => void} said
    */
-  constructor(text, { check = false, noBoard = false, least = LEAST_HALF_MOVES }, crew, said) {
+  constructor(text, { check = false, noBoard = false, refutations = null, least = LEAST_HALF_MOVES }, crew, said) {
     this.text = text;
     this.check = check;
     this.noBoard = noBoard;
-    this.least = least;
+    this.least = refutations === null ? least : Infinity;
+    /** @type {Call} the call that solves a problem or a text whole */
+    this.wholeCall = refutations === null ? { call: 'report', check: false, noBoard } : { call: 'tries', noBoard, refutations };
     this.crew = crew;
     this.said = said;
     /** The parts of the report; empty until the text is tested. */
@@ -124,7 +127,7 @@ export class Solving {
     this.tasks.clear();
     Object.assign(this, { isByOneCall: true, phases: [], length: 0, found: 0, whole: 1, wholeDone: 0 });
     this.said(null);
-    const { status, text } = await this.ask({ call: 'report', check: false, noBoard: this.noBoard }, this.text);
+    const { status, text } = await this.ask(this.wholeCall, this.text);
     this.wholeDone = 1;
     this.give(text);
     this.end({ status });
@@ -205,13 +208,13 @@ export class Solving {
   beginWhole(index, item, text) {
     const rest = new Piece();
     this.report.plan(index, [rest]);
-    this.hand({ call: 'report', check: false, noBoard: this.noBoard }, text, ({ status, text: said }) => {
+    this.hand(this.wholeCall, text, ({ status, text: said }) => {
       const head = `problem 1\n${afterNumber(item.text)}`;
       if (!said.startsWith(head)) throw new CutWrong();
       rest.text = said.slice(head.length);
       rest.isCut = status === CUT_STATUS;
       this.wholeDone += 1;
-      this.found += solutionsIn(rest.text).filter(it => /^[0-9]+\./.test(it)).length;
+      this.found += solutionsIn(rest.text).filter(it => /^[0-9]+\.[^?]*\n/.test(it)).length;
     });
   }
 

@@ -2,14 +2,22 @@
 // The solutions as rows that fold, and the walk through their moves. Rows are drawn when they are unfolded, a number at
 // a time. While a report grows, only its last rows change.
 import { element, makeButton } from './elements.js';
-import { foundIn, labelOf, rowsOf } from './report.js';
+import { foundIn, labelOf, rowsOf, triesIn } from './report.js';
 import { say } from './words.js';
 
 const ROWS_AT_ONCE = 200;
 const MOST_UNFOLDED = 2000;
 
-/** @param {Row} row */
-const pathOf = row => [...row.path, ...row.moves].map(move => move.said).join(' ');
+/** @param {TreeRow} row */
+const stepsOf = row => (row.word ? [row.word] : row.moves.map(move => move.said));
+/**
+ * Lists the words and moves above a row.
+ * @param {TreeRow} row
+ * @returns {string[]}
+ */
+const stepsAbove = row => (row.parent ? [...stepsAbove(row.parent), ...stepsOf(row.parent)] : []);
+/** @param {TreeRow} row */
+const pathOf = row => [...stepsAbove(row), ...stepsOf(row)].join(' ');
 /** @param {TreeRow} row */
 const isOpenRow = row => Boolean(row.list && !row.list.hidden);
 /**
@@ -22,9 +30,11 @@ const openPaths = row => (isOpenRow(row) ? [pathOf(row), ...row.below.flatMap(op
 const topOf = row => (row.parent ? topOf(row.parent) : row);
 /** @param {RowPlace} place */
 const movesTo = ({ row, index }) => [...row.path, ...row.moves.slice(0, index + 1)];
+/** @param {RowPlace} place */
+const stepsTo = ({ row, index }) => [...stepsAbove(row), ...stepsOf(row).slice(0, index + 1)];
 /**
  * Writes the text of a row and of the rows below it.
- * @param {Row} row
+ * @param {TreeRow} row
  * @returns {string}
  */
 const saidIn = row => `${pathOf(row)}\n${row.below.map(saidIn).join('')}`;
@@ -41,27 +51,29 @@ function keepOpen(row, paths) {
 }
 
 /**
- * Finds the place to which moves lead, in a row or below it.
+ * Finds the place to which words and moves lead, in a row or below it.
  * @param {TreeRow} row
- * @param {Move[]} moves
+ * @param {string[]} steps
  * @returns {RowPlace}
  */
-function placeIn(row, moves) {
-  const index = moves.length - row.path.length - 1;
-  if (index < row.moves.length) return { row, index };
-  const next = moves[row.path.length + row.moves.length];
-  return placeIn(/** @type {TreeRow} */ (row.below.find(it => it.moves[0].said === next.said)), moves);
+function placeIn(row, steps) {
+  const above = stepsAbove(row).length;
+  const own = stepsOf(row).length;
+  if (steps.length <= above + own) return { row, index: steps.length - above - 1 };
+  return placeIn(/** @type {TreeRow} */ (row.below.find(it => stepsOf(it)[0] === steps[above + own])), steps);
 }
 
 /**
- * Says how many keys or lines were found; empty if that isn't known.
+ * Says how many keys, tries or lines were found; empty if that isn't known.
  * @param {Item} item
  */
 export function sayFound(item) {
   const found = foundIn(item);
   if (!found) return '';
-  const said = say(found.name, found);
-  return found.isStopped ? say('foundLeast', { found: said }) : said;
+  const keys = say(found.name, found);
+  const tries = triesIn(item);
+  const said = found.isStopped ? say('foundLeast', { found: keys }) : keys;
+  return tries === null ? said : `${said}, ${say(tries === 1 ? 'foundTry' : 'foundTries', { count: tries })}`;
 }
 
 /**
@@ -209,9 +221,10 @@ export class Tree {
 
   /** @param {Phase} phase */
   totalOf(phase) {
-    if (!phase.isPossible) return say('impossible');
-    if (phase.total) return say(phase.isStopped ? 'totalStopped' : 'total', phase);
-    return say('unfinished', { count: phase.solutions.filter(it => it.level === 0).length });
+    const isTries = phase.kind === 'tries';
+    if (!phase.isPossible) return say(isTries ? 'noTries' : 'impossible');
+    if (phase.total) return say(isTries ? 'totalTries' : phase.isStopped ? 'totalStopped' : 'total', phase);
+    return say(isTries ? 'unfinishedTries' : 'unfinished', { count: phase.solutions.filter(it => it.level === 0).length });
   }
 
   /**
@@ -244,13 +257,13 @@ export class Tree {
     const old = group.rows[index];
     const { current } = this;
     const isWalked = current !== null && topOf(current.row) === old;
-    const moves = isWalked ? movesTo(current) : [];
+    const steps = isWalked ? stepsTo(current) : [];
     const hasFocus = old.line?.contains(document.activeElement);
     group.rows[index] = row;
     keepOpen(row, openPaths(old));
     if (old.line) old.line.replaceWith(this.drawnRow(row));
     if (!isWalked) return;
-    this.current = placeIn(row, moves);
+    this.current = placeIn(row, steps);
     this.reveal(this.current.row);
     const button = this.current.row.buttons[this.current.index];
     button.setAttribute('aria-current', 'true');
@@ -275,17 +288,26 @@ export class Tree {
     turn.setAttribute('aria-expanded', 'false');
     row.turn = turn;
     row.line = line;
-    row.buttons = row.moves.map((move, index) => {
-      const button = document.createElement('button');
-      button.type = 'button';
-      button.className = 'move';
-      button.textContent = index ? move.label : labelOf(move);
-      button.onclick = () => this.go(row, index);
-      return button;
-    });
+    row.buttons = this.buttonsOf(row);
     line.append(turn, ...row.buttons);
     if (row.below.length && row.wasOpen) this.fold(row, true);
     return line;
+  }
+
+  /**
+   * Makes the buttons of a row: one for each move, or one for its word, which shows the position before the row.
+   * @param {TreeRow} row
+   */
+  buttonsOf(row) {
+    const said = row.word ? [say(`below-${row.word}`)] : row.moves.map((move, index) => (index ? move.label : labelOf(move)));
+    return said.map((text, index) => {
+      const button = document.createElement('button');
+      button.type = 'button';
+      button.className = row.word ? 'move word' : 'move';
+      button.textContent = text;
+      button.onclick = () => this.go(row, index);
+      return button;
+    });
   }
 
   /**
@@ -392,7 +414,7 @@ export class Tree {
     if (!this.current) return;
     const { row, index } = this.current;
     if (index > 0) this.go(row, index - 1);
-    else if (row.parent) this.go(row.parent, row.parent.moves.length - 1);
+    else if (row.parent) this.go(row.parent, row.parent.buttons.length - 1);
     else this.leave();
   }
 

@@ -43,9 +43,9 @@ interface Move {
 interface Asked {
   line: string; text: string; isHelp: boolean; play: string; goal: string; moves: number; halfMoves: number; condition: string | null;
 }
-/** A line of a phase; `level` counts the lines that it continues. */
-interface Solution { line: string; moves: Move[]; level: number }
-/** Set play or play; its total is null while it isn't complete. */
+/** A line of a phase; `level` counts the lines that it continues. It has moves, or a word below a first move. */
+interface Solution { line: string; moves: Move[]; level: number; word?: string }
+/** Set play, play or tries; its total is null while it isn't complete. */
 interface Phase {
   kind: string; isPossible: boolean; lines: string[]; solutions: Solution[]; count: number | null; total: string | null; isStopped?: boolean;
 }
@@ -60,8 +60,8 @@ interface Item {
 interface SoundItem extends Item { asked: Asked }
 /** A faulty problem of a report. */
 interface FaultyItem extends Item { fault: ReportFault }
-/** Moves of a tree, the moves before them, and the rows after them. */
-interface Row { moves: Move[]; path: Move[]; below: Row[] }
+/** Moves of a tree or a word, the moves before them, and the rows after them. */
+interface Row { moves: Move[]; path: Move[]; below: Row[]; word?: string }
 
 // Names, twins, and what the text says of a problem.
 
@@ -86,7 +86,7 @@ interface KeptText { text: string; time: number }
 // The engine and its workers.
 
 /** A call of the engine. */
-interface Call { call: string; check?: boolean; noBoard?: boolean; depth?: number; isSet?: boolean; number?: number }
+interface Call { call: string; check?: boolean; noBoard?: boolean; refutations?: number; depth?: number; isSet?: boolean; number?: number }
 /** A call as a worker receives it; the first message has only the engine. */
 interface CallMessage extends Call { text: Uint8Array; engine?: WebAssembly.Module }
 /** A worker's reply: status and bytes of the result, or how the call failed. */
@@ -164,7 +164,7 @@ interface YamlObject { [key: string]: YamlValue }
 interface ButtonParent extends HTMLElement { children: HTMLCollectionOf<HTMLElement>; firstElementChild: HTMLElement }
 /** The elements of the page with their own types. */
 interface PageElements {
-  text: HTMLTextAreaElement; fen: HTMLInputElement; check: HTMLInputElement; file: HTMLInputElement; problems: HTMLSelectElement;
+  text: HTMLTextAreaElement; fen: HTMLInputElement; check: HTMLInputElement; tries: HTMLInputElement; refutations: HTMLInputElement; file: HTMLInputElement; problems: HTMLSelectElement;
   solve: HTMLButtonElement; stop: HTMLButtonElement; undo: HTMLButtonElement; redo: HTMLButtonElement; men: ButtonParent; squares: ButtonParent;
   gutter: ButtonParent; promotion: ButtonParent; twins: ButtonParent;
 }

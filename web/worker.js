@@ -8,6 +8,7 @@ const MEMORY_PAGE = 65536;
 /** @type {Record<string, (call: Call) => [string, ...unknown[]]>} the arguments of each call before the addresses of text, room and length */
 const CALLS = {
   report: ({ check, noBoard }) => ['pops_report', check ? 1 : 0, noBoard ? 1 : 0],
+  tries: ({ noBoard, refutations }) => ['pops_tries', noBoard ? 1 : 0, refutations ?? 1],
   list: ({ depth }) => ['pops_list', BigInt(depth ?? 0)],
   part: ({ isSet, depth, number }) => ['pops_part', isSet ? 1 : 0, BigInt(depth ?? 0), BigInt(number ?? 0)],
 };

@@ -76,10 +76,14 @@ class Writer:
         self._text = text
         self._is_checked = is_checked
         self._has_boards = has_boards
+        # (what was searched is kept for another number of refutations)
+        self._items = [
+            self._item(piece, given) for piece, given in zip(cut(text), given_problems(text))
+        ]
 
     def tries(self, refutations: int) -> Iterator[str]:
         """The lines of the text of tries."""
-        for head, asked in self._items():
+        for head, asked in self._items:
             yield from head
             if asked is not None:
                 yield from _set_play(asked)
@@ -91,7 +95,7 @@ class Writer:
 
     def report(self) -> Iterator[str]:
         """The lines of the report of pops; only the head of help play."""
-        for head, asked in self._items():
+        for head, asked in self._items:
             yield from head
             if asked is not None:
                 yield from _set_play(asked)
@@ -100,11 +104,7 @@ class Writer:
 
     def problems(self) -> Iterator[Asked]:
         """The problems of battle play that have no fault."""
-        return (asked for _, asked in self._items() if asked is not None)
-
-    def _items(self) -> "Iterator[tuple[list[str], Asked | None]]":
-        for piece, given in zip(cut(self._text), given_problems(self._text)):
-            yield self._item(piece, given)
+        return (asked for _, asked in self._items if asked is not None)
 
     def _item(self, piece: Piece, given: GivenProblem) -> "tuple[list[str], Asked | None]":
         reading = read_piece(self._text, piece)

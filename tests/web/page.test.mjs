@@ -6,6 +6,8 @@ import { EXPLANATIONS } from '../page_imports.mjs';
 
 const TEXT = 'BeginProblem\nPieces White Kg6 Ra1 Black Kg8\nStipulation #1\nEndProblem\n';
 const REPORT = 'problem 1\n#1\nplay\n1.Ra1-a8#\nsolutions: 1\n\n';
+const TWO_MOVES = 'BeginProblem\nPieces White Kh8 Qb1 Black Kf8 Pa7\nStipulation #2\nEndProblem\n';
+const TRIES = 'problem 1\n#2\nplay\n1.Qb1-b6!\n  threat\n    2.Qb6-f6#\n  1...a7*b6\nsolutions: 1\ntries\n1.Qb1-b2?\n  zugzwang\n  but\n    1...a7-a5!\ntries: 1\n\n';
 fill({ explanations: EXPLANATIONS, example: TEXT, 'fault-words': '{"8": "what the manual says"}', 'men-shapes': '<svg><defs></defs></svg>', engine: 'AGFzbQEAAAA=' });
 const { Board } = await import('../../web/board.js');
 const { element, makeButton, madeWith, partText } = await import('../../web/elements.js');
@@ -19,7 +21,7 @@ const { listenToFiles } = await import('../../web/page/files.js');
 const { forgetAll, keepProblem } = await import('../../web/page/kept.js');
 const { OUTS } = await import('../../web/page/outs.js');
 const { beginReport, drawGrowth, drawReport, reportGrew } = await import('../../web/page/reporting.js');
-const { sayDone, solve } = await import('../../web/page/solving.js');
+const { mostRefutations, sayDone, showMost, solve } = await import('../../web/page/solving.js');
 const { blockNow, state, textNow } = await import('../../web/page/state.js');
 const { keep, kept: keptValue } = await import('../../web/page/storage.js');
 const views = await import('../../web/page/views.js');
@@ -168,6 +170,51 @@ test('walk and tree: on, back, and to the diagram', () => {
   assert.equal(state.walked, null);
   showPlace(null);
   assert.equal(element('line').hidden, true);
+});
+
+test('tree: threats and refutations, by keys and by the switch', () => {
+  begin(TWO_MOVES, TRIES);
+  assert.equal(sayFound(state.items[0]), '1 key, 1 try');
+  assert.equal(element('tree').textContent.includes('tries: 1'), true);
+  const key = name => element('tree').onkeydown({ key: name, preventDefault() {} });
+  const shown = () => [element('reached').textContent, state.walked?.get('b6') ?? null, state.walked?.get('f6') ?? null];
+  key('ArrowRight');
+  assert.deepEqual(shown(), ['1.Qb1-b6!', 'wQ', null]);
+  key('ArrowRight');
+  assert.deepEqual([views.tree.current.row.word, ...shown()], ['threat', '1.Qb1-b6!', 'wQ', null]);
+  key('ArrowRight');
+  assert.deepEqual(shown(), ['2.Qb6-f6#', null, 'wQ']);
+  key('ArrowLeft');
+  key('ArrowDown');
+  key('ArrowDown');
+  assert.deepEqual(shown(), ['1...a7*b6', 'bP', null]);
+  for (const name of ['ArrowDown', 'ArrowRight', 'ArrowDown', 'ArrowRight']) key(name);
+  assert.equal(element('reached').textContent, '1...a7-a5!');
+  for (const name of ['ArrowLeft', 'ArrowLeft', 'ArrowLeft']) key(name);
+  assert.equal(state.walked, null);
+  leave();
+});
+
+test('tree: a report with tries that grows keeps what is unfolded', () => {
+  begin(TWO_MOVES, TRIES.slice(0, TRIES.indexOf('  1...')));
+  for (let step = 0; step < 3; step++) views.tree.onward();
+  reportGrew(TRIES.slice(TRIES.indexOf('  1...')));
+  drawGrowth();
+  assert.deepEqual([views.tree.current.row.parent.word, element('reached').textContent], ['threat', '2.Qb6-f6#']);
+  leave();
+});
+
+test('solving: the switch for tries and its number', () => {
+  assert.deepEqual([mostRefutations(), element('most').hidden], [null, true]);
+  element('tries').checked = true;
+  showMost();
+  const numbers = ['', '0', '3', '200', '500', '-1', 'x'].map(said => {
+    element('refutations').value = said;
+    return mostRefutations();
+  });
+  assert.deepEqual([...numbers, element('most').hidden], [1, 0, 3, 200, 200, 0, 0, false]);
+  element('tries').checked = false;
+  showMost();
 });
 
 test('board: a click picks a man up and puts it down', () => {

@@ -4,11 +4,13 @@ import { test } from 'node:test';
 import { Crew } from '../../web/crew.js';
 import { diagramFile, sheetOf, titleOf } from '../../web/diagrams.js';
 import { headsOf, itemTexts, limitOf, listOf, PhasePiece, ReportText, solutionsOf } from '../../web/parts.js';
-import { askedOf, foundIn, itemsOf, labelOf, movesOf, objectOf, rowsOf } from '../../web/report.js';
+import { askedOf, foundIn, itemsOf, labelOf, movesOf, objectOf, rowsOf, triesIn } from '../../web/report.js';
 import { Solving } from '../../web/solving.js';
 
 const REPORT = 'problem 1\ntitle: A\n#2\nplay\n1.Qh8-b2\n  1...Ke1-d1\n    2.Rc7-c1#\nsolutions: 1\n\n';
 const [ITEM] = itemsOf(REPORT);
+const TRIES = 'problem 1\n#2\nset\n1...Kh2-h1\n  2.Qb5-b1#\nsolutions: 1\nplay\n1.Qb5-f1!\n  threat\n    2.Qf1-g1#\n  1...Bf3-g2\n    2.Qf1*g2#\nsolutions: 1\n'
+  + 'tries\n1.Qb5-b2+?\n  check\n  but\n    1...Bf3-e2!\n1.Qb5-e5?\n  zugzwang\n  but\n    1...Kh2-h1!\ntries: 2\n\n';
 const CODEC = { encode: text => new TextEncoder().encode(text), decode: bytes => new TextDecoder().decode(bytes) };
 
 test('report: items and moves', () => {
@@ -29,6 +31,28 @@ test('report: rows, what was found, objects', () => {
   assert.equal(row.below[0].below[0].moves[0].said, 'Rc7-c1#');
   assert.deepEqual(foundIn(ITEM), { name: 'foundKey', count: 1, isStopped: false });
   assert.deepEqual(objectOf(ITEM).stipulation, { text: '#2', play: 'direct', goal: 'mate', moves: 2, half_moves: 3 });
+});
+
+test('report: keys, threats, tries and refutations', () => {
+  const [item] = itemsOf(TRIES);
+  assert.deepEqual(item.phases.map(it => [it.kind, it.count, it.total]), [['set', 1, 'solutions: 1'], ['play', 1, 'solutions: 1'], ['tries', 2, 'tries: 2']]);
+  assert.deepEqual([foundIn(item).name, triesIn(item), triesIn(ITEM), item.isWhole], ['foundKey', 2, null, true]);
+  const said = row => [row.word ?? labelOf(row.moves[0]), row.path.length, ...row.below.map(said)];
+  assert.deepEqual(rowsOf(item.phases[1], false).map(said),
+    [['1.Qb5-f1!', 0, ['threat', 1, ['2.Qf1-g1#', 1]], ['1...Bf3-g2', 1, ['2.Qf1*g2#', 2]]]]);
+  assert.deepEqual(rowsOf(item.phases[2], false).map(said), [['1.Qb5-b2+?', 0, ['check', 1], ['but', 1, ['1...Bf3-e2!', 1]]],
+    ['1.Qb5-e5?', 0, ['zugzwang', 1], ['but', 1, ['1...Kh2-h1!', 1]]]]);
+  assert.deepEqual(objectOf(item).phases[2].solutions[0].below[0], { text: 'check', move: null, below: [] });
+});
+
+test('report: beginnings of a report with tries, and lines that do not belong there', () => {
+  for (let end = 1; end < TRIES.length; end++) assert.equal(itemsOf(TRIES.slice(0, end)).length <= 1, true);
+  const phases = text => itemsOf(text)[0].phases.map(it => [it.kind, it.isPossible, it.total]);
+  assert.deepEqual(phases('problem 1\nh#1\nno tries in help play\n\n'), [['tries', false, 'no tries in help play']]);
+  assert.deepEqual(phases('problem 1\n#1\nno tries in help play\n\n'), []);
+  assert.deepEqual(phases('problem 1\n#1\ntries\n'), []);
+  assert.deepEqual(itemsOf('problem 1\n#1\nplay\n  threat\n')[0].phases[0].lines, []);
+  assert.deepEqual(itemsOf('problem 1\nh#1\nplay\n1.Kg8-h8 Ra1-h1#!\n')[0].phases[0].lines, []);
 });
 
 test('diagrams: titles are escaped', () => {
@@ -82,6 +106,21 @@ test('solving: a problem of few half-moves by one call after the test', async ()
   const solving = new Solving('beg sti #1 end', {}, crew, text => said.push(text));
   assert.deepEqual(await solving.solve(), { status: 0 });
   assert.equal(said.join(''), replies.false);
+});
+
+test('solving: with tries each problem is solved whole, after the test', async () => {
+  const said = [];
+  const asked = [];
+  const replies = { report: 'problem 1\n#2\nsound\n\n', tries: TRIES };
+  const crew = new Crew(1, () => workerOf(({ call, noBoard, refutations }) => {
+    asked.push([call, noBoard, refutations]);
+    return { status: 0, bytes: CODEC.encode(replies[call]) };
+  }), CODEC);
+  const solving = new Solving('beg sti #2 end', { refutations: 3, least: 1 }, crew, text => said.push(text));
+  assert.deepEqual(await solving.solve(), { status: 0 });
+  assert.equal(said.join(''), TRIES);
+  assert.deepEqual(asked, [['report', false, undefined], ['tries', false, 3]]);
+  assert.equal(solving.progress.found, 2);
 });
 
 test('solving: stopped', async () => {

@@ -14,6 +14,7 @@ import { leave } from './walk.js';
 
 // The greatest status of a whole report.
 const WHOLE_STATUS = 1;
+const MOST_REFUTATIONS = 200;
 /** @type {{ engine: WebAssembly.Module | null, solving: Solving | null, clock: ReturnType<typeof setInterval> | undefined, begun: number }} */
 const run = { engine: null, solving: null, clock: undefined, begun: 0 };
 
@@ -66,6 +67,18 @@ function tellProgress() {
   element('state').textContent = say('solving', { seconds: secondsPassed(), ...run.solving?.progress });
 }
 
+/** Returns the most refutations of a try, 1 if none are written; null if the switch for tries is off. */
+export function mostRefutations() {
+  const said = element('refutations').value;
+  const most = said === '' ? 1 : Math.trunc(Number(said)) || 0;
+  return element('tries').checked ? Math.min(Math.max(most, 0), MOST_REFUTATIONS) : null;
+}
+
+/** Shows the number of refutations if the switch for tries is on. */
+export function showMost() {
+  element('most').hidden = !element('tries').checked;
+}
+
 export function solve() {
   if (!run.engine || run.solving) return;
   endTyping();
@@ -77,7 +90,7 @@ export function solve() {
   /** @type {Codec} */
   const codec = { encode: text => new TextEncoder().encode(text), decode: bytes => new TextDecoder().decode(bytes) };
   const crew = new Crew(navigator.hardwareConcurrency || 1, makeWorker, codec);
-  run.solving = new Solving(state.solved, { check: element('check').checked }, crew, reportGrew);
+  run.solving = new Solving(state.solved, { check: element('check').checked, refutations: mostRefutations() }, crew, reportGrew);
   tellProgress();
   run.clock = setInterval(tellProgress, 1000);
   run.solving.solve().then(solvingEnded);

@@ -16,7 +16,7 @@ ghost use Rattle.chess_core.specs.declared.man.Kind.TheVariants.{Bishop, Grassho
 use crate::lines::{
     diagonal_lines, diagonal_rides, queen_hops_back, straight_lines, straight_rides,
 };
-use crate::occupancy::{Occupancy, sight_now, squares_seen};
+use crate::occupancy::{Occupancy, occupancy_now, squares_seen};
 use crate::reach::reach_over;
 use crate::rules::Rules;
 use crate::words::pop_first;
@@ -237,7 +237,7 @@ pub(crate) fn attackers(board: &Board, square: Square, colour: Colour) -> Square
     ensures { result ≡ word (λ s. is_of_colour (man_on board.now.men s) colour
         && reaches board.now.men s square) }
 {
-    attackers_in(board, sight_now(board), square, colour)
+    attackers_in(board, occupancy_now(board), square, colour)
 }
 
 // Returns whether a man of this colour reaches the square, paralysed or not.
@@ -245,7 +245,7 @@ pub(crate) fn attackers(board: &Board, square: Square, colour: Colour) -> Square
 pub(crate) fn is_reached(board: &Board, square: Square, colour: Colour) -> bool
     ensures { result ≡ is_reached board.now.men square colour }
 {
-    has_attacker_in(board, sight_now(board), square, colour)
+    has_attacker_in(board, occupancy_now(board), square, colour)
 }
 
 // Returns whether one of the squares of `word` is empty or holds a man that isn't paralysed.

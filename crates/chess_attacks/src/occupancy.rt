@@ -3,7 +3,7 @@ ghost use Rattle.std.specs.Prelude.{◌≡◌, List, Option};
 ghost use Rattle.chess_core.specs.declared.man.Colour.{Colour};
 ghost use Rattle.chess_core.specs.declared.man.Man.{Man};
 ghost use Rattle.chess_core.specs.ties.Words.{squares_of};
-ghost use Rattle.chess_attacks.specs.ties.Occupancy.{DescribesMen, sight_after};
+ghost use Rattle.chess_attacks.specs.ties.Occupancy.{DescribesMen, occupancy_after};
 
 use crate::lines::occupied;
 use crate::words::only;
@@ -21,7 +21,7 @@ pub struct Occupancy {
 
 /// Returns the occupancy of the board as it is.
 #[tactic(auto, using(crate::proofs::attacks::Attacking::seen_now))]
-pub fn sight_now(board: &Board) -> Occupancy
+pub fn occupancy_now(board: &Board) -> Occupancy
     ensures { (c : Colour) → DescribesMen board.now.men board.now.men c result }
 {
     Occupancy {
@@ -32,8 +32,13 @@ pub fn sight_now(board: &Board) -> Occupancy
 
 /// Returns the occupancy after the man on `from` has gone to `to` and the man on `captured`, if there is
 /// one, is off the board.
-pub fn sight_after(board: &Board, from: Square, captured: Option<Square>, to: Square) -> Occupancy
-    ensures { result ≡ sight_after board.now.men from captured to }
+pub fn occupancy_after(
+    board: &Board,
+    from: Square,
+    captured: Option<Square>,
+    to: Square,
+) -> Occupancy
+    ensures { result ≡ occupancy_after board.now.men from captured to }
 {
     let gone = only(captured);
     Occupancy {

@@ -7,7 +7,7 @@ ghost use Rattle.chess_core.specs.WellFormed.{IsWellFormed};
 ghost use Rattle.chess_attacks.specs.Attacks.{is_attacked_by_like, in_check, is_attacked, is_attacked_by_like_man, is_paralysed};
 
 use crate::attacks_on::{attackers, is_reached, reaching_kind, some_unparalysed};
-use crate::occupancy::sight_now;
+use crate::occupancy::occupancy_now;
 use chess_core::{Board, Colour, Kind, Man, Move, Square};
 
 /// A set of rules as a type parameter. Contracts see it as `rule`.
@@ -51,7 +51,7 @@ fn is_attacked_by_like(board: &Board, man: Man, square: Square) -> bool
 {
     reaching_kind(
         board,
-        sight_now(board),
+        occupancy_now(board),
         square,
         man.colour.other(),
         man.kind,

@@ -1,5 +1,5 @@
 -- If the enemy king has a legal step without check after a move, not every reply mates.
-use Rattle.chess_flights.proofs.Chess.{AreOpen, DescribesMen, AreSteps, Colour, IsQuietTo, IsSafe, IsSeenFrom, IsWellFormed, Kind, King, List, Man, Move, Option, Position, RuleSet, Some, after_well_formed, and_left, and_right, ap, arith, arriving_man, bit_and, bit_not, capture_square, captures_arrival, cases_Bool, cases_eq, differs, eq-eqb, false, gone_to, in_check, inl, inr, is_legal, is_man, is_mating, is_of_colour, is_open, is_pseudo_legal-from_legal, is_reached, is_simple, is_some, is_square, kept_now, king-back, king_after, king_is_after, king_square, king_stands, left_now, legal_moves_are_triples, length, list_all, man_on, man_on-with_other, may_check_from, moves, no_man, not, not-true, not_attacked, occupied_squares, on_first, or_parts, other, other_twice, position_after, reaches, reaches_as, refl, rules, same_colour, same_kind, same_kind-true, sight_lifted, sight_stepped, simple_after, some_square_same, squares_both, squares_not, squares_of, sym, there_now, true, w64, word, ℕ, ◌&&◌, ◌<◌, ◌==◌, ◌||◌, ◌∙◌, ◌≡◌}
+use Rattle.chess_flights.proofs.Chess.{AreOpen, DescribesMen, AreSteps, Colour, IsQuietTo, IsSafe, IsSeenFrom, IsWellFormed, Kind, King, List, Man, Move, Option, Position, RuleSet, Some, after_well_formed, and_left, and_right, ap, arith, arriving_man, bit_and, bit_not, capture_square, captures_arrival, cases_Bool, cases_eq, differs, eq-eqb, false, gone_to, in_check, inl, inr, is_legal, is_man, is_mating, is_of_colour, is_open, is_pseudo_legal-from_legal, is_reached, is_simple, is_some, is_square, kept_now, king-back, king_after, king_is_after, king_square, king_stands, left_now, legal_moves_are_triples, length, list_all, man_on, man_on-with_other, may_check_from, moves, no_man, not, not-true, not_attacked, occupied_squares, on_first, or_parts, other, other_twice, position_after, reaches, reaches_as, refl, rules, same_colour, same_kind, same_kind-true, occupancy_lifted, occupancy_stepped, simple_after, some_square_same, squares_both, squares_not, squares_of, sym, there_now, true, w64, word, ℕ, ◌&&◌, ◌<◌, ◌==◌, ◌||◌, ◌∙◌, ◌≡◌}
 use Rattle.chess_flights.proofs.Mating.{quiet, one_fails}
 use Rattle.chess_flights.proofs.Fleeing.{IsKingOn, after_seen, is_made, king_is_other, king_on, king_seen, king_step, no_king_free, no_own_arrives, open_parts, reaches_alike_of, safe_step, simple_step, some_of_colour, is_step, step_taken, step_to, turn_is}
 use Rattle.chess_flights.proofs.KingsApart.{kings_apart}
@@ -28,7 +28,7 @@ module _ (men : List (Option Man)) (a : ℕ) (o : Option ℕ) (b : ℕ) (z : Man
     ]
   ]
 
-  seen_left : DescribesMen men (stepped men a o b z k u t z) c (sight_stepped (sight_lifted men a o b k) k t)
+  seen_left : DescribesMen men (stepped men a o b z k u t z) c (occupancy_stepped (occupancy_lifted men a o b k) k t)
   unfolding squares_of
   seen_left = search (rules, stands_left, occupied_stepped, i.arrival, i.flight, i.taken, squares_both, squares_not)
 
@@ -104,17 +104,17 @@ module _ (rule : RuleSet) (p : Position) (m : Move) (x : Man) (k : ℕ) (i : IsS
       one_fails rule after (step_to k t) (after_well_formed rule p m i.well_formed i.pseudo) lawful (quiet rule after (step_to k t) lawful unchecked)
 
   -- no other man of its side reaches the mover's king
-  none_of_others : IsQuietTo p.men p.turn (sight_lifted p.men m.from (capture_square p x m) m.to k) k t s → is_reached now_men s (other p.turn) ≡ false
+  none_of_others : IsQuietTo p.men p.turn (occupancy_lifted p.men m.from (capture_square p x m) m.to k) k t s → is_reached now_men s (other p.turn) ≡ false
   none_of_others quiet = unreached p.men m.from (capture_square p x m) m.to (arriving_man x m.promo) k taken t (other p.turn) is_left y s apart
       (quiet.unreached _ (seen_left p.men m.from (capture_square p x m) m.to (arriving_man x m.promo) k taken t (other p.turn) is_left))
 
 -- for a safe step
 pub not_all_mate : (rule : RuleSet) (p : Position) (m : Move) (x : Man) (k : ℕ) (i : IsSeenFrom rule p m x k) → m.to < 64 → (n w r t s : ℕ)
-    → ((l : List (Option Man)) → (sight_lifted p.men m.from (capture_square p x m) m.to k).occupied ≡ occupied_squares l
+    → ((l : List (Option Man)) → (occupancy_lifted p.men m.from (capture_square p x m) m.to k).occupied ≡ occupied_squares l
     → r ≡ word (reaches_as l (arriving_man x m.promo).colour (arriving_man x m.promo).kind m.to))
     → AreSteps rule (position_after rule p m).men x (other p.turn) k n
-    → IsSafe p.men p.turn (sight_lifted p.men m.from (capture_square p x m) m.to k) (bit_and (bit_and n w) (bit_not w64 r)) t → king_after p x m ≡ Some s
-    → IsQuietTo p.men p.turn (sight_lifted p.men m.from (capture_square p x m) m.to k) k t s
+    → IsSafe p.men p.turn (occupancy_lifted p.men m.from (capture_square p x m) m.to k) (bit_and (bit_and n w) (bit_not w64 r)) t → king_after p x m ≡ Some s
+    → IsQuietTo p.men p.turn (occupancy_lifted p.men m.from (capture_square p x m) m.to k) k t s
     → list_all (is_mating rule (position_after rule p m)) (moves rule (position_after rule p m)) ≡ false
 not_all_mate rule p m x k i small n w r t s arrives steps safe at quietly =
     let near : AreOpen rule (position_after rule p m).men (other p.turn) k (bit_and n w) = record { inside = λ q l on. steps.inside q l (on_first n w q on) } in

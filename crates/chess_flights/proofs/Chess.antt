@@ -7,7 +7,7 @@ pub use Rattle.chess_rules.specs.declared.legality.blockers.RiderLines.TheVarian
 pub use Rattle.chess_flights.specs.ties.Approaches.{AreApproaches, AreApproached, IsLeft, AreCapturers}
 pub use Rattle.chess_flights.specs.ties.Checks.{enemy}
 unfoldable pub use Rattle.chess_flights.specs.ties.Checks.{may_check_from}
-pub use Rattle.chess_flights.specs.ties.Flights.{AreOpen, AreSteps, IsSeenFrom, sight_lifted, sight_with, IsQuietTo, IsSafe, is_flight_at, sight_stepped}
+pub use Rattle.chess_flights.specs.ties.Flights.{AreOpen, AreSteps, IsSeenFrom, occupancy_lifted, occupancy_with, IsQuietTo, IsSafe, is_flight_at, occupancy_stepped}
 unfoldable pub use Rattle.chess_flights.specs.ties.Flights.{has_flight, is_open, is_flight}
 pub use Rattle.chess_flights.specs.ties.Mates.{is_mating}
 unfoldable pub use Rattle.chess_flights.specs.ties.Mates.{mates, mates_after}

@@ -1,5 +1,5 @@
 -- A flight after a move, decided by the men that then attack it.
-use Rattle.chess_flights.proofs.Chess.{AreOpen, AreSteps, Bool, Colour, IsMade, IsSafe, IsSeenFrom, IsSimple, IsWellFormed, King, List, Man, Move, None, Option, Position, RuleSet, Some, StandAlike, after_well_formed, and_from, and_left, and_parts, and_right, any_range_cases, any_range_false, arith, arrived, arriving_colour, arriving_king, arriving_man, bit_and, bit_at, bit_at-lt, bit_at_and, bit_not, bit_or, capture_of_piece, capture_square, captures_arrival, captures_are_reborn, cases_Bool, cases_eq, check_is, cond-false, cond-true, eq-eqb, eqb-true, false, false_from_ne_true, false≢true, first_of_and, gone_to, has_flight, inl, inr, is_arrival_free, is_attacked, is_flight, is_flight_at, is_legal, is_man, is_mate, is_nil, is_of_colour, is_open, is_paralysed, is_pseudo_legal, is_reached, is_some, is_square, kept_now, king_is_no_pawn, king_no_step, king_square, king_stands, king_there, leaps, left_now, length, list_any, made, man_on, man_there, mates, moves, moves_are_the_legal_triples, no_capture, no_reach_there, not, not-true, not_attacked, occupied_now, occupied_squares, on_first, or_cases, or_left, or_parts, other, other_differs, other_twice, position_after, queen_steps, reaches, reaches_alike, reaches_as, reaches_of, refl, rules, same_colour, same_colour-true, same_kind, side_of, sight_lifted, simple_after, some_square, some_square_same, some_square_true, square_is, squares, squares_both, squares_either, squares_not, squares_of, sym, taken, there_now, true, w64, without_man, word, word_has, ℕ, ◌&&◌, ◌<◌, ◌==◌, ◌||◌, ◌∙◌, ◌≡◌, ◌≢◌}
+use Rattle.chess_flights.proofs.Chess.{AreOpen, AreSteps, Bool, Colour, IsMade, IsSafe, IsSeenFrom, IsSimple, IsWellFormed, King, List, Man, Move, None, Option, Position, RuleSet, Some, StandAlike, after_well_formed, and_from, and_left, and_parts, and_right, any_range_cases, any_range_false, arith, arrived, arriving_colour, arriving_king, arriving_man, bit_and, bit_at, bit_at-lt, bit_at_and, bit_not, bit_or, capture_of_piece, capture_square, captures_arrival, captures_are_reborn, cases_Bool, cases_eq, check_is, cond-false, cond-true, eq-eqb, eqb-true, false, false_from_ne_true, false≢true, first_of_and, gone_to, has_flight, inl, inr, is_arrival_free, is_attacked, is_flight, is_flight_at, is_legal, is_man, is_mate, is_nil, is_of_colour, is_open, is_paralysed, is_pseudo_legal, is_reached, is_some, is_square, kept_now, king_is_no_pawn, king_no_step, king_square, king_stands, king_there, leaps, left_now, length, list_any, made, man_on, man_there, mates, moves, moves_are_the_legal_triples, no_capture, no_reach_there, not, not-true, not_attacked, occupied_now, occupied_squares, on_first, or_cases, or_left, or_parts, other, other_differs, other_twice, position_after, queen_steps, reaches, reaches_alike, reaches_as, reaches_of, refl, rules, same_colour, same_colour-true, same_kind, side_of, occupancy_lifted, simple_after, some_square, some_square_same, some_square_true, square_is, squares, squares_both, squares_either, squares_not, squares_of, sym, taken, there_now, true, w64, without_man, word, word_has, ℕ, ◌&&◌, ◌<◌, ◌==◌, ◌||◌, ◌∙◌, ◌≡◌, ◌≢◌}
 use Rattle.chess_rules.proofs.listing_moves.TripleNumbers.{nothing_in}
 use Rattle.chess_flights.proofs.Mating.{turn_after}
 use Rattle.chess_flights.proofs.Stepping.{IsStep, arrival_alike, lifted_alike, lifted_words, occupied_lifted, same_elsewhere, seen_stepped, stands_arrived, stepped}
@@ -110,7 +110,7 @@ module _ (rule : RuleSet) (p : Position) (m : Move) (x : Man) (k : ℕ) (i : IsS
 
     -- the squares open to the king, without Circe
     pub open_squares : (w l h : ℕ) → captures_are_reborn rule ≡ false → w ≡ word (λ t. list_any (leaps k t) queen_steps)
-        → l ≡ (sight_lifted p.men m.from (capture_square p x m) m.to k).standing
+        → l ≡ (occupancy_lifted p.men m.from (capture_square p x m) m.to k).standing
         → h ≡ bit_or (bit_and (side_of p.men (other p.turn)) l) (squares_of p.men p.turn King)
         → AreSteps rule (position_after rule p m).men x (other p.turn) k (bit_and w (bit_not w64 h))
     unfolding is_open reaches_as side_of squares_of
@@ -125,7 +125,7 @@ module _ (rule : RuleSet) (p : Position) (m : Move) (x : Man) (k : ℕ) (i : IsS
 
     -- in Circe, where the king may not capture
     pub open_squares_in_circe : (w l : ℕ) → captures_are_reborn rule ≡ true → w ≡ word (λ t. list_any (leaps k t) queen_steps)
-        → l ≡ (sight_lifted p.men m.from (capture_square p x m) m.to k).occupied
+        → l ≡ (occupancy_lifted p.men m.from (capture_square p x m) m.to k).occupied
         → AreSteps rule (position_after rule p m).men x (other p.turn) k (bit_and w (bit_not w64 l))
     unfolding is_open
     open_squares_in_circe w l circe near occupied =
@@ -142,7 +142,7 @@ pub record IsStepSeen (men : List (Option Man)) (a : ℕ) (o : Option ℕ) (b : 
   where
     pub step : IsStep men a o b k u t x c
     pub size : length men ≡ 64
-    pub arrived : (l : List (Option Man)) → (sight_lifted men a o b k).occupied ≡ occupied_squares l → r ≡ word (reaches_as l z.colour z.kind b)
+    pub arrived : (l : List (Option Man)) → (occupancy_lifted men a o b k).occupied ≡ occupied_squares l → r ≡ word (reaches_as l z.colour z.kind b)
 
 -- if the same squares are occupied, except perhaps t, a man reaches t on both boards or on neither
 pub reaches_alike_of : (men others : List (Option Man)) (o : Option Man) (s t : ℕ) → StandAlike men others t → reaches_of men o s t ≡ reaches_of others o s t
@@ -286,7 +286,7 @@ module _ (rule : RuleSet) (p : Position) (m : Move) (x : Man) (k : ℕ) (i : IsS
       search (rules, step_is rule (position_after rule p m) y k t (king_step y t there king way), after_seen, turn_is, other_twice)
 
   module _ (n r : ℕ)
-      (arrives : (l : List (Option Man)) → (sight_lifted p.men m.from (capture_square p x m) m.to k).occupied ≡ occupied_squares l
+      (arrives : (l : List (Option Man)) → (occupancy_lifted p.men m.from (capture_square p x m) m.to k).occupied ≡ occupied_squares l
       → r ≡ word (reaches_as l (arriving_man x m.promo).colour (arriving_man x m.promo).kind m.to)) where
     -- what is seen of an attack on the arrival holds once the king has stepped there
     pub step_seen : (y : Man) (t : ℕ) → t < 64 → IsKingOn (position_after rule p m).men (other p.turn) k y
@@ -295,7 +295,7 @@ module _ (rule : RuleSet) (p : Position) (m : Move) (x : Man) (k : ℕ) (i : IsS
 
     -- a step to a square that nobody guards is legal
     pub safe_step : (t : ℕ) → AreOpen rule (position_after rule p m).men (other p.turn) k n
-        → IsSafe p.men p.turn (sight_lifted p.men m.from (capture_square p x m) m.to k) (bit_and n (bit_not w64 r)) t
+        → IsSafe p.men p.turn (occupancy_lifted p.men m.from (capture_square p x m) m.to k) (bit_and n (bit_not w64 r)) t
         → is_legal rule (position_after rule p m) (step_to k t) ≡ true
     safe_step t near safe =
         let king = king_on (position_after rule p m).men (other p.turn) k (king_seen rule p m x k i small) in
@@ -308,7 +308,7 @@ module _ (rule : RuleSet) (p : Position) (m : Move) (x : Man) (k : ℕ) (i : IsS
 
     -- for `flights_from`: it is a flight
     pub has_flight_to : (t : ℕ) → AreSteps rule (position_after rule p m).men x (other p.turn) k n
-        → IsSafe p.men p.turn (sight_lifted p.men m.from (capture_square p x m) m.to k) (bit_and n (bit_not w64 r)) t
+        → IsSafe p.men p.turn (occupancy_lifted p.men m.from (capture_square p x m) m.to k) (bit_and n (bit_not w64 r)) t
         → has_flight rule (position_after rule p m) ≡ true
     unfolding has_flight is_flight
     has_flight_to t near safe =

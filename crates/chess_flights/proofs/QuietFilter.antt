@@ -7,7 +7,7 @@ use Rattle.chess_flights.proofs.Hurdles.{later_but}
 use Rattle.chess_attacks.proofs.rays.OnSquares.{one_on, size_on}
 use Rattle.chess_flights.proofs.Standing.{captured_there, free_man, king_reaches, no_hopper, not_mine_enemy, some_stays, stays_there, unnamed}
 use Rattle.chess_flights.proofs.Stepping.{IsStep, on_flight, on_left, on_others, stands}
-use Rattle.chess_flights.specs.ties.QuietSteps.{AreQuiet, IsStepLeft, must_reply_with_mate, sight_without}
+use Rattle.chess_flights.specs.ties.QuietSteps.{AreQuiet, IsStepLeft, must_reply_with_mate, occupancy_without}
 use Rattle.chess_flights.specs.ties.FreeSteps.{GoesSimply, NoneHops}
 use Rattle.chess_flights.proofs.Bitboards.{on_denied}
 use Rattle.chess_rules.proofs.making_moves.Plays.{stays_empty}
@@ -66,7 +66,7 @@ module _ (men : List (Option Man)) (a k : ℕ) where
   some_still q = grind (arith, cases_Bool (a == q || k == q), lifted_here q, lifted_there q, and_right)
 
   -- the words are theirs
-  pub seen_lifted : (c : Colour) → DescribesMen men (lifted men a k) c (sight_without men a k)
+  pub seen_lifted : (c : Colour) → DescribesMen men (lifted men a k) c (occupancy_without men a k)
   unfolding squares_of
   seen_lifted c = search (rules, is_still, some_still, squares_both, squares_either, squares_not)
 
@@ -231,7 +231,7 @@ module _ (rule : RuleSet) (p : Position) (m : Move) (x : Man) (k : ℕ) (i : IsS
       (reached (other p.turn) s quiet (λ own. next) (λ own. absurd (false≢true (sym (not_mine_enemy x p.turn mine) ∙ own))))
 
   -- for either man
-  left_quietly : is_legal rule p m ≡ true → AreQuiet rule p (sight_without p.men m.from k) x k → is_open rule p.men (other p.turn) k f ≡ true
+  left_quietly : is_legal rule p m ≡ true → AreQuiet rule p (occupancy_without p.men m.from k) x k → is_open rule p.men (other p.turn) k f ≡ true
       → is_reached few f p.turn ≡ false → reaches_as now x.colour x.kind m.to f ≡ false → must_reply_with_mate rule p m ≡ false
   left_quietly lawful quiet before safe apart_x =
       let seen = seen_lifted p.men m.from k (other p.turn) in
@@ -257,8 +257,8 @@ small_arrival rule p m well lawful = (legal_moves_are_triples rule p m well lawf
 -- for a legal move after which a step is left
 pub is_decided : (rule : RuleSet) (p : Position) (m : Move) (x : Man) (k v w : ℕ) → IsWellFormed p → is_legal rule p m ≡ true
     → man_on p.men m.from ≡ Some x → king_square p.men (other p.turn) ≡ Some k → NoneHops p.men → GoesSimply rule p x m
-    → AreQuiet rule p (sight_without p.men m.from k) x k → AreOpen rule p.men (other p.turn) k w
-    → (f : ℕ) × IsStepLeft p (sight_without p.men m.from k) (bit_and v w) x m.to f → must_reply_with_mate rule p m ≡ false
+    → AreQuiet rule p (occupancy_without p.men m.from k) x k → AreOpen rule p.men (other p.turn) k w
+    → (f : ℕ) × IsStepLeft p (occupancy_without p.men m.from k) (bit_and v w) x m.to f → must_reply_with_mate rule p m ≡ false
 is_decided rule p m x k v w well lawful here at none simply quiet ways (f, reported) =
     let small = small_arrival rule p m well lawful in
     let i = seen_from rule p x m k well lawful here (simple_then rule p x m simply) at in

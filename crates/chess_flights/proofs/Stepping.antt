@@ -1,5 +1,5 @@
 -- The men after a man's move and a step of the enemy king, and what they attack.
-use Rattle.chess_flights.proofs.Chess.{DescribesMen, Colour, Kind, List, Man, None, Option, Some, StandAlike, and_left, and_right, arith, cases_Bool, cases_eq, differs, eq-eqb, eqb-true, false, false_from_ne_true, gone_to, inl, inr, is_man, is_occupied_after, is_of_colour, is_some, is_square, kept_now, left_now, length, length-set, man_on, man_on-with_other, man_on-without_other, man_on-without_same, no_man, not, occupied_now, occupied_squares, occupied_words, or_from, or_left, rules, same_colour, sight_lifted, sight_with, squares_both, squares_either, squares_not, squares_of, there_now, true, without_man, word, ℕ, ◌&&◌, ◌<◌, ◌==◌, ◌||◌, ◌≡◌, ◌≢◌}
+use Rattle.chess_flights.proofs.Chess.{DescribesMen, Colour, Kind, List, Man, None, Option, Some, StandAlike, and_left, and_right, arith, cases_Bool, cases_eq, differs, eq-eqb, eqb-true, false, false_from_ne_true, gone_to, inl, inr, is_man, is_occupied_after, is_of_colour, is_some, is_square, kept_now, left_now, length, length-set, man_on, man_on-with_other, man_on-without_other, man_on-without_same, no_man, not, occupied_now, occupied_squares, occupied_words, or_from, or_left, rules, same_colour, occupancy_lifted, occupancy_with, squares_both, squares_either, squares_not, squares_of, there_now, true, without_man, word, ℕ, ◌&&◌, ◌<◌, ◌==◌, ◌||◌, ◌≡◌, ◌≢◌}
 use Rattle.chess_rules.proofs.making_moves.Plays.{length-without_at}
 
 -- the men once z has come from a to b and the man on o is gone, and then x from k to t and the man on u is gone
@@ -26,7 +26,7 @@ module _ (men : List (Option Man)) (a : ℕ) (o : Option ℕ) (b : ℕ) (z : Man
   lifted_one q arrival = grind (arith, and_right, cases_eq, differs, eq-eqb, man_on-without_other, man_on-without_same, occupied_now)
 
   -- for the word of occupied squares then
-  pub occupied_lifted : b < length men → (sight_lifted men a o b k).occupied ≡ occupied_squares (without_man (gone_to men a o b z) k)
+  pub occupied_lifted : b < length men → (occupancy_lifted men a o b k).occupied ≡ occupied_squares (without_man (gone_to men a o b z) k)
   occupied_lifted arrival = search (rules, lifted_one, occupied_words, squares_both, squares_not)
 
   module _ (u : Option ℕ) (t : ℕ) (x : Man) where
@@ -55,7 +55,7 @@ module _ (men : List (Option Man)) (a : ℕ) (o : Option ℕ) (b : ℕ) (z : Man
 
     -- for the word of occupied squares after the step
     pub occupied_stepped : b < length men → t < length men → ((s : ℕ) → is_square u s ≡ true → s ≡ t)
-        → (sight_with (sight_lifted men a o b k) t).occupied ≡ occupied_squares (stepped men a o b z k u t x)
+        → (occupancy_with (occupancy_lifted men a o b k) t).occupied ≡ occupied_squares (stepped men a o b z k u t x)
     occupied_stepped arrival flight h = search (rules, squares_both, squares_not, squares_either, stands)
 
     -- the board with the king lifted and the one after the step differ on the flight alone
@@ -76,7 +76,7 @@ module _ (men : List (Option Man)) (a : ℕ) (o : Option ℕ) (b : ℕ) (z y : M
 
 -- the words of men with the king lifted
 pub lifted_words : (men : List (Option Man)) (a : ℕ) (o : Option ℕ) (b k : ℕ)
-    → (sight_lifted men a o b k).occupied ≡ word (λ s. is_occupied_after men a o b s && not (k == s))
+    → (occupancy_lifted men a o b k).occupied ≡ word (λ s. is_occupied_after men a o b s && not (k == s))
 lifted_words men a o b k = search (rules, occupied_words, squares_both, squares_not)
 
 module _ (men : List (Option Man)) (a : ℕ) (o : Option ℕ) (b k : ℕ) (u : Option ℕ) (t : ℕ) (x : Man) (c : Colour) (i : IsStep men a o b k u t x c) where
@@ -95,6 +95,6 @@ module _ (men : List (Option Man)) (a : ℕ) (o : Option ℕ) (b k : ℕ) (u : O
   ]
 
   -- the bitboards describe the men after a man of the other side has come to b too
-  pub seen_stepped : DescribesMen men (stepped men a o b x k u t x) c (sight_with (sight_lifted men a o b k) t)
+  pub seen_stepped : DescribesMen men (stepped men a o b x k u t x) c (occupancy_with (occupancy_lifted men a o b k) t)
   unfolding squares_of
   seen_stepped = search (rules, attacker_stands, occupied_stepped, squares_both, squares_not)

@@ -6,7 +6,7 @@ ghost use Rattle.chess_core.specs.ties.Words.{side_of, squares_of, word};
 ghost use Rattle.chess_core.specs.declared.man.Man.{Man};
 ghost use Rattle.chess_core.specs.declared.man.Move.{Move};
 ghost use Rattle.chess_core.specs.declared.man.Kind.TheVariants.{King};
-ghost use Rattle.chess_flights.specs.ties.Flights.{AreSteps, AreUnsafe, IsSafe, IsSeenFrom, sight_lifted, sight_with};
+ghost use Rattle.chess_flights.specs.ties.Flights.{AreSteps, AreUnsafe, IsSafe, IsSeenFrom, occupancy_lifted, occupancy_with};
 ghost use Rattle.chess_rules.specs.Play.{arriving_man, capture_square, position_after};
 ghost use Rattle.chess_attacks.specs.RuleSet.{captures_are_reborn};
 ghost use Rattle.chess_attacks.specs.ties.Lines.{occupied_squares};
@@ -15,7 +15,7 @@ ghost use Rattle.chess_attacks.specs.Reaches.{reaches_as};
 use chess_attacks::Rules;
 use chess_attacks::attacks_on::has_attacker_in;
 use chess_attacks::leaps::king_leaps;
-use chess_attacks::occupancy::{Occupancy, sight_after};
+use chess_attacks::occupancy::{Occupancy, occupancy_after};
 use chess_attacks::reach::reach_over;
 use chess_attacks::words::{only, pop_first};
 use chess_core::{Board, Colour, Kind, Man, Move, Square, Squares};
@@ -23,16 +23,16 @@ use chess_rules::{arriving_man, capture_square};
 
 /// Returns the occupancy after a man has gone from `from` to `to`, the man on `captured` has left the
 /// board, and the king on `king` is lifted. The man that moved isn't among the standing men.
-pub fn sight_lifted(
+pub fn occupancy_lifted(
     board: &Board,
     from: Square,
     captured: Option<Square>,
     to: Square,
     king: Square,
 ) -> Occupancy
-    ensures { result ≡ sight_lifted board.now.men from captured to king }
+    ensures { result ≡ occupancy_lifted board.now.men from captured to king }
 {
-    let occupancy = sight_after(board, from, captured, to);
+    let occupancy = occupancy_after(board, from, captured, to);
     Occupancy {
         occupied: occupancy.occupied & !only(Some(king)),
         standing: occupancy.standing & !only(Some(from)),
@@ -40,8 +40,8 @@ pub fn sight_lifted(
 }
 
 /// Returns the occupancy after the lifted king is put on `to`, whoever was there.
-pub fn sight_with(occupancy: Occupancy, to: Square) -> Occupancy
-    ensures { result ≡ sight_with occupancy to }
+pub fn occupancy_with(occupancy: Occupancy, to: Square) -> Occupancy
+    ensures { result ≡ occupancy_with occupancy to }
 {
     let there = only(Some(to));
     Occupancy {
@@ -76,7 +76,7 @@ pub fn covered_squares(occupied: Squares, man: Man, promo: Option<Kind>, to: Squ
 #[tactic(auto, using(crate::proofs::Fleeing::open_squares_in_circe, crate::proofs::Fleeing::open_squares))]
 pub fn open_squares<R: Rules>(board: &Board, occupancy: Occupancy, king: Square) -> Squares
     ensures { (m : Move) (x : Man) → IsSeenFrom R.rule board.now m x king → m.to < 64
-        → occupancy ≡ sight_lifted board.now.men m.from (capture_square board.now x m) m.to king
+        → occupancy ≡ occupancy_lifted board.now.men m.from (capture_square board.now x m) m.to king
         → AreSteps R.rule (position_after R.rule board.now m).men x (other board.now.turn) king
         result }
 {
@@ -102,7 +102,7 @@ pub fn first_safe(
 {
     let mut rest = squares;
     while let Some(square) = pop_first(&mut rest) {
-        if !has_attacker_in(board, sight_with(occupancy, square), square, colour) {
+        if !has_attacker_in(board, occupancy_with(occupancy, square), square, colour) {
             return Some(square);
         }
     }

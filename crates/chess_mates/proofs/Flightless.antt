@@ -1,5 +1,5 @@
 -- A king in check has no legal move if all its steps are guarded after a move.
-use Rattle.chess_mates.proofs.Chess.{AreSteps, AreUnsafe, Colour, IsFlightless, IsSeenFrom, IsWellFormed, King, List, Man, Move, None, Option, Position, RuleSet, Some, [], after_well_formed, and_left, and_parts, and_right, ap, arith, arriving_colour, arriving_man, attacked_plainly, bit_and, bit_at, bit_not, can_castle, capture_square, captures_are_reborn, cases_Bool, like_men_paralyse, false, false_from_ne_true, false≢true, filter, in_check, inl, inr, is_legal, is_mate, is_nil, is_open, is_pseudo_legal-from_legal, is_reached, king_is, king_is_no_pawn, king_square, legal_moves_are_triples, made, man_on, may_castle, moves, not, not-true, occupied_squares, other, position_after, reaches, reaches_as, refl, same_colour, same_colour-refl, same_kind, same_kind-true, sight_lifted, some_is, sym, triples, true, true_from_ne_false, w64, word, ℕ, ◌&&◌, ◌<◌, ◌==◌, ◌∙◌, ◌∷◌, ◌≡◌}
+use Rattle.chess_mates.proofs.Chess.{AreSteps, AreUnsafe, Colour, IsFlightless, IsSeenFrom, IsWellFormed, King, List, Man, Move, None, Option, Position, RuleSet, Some, [], after_well_formed, and_left, and_parts, and_right, ap, arith, arriving_colour, arriving_man, attacked_plainly, bit_and, bit_at, bit_not, can_castle, capture_square, captures_are_reborn, cases_Bool, like_men_paralyse, false, false_from_ne_true, false≢true, filter, in_check, inl, inr, is_legal, is_mate, is_nil, is_open, is_pseudo_legal-from_legal, is_reached, king_is, king_is_no_pawn, king_square, legal_moves_are_triples, made, man_on, may_castle, moves, not, not-true, occupied_squares, other, position_after, reaches, reaches_as, refl, same_colour, same_colour-refl, same_kind, same_kind-true, occupancy_lifted, some_is, sym, triples, true, true_from_ne_false, w64, word, ℕ, ◌&&◌, ◌<◌, ◌==◌, ◌∙◌, ◌∷◌, ◌≡◌}
 use Rattle.chess_flights.proofs.Fleeing.{IsKingOn, arrived_strikes, is_made, king_on, king_seen, men_stepped, reached_alike, seen_bit, step_legal_is, step_seen, step_taken, step_to}
 use Rattle.chess_flights.proofs.Mating.{turn_after}
 use Rattle.chess_flights.proofs.Standing.{unnamed}
@@ -23,11 +23,11 @@ own_step rule q n k y well at here king check kings legal circe =
     (triple.1, (rw (origin, promo) refl, way))
 
 module _ (rule : RuleSet) (p : Position) (m : Move) (x : Man) (k : ℕ) (i : IsSeenFrom rule p m x k) (small : m.to < 64) (n r : ℕ)
-    (arrives : (l : List (Option Man)) → (sight_lifted p.men m.from (capture_square p x m) m.to k).occupied ≡ occupied_squares l
+    (arrives : (l : List (Option Man)) → (occupancy_lifted p.men m.from (capture_square p x m) m.to k).occupied ≡ occupied_squares l
     → r ≡ word (reaches_as l (arriving_man x m.promo).colour (arriving_man x m.promo).kind m.to))
     (ways : AreSteps rule (position_after rule p m).men x (other p.turn) k n)
     (mortal : same_kind x.kind King ≡ false) (exact : (not (captures_are_reborn rule) && not (like_men_paralyse rule)) ≡ true)
-    (guarded : AreUnsafe p.men p.turn (sight_lifted p.men m.from (capture_square p x m) m.to k) (bit_and n (bit_not w64 r))) where
+    (guarded : AreUnsafe p.men p.turn (occupancy_lifted p.men m.from (capture_square p x m) m.to k) (bit_and n (bit_not w64 r))) where
   plain : (captures_are_reborn rule ≡ false) × (like_men_paralyse rule ≡ false)
   plain = let both = and_parts _ _ exact in (not-true _ both.0, not-true _ both.1)
 

@@ -1,6 +1,6 @@
 -- A man gives no check if it doesn't reach the king from its arrival and its move opens no line to the
 -- king.
-use Rattle.chess_mates.proofs.Chess.{Colour, IsMade, IsShift, IsWellFormed, List, Man, Move, None, Option, Position, RuleSet, Some, and_right, arith, arriving_man, arrived, bit_at, cannot_expose, cannot_expose_parts, capture_square, cases_Bool, cases_eq, covered_parts, eq-eqb, false, false≢true, gone_to, in_check, is_pseudo_legal, is_reached, is_square, king_square, king_there, length, length-set, made, man_on, man_on-with_other, man_on-with_same, may_expose, may_be_hurdle, not_attacked, occupied_now, occupied_squares, occupied_words, other, other_differs, position_after, reaches, reaches_as, refl, rules, sight_after, simple_after, squares_same, square_is, sym, there_now, true, unreached, with_man, word, word_has, ℕ, ◌<◌, ◌==◌, ◌∙◌, ◌≡◌}
+use Rattle.chess_mates.proofs.Chess.{Colour, IsMade, IsShift, IsWellFormed, List, Man, Move, None, Option, Position, RuleSet, Some, and_right, arith, arriving_man, arrived, bit_at, cannot_expose, cannot_expose_parts, capture_square, cases_Bool, cases_eq, covered_parts, eq-eqb, false, false≢true, gone_to, in_check, is_pseudo_legal, is_reached, is_square, king_square, king_there, length, length-set, made, man_on, man_on-with_other, man_on-with_same, may_expose, may_be_hurdle, not_attacked, occupied_now, occupied_squares, occupied_words, other, other_differs, position_after, reaches, reaches_as, refl, rules, occupancy_after, simple_after, squares_same, square_is, sym, there_now, true, unreached, with_man, word, word_has, ℕ, ◌<◌, ◌==◌, ◌∙◌, ◌≡◌}
 use Rattle.chess_rules.proofs.legality.Blocking.{CannotExpose, arrived_shift}
 use Rattle.chess_flights.proofs.Fleeing.{king_waits}
 use Rattle.chess_mates.proofs.Parrying.{unreached_in_place}
@@ -9,7 +9,7 @@ use Rattle.chess_rules.proofs.making_moves.Plays.{length-without_at}
 
 -- the squares that are occupied once a man has gone to where it captures, if it captures
 occupied_there : (men : List (Option Man)) (a : ℕ) (o : Option ℕ) (b : ℕ) (z : Man) → ((s : ℕ) → is_square o s ≡ true → s ≡ b) → b < length men
-    → (sight_after men a None b).occupied ≡ occupied_squares (gone_to men a o b z)
+    → (occupancy_after men a None b).occupied ≡ occupied_squares (gone_to men a o b z)
 occupied_there men a o b z taken size = occupied_words men a None b
     ∙ squares_same _ _ (λ i lt. grind (arith, occupied_now men a o b z i size, cases_Bool (is_square o i), taken i, eq-eqb b b))
 
@@ -71,7 +71,7 @@ module _ (rule : RuleSet) (p : Position) (x : Man) (m : Move) (well : IsWellForm
   -- a promotion gives no check, if the king isn't on a square that the man reaches with the squares occupied
   -- after it
   pub no_check_seen : (w k : ℕ) → king_square p.men c ≡ Some k → ((men : List (Option Man))
-      → (sight_after p.men m.from None m.to).occupied ≡ occupied_squares men
+      → (occupancy_after p.men m.from None m.to).occupied ≡ occupied_squares men
       → w ≡ word (reaches_as men (arriving_man x m.promo).colour (arriving_man x m.promo).kind m.to))
       → (bit_at w k == 1) ≡ false → in_check rule (position_after rule p m).men c ≡ false
   no_check_seen w k at seen off =

@@ -1,5 +1,5 @@
 -- Steps of the king that give no check, found without playing them.
-use Rattle.chess_mates.proofs.Chess.{AreOpen, DescribesMen, Colour, IsUnreached, IsWellFormed, King, Man, Position, RuleSet, Some, and_from, and_parts, ap, arith, bit_and, bit_at, capture_square, captures_are_reborn, cond-true, exposed_is, false, is_arrival, is_legal, is_open, king_after, king_square, leaps, list_any, man_on, not, not_attacked, on_first, other, queen_steps, rules, same_colour, same_colour-true, same_kind, sight_after, subst, sym, true, word, word_has, ℕ, ◌<◌, ◌==◌, ◌≡◌}
+use Rattle.chess_mates.proofs.Chess.{AreOpen, DescribesMen, Colour, IsUnreached, IsWellFormed, King, Man, Position, RuleSet, Some, and_from, and_parts, ap, arith, bit_and, bit_at, capture_square, captures_are_reborn, cond-true, exposed_is, false, is_arrival, is_legal, is_open, king_after, king_square, leaps, list_any, man_on, not, not_attacked, on_first, other, queen_steps, rules, same_colour, same_colour-true, same_kind, occupancy_after, subst, sym, true, word, word_has, ℕ, ◌<◌, ◌==◌, ◌≡◌}
 use Rattle.chess_flights.proofs.Fleeing.{IsKingStep, king_on, may_step, on_second, reached_near, simple_step, step_to}
 
 -- for the word of a king's steps
@@ -23,4 +23,4 @@ step_legal rule p x k t w well at here ways on u =
     let mine : x.colour ≡ p.turn = same_colour-true x.colour p.turn side.0 in
     and_from _ _ (may_step rule p x k t i) (ap not (sym (exposed_is rule p x (step_to k t) t false well (may_step rule p x k t i) on.0 here
     (grind (arith, parts.castling, parts.rebirth)) king (λ men are seen. sym (not_attacked rule men (other x.colour) t (rw mine (u.none men
-    (subst (λ (c : Colour). DescribesMen p.men men (other c) (sight_after p.men k (capture_square p x (step_to k t)) t)) mine seen))))))))
+    (subst (λ (c : Colour). DescribesMen p.men men (other c) (occupancy_after p.men k (capture_square p x (step_to k t)) t)) mine seen))))))))

@@ -13,7 +13,7 @@ use chess_attacks::unblocked::unblocked_reach;
 use chess_attacks::words::contains;
 use chess_core::{Board, Man, Move, Square, Squares};
 use chess_rules::{
-    LegalCursor, LegalityMasks, MoveFilter, Moves, TRIPLES, TargetCache, next_passing, triple,
+    LegalCursor, LegalityMasks, MoveFilter, Moves, TRIPLES, TargetCache, move_at, next_passing,
 };
 
 // Returns the squares from which the man on `from`, if there is one, would attack the enemy king on the
@@ -142,7 +142,7 @@ pub fn next_aimed<R: Rules>(moves: &mut LegalCursor<R>, board: &mut Board) -> Op
     let number = next_passing::<R, Aimed>(board, &aimed, &mut kept, start, TRIPLES);
     if number < TRIPLES {
         moves.go_to(Moves::at(number + 1));
-        return Some(triple(number));
+        return Some(move_at(number));
     }
     moves.go_to(Moves::at(TRIPLES));
     None

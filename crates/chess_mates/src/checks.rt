@@ -17,7 +17,7 @@ ghost use Rattle.chess_attacks.specs.RuleSet.{captures_are_reborn};
 use chess_attacks::attacks_on::reach_to;
 use chess_attacks::leaps::squares_aside;
 use chess_attacks::lines::occupied;
-use chess_attacks::occupancy::sight_after;
+use chess_attacks::occupancy::occupancy_after;
 use chess_attacks::words::{contains, only};
 use chess_attacks::{Orthodox, Rules};
 use chess_core::square::LAST_RANKS;
@@ -312,7 +312,7 @@ fn may_check_promoted<R: Rules>(board: &Board, squares: &CheckSquares, man: Man,
     // For the proof: a square's number is below 64.
     let _small = m.to.index();
     // The captured man, if any, is on the arrival.
-    let occupancy = sight_after(board, m.from, None, m.to);
+    let occupancy = occupancy_after(board, m.from, None, m.to);
     let seen = covered_squares(occupancy.occupied, man, m.promo, m.to);
     contains(seen, king) || !cannot_expose::<R>(board, enemy, squares.blocker_squares, m)
 }

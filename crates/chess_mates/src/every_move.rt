@@ -17,7 +17,7 @@ use crate::checks::{CheckSquares, check_squares, may_check};
 use chess_attacks::Rules;
 use chess_attacks::attacks_on::has_attacker_in;
 use chess_attacks::leaps::king_leaps;
-use chess_attacks::occupancy::sight_after;
+use chess_attacks::occupancy::occupancy_after;
 use chess_attacks::words::{contains, pop_first};
 use chess_core::{Board, Man, Move, Square, Squares};
 use chess_rules::{LegalCursor, arrivals, capture_square, is_mate, play, unplay};
@@ -69,7 +69,7 @@ fn is_unreached(board: &Board, king: Man, from: Square, to: Square) -> bool
             promo: None,
         },
     );
-    let occupancy = sight_after(board, from, captured, to);
+    let occupancy = occupancy_after(board, from, captured, to);
     !has_attacker_in(board, occupancy, to, board.turn().other())
 }
 

@@ -4,7 +4,7 @@ ghost use Rattle.chess_core.specs.Position.{other, same_kind};
 ghost use Rattle.chess_core.specs.WellFormed.{IsWellFormed};
 ghost use Rattle.chess_core.specs.declared.man.Man.{Man};
 ghost use Rattle.chess_core.specs.declared.man.Kind.TheVariants.{King};
-ghost use Rattle.chess_flights.specs.ties.Flights.{IsSeenFrom, sight_lifted};
+ghost use Rattle.chess_flights.specs.ties.Flights.{IsSeenFrom, occupancy_lifted};
 ghost use Rattle.chess_mates.specs.ties.KnownFlights.{IsKnown};
 ghost use Rattle.chess_rules.specs.Legal.{is_pseudo_legal};
 ghost use Rattle.chess_rules.specs.Play.{capture_square, position_after};
@@ -13,7 +13,7 @@ ghost use Rattle.chess_rules.specs.ties.Exposure.{is_simple};
 
 use chess_attacks::Rules;
 use chess_core::{Board, Kind, Man, Move, Square};
-use chess_flights::flights::{covered_squares, first_safe, open_squares, sight_lifted};
+use chess_flights::flights::{covered_squares, first_safe, occupancy_lifted, open_squares};
 use chess_rules::{capture_square, is_simple};
 
 /// What is known of the flights of the side to move.
@@ -51,7 +51,7 @@ fn flights_from<R: Rules>(
 {
     // For the proof: a square's number is below 64.
     let _small = m.to.index();
-    let occupancy = sight_lifted(board, m.from, captured, m.to, king);
+    let occupancy = occupancy_lifted(board, m.from, captured, m.to, king);
     let near = open_squares::<R>(board, occupancy, king);
     let covered = covered_squares(occupancy.occupied, man, m.promo, m.to);
     if let Some(_) = first_safe(board, occupancy, near & !covered, board.turn()) {

@@ -23,8 +23,8 @@ use crate::standing_flights::{StandingFlights, standing_flights};
 use chess_attacks::{Rules, in_check};
 use chess_core::{Board, Colour, Move, Square, Squares};
 use chess_rules::{
-    MoveFilter, Moves, TRIPLES, TargetCache, arrivals, has_legal_move, is_pseudo_legal,
-    next_passing, others_have_move, play, triple, unplay,
+    MoveFilter, Moves, TRIPLES, TargetCache, arrivals, has_legal_move, is_pseudo_legal, move_at,
+    next_passing, others_have_move, play, unplay,
 };
 use std::alloc::AllocError;
 use std::marker::{Model, PhantomData};
@@ -137,7 +137,7 @@ impl<R: Rules> MateCursor<R> {
         let number = next_mating::<R>(board, &self.clues, &mut self.targets, self.number, TRIPLES);
         if number < TRIPLES {
             self.number = number + 1;
-            return Some(triple(number));
+            return Some(move_at(number));
         }
         self.number = TRIPLES;
         None
@@ -169,7 +169,7 @@ impl<R: Rules> MateCursor<R> {
         let number = next_mating::<R>(board, &self.clues, &mut self.targets, self.number, last);
         if number < last {
             self.number = number + 1;
-            return Some(triple(number));
+            return Some(move_at(number));
         }
         None
     }

@@ -23,7 +23,7 @@ use chess_attacks::Rules;
 use chess_attacks::attacks_on::attackers_in;
 use chess_attacks::leaps::{king_leaps, pawn_advances};
 use chess_attacks::lines::{diagonal_lines, straight_lines};
-use chess_attacks::occupancy::{Occupancy, sight_after};
+use chess_attacks::occupancy::{Occupancy, occupancy_after};
 use chess_attacks::reach::reach_over;
 use chess_attacks::words::{contains, next_bit, only, pop_first};
 use chess_core::{Board, Colour, Kind, Man, Move, Square, Squares};
@@ -227,7 +227,7 @@ pub(crate) fn parries_after<R: Rules>(board: &Board, squares: &CheckSquares, m: 
     };
     // For the proof: a square's number is below 64.
     let _small = m.to.index();
-    let occupancy = sight_after(board, m.from, capture_square(board, man, m), m.to);
+    let occupancy = occupancy_after(board, m.from, capture_square(board, man, m), m.to);
     let unpinned = unpinned_squares(board, squares, m, king);
     let takers = attackers_in(board, occupancy, m.to, enemy);
     let loose = takers & unpinned;

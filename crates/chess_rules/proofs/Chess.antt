@@ -34,7 +34,7 @@ pub use Rattle.chess_rules.specs.ties.Blockers.{has_fairy_lines, is_fairy, AreRi
 unfoldable pub use Rattle.chess_rules.specs.ties.Blockers.{has_fairy, is_rider_beyond, is_checker, is_on_fairy_line, is_plain, is_blocking, may_expose, may_be_hurdle, cannot_expose}
 pub use Rattle.chess_rules.specs.ties.Filtering.{AreFiltered, IsFiltered, SomeFails, is_of_others, is_unfiltered}
 pub use Rattle.chess_rules.specs.ties.Exposure.{DescribesMenAfter, AreOthers, is_arriving_as, is_simple, king_after, own_after}
-pub use Rattle.chess_attacks.specs.ties.Occupancy.{DescribesMen, sight_after}
+pub use Rattle.chess_attacks.specs.ties.Occupancy.{DescribesMen, occupancy_after}
 pub use Rattle.chess_rules.specs.ties.Targets.{AreCandidates, IsTargetCacheOf, AreOrigins, IsAimed, is_promoting, is_arrival_of, passes_to, pawn_steps_to}
 unfoldable pub use Rattle.chess_rules.specs.ties.Targets.{is_arrival, may_arrive, steps_to}
 pub use Rattle.chess_rules.specs.ties.Undoing.{CanReturn, leaving_man, return_square}

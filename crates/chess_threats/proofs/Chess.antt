@@ -12,7 +12,7 @@ pub use Rattle.chess_rules.proofs.listing_moves.Walks.{off_second}
 pub use Rattle.chess_rules.proofs.making_moves.Stays.{IsReborn, captured_enemy, rebirth_small}
 pub use Rattle.chess_attacks.proofs.rays.Flips.{diagonal-back, straight-back}
 pub use Rattle.chess_attacks.proofs.Basics.{map, ne_eqb, or_lt, true_from_ne_false}
-pub use Rattle.chess_threats.specs.ties.KingAttack.{AreAdjacent, AreArrivals, AreCaptureSquares, AreCastlingSquares, AreClosed, AreFree, AreGuardsWithout, AreHomes, AreHomesOf, AreHurdles, AreLaterHurdles, AreSpringboards, AreHopTargets, AreThreats, AreWeak, IsApart, IsArrival, IsBarred, IsCaptured, IsCastlingHarmless, IsCheckWord, IsField, IsFlight, IsHarmless, IsHome, IsHurdle, IsLike, IsNoCheck, IsOff, IsQuiet, IsRiskAt, IsSafeMove, IsSafeStep, IsDecidedStep, IsShut, IsShutAt, IsKingAttack, IsKingAttackOf, IsSparedStep, IsHopped, IsUnguarded, IsUnhopped, IsUntaken, IsWeak, IsWeakAt, IsWhole, KeepsFlight, KeepsFlightBeside, LeavesOne, LeavesUntaken, MayRide}
+pub use Rattle.chess_threats.specs.ties.KingAttack.{AreAdjacent, AreArrivals, AreCaptureSquares, AreCastlingSquares, AreClosed, AreFree, AreGuardsWithout, AreHomes, AreHomesOf, AreHurdles, AreLaterHurdles, AreSpringboards, AreHopTargets, AreThreats, AreWeak, IsApart, IsArrival, IsBarred, IsCaptured, IsCastlingHarmless, IsCheckWord, IsKingZone, IsFlight, IsHarmless, IsHome, IsHurdle, IsLike, IsNoCheck, IsOff, IsQuiet, IsRiskAt, IsSafeMove, IsSafeStep, IsDecidedStep, IsShut, IsShutAt, IsKingAttack, IsKingAttackOf, IsSparedStep, IsHopped, IsUnguarded, IsUnhopped, IsUntaken, IsWeak, IsWeakAt, IsWhole, KeepsFlight, KeepsFlightBeside, LeavesOne, LeavesUntaken, MayRide}
 pub use Rattle.chess_threats.specs.ties.LastingFlights.{AreGuarded, AreNear, KeepsOne, LeaveOne}
 pub use Rattle.chess_threats.specs.ties.Threats.{AreMere, ArePlain, AreRisky, AreThreatsOf, IsMereMove, IsPassing, IsPlainMove, ThreatsSeen}
 pub use Rattle.chess_threats.specs.declared.king_attack.KingAttack.{KingAttack}

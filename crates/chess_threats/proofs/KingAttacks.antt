@@ -1,5 +1,5 @@
 -- King attacks, castling squares and the king zone.
-use Rattle.chess_threats.proofs.Chess.{AreAdjacent, AreAttackers, AreCaptureSquares, AreCastlingSquares, AreClosed, AreFree, AreHurdles, AreReached, AreSpringboards, AreHopTargets, AreThreats, AreWeak, Attackers, Bishop, Bool, Colour, KingZone, Grasshopper, IsAttacker, IsCastlingHarmless, IsField, IsHurdle, IsReached, IsRiskAt, IsShut, IsKingAttack, IsKingAttackOf, IsUnhopped, IsWellFormed, IsWhole, Kind, King, List, Man, MayRide, Nightrider, None, Option, Position, Queen, Risk, Rook, RuleSet, KingAttack, Some, White, and_parts, arith, bit_and, bit_at, bit_not, bit_or, corner, eqb-true, every_square_on, false, false_by, false≢true, find_no, has_unmoved, inl, inr, is_fairy, is_man, is_on_some, is_rider, is_square, king_square, king_there, leaps, list_any, list_any-append, man_on, men_on, ne_eqb, occupied_squares, off_left, off_right, on_first, on_left, on_right, or_cases, other, queen_steps, reached_over, reaches_as, refl, rules, side_of, square_is, squares, squares_for, squares_of, straight_steps, true, w64, word, word_has, ℕ, KeepsOne, ◌&&◌, ◌+◌, ◌-◌, ◌<◌, ◌==◌, ◌^◌, ◌||◌, ◌∙◌, ◌≡◌, ◌≢◌, ◌⊎◌}
+use Rattle.chess_threats.proofs.Chess.{AreAdjacent, AreAttackers, AreCaptureSquares, AreCastlingSquares, AreClosed, AreFree, AreHurdles, AreReached, AreSpringboards, AreHopTargets, AreThreats, AreWeak, Attackers, Bishop, Bool, Colour, KingZone, Grasshopper, IsAttacker, IsCastlingHarmless, IsKingZone, IsHurdle, IsReached, IsRiskAt, IsShut, IsKingAttack, IsKingAttackOf, IsUnhopped, IsWellFormed, IsWhole, Kind, King, List, Man, MayRide, Nightrider, None, Option, Position, Queen, Risk, Rook, RuleSet, KingAttack, Some, White, and_parts, arith, bit_and, bit_at, bit_not, bit_or, corner, eqb-true, every_square_on, false, false_by, false≢true, find_no, has_unmoved, inl, inr, is_fairy, is_man, is_on_some, is_rider, is_square, king_square, king_there, leaps, list_any, list_any-append, man_on, men_on, ne_eqb, occupied_squares, off_left, off_right, on_first, on_left, on_right, or_cases, other, queen_steps, reached_over, reaches_as, refl, rules, side_of, square_is, squares, squares_for, squares_of, straight_steps, true, w64, word, word_has, ℕ, KeepsOne, ◌&&◌, ◌+◌, ◌-◌, ◌<◌, ◌==◌, ◌^◌, ◌||◌, ◌∙◌, ◌≡◌, ◌≢◌, ◌⊎◌}
 use Rattle.chess_core.specs.Position.{may_promote}
 use Rattle.chess_flights.specs.ties.Attackers.{is_promotion}
 use Rattle.chess_threats.specs.ties.KingAttack.{AreNeeded}
@@ -46,7 +46,7 @@ pub field_is : (v : KingAttack) (k c r b l w : ℕ) (i : HopTargets) → AreHopT
     → ((men : List (Option Man)) → v.hurdles ≡ occupied_squares men → b ≡ word (reaches_as men White Bishop k))
     → (v.men.nightriders ≢ 0 → (c : Colour) → IsReached v.hurdles (record { colour = c; kind = Nightrider }) k l)
     → AreCaptureSquares v k c → ArePromotions v.men.colour v.men.fairy_promotions k w
-    → IsField v (record {
+    → IsKingZone v (record {
       king = k;
       near = i.near;
       captures = c;
@@ -107,7 +107,7 @@ harmless_castling v g l lines h = elim (or_cases _ _ h) [
 ]
 
 -- for the risk of all attackers
-pub risk_is : (v : KingAttack) (k : ℕ) (g : KingZone) (r : Risk) (o : ℕ) → g.king ≡ k → IsField v g → IsCastlingHarmless v g → AreWeak v g r
+pub risk_is : (v : KingAttack) (k : ℕ) (g : KingZone) (r : Risk) (o : ℕ) → g.king ≡ k → IsKingZone v g → IsCastlingHarmless v g → AreWeak v g r
     → AreFree v k g.springboards → o ≡ word (λ s. is_square (Some k) s) → o < 2 ^ 64
     → IsRiskAt v k (record { critical = bit_or r.critical (bit_and g.hops (bit_not w64 o)); lines = bit_or r.lines g.lines })
 risk_is v k g r o king king_zone castling all free only fits = record {

@@ -1,17 +1,17 @@
 -- King's steps after which no attacker that checks takes all flights.
-use Rattle.chess_threats.proofs.Chess.{AreAdjacent, AreApproached, AreGuardsWithout, AreReached, Attackers, Bishop, Colour, Grasshopper, IsArrival, IsAttacker, IsCastlingHarmless, IsField, IsFlight, IsLeft, IsNear, IsQuiet, IsRiskAt, IsSafeStep, IsSparedStep, IsUnguarded, IsWeak, KeepsFlight, Kind, King, KingAttack, KingZone, Knight, Man, Nightrider, Pawn, Queen, Risk, Rook, RuleSet, Some, and_parts, ap, arith, bit_and, bit_at, bit_not, bit_or, cases_Bool, eq-eqb, eqb-true, every_square_on, false, false_by, false≢true, gait_of, inl, inr, is_hopper, is_leaper, is_promoting, is_rider, is_square, men_on, not, not-false, off_left, off_right, off_zero, on_first, on_left, on_right, or_lt, other, reached_over, reaches_as, reaches_back, refl, same_kind, same_kind-true, subst, sym, true, w64, word, word_has, ℕ, ◌<◌, ◌==◌, ◌^◌, ◌∙◌, ◌≡◌, ◌≢◌}
+use Rattle.chess_threats.proofs.Chess.{AreAdjacent, AreGuardsWithout, AreReached, Attackers, Bishop, Colour, Grasshopper, IsArrival, IsAttacker, IsCastlingHarmless, IsKingZone, IsFlight, IsLeft, IsNear, IsRiskAt, IsSafeStep, IsSparedStep, IsUnguarded, IsWeak, KeepsFlight, Kind, King, KingAttack, KingZone, Knight, Man, Nightrider, Pawn, Queen, Risk, Rook, RuleSet, Some, ap, arith, bit_and, bit_at, bit_not, bit_or, cases_Bool, eq-eqb, eqb-true, every_square_on, false, false_by, false≢true, gait_of, inl, inr, is_hopper, is_leaper, is_promoting, is_rider, is_square, men_on, not, not-false, off_left, off_right, off_zero, on_first, on_left, on_right, or_lt, other, reached_over, reaches_back, refl, same_kind, subst, sym, true, w64, word, word_has, ℕ, ◌<◌, ◌==◌, ◌^◌, ◌∙◌, ◌≡◌, ◌≢◌, ◌⊎◌}
 use Rattle.chess_threats.specs.declared.lasting_flights.OpenTargets.{OpenTargets}
 use Rattle.chess_flights.specs.ties.Attackers.{is_promotion}
-use Rattle.chess_threats.specs.ties.KingAttack.{IsMild, AreChecksMet, AreGuardsThrough, ArePlainAttackers, AreUnhopping, IsPromotionMet}
-use Rattle.chess_flights.specs.ties.Approaches.{ArePromotions}
-use Rattle.chess_threats.specs.ties.LastingFlights.{AreOpenTargets, targets_for}
+use Rattle.chess_threats.specs.ties.KingAttack.{IsMild, AreChecksMet, AreGuardsThrough, ArePlainAttackers, AreUnhopping, IsCalm, IsCheckMet}
+use Rattle.chess_flights.specs.ties.Approaches.{MayBecome, counts_as}
+use Rattle.chess_threats.specs.ties.LastingFlights.{AreOpenTargets}
 use Rattle.chess_attacks.proofs.rays.OnSquares.{one_on}
-use Rattle.chess_flights.proofs.Becoming.{counted_left, unchanged}
+use Rattle.chess_flights.proofs.Becoming.{counted_left, reaches_counted, unchanged}
 use Rattle.chess_threats.proofs.ExactSteps.{none_hops}
 use Rattle.chess_flights.proofs.Bitboards.{off_denied, on_both, denied_on, none_at}
 use Rattle.chess_flights.proofs.Hurdles.{all_reach, later}
 use Rattle.chess_flights.proofs.KindByKind.{man_is, of_all}
-use Rattle.chess_flights.proofs.Promotions.{any_rank, promotes_on}
+use Rattle.chess_threats.proofs.Risks.{king_targets}
 use Rattle.chess_threats.proofs.Springboards.{landing_anywhere, none_sprung}
 
 -- for `squares_of_all`: each attacker's square is one of its kind's
@@ -53,32 +53,18 @@ by_kind P q r b n p y Nightrider king hop = y
 by_kind P q r b n p y King king hop = absurd (false≢true (sym king))
 by_kind P q r b n p y Grasshopper king hop = absurd (false≢true (sym hop))
 
--- for `promotions_leave_one`: no target is on a last rank
-pub none_promote : (w : ℕ) (c : Colour) (targets k : ℕ) → bit_and targets 18374686479671623935 ≡ 0 → IsPromotionMet w c targets k
-none_promote w c targets k none = record {
-  promotions = 18374686479671623935;
-  are = any_rank c false k;
-  pawns = bit_not w64 0;
-  approached = record { inside = λ men s small h. every_square_on s small };
-  left = λ x t mine small on goes either. absurd (none_at _ t none (on_both targets 18374686479671623935 t on (promotes_on x t small goes)));
-}
+-- where a queen's check is met, so is a rook's or a bishop's
+counted_met : (w t k : ℕ) (z : Man) → IsCheckMet w (record { colour = z.colour; kind = counts_as z.kind }) t k → IsCheckMet w z t k
+counted_met w t k z (inl never) = inl (λ men. false_by _ (λ r. false≢true (sym (never men) ∙ reaches_counted men z.colour z.kind t k r)))
+counted_met w t k z (inr one) = inr (one.0, counted_left w t one.0 z one.1)
 
--- for `promotions_leave_one`: of a queen's and a knight's arrival a square is left
-pub promotions_met : (w : ℕ) (c : Colour) (targets k p n : ℕ) → ArePromotions c false k p → AreApproached (record { colour = c; kind = Pawn }) k n
-    → ((t : ℕ) → t < 64 → (bit_at (bit_and (bit_and targets 18374686479671623935) (bit_or p n)) t == 1) ≡ true
-    → (f : ℕ) × IsLeft w (record { colour = c; kind = Queen }) t f)
-    → ((t : ℕ) → t < 64 → (bit_at (bit_and (bit_and targets 18374686479671623935) (bit_or p n)) t == 1) ≡ true
-    → (f : ℕ) × IsLeft w (record { colour = c; kind = Knight }) t f) → IsPromotionMet w c targets k
-promotions_met w c targets k p n are come queens knights = record {
-  promotions = p;
-  are = are;
-  pawns = n;
-  approached = come;
-  left = λ x t mine small on goes either.
-      let here = on_both (bit_and targets 18374686479671623935) (bit_or p n) t
-      (on_both targets 18374686479671623935 t on (promotes_on x t small goes)) either in
-      (queens t small here, knights t small here);
-}
+-- a promoted man counts as a queen or a knight
+counts_plainly : (j : Kind) → is_promotion false j ≡ true → (same_kind (counts_as j) King ≡ false) × (is_hopper (gait_of (counts_as j)) ≡ false)
+counts_plainly Queen may = (refl, refl)
+counts_plainly Rook may = (refl, refl)
+counts_plainly Bishop may = (refl, refl)
+counts_plainly Knight may = (refl, refl)
+counts_plainly _ may = absurd (false≢true may)
 
 -- a rider is no hopper
 rider_plain : (j : Kind) → is_rider j ≡ true → is_hopper (gait_of j) ≡ false
@@ -104,13 +90,13 @@ critical_off : (k b : ℕ) → b < 64 → (bit_at (elsewhere k) b == 1) ≡ fals
 critical_off k b small off =
     sym (eqb-true k b (not-false _ (sym (word_has (λ q. not (is_square (Some k) q)) (elsewhere k) b refl small) ∙ off)))
 
-module _ (v : KingAttack) (w k near p : ℕ) (through : AreGuardsThrough v w) (plain : ArePlainAttackers v) (low : k < 64)
-    (adjacent : AreAdjacent v k near) (promotions : ArePromotions v.men.colour false k p) (free : (bit_at w k == 1) ≡ false) where
+module _ (v : KingAttack) (w k near : ℕ) (through : AreGuardsThrough v w) (plain : ArePlainAttackers v) (low : k < 64)
+    (adjacent : AreAdjacent v k near) (free : (bit_at w k == 1) ≡ false) where
   unhopping : AreUnhopping v.men
   unhopping = none_hops v.men plain.grasshoppers
 
   abbrev g : KingZone
-  g = record { king = k; near = near; captures = 0; straight = everywhere; diagonal = everywhere; lines = everywhere; springboards = 0; hops = 0; promotions = p }
+  g = record { king = k; near = near; captures = 0; straight = everywhere; diagonal = everywhere; lines = everywhere; springboards = 0; hops = 0; promotions = everywhere }
 
   abbrev risk : Risk
   risk = record { critical = elsewhere k; lines = everywhere }
@@ -142,7 +128,7 @@ module _ (v : KingAttack) (w k near p : ℕ) (through : AreGuardsThrough v w) (p
     off = unseen;
   }
 
-  field : IsField v g
+  field : IsKingZone v g
   field = record {
     hop_targets = record {
       near = adjacent;
@@ -158,7 +144,7 @@ module _ (v : KingAttack) (w k near p : ℕ) (through : AreGuardsThrough v w) (p
     straight = λ c. record { inside = λ t small r. every_square_on t small };
     diagonal = λ c. record { inside = λ t small r. every_square_on t small };
     lines = λ c j may. record { inside = λ t small r. every_square_on t small };
-    promotions = rw plain.promotions promotions;
+    promotions = record { inside = λ x z t men mine small goes may h. every_square_on t small };
   }
 
   harmless : IsCastlingHarmless v g
@@ -191,69 +177,36 @@ module _ (v : KingAttack) (w k near p : ℕ) (through : AreGuardsThrough v w) (p
           unguarded = unguarded s x i a f off l.small (off_left w z1 f out);
         }
 
-    module _ (leaves : AreChecksMet v.men o left k) (met : IsPromotionMet left v.men.colour o.pawns k)
-        (same : met.promotions ≡ p) (s : ℕ) (x : Man) (i : IsAttacker v.men x s) (a b : ℕ) (off : (bit_at v.hurdles a == 1) ≡ false) (here : b ≡ k) where
+    module _ (leaves : AreChecksMet v.men o left k) (s : ℕ) (x : Man) (i : IsAttacker v.men x s) (a b : ℕ)
+        (off : (bit_at v.hurdles a == 1) ≡ false) (here : b ≡ k) where
       abbrev checks : ℕ
       checks = word (λ q. reached_over v.hurdles (record { colour = other x.colour; kind = x.kind }) k q)
 
-      -- a square from which it checks
-      comes : (t : ℕ) → t < 64 → (bit_at checks t == 1) ≡ true → reaches_as (men_on v.hurdles) x.colour x.kind t k ≡ true
-      unfolding reached_over
-      comes t small on = reaches_back (men_on v.hurdles) x.colour x.kind t k (unhopping.plain s x i) small low ∙ sym (word_has _ checks t refl small) ∙ on
+      -- what comes to t gives no check there, or leaves a flight
+      comes : (t : ℕ) (z : Man) → IsCheckMet left z t k → IsFlight v g z s a b t ⊎ IsCalm v g z s a t
+      comes t z (inl never) = inr (record { off = never; unsprung = off_zero t; covered = unguarded s x i a k off low free })
+      comes t z (inr one) = inl (flight s x i a b t one.0 z off here one.1)
 
-      aimed : (t : ℕ) → IsArrival v.hurdles x s t → (bit_at (targets_for o x.kind) t == 1) ≡ true
-      aimed t c = (are.targets s x i).inside c.position t c.small c.goes
+      -- what a pawn becomes
+      promoted : (t : ℕ) (c : IsArrival v.hurdles x s t) (z : Man) → MayBecome v.men.fairy_promotions x t z → is_promoting x t ≡ true → IsCheckMet left z t k
+      promoted t c z become goes =
+          let may = counts_plainly z.kind (rw plain.promotions at (become.promoted goes)) in
+          counted_met left t k z (subst (λ (y : Colour). IsCheckMet left (record { colour = y; kind = counts_as z.kind }) t k) (sym (become.mine ∙ i.mine))
+          (leaves.met (counts_as z.kind) may.0 may.1 t c.small ((are.promoted s x i).inside c.position z t c.small c.goes goes become)))
 
-      quiet : (t : ℕ) → (same_kind x.kind King ≡ false → (bit_at checks t == 1) ≡ false) → (is_promoting x t ≡ true → (bit_at p t == 1) ≡ false)
-          → IsQuiet v g checks x s a t
-      quiet t none unpromoted = record {
-        check = record { off = none; unsprung = off_zero t; promoted = unpromoted };
-        covered = inr (unguarded s x i a k off low free);
-      }
-
-      -- what a pawn becomes leaves one
-      promoted : (t : ℕ) → ((f : ℕ) × IsLeft left (record { colour = v.men.colour; kind = Queen }) t f)
-          → ((f : ℕ) × IsLeft left (record { colour = v.men.colour; kind = Knight }) t f) → (z : Man) → z.colour ≡ v.men.colour
-          → is_promotion false z.kind ≡ true → (f : ℕ) × IsLeft left z t f
-      promoted t queens knights z mine may =
-          subst (λ (y : Man). (f : ℕ) × IsLeft left y t f) (man_is z v.men.colour z.kind mine refl) (by z.kind may) where
-            by : (j : Kind) → is_promotion false j ≡ true → (f : ℕ) × IsLeft left (record { colour = v.men.colour; kind = j }) t f
-            by Queen may = queens
-            by Rook may = (queens.0, counted_left left t queens.0 (record { colour = v.men.colour; kind = Rook }) queens.1)
-            by Bishop may = (queens.0, counted_left left t queens.0 (record { colour = v.men.colour; kind = Bishop }) queens.1)
-            by Knight may = knights
-            by _ may = absurd (false≢true may)
-
-      pawn_goes : (t : ℕ) (c : IsArrival v.hurdles x s t) → is_promoting x t ≡ true → (bit_at o.pawns t == 1) ≡ true
-      pawn_goes t c goes =
-          ap (λ (j : Kind). bit_at (targets_for o j) t == 1) (sym (same_kind-true x.kind Pawn (and_parts _ _ goes).0)) ∙ aimed t c
+      -- a piece, or a pawn that stays one
+      unpromoted : (t : ℕ) (c : IsArrival v.hurdles x s t) → same_kind x.kind King ≡ false → IsCheckMet left x t k
+      unpromoted t c piece = subst (λ (y : Man). IsCheckMet left y t k) (man_is x v.men.colour x.kind i.mine refl)
+          (leaves.met x.kind piece (unhopping.plain s x i) t c.small ((are.targets s x i).inside c.position t c.small c.goes))
 
       mild : IsMild v g checks x s a b
       mild = record {
-        each = λ t c there. elim (cases_Bool (is_promoting x t)) [
-          | inl goes ↦ elim (cases_Bool (bit_at (bit_or met.promotions met.pawns) t == 1)) [
-            | inl on ↦
-                let two = met.left x t i.mine c.small (pawn_goes t c goes) goes on in
-                inr (inr (λ z become.
-                let one = promoted t two.0 two.1 z (become.mine ∙ i.mine) (rw plain.promotions at (become.promoted goes)) in
-                flight s x i a b t one.0 z off here one.1))
-            | inr none ↦ inl (quiet t (λ piece. false_by _ (λ on. false≢true (sym (off_right met.promotions met.pawns t none)
-                ∙ met.approached.inside (men_on v.hurdles) t c.small (subst (λ (y : Man). reaches_as (men_on v.hurdles) y.colour y.kind t k ≡ true)
-                (sym (man_is x v.men.colour Pawn i.mine (same_kind-true x.kind Pawn (and_parts _ _ goes).0))) (comes t c.small on)))))
-                (λ last. ap (λ (n : ℕ). bit_at n t == 1) (sym same) ∙ off_left met.promotions met.pawns t none))
-          ]
-          | inr stays ↦ elim (cases_Bool (same_kind x.kind King)) [
-            | inl king ↦ inl (quiet t (λ piece. absurd (false≢true (sym piece ∙ king))) (λ last. absurd (false≢true (sym stays ∙ last))))
-            | inr piece ↦ elim (cases_Bool (bit_at checks t == 1)) [
-              | inl on ↦
-                  let one = leaves.left x.kind piece (unhopping.plain s x i) t c.small (aimed t c) (men_on v.hurdles)
-                  (subst (λ (y : Colour). reaches_as (men_on v.hurdles) y x.kind t k ≡ true) i.mine (comes t c.small on)) in
-                  let mine = subst (λ (y : Man). IsLeft left y t one.0) (man_is x v.men.colour x.kind i.mine refl) one.1 in
-                  inr (inr (λ z become. flight s x i a b t one.0 z off here
-                  (subst (λ (y : Man). IsLeft left y t one.0) (sym (unchanged v.men.fairy_promotions x z t stays become)) mine)))
-              | inr none ↦ inl (quiet t (λ piece. none) (λ last. absurd (false≢true (sym stays ∙ last))))
-            ]
-          ]
+        each = λ t c there. elim (cases_Bool (same_kind x.kind King)) [
+          | inl king ↦ inl (record { check = king_targets x g checks t king (off_zero t); covered = inr (unguarded s x i a k off low free) })
+          | inr piece ↦ inr (inr (λ z become. comes t z (elim (cases_Bool (is_promoting x t)) [
+            | inl goes ↦ promoted t c z become goes
+            | inr stays ↦ subst (λ (y : Man). IsCheckMet left y t k) (sym (unchanged v.men.fairy_promotions x z t stays become)) (unpromoted t c piece)
+          ])))
         ];
       }
 
@@ -261,8 +214,7 @@ module _ (v : KingAttack) (w k near p : ℕ) (through : AreGuardsThrough v w) (p
     unchecked : (s : ℕ) (x : Man) → IsAttacker v.men x s → reached_over v.hurdles x s k ≡ false
     unchecked s x i = false_by _ (λ h. false≢true (sym free ∙ reached s x i k low h))
 
-    module _ (leaves : AreChecksMet v.men o left k) (met : IsPromotionMet left v.men.colour o.pawns k)
-        (same : met.promotions ≡ p) where
+    module _ (leaves : AreChecksMet v.men o left k) where
       weak : (s : ℕ) (x : Man) → IsAttacker v.men x s → IsWeak v g risk x s
       unfolding reached_over
       weak s x i =
@@ -276,7 +228,7 @@ module _ (v : KingAttack) (w k near p : ℕ) (through : AreGuardsThrough v w) (p
               };
               off = λ hop. word_has _ checks s refl i.small ∙ sym (reaches_back (men_on v.hurdles) x.colour x.kind s k (unhopping.plain s x i) i.small low)
                   ∙ unchecked s x i;
-              mild = mild leaves met same s x i a b (false_by _ (λ on. false≢true (sym (out.lines on) ∙ every_square_on a inside)))
+              mild = mild leaves s x i a b (false_by _ (λ on. false≢true (sym (out.lines on) ∙ every_square_on a inside)))
                   (critical_off k b small out.critical);
             };
           }

@@ -412,27 +412,33 @@ module _ (rule : RuleSet) (p : Position) (m : Move) (x : Man) (v : KingAttack) (
           let apart = rw (turn_q, other_twice p.turn, king_q) at (kings_apart rule q y n well_q here_y to lawful king) in
           king_reaches r.men q.men y.colour y.kind n.to k (same_kind-true y.kind King king) ∙ (or_parts (is_absent q.men y) _ apart).1
 
+      abbrev come : Man
+      come = arriving_man y n.promo
+
       -- where the man gives no check
-      module _ (quiet : IsQuiet v g w.checks y n.from m.from n.to) (lawful : is_legal rule q n ≡ true) where
+      quiet_come : IsQuiet v g w.checks y n.from m.from n.to → is_legal rule q n ≡ true → reaches_as r.men come.colour come.kind n.to k ≡ false
+      quiet_come quiet lawful = elim (cases_Bool (is_promoting y n.to)) [
+        | inl last ↦ false_by _ (λ h. false≢true (sym (quiet.check.promoted last)
+            ∙ i.at.is.promotions.inside y come n.to r.men is_y.mine to last becomes_y (rw (← i.at.king) at h)))
+        | inr stays ↦ subst (λ (u : Man). reaches_as r.men u.colour u.kind n.to k ≡ false)
+            (sym (ap (arriving_man y) (unnamed q y n n.promo stays is_n.promotion))) (elim (cases_Bool (same_kind y.kind King)) [
+              | inr mortal ↦ quiet_off r.men stays_r (quiet.check.off mortal)
+              | inl king ↦ king_comes lawful king
+            ])
+      ]
+
+      -- where what has come gives no check, and no other man checks
+      module _ (off : reaches_as r.men come.colour come.kind n.to k ≡ false) (unsprung : (bit_at g.springboards n.to == 1) ≡ false)
+          (covered : ((bit_at g.lines n.from == 1) ≡ false) ⊎ IsUnguarded v n.from m.from g.king) where
         unseen : (s : ℕ) (z : Man) → s < 64 → man_on r.men s ≡ Some z → z.colour ≡ other p.turn → reaches_as r.men z.colour z.kind s k ≡ false
         unseen s z inside there enemy = elim (enemy_r s z there enemy) [
-          | inl came ↦ elim (cases_Bool (is_promoting y n.to)) [
-            | inl last ↦ false_by _ (λ h. false≢true (sym (quiet.check.promoted last)
-                ∙ i.at.is.promotions.inside y (arriving_man y n.promo) n.to r.men is_y.mine to last becomes_y
-                (rw (came.1, came.0, ← i.at.king) at h)))
-            | inr off ↦
-                let same : z ≡ y = came.1 ∙ ap (arriving_man y) (unnamed q y n n.promo off is_n.promotion) in
-                rw (same, came.0) (elim (cases_Bool (same_kind y.kind King)) [
-                  | inr mortal ↦ quiet_off r.men stays_r (quiet.check.off mortal)
-                  | inl king ↦ king_comes lawful king
-                ])
-          ]
+          | inl came ↦ rw (came.1, came.0) off
           | inr kept ↦
               let a = attacker s z inside kept.1.1 enemy in
               elim (cases_Bool (is_hopper (gait_of z.kind))) [
                 | inl hop ↦ unhopped k g.springboards (rw i.at.king at (i.at.unsprung m.to small i.off.critical)) i.at.is.hop_targets.within
-                    quiet.check.unsprung r.men (λ h y ne there. (ne, there)) s z a hop
-                | inr plain ↦ elim quiet.covered [
+                    unsprung r.men (λ h y ne there. (ne, there)) s z a hop
+                | inr plain ↦ elim covered [
                   | inl hidden ↦ off_word r.men n.from s s z a inside plain ((weak_at s z a).off plain) stays_r
                       (λ rider on reach. false≢true (sym hidden ∙ lined (other z.colour) z.kind n.from from_small (may_ride s z a rider) reach))
                   | inr u ↦ unguarded_off r.men stays_r s k z at_k a kept.1.0 plain (rw i.at.king at u)
@@ -440,9 +446,10 @@ module _ (rule : RuleSet) (p : Position) (m : Move) (x : Man) (v : KingAttack) (
               ]
         ]
 
-        no_check : in_check rule r.men p.turn ≡ false
+        no_check : in_check rule r.men (other q.turn) ≡ false
         unfolding in_check is_attacked is_attacker
-        no_check = ap (λ (o : Option ℕ). is_attacked_at rule r.men o (other p.turn)) king_r ∙ nobody_strikes rule r.men k p.turn unseen
+        no_check = ap (in_check rule r.men) (ap other turn_q ∙ other_twice p.turn)
+            ∙ ap (λ (o : Option ℕ). is_attacked_at rule r.men o (other p.turn)) king_r ∙ nobody_strikes rule r.men k p.turn unseen
 
       -- a free square next to the king that nobody reaches
       module _ (f : ℕ) (in_f : f < 64) (near : list_any (leaps k f) queen_steps ≡ true) (free : is_arrival_free p.turn (man_on r.men f) ≡ true)
@@ -543,9 +550,12 @@ module _ (rule : RuleSet) (p : Position) (m : Move) (x : Man) (v : KingAttack) (
       unmated_plainly = elim (w.mild.each n.to arrival recaptures) [
         | inr ways ↦ elim ways [
           | inl captured ↦ unmated_captured captured
-          | inr flight ↦ sym (no_mate_with_flight rule q n (left_flees (flight (arriving_man y n.promo) becomes_y)))
+          | inr leaves ↦ elim (leaves come becomes_y) [
+            | inl flight ↦ sym (no_mate_with_flight rule q n (left_flees flight))
+            | inr calm ↦ sym (no_mate_quietly rule q n (λ lawful. no_check (rw i.at.king at (calm.off r.men)) calm.unsprung (inr calm.covered)))
+          ]
         ]
-        | inl quiet ↦ sym (no_mate_quietly rule q n (λ lawful. ap (in_check rule r.men) (ap other turn_q ∙ other_twice p.turn) ∙ no_check quiet lawful))
+        | inl quiet ↦ sym (no_mate_quietly rule q n (λ lawful. no_check (quiet_come quiet lawful) quiet.check.unsprung quiet.covered))
       ]
 
     unmated : mates rule q n ≡ false

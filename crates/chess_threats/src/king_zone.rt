@@ -6,7 +6,7 @@ ghost use Rattle.chess_core.specs.declared.man.Kind.TheVariants.{Nightrider};
 ghost use Rattle.chess_core.specs.declared.man.Colour.{Colour};
 ghost use Rattle.chess_threats.specs.declared.king_attack.KingAttack.{KingAttack};
 ghost use Rattle.chess_threats.specs.ties.LastingFlights.{AreOpenTargets};
-ghost use Rattle.chess_threats.specs.ties.KingAttack.{AreAdjacent, AreFree, AreNeeded, AreSpringboards, AreHopTargets, IsCastlingHarmless, IsField, IsUnhopped, AreCaptureSquares};
+ghost use Rattle.chess_threats.specs.ties.KingAttack.{AreAdjacent, AreFree, AreNeeded, AreSpringboards, AreHopTargets, IsCastlingHarmless, IsKingZone, IsUnhopped, AreCaptureSquares};
 ghost use Rattle.chess_flights.specs.ties.Guards.{IsReached};
 
 use crate::king_attack::KingAttack;
@@ -198,7 +198,7 @@ pub(crate) fn no_hop_targets(king_attack: &KingAttack, king: Square) -> HopTarge
 // Returns the king zone of a defender's king on `king`. `riders` are the squares that a nightrider there
 // would reach, if the attackers have one.
 #[inline(always)]
-pub(crate) fn field_of(
+pub(crate) fn king_zone_of(
     king_attack: &KingAttack,
     king: Square,
     riders: Squares,
@@ -208,7 +208,7 @@ pub(crate) fn field_of(
         → IsReached king_attack.now.hurdles (record { colour = c; kind = Nightrider }) king riders }
     requires hop_targets { AreHopTargets king_attack.now king hop_targets.now }
     ensures king { result.king ≡ king }
-    ensures king_zone { IsField king_attack.now result }
+    ensures king_zone { IsKingZone king_attack.now result }
 {
     let straight = reach_over(king_attack.hurdles, Colour::White, Kind::Rook, king);
     let diagonal = reach_over(king_attack.hurdles, Colour::White, Kind::Bishop, king);

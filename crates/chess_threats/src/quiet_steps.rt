@@ -6,9 +6,9 @@ ghost use Rattle.std.specs.List.{list_all};
 ghost use Rattle.chess_core.specs.Position.{king_square, other};
 ghost use Rattle.chess_core.specs.WellFormed.{IsWellFormed};
 ghost use Rattle.chess_core.specs.declared.man.Move.{Move};
-ghost use Rattle.chess_flights.specs.ties.Flights.{IsQuietTo, IsSeenFrom, sight_stepped};
+ghost use Rattle.chess_flights.specs.ties.Flights.{IsQuietTo, IsSeenFrom, occupancy_stepped};
 ghost use Rattle.chess_flights.specs.ties.Mates.{is_mating};
-ghost use Rattle.chess_flights.specs.ties.QuietSteps.{AreQuiet, IsStepLeft, must_reply_with_mate, sight_without};
+ghost use Rattle.chess_flights.specs.ties.QuietSteps.{AreQuiet, IsStepLeft, must_reply_with_mate, occupancy_without};
 ghost use Rattle.chess_flights.specs.ties.FreeSteps.{NoneHops};
 ghost use Rattle.chess_rules.specs.Legal.{is_legal, moves};
 ghost use Rattle.chess_rules.specs.Play.{capture_square, position_after};
@@ -28,7 +28,7 @@ use chess_core::{Board, Kind, Man, Move, Square, Squares};
 use chess_flights::approach_squares::barring_squares;
 use chess_flights::attackers::attackers_on;
 use chess_flights::flights::{
-    covered_squares, first_safe, held_squares, open_squares, sight_lifted, sight_with,
+    covered_squares, first_safe, held_squares, occupancy_lifted, occupancy_with, open_squares,
 };
 use chess_flights::free_steps::{free_steps, none_hops, unsimple_squares};
 use chess_flights::guards::{leapt_squares, rider_reach};
@@ -36,10 +36,10 @@ use chess_rules::{FilteredMoves, capture_square, is_simple};
 
 // Returns the occupancy after the enemy king, lifted from `king`, is put on `to`; the king isn't among
 // the standing men.
-fn sight_stepped(occupancy: Occupancy, king: Square, to: Square) -> Occupancy
-    ensures { result ≡ sight_stepped occupancy king to }
+fn occupancy_stepped(occupancy: Occupancy, king: Square, to: Square) -> Occupancy
+    ensures { result ≡ occupancy_stepped occupancy king to }
 {
-    let seen = sight_with(occupancy, to);
+    let seen = occupancy_with(occupancy, to);
     Occupancy {
         occupied: seen.occupied,
         standing: seen.standing & !only(Some(king)),
@@ -52,7 +52,7 @@ fn sight_stepped(occupancy: Occupancy, king: Square, to: Square) -> Occupancy
 fn is_quiet_to(board: &Board, occupancy: Occupancy, king: Square, to: Square, own: Square) -> bool
     ensures { result ≡ true → IsQuietTo board.now.men board.now.turn occupancy king to own }
 {
-    let seen = sight_stepped(occupancy, king, to);
+    let seen = occupancy_stepped(occupancy, king, to);
     !has_attacker_in(board, seen, own, board.turn().other())
 }
 
@@ -78,7 +78,7 @@ fn steps_quietly<R: Rules>(
     let Some(own) = king_after(board, man, m) else {
         return false;
     };
-    let occupancy = sight_lifted(board, m.from, captured, m.to, king);
+    let occupancy = occupancy_lifted(board, m.from, captured, m.to, king);
     let near = open_squares::<R>(board, occupancy, king);
     let covered = covered_squares(occupancy.occupied, man, m.promo, m.to);
     match first_safe(board, occupancy, near & squares & !covered, board.turn()) {
@@ -97,8 +97,8 @@ fn steps_now(board: &Board, king: Square) -> Squares {
 }
 
 // Returns the occupancy without the men on `from` and `king`.
-fn sight_without(board: &Board, from: Square, king: Square) -> Occupancy
-    ensures { result ≡ sight_without board.now.men from king }
+fn occupancy_without(board: &Board, from: Square, king: Square) -> Occupancy
+    ensures { result ≡ occupancy_without board.now.men from king }
 {
     let gone = only(Some(from)) | only(Some(king));
     Occupancy {
@@ -234,7 +234,7 @@ impl QuietSteps {
         let Some(king) = board.king_of(board.turn().other()) else {
             return !0;
         };
-        let occupancy = sight_without(board, from, king);
+        let occupancy = occupancy_without(board, from, king);
         if !are_quiet::<R>(board, occupancy, man, king) {
             return !0;
         }

@@ -9,14 +9,14 @@ ghost use Rattle.chess_core.specs.declared.man.Man.{Man};
 ghost use Rattle.chess_threats.specs.declared.king_attack.KingAttack.{KingAttack};
 ghost use Rattle.chess_flights.specs.ties.Attackers.{IsAttacker};
 ghost use Rattle.chess_flights.specs.ties.Approaches.{IsLeft, MayBecome};
-ghost use Rattle.chess_threats.specs.ties.KingAttack.{AreArrivals, AreLaterHurdles, AreHopTargets, AreThreats, AreWeak, IsCheckWord, IsField, IsHarmless, IsMet, IsNoCheck, IsOff, IsRiskAt, IsRiskAfterLeaving, IsSafeMove, IsKingAttack, IsWeak, IsWhole, LeavesOne, LeavesUntaken};
+ghost use Rattle.chess_threats.specs.ties.KingAttack.{AreArrivals, AreLaterHurdles, AreHopTargets, AreThreats, AreWeak, IsCheckWord, IsKingZone, IsHarmless, IsMet, IsNoCheck, IsOff, IsRiskAt, IsRiskAfterLeaving, IsSafeMove, IsKingAttack, IsWeak, IsWhole, LeavesOne, LeavesUntaken};
 ghost use Rattle.chess_flights.specs.ties.Guards.{IsReached};
 
 use crate::guards_without::{Guards, guards_without};
 use crate::hopped_flights::{critical_of_hops, later_hurdles};
 use crate::king_attack::{KingAttack, lifted_from};
 use crate::king_zone::{
-    HopTargets, KingZone, are_free, castling_is_harmless, field_of, hop_targets_of,
+    HopTargets, KingZone, are_free, castling_is_harmless, hop_targets_of, king_zone_of,
     nightrider_lines, no_hop_targets,
 };
 use chess_attacks::reach::reach_over;
@@ -316,7 +316,7 @@ fn risk_together(
 // others over the hurdles.
 #[tactic(auto, using(crate::proofs::Risks::check_hops, crate::proofs::Risks::check_word))]
 fn check_squares_over(king_attack: &KingAttack, king_zone: &KingZone, man: Man) -> Squares
-    requires { IsField king_attack.now king_zone.now }
+    requires { IsKingZone king_attack.now king_zone.now }
     ensures { IsCheckWord king_attack.now.hurdles king_zone.now.king man result }
 {
     if man.kind.is(Kind::Queen) {
@@ -378,7 +378,7 @@ fn check_now(man: Man, checks: Squares, squares: Squares) -> bool
 #[tactic(auto, using(chess_rules::proofs::listing_moves::Targeting::every_square_on, chess_flights::proofs::Bitboards::none_at))]
 #[inline(always)]
 fn risk_of(king_attack: &KingAttack, king_zone: &KingZone, kind: Kind, squares: Squares) -> Risk
-    requires { IsField king_attack.now king_zone.now }
+    requires { IsKingZone king_attack.now king_zone.now }
     ensures { (s : ℕ) → s < 64 → (bit_at squares s == 1) ≡ true
         → IsWeak king_attack.now king_zone.now result
         (record { colour = king_attack.now.men.colour; kind = kind }) s }
@@ -408,7 +408,7 @@ fn risk_of(king_attack: &KingAttack, king_zone: &KingZone, kind: Kind, squares: 
 #[tactic(auto, using(crate::proofs::Risks::all_weak))]
 #[inline(always)]
 fn risk_of_all(king_attack: &KingAttack, king_zone: &KingZone) -> Risk
-    requires { IsField king_attack.now king_zone.now }
+    requires { IsKingZone king_attack.now king_zone.now }
     ensures { AreWeak king_attack.now king_zone.now result }
 {
     let men = &king_attack.men;
@@ -455,7 +455,7 @@ fn risk_with(
     requires hop_targets { AreHopTargets king_attack.now king hop_targets.now }
     ensures { IsRiskAt king_attack.now king result }
 {
-    let king_zone = field_of(king_attack, king, riders, hop_targets);
+    let king_zone = king_zone_of(king_attack, king, riders, hop_targets);
     if !castling_is_harmless(king_attack, &king_zone)
         || !are_free(king_attack, king, king_zone.springboards)
     {

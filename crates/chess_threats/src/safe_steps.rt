@@ -1,21 +1,18 @@
 //! King's steps that one cheap test shows to be safe: no attacker that could give check next takes all flights.
-ghost use Rattle.std.specs.Prelude.{◌≡◌, ◌<◌, ◌==◌, ℕ, List, Option, true, false};
+ghost use Rattle.std.specs.Prelude.{◌≡◌, ◌<◌, ◌==◌, ℕ, true, false};
 ghost use Rattle.std.specs.Int.{bit_at};
-ghost use Rattle.chess_attacks.specs.Reaches.{reaches_as};
 ghost use Rattle.chess_core.specs.declared.man.Man.{Man};
 ghost use Rattle.chess_flights.specs.ties.Attackers.{IsAttacker};
 ghost use Rattle.chess_threats.specs.ties.LastingFlights.{AreOpenTargets};
-ghost use Rattle.chess_flights.specs.ties.Approaches.{IsLeft};
-ghost use Rattle.chess_threats.specs.ties.KingAttack.{AreGuardsThrough, AreChecksMet, ArePlainAttackers, IsPromotionMet, IsSafeStep};
+ghost use Rattle.chess_threats.specs.ties.KingAttack.{AreGuardsThrough, AreChecksMet, ArePlainAttackers, IsCheckMet, IsSafeStep};
 
 use crate::king_attack::KingAttack;
 use crate::king_zone::{MOST_ATTACKERS, adjacent_squares};
 use crate::lasting_flights::{OpenTargets, kind_leaves_one};
 use chess_attacks::Rules;
 use chess_attacks::words::{contains, only, pop_first};
-use chess_core::square::LAST_RANKS;
 use chess_core::{Colour, Kind, Man, Square, Squares};
-use chess_flights::approach_squares::{open_approaches, promotion_squares};
+use chess_flights::approach_squares::open_approaches;
 use chess_flights::attackers::Attackers;
 use chess_flights::guards::{leapt_squares, rider_reach};
 
@@ -61,8 +58,8 @@ fn are_plain(king_attack: &KingAttack) -> bool
     king_attack.castled == 0 && king_attack.enemies.count_ones() <= MOST_ATTACKERS
 }
 
-// Returns whether one of `squares` remains wherever among `targets` a man of this kind arrives and, on some
-// board, gives check to a king on `king`.
+// Returns whether one of `squares` remains wherever among `targets` a man of this kind arrives, if it might
+// give check there to a king on `king`.
 #[inline(always)]
 fn checks_leave_one(
     squares: Squares,
@@ -72,8 +69,7 @@ fn checks_leave_one(
     king: Square,
 ) -> bool
     ensures { result ≡ true → (t : ℕ) → t < 64 → (bit_at targets t == 1) ≡ true
-        → (men : List (Option Man)) → reaches_as men colour kind t king ≡ true
-        → (f : ℕ) × IsLeft squares (record { colour = colour; kind = kind }) t f }
+        → IsCheckMet squares (record { colour = colour; kind = kind }) t king }
 {
     if targets == 0 {
         return true;
@@ -82,27 +78,8 @@ fn checks_leave_one(
     kind_leaves_one(squares, colour, kind, targets & checks)
 }
 
-// Returns whether one of `squares` remains wherever among `targets` a pawn promotes, if it might then give
-// check to a king on `king`.
-#[inline(always)]
-fn promotions_leave_one(squares: Squares, colour: Colour, targets: Squares, king: Square) -> bool
-    ensures { result ≡ true → IsPromotionMet squares colour targets king }
-{
-    let last = targets & LAST_RANKS;
-    if last == 0 {
-        return true;
-    }
-    let kind = Kind::Pawn;
-    let pawns = open_approaches(Man { colour, kind }, king);
-    let checks = last & (promotion_squares(colour, false, king) | pawns);
-    if !kind_leaves_one(squares, colour, Kind::Queen, checks) {
-        return false;
-    }
-    kind_leaves_one(squares, colour, Kind::Knight, checks)
-}
-
 // Returns whether one of `squares` remains wherever an attacker other than a king or grasshopper arrives on a
-// target and, on some board, gives check to a king on `king`.
+// target, if it might give check there to a king on `king`. A pawn that promotes arrives as a queen or knight.
 #[inline(always)]
 fn all_checks_leave_one(
     men: &Attackers,
@@ -152,10 +129,7 @@ fn is_safe_step(
         return false;
     }
     let squares = adjacent_squares(king_attack, to) & !(guarded | only(Some(to)));
-    if !all_checks_leave_one(&king_attack.men, targets, squares, to) {
-        return false;
-    }
-    promotions_leave_one(squares, king_attack.men.colour, targets.pawns, to)
+    all_checks_leave_one(&king_attack.men, targets, squares, to)
 }
 
 // Returns `to` if the test doesn't show that the king's step there is safe, otherwise no square.

@@ -83,7 +83,7 @@ pub(crate) fn cursor_if_any_move<R: Rules>(
     ensures moves { (goal : Goal) → is_some result ≡ has_move (chess goal R.rule) board.old }
 {
     let mut cursor = LegalCursor::<R>::of(board);
-    cursor.go_to(killer.back());
+    cursor.go_to(killer.previous());
     if cursor.next_until(killer, board).is_some() {
         return Some(cursor);
     }
@@ -103,7 +103,7 @@ pub(crate) fn find_mate<R: Rules>(killer: Moves<R>, board: &mut Board) -> Option
         ≡ some_move (chess Mate R.rule) (chess Mate R.rule).goal board.old }
     ensures place { IfSome result (λ place. IsOnMate R.rule board.old place) }
 {
-    let before = killer.back();
+    let before = killer.previous();
     let mut moves = MateCursor::<R>::of(board);
     moves.go_to(before);
     if moves.next(board).is_some() {

@@ -52,7 +52,7 @@ pub(crate) fn mates_in_two<R: Rules>(board: &mut Board, search_state: &mut Searc
 {
     search_state.opened = search_state.opened.saturating_add(1);
     let order = order_of(&search_state.killers, Battle::Direct, 3);
-    let mut moves = moves_at::<R>(None, order.killer.back(), board);
+    let mut moves = moves_at::<R>(None, order.killer.previous(), board);
     let mut move_stage = MoveStage::Killer;
     while let Some(by) = next_tried::<R>(order, &mut move_stage, &mut moves, board) {
         if leaves_no_defence::<R>(by, board, search_state) {

@@ -170,9 +170,9 @@ pub(crate) fn place_before<R: Rules>(order: Order<R>, move_stage: MoveStage) -> 
         ≡ all_moves_of R.rule p order move_stage }
 {
     match move_stage {
-        MoveStage::Killer => order.killer.back(),
+        MoveStage::Killer => order.killer.previous(),
         MoveStage::Earlier if order.earlier.is(order.killer) => order.earlier,
-        MoveStage::Earlier => order.earlier.back(),
+        MoveStage::Earlier => order.earlier.previous(),
         MoveStage::Aimed | MoveStage::Others => Moves::start(),
     }
 }

@@ -228,7 +228,7 @@ fn descend<R: Rules, const N: usize>(
     search_state.opened = search_state.opened.saturating_add(1);
     let order = order_of(&search_state.killers, aim.battle, left);
     frames.push(Frame {
-        place: order.killer.back(),
+        place: order.killer.previous(),
         by,
         undo,
         left,
@@ -310,7 +310,7 @@ pub fn value_of<R: Rules, const N: usize>(
     search_state.opened = search_state.opened.saturating_add(1);
     let order = order_of(&search_state.killers, aim.battle, left);
     frames.push(Frame {
-        place: order.killer.back(),
+        place: order.killer.previous(),
         left,
         order,
         move_stage: MoveStage::Killer,

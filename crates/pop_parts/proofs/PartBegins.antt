@@ -125,6 +125,3 @@ module _ (rule : RuleSet) (problem : Posed) (sound : IsSound problem) (phase : P
       → IsPartOpened rule problem phase front stage new opened
   opens-begun stage new opened left counted help full =
       (ap is_unstopped (left ∙ events-begun) ∙ unstopped rule problem phase front full, rw walk-is (counted help))
-
--- for `front_of`: the moves so far
-pub ruleset fronts = (front-none, front-more)

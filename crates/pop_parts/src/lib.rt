@@ -20,7 +20,7 @@ pub mod beginnings;
 mod items;
 pub mod list;
 pub mod part_search;
-mod parts_left;
+mod remaining_parts;
 pub mod request;
 mod searching;
 pub mod show;

@@ -3,7 +3,7 @@ ghost use Rattle.std.specs.Prelude.{◌≡◌, ◌<◌, [], ◌∷◌, ◌++◌,
 ghost use Rattle.arrayvec.specs.ArrayVec.{array_vec_len};
 ghost use Rattle.pop_solve.specs.ties.Walk.{path};
 
-use crate::parts_left::RemainingParts;
+use crate::remaining_parts::RemainingParts;
 use arrayvec::ArrayVec;
 use chess_core::{Board, Move};
 use chess_rules::Rules;
@@ -17,7 +17,6 @@ use pop_solve::phases::{Stage, advance};
 use std::marker::Model;
 
 /// Returns the moves that lead to the top frame, followed by `by`.
-#[tactic(auto, using(crate::proofs::PartBegins::fronts))]
 fn front_of<R: Rules, const N: usize>(frames: &ArrayVec<Frame<R>, N>, by: Move) -> ArrayVec<Move, N>
     requires open { 0 < array_vec_len frames.now }
     ensures { result.items ≡ path (reverse frames.now.items) ++ by ∷ [] }

@@ -14,7 +14,7 @@ ghost use Rattle.pop_parts.specs.ties.Items.{entry_in, text_if};
 
 use crate::items::{is_end, reports_device_failure};
 use crate::part_search::PartSearch;
-use crate::parts_left::RemainingParts;
+use crate::remaining_parts::RemainingParts;
 use crate::request::{Outcome, PartRequest};
 use crate::searching::parts_in;
 use chess_rules::Rules;

@@ -140,3 +140,6 @@ module _ (rule : RuleSet) (problem : Posed) (walk : Walk) (frames : List Frame) 
 pub first-most : (problem : Posed) → IsSound problem → (n next : ℕ) → next ≡ 0 + cond (is_help problem.stipulation.form || eqb n 2) 1 0
     → next ≤ problem.max_solutions
 first-most problem s n next e = grind (arith, s.some_solution)
+
+-- for `Search::depth`
+pub ruleset roomy = (length-reverse, room-length)

@@ -1,7 +1,7 @@
 -- What the clauses of a search exclude: events emitted after the board was taken back, or twice; totals
 -- that are wrong or come too early; mates that are skipped; and counts of events and frames that begin or
 -- grow otherwise.
-use Rattle.pop_solve.proofs.Words.{ArrayVec, BareEvent, Barred, Before, Bool, Event, Frame, Gives, GoesTo, IsCountedUpTo, IsOpened, Line, List, Move, Node, Plan, Posed, Position, RuleSet, Shown, Total, Within, [], allows_mate, ap, arith, eqb, event_of, false, filter, filter-append, first_phase, is_help_play, is_help, is_mating, is_walked_once, kept_paths, left_of, length, length-append, map, min, moves_after, path_event, phase_paths, rest_open, total, true, ℕ, ◌++◌, ◌+◌, ◌-◌, ◌^◌, ◌<◌, ◌∷◌, ◌≡◌, ◌⊎◌, Walk}
+use Rattle.pop_solve.proofs.Words.{ArrayVec, BareEvent, NotPossible, Before, Bool, Event, Frame, Gives, GoesTo, IsCountedUpTo, IsOpened, Line, List, Move, Node, Plan, Posed, Position, RuleSet, Shown, Total, Within, [], allows_mate, ap, arith, eqb, event_of, false, filter, filter-append, first_phase, is_help_play, is_help, is_mating, is_walked_once, kept_paths, left_of, length, length-append, map, min, moves_after, path_event, phase_paths, rest_open, total, true, ℕ, ◌++◌, ◌+◌, ◌-◌, ◌^◌, ◌<◌, ◌∷◌, ◌≡◌, ◌⊎◌, Walk}
 use Rattle.pop_stipulation.specs.declared.stipulation.Goal.TheVariants.{Stalemate}
 
 module _ (rule : RuleSet) (problem : Posed) (old new : List BareEvent) (board : Position) where
@@ -41,7 +41,7 @@ module _ (rule : RuleSet) (problem : Posed) (event : Event) (board : Position) (
 
   -- set play is said to be impossible once only
   pub impossible_is_given_once : (old new : List Frame)
-      → Gives rule problem (left_of rule problem Barred old) (left_of rule problem Barred new) event board depth → ⊥
+      → Gives rule problem (left_of rule problem NotPossible old) (left_of rule problem NotPossible new) event board depth → ⊥
   unfolding left_of
   impossible_is_given_once old new g = no_event_stays _ g
 

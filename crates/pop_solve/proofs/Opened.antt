@@ -1,5 +1,5 @@
 -- How many positions a search counts.
-use Rattle.pop_solve.proofs.Words.{BareEvent, Barred, Set, Before, ◌++◌, After, Frame, IsCounted, IsCountedUpTo, IsKeys, IsNarrow, IsOpened, IsSound, are_whites, List, Opens, OpensOn, Phase, Plan, Play, Posed, RuleSet, Stage, Tries, First, Whole, Within, goes_on, left_of, refl, phase_events, [], arith, cond, drop, eqb, false, fewest_left, inl, inr, HelpPlay, Walk, walk_of, and_parts, is_impossible_phase, is_stop, is_unstopped, min, not, phase_half_moves, phase_start, phase_walk, plan_of, play_of, position, rest_fewest, rest_open, rules, suc, to_open, total, true, zero, ℕ, ◌+◌, ◌-◌, ◌<◌, ◌^◌, ◌∷◌, ◌≡◌, ◌≤◌, ◌⊎◌}
+use Rattle.pop_solve.proofs.Words.{BareEvent, NotPossible, Set, Before, ◌++◌, After, Frame, IsCounted, IsCountedUpTo, IsKeys, IsNarrow, IsOpened, IsSound, are_whites, List, Opens, OpensOn, Phase, Plan, Play, Posed, RuleSet, Stage, Tries, First, Whole, Within, goes_on, left_of, refl, phase_events, [], arith, cond, drop, eqb, false, fewest_left, inl, inr, HelpPlay, Walk, walk_of, and_parts, is_impossible_phase, is_stop, is_unstopped, min, not, phase_half_moves, phase_start, phase_walk, plan_of, play_of, position, rest_fewest, rest_open, rules, suc, to_open, total, true, zero, ℕ, ◌+◌, ◌-◌, ◌<◌, ◌^◌, ◌∷◌, ◌≡◌, ◌≤◌, ◌⊎◌}
 use Rattle.pop_battle.proofs.Boards.{after_start}
 use Rattle.pop_solve.proofs.Sound.{some_way}
 use Rattle.pop_solve.proofs.ToCome.{one, walk_count-start}
@@ -70,7 +70,7 @@ module _ (rule : RuleSet) (problem : Posed) where
   unfolding left_of rest_open phase_events
   none-left (Before Set) frames e = absurd cc
   none-left (Before Play) frames e = absurd cc
-  none-left Barred frames e = absurd cc
+  none-left NotPossible frames e = absurd cc
   none-left (First walk) frames e = absurd (some-event _ _ _ e)
   none-left (Within walk count) frames e = absurd (some-event _ _ _ e)
   none-left After frames e = refl

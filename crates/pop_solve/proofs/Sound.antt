@@ -1,5 +1,5 @@
 -- What a sound problem guarantees, and how its sides play.
-use Rattle.pop_solve.proofs.Words.{Battle, BattlePlay, Form, HelpPlay, Plan, arith, false, is_help_play, is_help, plan_of, play_of, rules, IsSound, IsWellFormed, Phase, Posed, half_moves, is_en_passant_square_right, phase_start, sym, ap, true, ◌≡◌, ◌≤◌, ◌∙◌}
+use Rattle.pop_solve.proofs.Words.{Battle, BattlePlay, Form, HelpPlay, Plan, arith, false, is_help_play, is_help, length-append, plan_of, play_of, rules, IsSound, IsWellFormed, Phase, Posed, half_moves, is_en_passant_square_right, phase_start, sym, ap, true, ◌≡◌, ◌≤◌, ◌∙◌}
 
 -- a problem has 1 to 32 half-moves
 pub some_way : (problem : Posed) → IsSound problem → 1 ≤ half_moves problem.stipulation
@@ -40,3 +40,6 @@ battle-form form battle e = sym (helps-form form) ∙ ap is_help_play e
 
 -- for `Search::new` and `Search::opened`: how each form is played
 pub ruleset ways_to_play = (battle-play, help-play)
+
+-- for `Search::opened`: what is left at the end
+pub ruleset at_the_end = (battle-play, help-play, length-append)

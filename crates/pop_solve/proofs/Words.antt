@@ -37,7 +37,7 @@ pub use Rattle.pop_events.specs.declared.event.Phase.{Phase}
 pub use Rattle.pop_events.specs.declared.event.Phase.TheVariants.{Play, Set}
 pub use Rattle.pop_solve.specs.declared.phases.Stage.{Stage}
 pub use Rattle.pop_solve.specs.declared.phases.Walk.{Walk}
-pub use Rattle.pop_solve.specs.declared.phases.Stage.TheVariants.{Barred, Before, First, After, Within}
+pub use Rattle.pop_solve.specs.declared.phases.Stage.TheVariants.{NotPossible, Before, First, After, Within}
 pub use Rattle.pop_solve.specs.declared.phases.Scope.TheVariants.{Part, Whole}
 pub use Rattle.pop_solve.specs.declared.plan.Plan.{Plan}
 pub use Rattle.pop_solve.specs.ties.Calls.{Counts}

@@ -48,7 +48,7 @@ pub enum Stage {
     /// Before this phase.
     Before { phase: Phase },
     /// After the `Phase` event of a set play that isn't possible.
-    Barred,
+    NotPossible,
     /// In a phase, before the event of the path of its beginning.
     First { walk: Walk },
     /// In a phase, `count` of whose solutions have begun.
@@ -116,7 +116,7 @@ fn phase_half(problem: &Problem, phase: Phase) -> u32
 
 /// Returns whether the limit ends a phase here: no more solutions may begin, and none is unfinished.
 /// `limit` is how many may still begin, `depth` the number of frames.
-fn is_full(problem: &Problem, depth: usize, limit: u32) -> bool
+fn limit_ends_phase(problem: &Problem, depth: usize, limit: u32) -> bool
     ensures { result ≡ ((limit == 0) && (is_help problem.now.stipulation.form || (depth == 1))) }
 {
     limit == 0 && (problem.stipulation().form.is_help() || depth == 1)
@@ -149,7 +149,7 @@ fn walk_on<R: Rules, const N: usize>(
         search_state.old.opened search_state.new.opened }
 {
     let limit = still_to_begin(problem, count);
-    while !frames.is_empty() && !is_full(problem, frames.len(), limit) {
+    while !frames.is_empty() && !limit_ends_phase(problem, frames.len(), limit) {
         if step::<R, N>(walk.plan, walk.half_moves, board, frames, search_state) {
             return true;
         }
@@ -259,7 +259,7 @@ fn begin<R: Rules, const N: usize>(
         (left_of R.rule problem.now (Before phase) (reverse frames.old.items)) }
 {
     if !set_up::<R>(problem, phase, board) {
-        return Stage::Barred;
+        return Stage::NotPossible;
     }
     let walk = Walk::of(problem, phase, Scope::Whole);
     let left = walk.half_moves;
@@ -388,7 +388,7 @@ pub fn advance<R: Rules, const N: usize>(
             *stage = begin::<R, N>(problem, phase, board, frames, search_state);
             *event = Some(Event::Phase(phase));
         }
-        Stage::Barred => {
+        Stage::NotPossible => {
             *stage = Stage::Before { phase: Phase::Play };
             *event = Some(Event::Impossible);
         }

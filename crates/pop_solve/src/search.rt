@@ -64,6 +64,7 @@ impl<R: Rules, const N: usize> Search<R, N> {
     /// Returns a search before its first event: its board has the play's first position, and no frame is in
     /// use. `N` must be more than the half-moves of the play, and `R` must be the rules of the problem's
     /// condition.
+    #[tactic(auto, using(crate::proofs::Sound::ways_to_play), unfolding(crate::specs::ties::Phases::HoldsAtStage, crate::specs::ties::Phases::left_of, crate::specs::ties::Phases::rest_fewest, crate::specs::ties::Phases::rest_open, crate::specs::ties::Phases::IsNarrow))]
     pub fn new(problem: &Problem) -> Self
         requires room { half_moves problem.now.stipulation < N }
         requires rule { R.rule ≡ rule_of problem.now.condition }
@@ -116,6 +117,7 @@ impl<R: Rules, const N: usize> Search<R, N> {
 
     /// Returns the number of frames in use, at most `N`. After a line or node it is one more than its
     /// path has moves.
+    #[tactic(auto, using(crate::proofs::Events::roomy), unfolding(crate::specs::ties::Phases::HoldsAtStage))]
     pub fn depth(&self) -> usize
         ensures depth { result ≡ self.now.depth }
         ensures most { result ≤ half_moves self.now.problem.stipulation + 1 }
@@ -146,6 +148,7 @@ impl<R: Rules, const N: usize> Search<R, N> {
     /// list of moves once. After the last event, if no limit stopped a phase, it is the walk count in help
     /// play; in direct mates and selfmates it is at least the number of positions in a smallest tree for
     /// each tested move.
+    #[tactic(auto, using(crate::proofs::Sound::at_the_end), unfolding(crate::specs::ties::Phases::left_of, crate::specs::ties::Phases::rest_fewest, crate::specs::ties::Phases::rest_open, crate::specs::Events::phase_events))]
     pub fn opened(&self) -> u64
         ensures opened { result ≡ self.now.opened }
         ensures most { is_walked_once self.now.problem ≡ true

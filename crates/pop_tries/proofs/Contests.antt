@@ -93,20 +93,16 @@ unfolding is_mate is_stalemate
 no_moves_at_goal Mate rule r h = (and_parts _ _ h).1
 no_moves_at_goal Stalemate rule r h = (and_parts _ _ h).1
 
+none_any : (ms : List Move) → is_nil ms ≡ true → (test : Move → Bool) → list_any test ms ≡ false
+none_any [] e test = refl
+none_any (m ∷ ms) e test = absurd (false≢true e)
+
 no_win_without_move : (battle : Battle) (game : Game Position Move) (k : ℕ) (r : Position) → is_nil (game.moves r) ≡ true → wins_in battle game k r ≡ false
 unfolding wins self_wins
 no_win_without_move Direct game zero r none = refl
-no_win_without_move Direct game (suc k) r none = by (game.moves r) none
-  where
-    by : (ms : List Move) → is_nil ms ≡ true → list_any (λ m. is_lost game k (game.after r m)) ms ≡ false
-    by [] e = refl
-    by (m ∷ ms) e = absurd (false≢true e)
+no_win_without_move Direct game (suc k) r none = none_any (game.moves r) none _
 no_win_without_move Selfmate game zero r none = refl
-no_win_without_move Selfmate game (suc k) r none = by (game.moves r) none _
-  where
-    by : (ms : List Move) → is_nil ms ≡ true → (test : Move → Bool) → list_any test ms ≡ false
-    by [] e test = refl
-    by (m ∷ ms) e test = absurd (false≢true e)
+no_win_without_move Selfmate game (suc k) r none = none_any (game.moves r) none _
 
 -- where the goal is reached the side to move wins nothing
 pub no_win_at_goal : (battle : Battle) (goal : Goal) (rule : RuleSet) (k : ℕ) (r : Position) → is_goal_reached goal rule r ≡ true

@@ -1,5 +1,5 @@
 -- What the calls of a search's steps below a first move yield.
-use Rattle.pop_tries.proofs.Words.{Bool, Goal, IsSound, List, Move, Posed, Position, RuleSet, [], and_parts, ap, arith, chess_passing, false, false≢true, filter, first_in, from_filter, game_of, half_moves, is_pseudo_legal-from_legal, has_threat, is_in_set_play, length, position_after, refl, reply, rules, subst, sym, threatened, true, ℕ, ◌+◌, ◌-◌, ◌∙◌, ◌∷◌, ◌≡◌, ◌≤◌}
+use Rattle.pop_tries.proofs.Words.{Bool, Goal, IsSound, List, Move, Posed, Position, RuleSet, [], and_parts, ap, arith, chess_passing, false, false≢true, filter, first_in, from_filter, half_moves, is_pseudo_legal-from_legal, has_threat, is_in_set_play, length, position_after, refl, reply, sym, threatened, true, ℕ, ◌+◌, ◌-◌, ◌∷◌, ◌≡◌, ◌≤◌}
 use Rattle.std.specs.Prelude.{None, Option, Some, is_some, reverse}
 use Rattle.std.proofs.lemmas.List.{length-reverse, nil_from_length}
 use Rattle.pop_battle.specs.Chess.{set_start}
@@ -13,7 +13,6 @@ use Rattle.pop_solve.specs.Events.{last_shown}
 use Rattle.pop_solve.specs.ties.Walk.{IsRoomy}
 use Rattle.pop_tries.specs.Shown.{shown_below_first}
 use Rattle.pop_tries.specs.declared.contest.Contest.{Contest}
-use Rattle.pop_events.specs.declared.try_event.TryEvent.{TryEvent}
 use Rattle.pop_events.specs.declared.try_event.TryEvent.TheVariants.{Node}
 use Rattle.pop_tries.specs.ties.Contests.{IsThreat, game_in}
 use Rattle.pop_tries.specs.ties.FirstMoves.{is_shown}

@@ -1,5 +1,5 @@
 -- What a step of a search for tries leaves, with an event or without.
-use Rattle.pop_tries.proofs.Words.{BareTryEvent, List, Move, Posed, Position, RuleSet, [], after_well_formed, ap, arith, false, false≢true, is_pseudo_legal-from_legal, play_start, refl, sym, true, ℕ, ◌+◌, ◌<◌, ◌∙◌, ◌∷◌, ◌≡◌}
+use Rattle.pop_tries.proofs.Words.{BareTryEvent, List, Move, Posed, Position, RuleSet, [], after_well_formed, ap, false, false≢true, is_pseudo_legal-from_legal, play_start, refl, sym, true, ℕ, ◌+◌, ◌<◌, ◌∙◌, ◌∷◌, ◌≡◌}
 use Rattle.std.specs.Prelude.{None, Option, Some, is_some}
 use Rattle.std.proofs.lemmas.Option.{none-some}
 use Rattle.chess_core.specs.Undo.{Undo}

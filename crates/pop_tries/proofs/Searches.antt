@@ -1,5 +1,5 @@
 -- How a search for tries begins, and what a call of `next` returns.
-use Rattle.pop_tries.proofs.Words.{BareTryEvent, Battle, BattlePlay, Bool, HelpPlay, IsSound, List, PlayOfSides, Posed, Position, RuleSet, [], ap, arith, drop, false, nat_tests, play_of, play_start, refl, rules, sym, true, ℕ, ◌∙◌, ◌∷◌, ◌≡◌, ◌≤◌}
+use Rattle.pop_tries.proofs.Words.{BareTryEvent, Battle, BattlePlay, Bool, HelpPlay, IsSound, List, PlayOfSides, Posed, Position, RuleSet, [], arith, drop, false, nat_tests, play_of, play_start, refl, rules, true, ℕ, ◌∷◌, ◌≡◌, ◌≤◌}
 unfoldable use Rattle.pop_tries.proofs.Words.{try_events}
 use Rattle.std.specs.Prelude.{MatchOption, None, Option, Some, slice_get}
 use Rattle.std.specs.Option.{option_map}
@@ -17,9 +17,8 @@ use Rattle.pop_tries.proofs.Words.{no_tries, set_event}
 use Rattle.pop_events.specs.declared.try_event.TryEvent.TheVariants.{NoTries as NoTriesEvent, Set as SetEvent}
 use Rattle.pop_tries.specs.declared.first_moves.Group.TheVariants.{Keys}
 use Rattle.pop_tries.specs.declared.stage.TriesStage.TheVariants.{Beginning, Impossible, NoTries, Over}
-use Rattle.pop_tries.specs.ties.Contests.{IsContest}
 use Rattle.pop_tries.proofs.Goings.{with_event}
-use Rattle.pop_tries.specs.ties.Searching.{Goes, IsOf, contest_of, first_stage, is_over, stage_by}
+use Rattle.pop_tries.specs.ties.Searching.{Goes, IsOf, first_stage, is_over, stage_by}
 unfoldable use Rattle.pop_tries.specs.ties.Searching.{HoldsAt, left_of}
 
 -- a battle has a move

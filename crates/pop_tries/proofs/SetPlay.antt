@@ -1,12 +1,12 @@
 -- How a search for tries begins, and its steps in set play.
-use Rattle.pop_tries.proofs.Words.{BareTryEvent, HelpPlay, BattlePlay, Battle, IsSound, List, Move, Posed, Position, RuleSet, Set, [], ap, arith, cond, false, false≢true, flat_map, half_moves, length, length-append, map, nat_tests, play_of, play_start, refl, rules, set_event, sym, take, true, zero, ℕ, ◌++◌, ◌+◌, ◌<◌, ◌∙◌, ◌∷◌, ◌≡◌, ◌≤◌}
+use Rattle.pop_tries.proofs.Words.{IsSound, List, Posed, Position, RuleSet, Set, [], ap, arith, false, flat_map, length, length-append, refl, rules, set_event, take, true, ℕ, ◌++◌, ◌∙◌, ◌∷◌, ◌≡◌, ◌≤◌}
 unfoldable use Rattle.pop_tries.proofs.Words.{phase_events}
 use Rattle.pop_battle.specs.ties.Frames.{Frame}
 use Rattle.pop_battle.proofs.Words.{append_assoc}
 use Rattle.pop_solve.specs.Events.{BareEvent, impossible, is_impossible_phase, opening, phase_count, phase_start, solutions}
 use Rattle.pop_solve.specs.declared.phases.Scope.TheVariants.{Part}
 use Rattle.pop_solve.specs.declared.phases.Stage.{Stage}
-use Rattle.pop_solve.specs.declared.phases.Stage.TheVariants.{After, Barred, Before, First, Within as WithinPhase}
+use Rattle.pop_solve.specs.declared.phases.Stage.TheVariants.{After, NotPossible, Before, First, Within as WithinPhase}
 use Rattle.pop_solve.specs.ties.Phases.{beginning_count, kept_paths, phase_paths}
 unfoldable use Rattle.pop_solve.specs.ties.Phases.{HoldsAtStage, left_of as set_play_left}
 use Rattle.pop_solve.specs.ties.Plans.{walk_of}
@@ -52,7 +52,7 @@ pub none_after : (rule : RuleSet) (problem : Posed) (stage : Stage) (frames : Li
     → HoldsAtStage rule problem stage frames board → set_play_left rule problem stage frames ≡ [] → frames ≡ []
 unfolding HoldsAtStage set_play_left
 none_after rule problem (Before phase) frames board h e = h.0
-none_after rule problem Barred frames board h e = h.0
+none_after rule problem NotPossible frames board h e = h.0
 none_after rule problem (First walk) frames board h e = some_left _ _ _ e
 none_after rule problem (WithinPhase walk count) frames board h e = some_left _ _ _ e
 none_after rule problem After frames board h e = h.0

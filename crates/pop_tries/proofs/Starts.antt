@@ -1,5 +1,5 @@
 -- How a walk below a first move begins and ends.
-use Rattle.pop_tries.proofs.Words.{Battle, Bool, List, Posed, Position, RuleSet, [], arith, below_reply, cases_lt, chess, chess_passing, false, false≢true, filter, flat_map, game_of, half_moves, has_threat, inl, inr, is_in_set_play, length, node, position_after, refl, reply_nodes, sym, threat_nodes, true, ℕ, ◌-◌, ◌<◌, ◌∙◌, ◌∷◌, ◌≡◌, ◌≤◌}
+use Rattle.pop_tries.proofs.Words.{Battle, Bool, List, Posed, Position, RuleSet, [], arith, below_reply, cases_lt, chess, chess_passing, false, false≢true, filter, flat_map, game_of, half_moves, has_threat, inl, inr, is_in_set_play, length, node, position_after, refl, reply_nodes, rules, sym, threat_nodes, true, ℕ, ◌-◌, ◌<◌, ◌∙◌, ◌∷◌, ◌≡◌, ◌≤◌}
 use Rattle.pop_battle.specs.Chess.{set_start}
 use Rattle.pop_battle.specs.ties.Frames.{Frame}
 unfoldable use Rattle.pop_battle.specs.ties.Frames.{AreKnown, IsLinked, position}
@@ -30,28 +30,12 @@ module _ (rule : RuleSet) (plan : Plan) (h : ℕ) (p : Position) (old mid : List
   -- a step that shows a node
   pub node_shown : (new : List Frame) (board : Position) (before after : ℕ) (given : Bool) → Steps rule plan h p mid new board before after given
       → given ≡ true → 0 < length mid → ShowsNext rule plan h p old new board true
-  node_shown new board before after given s e some = record {
-    next = λ _. same ∙ (rw e at s.come);
-    deep = λ _. omega (arith, s.deep e, some);
-    ended = λ _. s.ended e;
-    none = λ f. absurd (false≢true (sym f));
-    back = λ f. absurd (false≢true (sym f));
-    empty = λ f. absurd (false≢true (sym f));
-  }
+  node_shown new board before after given s e some = grind (arith, s.come, s.deep, s.ended, same)
 
   -- with no frame left nothing is to come
   pub none_left : (board : Position) → IsWalking rule h p mid board → length mid ≡ 0 → ShowsNext rule plan h p old mid board false
   unfolding to_come position
-  none_left board r none =
-      let nil : mid ≡ [] = nil_from_length mid none in
-      record {
-        next = λ f. absurd (false≢true f);
-        deep = λ f. absurd (false≢true f);
-        ended = λ f. absurd (false≢true f);
-        none = λ _. same ∙ (rw nil refl);
-        back = λ _. r.board_at ∙ (rw nil refl);
-        empty = λ _. nil;
-      }
+  none_left board r none = search (rules, nil_from_length mid none, r.board_at, same)
 
 -- the walks of a problem, in a battle, after a first move that leads to q
 module _ (rule : RuleSet) (problem : Posed) (battle : Battle) (fit : IsContest (record { battle = battle; stipulation = problem.stipulation })) where

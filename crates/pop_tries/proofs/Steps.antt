@@ -2,7 +2,6 @@
 use Rattle.pop_tries.proofs.Words.{Bool, List, Move, Posed, Position, RuleSet, [], ap, arith, below, false, false≢true, filter, flat_map, key_events, length, map, nat_tests, play_start, refl, suc, take, true, zero, ℕ, ◌+◌, ◌-◌, ◌∙◌, ◌∷◌, ◌≡◌, ◌≤◌}
 use Rattle.pop_battle.proofs.Boards.{after_start}
 use Rattle.pop_battle.proofs.Words.{append-nil, append_assoc}
-use Rattle.pop_battle.specs.ties.Frames.{Frame}
 use Rattle.pop_solve.proofs.Trees.{flat-same}
 use Rattle.chess_core.specs.Undo.{Undo}
 use Rattle.std.specs.Prelude.{Option}
@@ -12,7 +11,6 @@ use Rattle.chess_rules.specs.ties.Places.{all_triples, triple_at}
 unfoldable use Rattle.chess_rules.specs.ties.Places.{moves_after}
 use Rattle.pop_tries.specs.declared.first_moves.Group.{Group}
 use Rattle.pop_tries.specs.declared.first_moves.Group.TheVariants.{Keys, Tries}
-use Rattle.pop_tries.specs.declared.stage.First.{First}
 use Rattle.pop_tries.specs.declared.stage.Firsts.{Firsts}
 use Rattle.pop_tries.specs.declared.stage.Task.{Task}
 use Rattle.pop_tries.specs.ties.Searching.{IsInLimit, below_and_after, after_first, beginning_of, contest_of, ending_of, events_of_first, first_event, firsts_after, firsts_left, group_left, is_stopped, shown_after, whole_group, within_limit}

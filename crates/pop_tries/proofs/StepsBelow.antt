@@ -1,5 +1,5 @@
 -- What the steps of a search for tries below a first move leave to come.
-use Rattle.pop_tries.proofs.Words.{BareTryEvent, Below, Bool, List, Move, Position, RuleSet, [], and_parts, ap, arith, below, below_reply, but, chess_passing, check, cond, false, false≢true, filter, game_of, half_moves, has_threat, is_in_set_play, length, map, not, position_after, refl, refutation, reply, rules, sym, threat, threat_nodes, threatened, true, zugzwang, ℕ, ◌&&◌, ◌+◌, ◌-◌, ◌<◌, ◌++◌, ◌∙◌, ◌∷◌, ◌≡◌, ◌≤◌}
+use Rattle.pop_tries.proofs.Words.{Below, Bool, List, Move, Position, RuleSet, [], ap, arith, below, below_reply, but, chess_passing, check, cond, false, filter, game_of, half_moves, has_threat, length, map, position_after, refl, refutation, reply, threat, threatened, true, zugzwang, ℕ, ◌-◌, ◌++◌, ◌∙◌, ◌∷◌, ◌≡◌, ◌≤◌}
 unfoldable use Rattle.pop_tries.proofs.Words.{below_first}
 use Rattle.chess_attacks.specs.Attacks.{in_check}
 use Rattle.chess_core.specs.Undo.{Undo}
@@ -9,17 +9,15 @@ use Rattle.pop_battle.proofs.Boards.{after_start}
 use Rattle.pop_battle.specs.ties.Frames.{Frame}
 use Rattle.pop_solve.specs.Events.{last_shown}
 use Rattle.pop_stipulation.specs.declared.stipulation.Goal.{Goal}
-use Rattle.std.specs.Prelude.{None, Option, reverse}
+use Rattle.std.specs.Prelude.{Option, reverse}
 use Rattle.pop_tries.specs.Tries.{reply_nodes}
-use Rattle.pop_tries.specs.declared.first_moves.Group.{Group}
-use Rattle.pop_tries.specs.declared.first_moves.Group.TheVariants.{Keys, Tries}
 use Rattle.pop_tries.specs.declared.stage.First.{First}
 use Rattle.pop_tries.specs.declared.stage.Played.{Played}
 use Rattle.pop_tries.specs.declared.stage.Task.{Task}
 use Rattle.pop_tries.specs.declared.stage.TriesStage.TheVariants.{But, Faced, FirstMove, Refutation, Reply, Threats, Below as BelowReply}
-use Rattle.pop_tries.specs.ties.Contests.{IsContest, IsThreat}
+use Rattle.pop_tries.specs.ties.Contests.{IsContest}
 use Rattle.pop_tries.specs.ties.FirstMoves.{is_shown}
-use Rattle.pop_tries.specs.ties.Searching.{after_first, below_and_after, contest_of, group_left, refutations_after, replies_after, shown_after, walk_left}
+use Rattle.pop_tries.specs.ties.Searching.{after_first, below_and_after, contest_of, refutations_after, replies_after, shown_after, walk_left}
 unfoldable use Rattle.pop_tries.specs.ties.Searching.{left_of}
 use Rattle.pop_tries.specs.ties.Starts.{ShowsBelow}
 use Rattle.pop_solve.specs.ties.Plans.{plan_of}

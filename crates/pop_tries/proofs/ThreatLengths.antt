@@ -1,6 +1,6 @@
 -- The least length of White's threats, in half-moves. That it is the least number of moves is stated in
 -- pop_solve for its own walks only.
-use Rattle.pop_tries.proofs.Words.{Battle, BattlePlay, Bool, Direct, Game, Position, RuleSet, Selfmate, ap, arith, cases_lt, chess_passing, eqb, false, false≢true, half_moves, has_threat, inl, inr, least_moves, nat_tests, not, refl, sym, true, wins_in, ℕ, ◌+◌, ◌-◌, ◌<◌, ◌∙◌, ◌≡◌, ◌≤◌, suc}
+use Rattle.pop_tries.proofs.Words.{Battle, BattlePlay, Bool, Direct, Game, Position, RuleSet, Selfmate, ap, arith, cases_lt, chess_passing, eqb, false, false≢true, half_moves, has_threat, inl, inr, least_moves, nat_tests, not, refl, rules, sym, true, wins_in, ℕ, ◌+◌, ◌-◌, ◌<◌, ◌∙◌, ◌≡◌, ◌≤◌, suc}
 use Rattle.std.proofs.Common.{◌%◌, ◌*◌, ◌/◌}
 use Rattle.pop_battle.specs.Chess.{set_start}
 use Rattle.pop_battle.specs.ties.Values.{attacker_to_move}
@@ -42,33 +42,27 @@ module _ {P M : Type 0} (game : Game P M) where
 
 -- half-moves and moves
 two_less : (battle : Battle) (n : ℕ) → 2 ≤ n → halves battle n - 2 ≡ halves battle (n - 1)
-two_less Direct n some = omega (arith, some)
-two_less Selfmate n some = omega (arith, some)
+two_less battle n some = search rules
 
 halves-some : (battle : Battle) (k : ℕ) → 1 ≤ k → 1 ≤ halves battle k
-halves-some Direct k some = omega (arith, some)
-halves-some Selfmate k some = omega (arith, some)
+halves-some battle k some = search (rules, nat_tests)
 
 pub halves-most : (battle : Battle) (k : ℕ) → halves battle k ≤ 2 * k
-halves-most Direct k = omega arith
-halves-most Selfmate k = omega arith
+halves-most battle k = search rules
 
 moves_of-halves : (battle : Battle) (k : ℕ) → 1 ≤ k → (halves battle k + 1) / 2 ≡ k
-moves_of-halves Direct k some = omega (arith, some)
-moves_of-halves Selfmate k some = omega (arith, some)
+moves_of-halves battle k some = search (rules, nat_tests)
 
 -- with some half-moves of whole moves left White is to move
 pub halves-white : (battle : Battle) (k : ℕ) → 0 < halves battle k → attacker_to_move battle (halves battle k) ≡ true
-halves-white Direct k some = grind (arith, nat_tests)
-halves-white Selfmate k some = grind (arith, nat_tests)
+halves-white battle k some = search (rules, nat_tests)
 
 white_first : (battle : Battle) (k : ℕ) → 1 ≤ k → attacker_to_move battle (halves battle k) ≡ true
 white_first battle k some = halves-white battle k (omega (arith, halves-some battle k some))
 
 -- two half-moves later White is to move again
 pub white_left : (battle : Battle) (n : ℕ) → 2 ≤ halves battle n → attacker_to_move battle (halves battle n - 2) ≡ true
-white_left Direct n deep = grind (arith, nat_tests)
-white_left Selfmate n deep = grind (arith, nat_tests)
+white_left battle n deep = search (rules, nat_tests)
 
 module _ (rule : RuleSet) (contest : Contest) (fit : IsContest contest) (q : Position)
     (h : has_threat contest.battle (game_in rule contest) contest.stipulation.n (chess_passing rule) q ≡ true) where

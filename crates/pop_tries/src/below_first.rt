@@ -1,5 +1,12 @@
 //! The steps of a search for tries below a first move.
-ghost use Rattle.std.specs.Prelude.{◌≡◌, ◌<◌, [], false, is_some, true};
+ghost use Rattle.std.specs.Prelude.{◌≡◌, ◌<◌, ◌-◌, [], false, is_some, reverse, true};
+ghost use Rattle.chess_core.specs.WellFormed.{IsWellFormed};
+ghost use Rattle.chess_rules.specs.Legal.{is_legal};
+ghost use Rattle.chess_rules.specs.Play.{position_after, undo_of};
+ghost use Rattle.pop_events.specs.Shown.{shown_move};
+ghost use Rattle.pop_solve.specs.ties.Plans.{plan_of};
+ghost use Rattle.pop_solve.specs.ties.Walk.{IsWalking};
+ghost use Rattle.pop_tries.specs.ties.Starts.{ShowsBelow};
 ghost use Rattle.chess_core.specs.Position.{Position};
 ghost use Rattle.pop_battle.specs.ties.Frames.{CameBy};
 ghost use Rattle.pop_solve.specs.Events.{game_of};
@@ -16,8 +23,9 @@ use crate::stage::{First, Played, Step, Task, TriesStage};
 use crate::threats::{pass, threat_length, unpass};
 use arrayvec::ArrayVec;
 use chess_core::board::Board;
+use chess_core::man::Move;
 use chess_core::square::Square;
-use chess_rules::{Moves, Rules, in_check, play, unplay};
+use chess_rules::{Moves, Rules, Undo, in_check, play, unplay};
 use pop_battle::chess::reaches_goal;
 use pop_battle::frame::Frame;
 use pop_battle::search_state::SearchState;
@@ -173,6 +181,45 @@ pub(crate) fn walk_threats<R: Rules, const N: usize>(
     }
 }
 
+/// Plays a reply and opens the walk over what stands below it. Returns what takes it back, and its event.
+#[tactic(auto, using(chess_rules::proofs::listing_moves::Calls::playing))]
+fn play_reply<R: Rules, const N: usize>(
+    task: &Task,
+    by: Move,
+    board: &mut Board,
+    frames: &mut ArrayVec<Frame<R>, N>,
+    search_state: &mut SearchState<R>,
+) -> (Undo, TryEvent)
+    requires room { half_moves task.now.problem.stipulation < N }
+    requires well_formed { IsWellFormed board.old }
+    requires legal { is_legal R.rule board.old by ≡ true }
+    requires empty { frames.old.items ≡ [] }
+    ensures undo { result.0 ≡ undo_of R.rule board.old by }
+    ensures event { result.1 ≡ Node 1 2 (shown_move task.now.problem.stipulation.goal R.rule
+        board.old by) }
+    ensures walking { IsWalking R.rule (half_moves task.now.problem.stipulation - 2)
+        (position_after R.rule board.old by) (reverse frames.new.items) board.new }
+    ensures come { ShowsBelow R.rule (plan_of task.now.problem)
+        (half_moves task.now.problem.stipulation - 2)
+        (position_after R.rule board.old by) (reverse frames.new.items) }
+{
+    let shown = shown::<R>(task.problem.stipulation().goal, by, board);
+    let undo = play::<R>(board, by);
+    open_walk::<R, N>(
+        Plan::of(&task.problem),
+        task.half_moves_below(),
+        board,
+        frames,
+        search_state,
+    );
+    let event = TryEvent::Node {
+        depth: 1,
+        half: 2,
+        shown,
+    };
+    (undo, event)
+}
+
 /// Finds the next reply that is shown, plays it, and opens the walk over what stands below it; after the last
 /// one what is shown below the first move ends.
 #[tactic(auto, using(chess_rules::proofs::listing_moves::Calls::playing), unfolding(crate::specs::ties::Searching::HoldsAt, crate::specs::ties::Searching::rank))]
@@ -205,29 +252,15 @@ pub(crate) fn find_reply<R: Rules, const N: usize>(
             event: None,
         };
     };
-    let shown = shown::<R>(task.problem.stipulation().goal, by, board);
-    let undo = play::<R>(board, by);
-    open_walk::<R, N>(
-        Plan::of(&task.problem),
-        task.half_moves_below(),
-        board,
-        frames,
-        search_state,
-    );
+    let (undo, event) = play_reply::<R, N>(task, by, board, frames, search_state);
+    let reply = Played {
+        place: next,
+        by,
+        undo,
+    };
     Step {
-        stage: TriesStage::Below {
-            first,
-            reply: Played {
-                place: next,
-                by,
-                undo,
-            },
-        },
-        event: Some(TryEvent::Node {
-            depth: 1,
-            half: 2,
-            shown,
-        }),
+        stage: TriesStage::Below { first, reply },
+        event: Some(event),
     }
 }
 

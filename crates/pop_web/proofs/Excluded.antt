@@ -1,36 +1,26 @@
 -- What the clauses of the page's calls exclude: cutting a text before the output is full, losing it,
 -- reporting a faulty text as sound, and reporting a missing part as shown.
 use Rattle.std.proofs.Common.{List, ap, arith, length, refl, ℕ, ◌∙◌, ◌≡◌, ◌≢◌}
-use Rattle.pop_run.specs.declared.choice.Choice.{Choice}
-use Rattle.pop_run.specs.Report.{report, status}
+use Rattle.pop_run.specs.Report.{ItemText, report_by, status}
 use Rattle.pop_run.specs.declared.status.Status.TheVariants.{Faulty, OutputFailed, Sound}
-use Rattle.pop_parts.specs.Parts.{list_text, outcome_of, text_of}
+use Rattle.pop_parts.specs.Parts.{outcome_of, text_of}
 use Rattle.pop_parts.specs.declared.request.PartRequest.{PartRequest}
 use Rattle.pop_parts.specs.declared.request.Outcome.TheVariants.{NoPart, OutputFailed as PartsCut, Shown}
-use Rattle.pop_web.proofs.Filled.{list_full, list_whole, part_full, part_whole, report_full, report_whole}
-use Rattle.pop_web.specs.Page.{Lists, Shows, ShowsParts, status_number, outcome_number, room, whole_input}
+use Rattle.pop_web.proofs.Filled.{items_full, items_whole, part_full, part_whole}
+use Rattle.pop_web.specs.Page.{ShowsItems, ShowsParts, status_number, outcome_number, room, whole_input}
 
-module _ (choice : Choice) (text shown : List ℕ) where
-  -- a report isn't cut while there is room
-  pub cut_report_fills_the_room : Shows choice text shown (status_number OutputFailed) → length shown ≢ room → ⊥
-  cut_report_fills_the_room f less = less (report_full _ _ _ _ f refl)
+module _ (items : ItemText) (text shown : List ℕ) where
+  -- texts of items aren't cut while there is room
+  pub cut_items_fill_the_room : ShowsItems items text shown (status_number OutputFailed) → length shown ≢ room → ⊥
+  cut_items_fill_the_room f less = less (items_full _ _ _ _ f refl)
 
-  -- other bytes aren't the report of a sound text
-  pub no_other_report : Shows choice text shown (status_number Sound) → shown ≢ report choice (whole_input text) → ⊥
-  no_other_report f other = other (report_whole _ _ _ _ f (grind arith)).0
+  -- other bytes aren't shown of a sound text
+  pub no_other_items : ShowsItems items text shown (status_number Sound) → shown ≢ report_by items (whole_input text) → ⊥
+  no_other_items f other = other (items_whole _ _ _ _ f (grind arith)).0
 
   -- a faulty text isn't reported as sound
-  pub faulty_text_is_reported : Shows choice text shown (status_number Sound) → status (whole_input text) ≡ Faulty → ⊥
-  faulty_text_is_reported f faulty = let same = (report_whole _ _ _ _ f (grind arith)).1 ∙ ap status_number faulty in grind arith
-
-module _ (depth : ℕ) (text shown : List ℕ) where
-  -- a list isn't cut while there is room
-  pub cut_list_fills_the_room : Lists depth text shown (status_number OutputFailed) → length shown ≢ room → ⊥
-  cut_list_fills_the_room f less = less (list_full _ _ _ _ f refl)
-
-  -- other bytes aren't the list of a sound text
-  pub no_other_list : Lists depth text shown (status_number Sound) → shown ≢ list_text depth (whole_input text) → ⊥
-  no_other_list f other = other (list_whole _ _ _ _ f (grind arith)).0
+  pub faulty_text_is_reported : ShowsItems items text shown (status_number Sound) → status (whole_input text) ≡ Faulty → ⊥
+  faulty_text_is_reported f faulty = let same = (items_whole _ _ _ _ f (grind arith)).1 ∙ ap status_number faulty in grind arith
 
 module _ (request : PartRequest) (text shown : List ℕ) where
   -- a part isn't cut while there is room

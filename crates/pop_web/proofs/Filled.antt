@@ -3,13 +3,12 @@ use Rattle.std.proofs.Common.{Bool, List, Some, [], ap, ap₂, arith, false, len
 use Rattle.std.proofs.Math.Seq.{take-append_seam}
 use Rattle.pop_text.specs.Bytes.{Begins}
 use Rattle.pop_input.specs.Blocks.{Entry}
-use Rattle.pop_run.specs.declared.choice.Choice.{Choice}
-use Rattle.pop_run.specs.Report.{entries_in, report, status, status_of}
+use Rattle.pop_run.specs.Report.{ItemText, entries_in, report_by, status, status_of}
 use Rattle.pop_run.specs.declared.status.Status.TheVariants.{OutputFailed}
-use Rattle.pop_parts.specs.Parts.{list_text, outcome_of, text_of}
+use Rattle.pop_parts.specs.Parts.{outcome_of, text_of}
 use Rattle.pop_parts.specs.declared.request.PartRequest.{PartRequest}
 use Rattle.pop_parts.specs.declared.request.Outcome.TheVariants.{OutputFailed as PartsCut}
-use Rattle.pop_web.specs.Page.{Fills, Lists, Shows, ShowsParts, status_number, outcome_number, room, whole_input}
+use Rattle.pop_web.specs.Page.{Fills, ShowsItems, ShowsParts, status_number, outcome_number, room, whole_input}
 
 -- no status of an input has the number of a failed output
 other_number : (entries : List Entry) → status_number (status_of entries) ≢ status_number OutputFailed
@@ -56,36 +55,20 @@ module _ (Ending : Type 0) (number : Ending → ℕ) (Does : List ℕ → Bool �
       → shown ≡ take room bytes
   shown_first f other over = first f.cut f.ending f.reported f.does f.full other over
 
-module _ (choice : Choice) (text shown : List ℕ) (answer : ℕ) (f : Shows choice text shown answer) where
-  -- a report that isn't cut is shown whole, with the number of the text's status
-  pub report_whole : answer ≢ status_number OutputFailed → (shown ≡ report choice (whole_input text)) × (answer ≡ status_number (status (whole_input text)))
-  report_whole other = shown_whole _ _ _ (report choice (whole_input text)) (status (whole_input text)) OutputFailed (λ now ending does. does)
+module _ (items : ItemText) (text shown : List ℕ) (answer : ℕ) (f : ShowsItems items text shown answer) where
+  -- texts of items that aren't cut are shown whole, with the number of the text's status
+  pub items_whole : answer ≢ status_number OutputFailed → (shown ≡ report_by items (whole_input text)) × (answer ≡ status_number (status (whole_input text)))
+  items_whole other = shown_whole _ _ _ (report_by items (whole_input text)) (status (whole_input text)) OutputFailed (λ now ending does. does)
       (λ now ending does. does) _ _ f other
 
-  -- of a report that is cut, as many bytes are shown as the output has
-  pub report_first : answer ≡ status_number OutputFailed → shown ≡ take room (report choice (whole_input text))
-  report_first over = shown_first _ _ _ (report choice (whole_input text)) (status (whole_input text)) OutputFailed (λ now ending does. does)
+  -- of texts of items that are cut, as many bytes are shown as the output has
+  pub items_first : answer ≡ status_number OutputFailed → shown ≡ take room (report_by items (whole_input text))
+  items_first over = shown_first _ _ _ (report_by items (whole_input text)) (status (whole_input text)) OutputFailed (λ now ending does. does)
       (λ now ending does. does) _ _ f (other_number (entries_in (whole_input text))) over
 
-  -- a report that is cut has filled the output
-  pub report_full : answer ≡ status_number OutputFailed → length shown ≡ room
-  report_full over = room_is_full _ _ _ (report choice (whole_input text)) (status (whole_input text)) OutputFailed (λ now ending does. does)
-      (λ now ending does. does) _ _ f (other_number (entries_in (whole_input text))) over
-
-module _ (depth : ℕ) (text shown : List ℕ) (answer : ℕ) (f : Lists depth text shown answer) where
-  -- a list of parts that isn't cut is shown whole
-  pub list_whole : answer ≢ status_number OutputFailed → (shown ≡ list_text depth (whole_input text)) × (answer ≡ status_number (status (whole_input text)))
-  list_whole other = shown_whole _ _ _ (list_text depth (whole_input text)) (status (whole_input text)) OutputFailed (λ now ending does. does)
-      (λ now ending does. does) _ _ f other
-
-  -- of a list that is cut, as many bytes are shown as the output has
-  pub list_first : answer ≡ status_number OutputFailed → shown ≡ take room (list_text depth (whole_input text))
-  list_first over = shown_first _ _ _ (list_text depth (whole_input text)) (status (whole_input text)) OutputFailed (λ now ending does. does)
-      (λ now ending does. does) _ _ f (other_number (entries_in (whole_input text))) over
-
-  -- a list that is cut has filled the output
-  pub list_full : answer ≡ status_number OutputFailed → length shown ≡ room
-  list_full over = room_is_full _ _ _ (list_text depth (whole_input text)) (status (whole_input text)) OutputFailed (λ now ending does. does)
+  -- texts of items that are cut have filled the output
+  pub items_full : answer ≡ status_number OutputFailed → length shown ≡ room
+  items_full over = room_is_full _ _ _ (report_by items (whole_input text)) (status (whole_input text)) OutputFailed (λ now ending does. does)
       (λ now ending does. does) _ _ f (other_number (entries_in (whole_input text))) over
 
 module _ (request : PartRequest) (text shown : List ℕ) (answer : ℕ) (f : ShowsParts request text shown answer) where

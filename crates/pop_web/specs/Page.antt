@@ -1,13 +1,16 @@
 -- What the calls of the page return (own).
-use Rattle.std.specs.Prelude.{◌≡◌, ℕ, ◌^◌, ◌==◌, List, [], length, Some, Bool, true, false, if◌then◌else◌}
+use Rattle.std.specs.Prelude.{◌≡◌, ℕ, ◌^◌, ◌==◌, min, List, [], length, Some, Bool, true, false, if◌then◌else◌}
 use Rattle.pop_text.specs.Words.{Input, Clean}
 use Rattle.pop_events.specs.declared.event.Phase.{Phase}
 use Rattle.pop_events.specs.declared.event.Phase.TheVariants.{Set, Play}
 use Rattle.pop_run.specs.declared.choice.Choice.{Choice}
-use Rattle.pop_run.specs.Run.{Runs}
+use Rattle.pop_run.specs.Report.{ItemText, entry_text}
+use Rattle.pop_run.specs.Run.{RunsBy}
 use Rattle.pop_run.specs.declared.status.Status.{Status}
 use Rattle.pop_run.specs.declared.status.Status.TheVariants.{Sound, Faulty, InputFailed, OutputFailed}
-use Rattle.pop_parts.specs.Runs.{Lists as ListRuns, Shows as PartsRun}
+use Rattle.pop_parts.specs.Parts.{parts_line}
+use Rattle.pop_tries_run.specs.Report.{tries_entry_text}
+use Rattle.pop_parts.specs.Runs.{Shows as PartsRun}
 use Rattle.pop_parts.specs.declared.request.PartRequest.{PartRequest}
 use Rattle.pop_parts.specs.declared.request.Outcome.{Outcome}
 use Rattle.pop_parts.specs.declared.request.Outcome.TheVariants.{Shown, NoItem, FaultyItem, NoPhase, NoPart, InputFailed as PartsBroken, OutputFailed as PartsCut}
@@ -75,19 +78,29 @@ pub record Fills (Ending : Type 0) (number : Ending → ℕ)
   pub does : Does shown cut ending
   pub full : cut ≡ true → length shown ≡ room
 
--- The bytes are the report of the text, and the result is the number of its status. Or the bytes are a beginning of the
--- report that fills the output, and the result is the number of a failed output.
-abbrev pub Shows : Choice → List ℕ → List ℕ → ℕ → Type 0
-Shows choice text shown answer = Fills Status status_number
-    (λ bytes cut ending. Runs choice (whole_input text) (Some []) (Some bytes) cut ending) shown
-    answer
+-- The bytes are the joined texts of the items, and the result is the number of the text's status. Or the bytes are a
+-- beginning of these texts that fills the output, and the result is the number of a failed output.
+abbrev pub ShowsItems : ItemText → List ℕ → List ℕ → ℕ → Type 0
+ShowsItems item_text text shown answer = Fills Status status_number
+    (λ bytes cut ending. RunsBy item_text (whole_input text) (Some []) (Some bytes) cut ending)
+    shown answer
 
--- The bytes are the list of the text's parts, and the result is the number of its status; or they are a beginning of
--- the list that fills the output, and the result is the number of a failed output.
+-- the report of `pops` is shown
+abbrev pub Shows : Choice → List ℕ → List ℕ → ℕ → Type 0
+Shows choice = ShowsItems (entry_text choice)
+
+-- the greatest number of refutations of a try that the page asks for: 200 at most
+abbrev pub most_of : ℕ → ℕ
+most_of refutations = min refutations 200
+
+-- the report of `pops-tries` is shown, with all boards or none, and tries with at most this number of refutations
+abbrev pub ShowsTries : Bool → ℕ → List ℕ → List ℕ → ℕ → Type 0
+ShowsTries no_board refutations = ShowsItems
+    (tries_entry_text (record { check = false; no_board = no_board }) (most_of refutations))
+
+-- the list of parts is shown
 abbrev pub Lists : ℕ → List ℕ → List ℕ → ℕ → Type 0
-Lists depth text shown answer = Fills Status status_number
-    (λ bytes cut ending. ListRuns depth (whole_input text) (Some []) (Some bytes) cut ending) shown
-    answer
+Lists depth = ShowsItems (parts_line depth)
 
 -- The bytes are the text of the parts, and the result is the number of the outcome; or they are a beginning of the text
 -- that fills the output, and the result is the number of a failed output.

@@ -1,15 +1,18 @@
-//! The calls of the page: a text's report, the list of its parts, the solutions of one part.
+//! The calls of the page: a text's report, with or without tries, the list of its parts, the solutions of one part.
 ghost use Rattle.std.specs.Prelude.{◌≡◌, ◌<◌, ◌≤◌, length, take};
-ghost use Rattle.pop_web.specs.Page.{Lists, Shows, ShowsParts, depth_of as depth_by, status_number, outcome_number, part_of as part_by, phase_of as phase_by, room, too_small};
+ghost use Rattle.pop_web.specs.Page.{Lists, Shows, ShowsItems, ShowsParts, ShowsTries, depth_of as depth_by, status_number, outcome_number, part_of as part_by, phase_of as phase_by, room, too_small};
 
 use crate::memory_sink::MemorySink;
 use crate::text_source::TextSource;
 use pop_events::Phase;
 use pop_parts::{Outcome, PartRequest, list_parts, show_parts};
-use pop_run::{Choice, Status, report};
+use pop_run::{Choice, ItemWriter, Status, run_with};
+use pop_tries_run::TriesWriter;
 
 /// The size of the output, in bytes. Longer texts are cut.
 const ROOM: usize = 1 << 22;
+/// The most refutations of a try.
+const MOST_REFUTATIONS: u32 = 200;
 
 /// Writes the report of the input to the front of `output`, and its length in bytes to `written`.
 ///
@@ -38,15 +41,34 @@ pub extern "C" fn pops_report(
     ensures inside { written.new ≤ length output.new }
     ensures room { length output.new ≡ length output.old }
 {
-    if output.len() < ROOM {
-        return refuse(written);
-    }
-    let choice = Choice { check, no_board };
-    let mut source = TextSource::new(input);
-    let mut sink = MemorySink::<ROOM>::new();
-    let status = report(choice, &mut source, &mut sink);
-    *written = copy_out(&sink, output);
-    status_number(status)
+    show_items(Choice { check, no_board }, input, output, written)
+}
+
+/// Writes the report of the input with keys, tries and refutations to the front of `output`, and its length in bytes to
+/// `written`. A try has at most `refutations` refutations; more than 200 count as 200.
+///
+/// The results are those that `pops_report` returns; the bytes are those that `pops-tries` writes.
+#[unsafe(no_mangle)]
+pub extern "C" fn pops_tries(
+    no_board: bool,
+    refutations: u32,
+    input: &[u8],
+    output: &mut [u8],
+    written: &mut usize,
+) -> u32
+    ensures shows { room ≤ length output.old → ShowsTries no_board refutations input.now
+        (take written.new output.new) result }
+    ensures short { length output.old < room → (result ≡ too_small) × (written.new ≡ 0)
+        × (output.new ≡ output.old) }
+    ensures inside { written.new ≤ length output.new }
+    ensures room { length output.new ≡ length output.old }
+{
+    let choice = Choice {
+        check: false,
+        no_board,
+    };
+    let writer = TriesWriter::new(choice, refutations.min(MOST_REFUTATIONS));
+    show_items(writer, input, output, written)
 }
 
 /// Writes the list of the input's parts to the front of `output`, one line per item, and its length in bytes to
@@ -114,6 +136,26 @@ pub extern "C" fn pops_part(
     let outcome = show_parts(&request, &mut source, &mut sink);
     *written = copy_out(&sink, output);
     outcome_number(outcome)
+}
+
+// Writes the input's items in the way of the writer to the front of `output`, and their length in bytes to `written`.
+// Returns what `pops_report` returns.
+fn show_items<I: ItemWriter>(writer: I, input: &[u8], output: &mut [u8], written: &mut usize) -> u32
+    ensures shows { room ≤ length output.old → ShowsItems (I.text writer) input.now
+        (take written.new output.new) result }
+    ensures short { length output.old < room → (result ≡ too_small) × (written.new ≡ 0)
+        × (output.new ≡ output.old) }
+    ensures inside { written.new ≤ length output.new }
+    ensures room { length output.new ≡ length output.old }
+{
+    if output.len() < ROOM {
+        return refuse(written);
+    }
+    let mut source = TextSource::new(input);
+    let mut sink = MemorySink::<ROOM>::new();
+    let status = run_with(writer, &mut source, &mut sink);
+    *written = copy_out(&sink, output);
+    status_number(status)
 }
 
 // Notes that nothing is written, and returns the result for an output that is too small.

@@ -17,8 +17,8 @@ pub record DescribesMen (before men : List (Option Man)) (c : Colour) (v : Occup
   pub standing : (k : Kind) → bit_and (squares_of before c k) v.standing ≡ squares_of men c k
 
 -- the occupancy after the man on a has gone to b and the man on o has left the board
-abbrev pub sight_after : List (Option Man) → ℕ → Option ℕ → ℕ → Occupancy
-sight_after men a o b = record {
+abbrev pub occupancy_after : List (Option Man) → ℕ → Option ℕ → ℕ → Occupancy
+occupancy_after men a o b = record {
   occupied = bit_or (bit_and (occupied_squares men)
       (bit_not w64 (bit_or (word (is_square (Some a))) (word (is_square o)))))
       (word (is_square (Some b)));

@@ -15,7 +15,7 @@ use Rattle.chess_rules.specs.Play.{capture_square}
 use Rattle.chess_attacks.specs.Reaches.{reaches_as}
 use Rattle.chess_attacks.specs.RuleSet.{RuleSet, captures_are_reborn}
 use Rattle.chess_attacks.specs.ties.Outward.{is_reached}
-use Rattle.chess_attacks.specs.ties.Occupancy.{DescribesMen, sight_after}
+use Rattle.chess_attacks.specs.ties.Occupancy.{DescribesMen, occupancy_after}
 use Rattle.chess_rules.specs.ties.Exposure.{is_simple}
 use Rattle.chess_attacks.specs.declared.occupancy.Occupancy.{Occupancy}
 
@@ -62,15 +62,15 @@ pub record IsSeenFrom (rule : RuleSet) (p : Position) (m : Move) (x : Man) (k : 
 
 -- the occupancy after a man has gone from a to b, the man on o has left the board, and the enemy king is
 -- lifted from k; the moved man isn't among the standing men
-abbrev pub sight_lifted : List (Option Man) → ℕ → Option ℕ → ℕ → ℕ → Occupancy
-sight_lifted men a o b k = record {
-  occupied = bit_and (sight_after men a o b).occupied (bit_not w64 (word (is_square (Some k))));
-  standing = bit_and (sight_after men a o b).standing (bit_not w64 (word (is_square (Some a))));
+abbrev pub occupancy_lifted : List (Option Man) → ℕ → Option ℕ → ℕ → ℕ → Occupancy
+occupancy_lifted men a o b k = record {
+  occupied = bit_and (occupancy_after men a o b).occupied (bit_not w64 (word (is_square (Some k))));
+  standing = bit_and (occupancy_after men a o b).standing (bit_not w64 (word (is_square (Some a))));
 }
 
 -- the occupancy after the lifted king is put on t, whoever was there
-abbrev pub sight_with : Occupancy → ℕ → Occupancy
-sight_with v t = record {
+abbrev pub occupancy_with : Occupancy → ℕ → Occupancy
+occupancy_with v t = record {
   occupied = bit_or v.occupied (word (is_square (Some t)));
   standing = bit_and v.standing (bit_not w64 (word (is_square (Some t))));
 }
@@ -79,24 +79,24 @@ sight_with v t = record {
 pub record IsSafe (before : List (Option Man)) (c : Colour) (v : Occupancy) (w t : ℕ) : Type 0 where
   pub small : t < 64
   pub here : (bit_at w t == 1) ≡ true
-  pub unreached : (men : List (Option Man)) → DescribesMen before men c (sight_with v t)
+  pub unreached : (men : List (Option Man)) → DescribesMen before men c (occupancy_with v t)
       → is_reached men t c ≡ false
 
 -- the occupancy after the king lifted from k is put on t; the king isn't among the standing men
-abbrev pub sight_stepped : Occupancy → ℕ → ℕ → Occupancy
-sight_stepped v k t = record {
-  occupied = (sight_with v t).occupied;
-  standing = bit_and (sight_with v t).standing (bit_not w64 (word (is_square (Some k))));
+abbrev pub occupancy_stepped : Occupancy → ℕ → ℕ → Occupancy
+occupancy_stepped v k t = record {
+  occupied = (occupancy_with v t).occupied;
+  standing = bit_and (occupancy_with v t).standing (bit_not w64 (word (is_square (Some k))));
 }
 
 -- after the step from k to t no man of the stepping side but the king reaches s, where the mover, of colour
 -- c, has its king
 pub record IsQuietTo (before : List (Option Man)) (c : Colour) (v : Occupancy) (k t s : ℕ) : Type 0 where
   pub unreached : (men : List (Option Man))
-      → DescribesMen before men (other c) (sight_stepped v k t)
+      → DescribesMen before men (other c) (occupancy_stepped v k t)
       → is_reached men s (other c) ≡ false
 
 -- on each square of w a man of colour c other than the moved one reaches the king there
 pub record AreUnsafe (before : List (Option Man)) (c : Colour) (v : Occupancy) (w : ℕ) : Type 0 where
   pub reached : (t : ℕ) → t < 64 → (bit_at w t == 1) ≡ true → (men : List (Option Man))
-      → DescribesMen before men c (sight_with v t) → is_reached men t c ≡ true
+      → DescribesMen before men c (occupancy_with v t) → is_reached men t c ≡ true

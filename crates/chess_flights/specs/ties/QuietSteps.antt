@@ -25,8 +25,8 @@ must_reply_with_mate rule p m =
     list_all (is_mating rule (position_after rule p m)) (moves rule (position_after rule p m))
 
 -- the occupancy without the men on two squares
-abbrev pub sight_without : List (Option Man) → ℕ → ℕ → Occupancy
-sight_without men a k =
+abbrev pub occupancy_without : List (Option Man) → ℕ → ℕ → Occupancy
+occupancy_without men a k =
     let gone = bit_or (word (is_square (Some a))) (word (is_square (Some k))) in
     record {
       occupied = bit_and (occupied_squares men) (bit_not w64 gone);

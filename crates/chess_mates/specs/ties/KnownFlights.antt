@@ -11,7 +11,7 @@ use Rattle.chess_rules.specs.Play.{capture_square}
 use Rattle.chess_attacks.specs.RuleSet.{RuleSet}
 use Rattle.chess_attacks.specs.ties.Outward.{is_reached}
 use Rattle.chess_rules.specs.ties.Filtering.{is_of_others}
-use Rattle.chess_attacks.specs.ties.Occupancy.{DescribesMen, sight_after}
+use Rattle.chess_attacks.specs.ties.Occupancy.{DescribesMen, occupancy_after}
 use Rattle.chess_flights.specs.ties.Flights.{has_flight}
 
 -- the king of the side to move has no legal move if it is in check
@@ -28,6 +28,6 @@ IsKnown rule p Unknown = ⊤
 -- no enemy of the side to move reaches its king x on t after x has stepped there from k
 pub record IsUnreached (p : Position) (x : Man) (k t : ℕ) : Type 0 where
   pub none : (men : List (Option Man))
-      → DescribesMen p.men men (other p.turn) (sight_after p.men k
+      → DescribesMen p.men men (other p.turn) (occupancy_after p.men k
       (capture_square p x (record { from = k; to = t; promo = None })) t)
       → is_reached men t (other p.turn) ≡ false

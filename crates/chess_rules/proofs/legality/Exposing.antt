@@ -1,5 +1,5 @@
 -- Whether a move leaves its own king in check, decided by the attacks after it.
-use Rattle.chess_rules.proofs.Chess.{DescribesMenAfter, AreOthers, DescribesMen, Bool, Colour, IsWellFormed, Kind, King, List, Man, Move, None, Option, Position, RuleSet, Some, and_from, and_left, and_parts, ap, arith, arriving_man, bit_at, capture_square, captures_are_reborn, cases_Bool, cases_eq, cond-false, cond-true, differs, eq-eqb, like_men_paralyse, attacks_like, is_attacked_by_like, false, false≢true, in_check, is_arrival_free, is_arriving_as, is_attacked, is_attacked_at, is_castling, is_man, is_of_colour, is_paralysed, is_promotion_right, is_pseudo_legal, is_simple, is_some, is_square, joined, king_after, king_square, man_on, not, not-true, not_zero, or_parts, other, own_after, position_after, reaches, refl, rules, same_colour, same_colour-refl, same_colour-true, same_kind, shared, sight_after, some_square, squares_not, squares_of, squares_same, subst, sym, true, word, word_empty, word_has, ℕ, ◌&&◌, ◌<◌, ◌==◌, ◌||◌, ◌∙◌, ◌≡◌}
+use Rattle.chess_rules.proofs.Chess.{DescribesMenAfter, AreOthers, DescribesMen, Bool, Colour, IsWellFormed, Kind, King, List, Man, Move, None, Option, Position, RuleSet, Some, and_from, and_left, and_parts, ap, arith, arriving_man, bit_at, capture_square, captures_are_reborn, cases_Bool, cases_eq, cond-false, cond-true, differs, eq-eqb, like_men_paralyse, attacks_like, is_attacked_by_like, false, false≢true, in_check, is_arrival_free, is_arriving_as, is_attacked, is_attacked_at, is_castling, is_man, is_of_colour, is_paralysed, is_promotion_right, is_pseudo_legal, is_simple, is_some, is_square, joined, king_after, king_square, man_on, not, not-true, not_zero, or_parts, other, own_after, position_after, reaches, refl, rules, same_colour, same_colour-refl, same_colour-true, same_kind, shared, occupancy_after, some_square, squares_not, squares_of, squares_same, subst, sym, true, word, word_empty, word_has, ℕ, ◌&&◌, ◌<◌, ◌==◌, ◌||◌, ◌∙◌, ◌≡◌}
 use Rattle.chess_attacks.specs.declared.occupancy.Occupancy.{Occupancy}
 use Rattle.chess_attacks.proofs.attacks.Attacking.{attacked_by}
 use Rattle.chess_attacks.proofs.rays.Ends.{square_is}
@@ -132,13 +132,13 @@ others_on rule p x m s well is small side =
     grind (arith, cases_eq s m.to, gone, there_now, left_now, kept_now, arriving_colour, other_differs)
 
 own_words : (rule : RuleSet) (p : Position) (x : Man) (m : Move) (k : Kind) → IsWellFormed p → IsMade rule p x m → m.to < 64
-    → own_after p.men (sight_after p.men m.from (capture_square p x m) m.to) x m k ≡ squares_of (arrived p x m) x.colour k
+    → own_after p.men (occupancy_after p.men m.from (capture_square p x m) m.to) x m k ≡ squares_of (arrived p x m) x.colour k
 unfolding squares_of
 own_words rule p x m k well is small =
     joined _ _ _ _ (shared _ _ _ _ (shared _ _ _ _ refl (squares_not _)) (squares_not _)) refl ∙ squares_same _ _ (λ s b. own_on rule p x m k s well is small)
 
 are_arrived : (rule : RuleSet) (p : Position) (x : Man) (m : Move) → IsWellFormed p → IsMade rule p x m → m.to < 64
-    → DescribesMenAfter p.men (arrived p x m) x m (sight_after p.men m.from (capture_square p x m) m.to)
+    → DescribesMenAfter p.men (arrived p x m) x m (occupancy_after p.men m.from (capture_square p x m) m.to)
 are_arrived rule p x m well is small = search (rules, seen_after, goes_capturing, own_words, others_on)
 
 -- a square is attacked after a move exactly if a man of the word of those that reach it isn't paralysed
@@ -150,14 +150,14 @@ attacked_after rule men c t w b are free = search (rules, and_parts, word_has, a
 -- the mover is in check exactly if the king's square is attacked then
 pub exposed_is : (rule : RuleSet) (p : Position) (x : Man) (m : Move) (k : ℕ) (b : Bool) → IsWellFormed p → is_pseudo_legal rule p m ≡ true → m.to < 64
     → man_on p.men m.from ≡ Some x → is_simple rule x m (is_some (capture_square p x m)) ≡ true → king_after p x m ≡ Some k
-    → ((men : List (Option Man)) → DescribesMenAfter p.men men x m (sight_after p.men m.from (capture_square p x m) m.to)
-    → DescribesMen p.men men (other x.colour) (sight_after p.men m.from (capture_square p x m) m.to) → b ≡ is_attacked rule men k (other x.colour))
+    → ((men : List (Option Man)) → DescribesMenAfter p.men men x m (occupancy_after p.men m.from (capture_square p x m) m.to)
+    → DescribesMen p.men men (other x.colour) (occupancy_after p.men m.from (capture_square p x m) m.to) → b ≡ is_attacked rule men k (other x.colour))
     → b ≡ in_check rule (position_after rule p m).men p.turn
 exposed_is rule p x m k b well may small here simple king attacked =
     let is : IsMade rule p x m = made rule p m x may here in
     let parts : IsSimple rule p x m = simple_parts rule p x m simple in
     attacked (arrived p x m) (are_arrived rule p x m well is small)
-    (subst (λ (c : Colour). DescribesMen p.men (arrived p x m) (other c) (sight_after p.men m.from (capture_square p x m) m.to)) (sym is.mine)
+    (subst (λ (c : Colour). DescribesMen p.men (arrived p x m) (other c) (occupancy_after p.men m.from (capture_square p x m) m.to)) (sym is.mine)
     (seen_after p.men m.from (capture_square p x m) m.to (arriving_man x m.promo) p.turn (goes_capturing rule p x m well is small)))
     ∙ ap (λ (c : Colour). is_attacked rule (arrived p x m) k (other c)) is.mine
     ∙ sym (check_is rule p x m (Some k) well is small parts king)

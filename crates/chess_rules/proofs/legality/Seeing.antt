@@ -1,5 +1,5 @@
 -- The men that attacks depend on after a move.
-use Rattle.chess_rules.proofs.Chess.{DescribesMen, Bool, Colour, Kind, King, List, Man, None, Option, Some, and_left, ap, arith, bit_not, cases_Bool, cases_eq, differs, eq-eqb, eqb-true, false, false≢true, is_man, is_of_colour, is_some, is_square, joined, king_square, length, man_on, man_on-with_other, man_on-without_other, man_on-without_same, not, or_cases, or_parts, or_right, other, refl, rules, same_colour, shared, sight_after, squares, squares_either, squares_not, squares_of, squares_same, true, w64, with_man, without_at, without_man, word, ℕ, ◌&&◌, ◌<◌, ◌||◌, ◌∙◌, ◌≡◌, ◌≢◌}
+use Rattle.chess_rules.proofs.Chess.{DescribesMen, Bool, Colour, Kind, King, List, Man, None, Option, Some, and_left, ap, arith, bit_not, cases_Bool, cases_eq, differs, eq-eqb, eqb-true, false, false≢true, is_man, is_of_colour, is_some, is_square, joined, king_square, length, man_on, man_on-with_other, man_on-without_other, man_on-without_same, not, or_cases, or_parts, or_right, other, refl, rules, same_colour, shared, occupancy_after, squares, squares_either, squares_not, squares_of, squares_same, true, w64, with_man, without_at, without_man, word, ℕ, ◌&&◌, ◌<◌, ◌||◌, ◌∙◌, ◌≡◌, ◌≢◌}
 use Rattle.chess_rules.proofs.making_moves.Plays.{stays_empty}
 
 -- a man is on s after the men on a and o have left and one has come to b
@@ -7,7 +7,7 @@ abbrev pub is_occupied_after : List (Option Man) → ℕ → Option ℕ → ℕ 
 is_occupied_after men a o b s = (is_some (man_on men s) && not (is_square (Some a) s || is_square o s)) || is_square (Some b) s
 
 -- the words after a move, by tests
-pub occupied_words : (men : List (Option Man)) (a : ℕ) (o : Option ℕ) (b : ℕ) → (sight_after men a o b).occupied ≡ word (is_occupied_after men a o b)
+pub occupied_words : (men : List (Option Man)) (a : ℕ) (o : Option ℕ) (b : ℕ) → (occupancy_after men a o b).occupied ≡ word (is_occupied_after men a o b)
 occupied_words men a o b = joined _ _ _ _ (shared _ _ _ _ refl (ap (bit_not w64) (squares_either _ _) ∙ squares_not _)) refl
 
 -- the men once z has come from a to b and the man on o is gone
@@ -57,7 +57,7 @@ enemy_now men a o b z c k q i =
 
 -- the bitboards after a move describe the men after it
 pub seen_after : (men : List (Option Man)) (a : ℕ) (o : Option ℕ) (b : ℕ) (z : Man) (c : Colour) → IsCapture men a o b z c
-    → DescribesMen men (gone_to men a o b z) (other c) (sight_after men a o b)
+    → DescribesMen men (gone_to men a o b z) (other c) (occupancy_after men a o b)
 unfolding squares_of
 seen_after men a o b z c i = record {
   occupied = occupied_words men a o b ∙ squares_same _ _ (λ q less. occupied_now men a o b z q i.small);

@@ -21,7 +21,7 @@ use chess_attacks::lines::{
     diagonal_lines, diagonal_rides, knight_lines_with, occupied, queen_lines_with, straight_lines,
     straight_rides,
 };
-use chess_attacks::occupancy::sight_now;
+use chess_attacks::occupancy::occupancy_now;
 use chess_attacks::words::{contains, only, pop_first};
 use chess_core::{Board, Colour, Kind, Man, Move, Square, Squares};
 
@@ -209,7 +209,7 @@ fn checkers_of(
 {
     // For the proof: a square's number is below 64.
     let _small = square.index();
-    let occupancy = sight_now(board);
+    let occupancy = occupancy_now(board);
     leaping_attackers_in(board, occupancy, square, colour)
         | line_riders(board, colour, RiderLines::Straight) & straight
         | line_riders(board, colour, RiderLines::Diagonal) & diagonal

@@ -16,7 +16,7 @@ ghost use Rattle.chess_attacks.specs.ties.Occupancy.{DescribesMen};
 use crate::making_moves::play::{arriving_man, capture_square, is_castling, play};
 use crate::making_moves::undoing::unplay;
 use chess_attacks::attacks_on::{attackers_in, has_attacker_in, reaching_among};
-use chess_attacks::occupancy::{Occupancy, sight_after};
+use chess_attacks::occupancy::{Occupancy, occupancy_after};
 use chess_attacks::words::{only, pop_first};
 use chess_attacks::{Rules, in_check};
 use chess_core::{Board, Kind, Man, Move, Square, Squares};
@@ -167,7 +167,7 @@ fn leaves_king_in_check_unplayed<R: Rules>(board: &Board, m: &Move) -> Option<bo
     let Some(king) = king_after(board, man, m) else {
         return Some(false);
     };
-    let occupancy = sight_after(board, m.from, captured, m.to);
+    let occupancy = occupancy_after(board, m.from, captured, m.to);
     Some(is_attacked_after::<R>(board, occupancy, man, m, king))
 }
 

@@ -15,7 +15,7 @@ use crate::legality::evasions::rebirth_captures;
 use crate::legality::legal::is_legal;
 use crate::legality::targets::promoting_squares;
 use crate::listing_moves::legal_moves::LegalityMasks;
-use crate::listing_moves::triples::{PER_ARRIVAL, PER_ORIGIN, next_from, triple};
+use crate::listing_moves::triples::{PER_ARRIVAL, PER_ORIGIN, move_at, next_from};
 use chess_attacks::Rules;
 use chess_attacks::words::{contains, only, pop_first, squares_from};
 use chess_core::{Board, Colour, Kind, Man, Move, Square, Squares};
@@ -132,7 +132,7 @@ fn count_of_pawn<R: Rules>(
     let mut count = 0u16;
     let mut at = next_from(board, from, squares, start);
     while at < end {
-        let m = triple(first + at);
+        let m = move_at(first + at);
         count += u16::from(is_legal::<R>(board, known.blocker_squares, known.evasion_squares, m));
         at = next_from(board, from, squares, at + 1);
     }

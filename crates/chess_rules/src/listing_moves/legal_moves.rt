@@ -16,7 +16,7 @@ use crate::legality::targets::arrivals;
 use crate::listing_moves::filter_moves::{Filtered, FilteredMoves, next_unfiltered, some_filtered};
 use crate::listing_moves::move_filter::{MoveFilter, TargetCache, next_passing};
 use crate::listing_moves::moves::Moves;
-use crate::listing_moves::triples::{TRIPLES, triple};
+use crate::listing_moves::triples::{TRIPLES, move_at};
 use chess_attacks::Rules;
 use chess_core::{Board, Move, Square, Squares};
 use std::alloc::AllocError;
@@ -146,7 +146,7 @@ impl<R: Rules> LegalCursor<R> {
         );
         if number < TRIPLES {
             self.number = number + 1;
-            return Some(triple(number));
+            return Some(move_at(number));
         }
         self.number = TRIPLES;
         None
@@ -181,7 +181,7 @@ impl<R: Rules> LegalCursor<R> {
         );
         if number < last {
             self.number = number + 1;
-            return Some(triple(number));
+            return Some(move_at(number));
         }
         None
     }
@@ -238,7 +238,7 @@ impl<R: Rules> LegalCursor<R> {
         if number < TRIPLES {
             self.number = number + 1;
             return Filtered {
-                found: Some(triple(number)),
+                found: Some(move_at(number)),
                 passed,
             };
         }

@@ -8,7 +8,7 @@ ghost use Rattle.chess_core.specs.declared.man.Kind.TheVariants.{Pawn};
 ghost use Rattle.chess_rules.specs.ties.Places.{NonePass, all_triples, per_origin, triple_at};
 ghost use Rattle.chess_rules.specs.ties.Targets.{AreCandidates, IsTargetCacheOf, AreOrigins, IsAimed, passes_to};
 
-use crate::listing_moves::triples::{PER_ARRIVAL, PER_ORIGIN, next_from, triple};
+use crate::listing_moves::triples::{PER_ARRIVAL, PER_ORIGIN, move_at, next_from};
 use chess_attacks::Rules;
 use chess_attacks::words::{contains, pop_first, squares_from};
 use chess_core::{Board, Kind, Move, Square, Squares};
@@ -117,7 +117,7 @@ fn next_of_pawn<R: Rules, S: MoveFilter>(
     let first = u16::from(from.index()) * PER_ORIGIN;
     let mut at = next_from(board, from, squares, start);
     while at < end {
-        if move_filter.is_found::<R>(board, triple(first + at)) {
+        if move_filter.is_found::<R>(board, move_at(first + at)) {
             return at;
         }
         at = next_from(board, from, squares, at + 1);

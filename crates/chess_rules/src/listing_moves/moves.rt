@@ -5,9 +5,9 @@ ghost use Rattle.chess_core.specs.WellFormed.{IsWellFormed};
 ghost use Rattle.chess_rules.specs.Legal.{is_legal, is_mate, is_nil, is_stalemate, moves};
 ghost use Rattle.chess_rules.specs.ties.Places.{first_after, moves_after, moves_between, place_of};
 
-use crate::legality::alone::is_single_move_legal;
+use crate::legality::single_move::is_single_move_legal;
 use crate::listing_moves::legal_moves::LegalCursor;
-use crate::listing_moves::triples::{TRIPLES, triple};
+use crate::listing_moves::triples::{TRIPLES, move_at};
 use chess_attacks::{Rules, in_check};
 use chess_core::{Board, Move};
 use std::alloc::AllocError;
@@ -89,7 +89,7 @@ impl<R> Moves<R> {
     }
 
     /// Returns the cursor one triple earlier; the start stays the start.
-    pub fn back(self) -> Moves<R>
+    pub fn previous(self) -> Moves<R>
         ensures { result ≡ self - 1 }
     {
         Moves {
@@ -133,7 +133,7 @@ impl<R: Rules> Moves<R> {
         if self.number == 0 || self.number > TRIPLES {
             return None;
         }
-        let m = triple(self.number - 1);
+        let m = move_at(self.number - 1);
         if is_single_move_legal::<R>(board, m) {
             Some(m)
         } else {

@@ -33,7 +33,7 @@ fn promotion_at(number: u16) -> Option<Kind>
 }
 
 /// Returns the triple with this number, from 0 to `TRIPLES - 1`, in the order of moves.
-pub fn triple(number: u16) -> Move
+pub fn move_at(number: u16) -> Move
     requires { number < all_triples }
     ensures { result ≡ triple_at number }
 {

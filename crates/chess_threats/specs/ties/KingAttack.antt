@@ -2,7 +2,7 @@
 -- king (own).
 use Rattle.std.specs.Prelude.{◌≡◌, ◌≢◌, ◌<◌, ◌==◌, ◌⊎◌, ◌+◌, ◌-◌, ℕ, true, false, List, Option, Some, is_some}
 use Rattle.std.specs.Int.{bit_at}
-use Rattle.std.specs.Int.Bits.{bit_and, bit_or}
+use Rattle.std.specs.Int.Bits.{bit_and}
 use Rattle.std.specs.List.{list_any}
 use Rattle.chess_core.specs.Castling.{has_unmoved}
 use Rattle.chess_core.specs.Position.{Position, is_fairy, is_man, is_of_colour, king_square, man_on, may_promote, other, same_kind}
@@ -10,7 +10,7 @@ use Rattle.chess_core.specs.Squares.{file_of}
 use Rattle.chess_core.specs.Steps.{gait_of, is_hopper, queen_steps, straight_steps}
 use Rattle.chess_core.specs.declared.man.Colour.{Colour}
 use Rattle.chess_core.specs.declared.man.Kind.{Kind}
-use Rattle.chess_core.specs.declared.man.Kind.TheVariants.{King, Queen, Rook, Bishop, Knight, Pawn, Nightrider}
+use Rattle.chess_core.specs.declared.man.Kind.TheVariants.{King, Rook, Bishop, Pawn, Nightrider}
 use Rattle.chess_core.specs.declared.man.Man.{Man}
 use Rattle.chess_core.specs.ties.Words.{side_of}
 use Rattle.chess_flights.specs.declared.attackers.Attackers.{Attackers}
@@ -242,14 +242,21 @@ pub record IsCaptured (v : KingAttack) (g : KingZone) (s a t : ℕ) : Type 0 whe
   pub on : (bit_at g.captures t == 1) ≡ true
   pub unguarded : IsUnguarded v s a t
 
--- whatever x becomes on t, a flight remains or the king captures it
+-- x on t checks on no board, is no springboard for a hopper's check, and no other attacker checks
+pub record IsCalm (v : KingAttack) (g : KingZone) (x : Man) (s a t : ℕ) : Type 0 where
+  pub off : (men : List (Option Man)) → reaches_as men x.colour x.kind t g.king ≡ false
+  pub unsprung : (bit_at g.springboards t == 1) ≡ false
+  pub covered : IsUnguarded v s a g.king
+
+-- the king captures x on t, or whatever x becomes there, a flight remains or it gives no check
 abbrev pub LeavesFlight : KingAttack → KingZone → Man → ℕ → ℕ → ℕ → ℕ → Type 0
 LeavesFlight v g x s a b t =
     IsCaptured v g s a t
-    ⊎ ((z : Man) → MayBecome v.men.fairy_promotions x t z → IsFlight v g z s a b t)
+    ⊎ ((z : Man) → MayBecome v.men.fairy_promotions x t z
+    → IsFlight v g z s a b t ⊎ IsCalm v g z s a t)
 
 -- x's arrival on t doesn't mate: t isn't one of the targets and no other attacker checks, or a flight
--- remains, or the king captures x
+-- remains, or the king captures x, or x gives no check
 abbrev pub IsMet : KingAttack → KingZone → Man → ℕ → ℕ → ℕ → ℕ → ℕ → Type 0
 IsMet v g x s targets a b t =
     ((bit_at v.enemies t == 1) ≡ true → b ≡ t)
@@ -313,7 +320,7 @@ pub record AreHopTargets (v : KingAttack) (k : ℕ) (i : HopTargets) : Type 0 wh
 
 -- the king zone: the squares next to the king where it may go or capture, its lines, springboards and
 -- promotion squares
-pub record IsField (v : KingAttack) (g : KingZone) : Type 0 where
+pub record IsKingZone (v : KingAttack) (g : KingZone) : Type 0 where
   pub hop_targets : AreHopTargets v g.king
       (record { near = g.near; own = g.springboards; all = g.hops })
   pub captures : AreCaptureSquares v g.king g.captures
@@ -339,7 +346,7 @@ pub record IsCastlingHarmless (v : KingAttack) (g : KingZone) : Type 0 where
 pub record IsRiskAt (v : KingAttack) (k : ℕ) (r : Risk) : Type 0 where
   pub king_zone : KingZone
   pub king : king_zone.king ≡ k
-  pub is : IsField v king_zone
+  pub is : IsKingZone v king_zone
   pub castling : (b : ℕ) → b < 64 → (bit_at r.critical b == 1) ≡ false
       → IsCastlingHarmless v king_zone
   pub lines : (a b : ℕ) → b < 64 → (bit_at r.critical b == 1) ≡ false
@@ -423,25 +430,17 @@ pub record AreGuardsThrough (v : KingAttack) (w : ℕ) : Type 0 where
   pub guards : (s : ℕ) (x : Man) → IsAttacker v.men x s → is_hopper (gait_of x.kind) ≡ false
       → IsReached hurdles x s w
 
--- wherever an attacker that is neither king nor hopper arrives on a target and on some board checks a king
--- on k, a square of w remains
-pub record AreChecksMet (a : Attackers) (o : OpenTargets) (w k : ℕ) : Type 0 where
-  pub left : (j : Kind) → same_kind j King ≡ false → is_hopper (gait_of j) ≡ false → (t : ℕ)
-      → t < 64 → (bit_at (targets_for o j) t == 1) ≡ true → (men : List (Option Man))
-      → reaches_as men a.colour j t k ≡ true
-      → (f : ℕ) × IsLeft w (record { colour = a.colour; kind = j }) t f
+-- x on t checks a king on k on no board, or it leaves a square of w
+abbrev pub IsCheckMet : ℕ → Man → ℕ → ℕ → Type 0
+IsCheckMet w x t k =
+    ((men : List (Option Man)) → reaches_as men x.colour x.kind t k ≡ false)
+    ⊎ ((f : ℕ) × IsLeft w x t f)
 
--- where a pawn of colour c promotes on one of the targets, neither it nor what it becomes checks a king on
--- k, or a square of w remains of a queen's and of a knight's arrival
-pub record IsPromotionMet (w : ℕ) (c : Colour) (targets k : ℕ) : Type 0 where
-  pub promotions : ℕ
-  pub are : ArePromotions c false k promotions
-  pub pawns : ℕ
-  pub approached : AreApproached (record { colour = c; kind = Pawn }) k pawns
-  pub left : (x : Man) (t : ℕ) → x.colour ≡ c → t < 64 → (bit_at targets t == 1) ≡ true
-      → is_promoting x t ≡ true → (bit_at (bit_or promotions pawns) t == 1) ≡ true
-      → ((f : ℕ) × IsLeft w (record { colour = c; kind = Queen }) t f)
-      × ((f : ℕ) × IsLeft w (record { colour = c; kind = Knight }) t f)
+-- wherever an attacker that is neither king nor hopper arrives on a target, its check to a king on k is met
+pub record AreChecksMet (a : Attackers) (o : OpenTargets) (w k : ℕ) : Type 0 where
+  pub met : (j : Kind) → same_kind j King ≡ false → is_hopper (gait_of j) ≡ false → (t : ℕ)
+      → t < 64 → (bit_at (targets_for o j) t == 1) ≡ true
+      → IsCheckMet w (record { colour = a.colour; kind = j }) t k
 
 -- except in Circe, the king keeps a flight after its step to t, whatever is played next
 pub record KeepsFlight (rule : RuleSet) (v : KingAttack) (t : ℕ) : Type 0 where

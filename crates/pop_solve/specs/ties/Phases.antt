@@ -16,7 +16,7 @@ use Rattle.pop_events.specs.declared.event.Event.{Event}
 use Rattle.pop_events.specs.declared.event.Phase.{Phase}
 use Rattle.pop_events.specs.declared.event.Phase.TheVariants.{Play}
 use Rattle.pop_solve.specs.declared.phases.Stage.{Stage}
-use Rattle.pop_solve.specs.declared.phases.Stage.TheVariants.{Before, Barred, First, Within, After}
+use Rattle.pop_solve.specs.declared.phases.Stage.TheVariants.{Before, NotPossible, First, Within, After}
 use Rattle.pop_solve.specs.declared.phases.Walk.{Walk}
 use Rattle.pop_solve.specs.declared.plan.Plan.{Plan}
 use Rattle.pop_solve.specs.ties.Plans.{goes_on, plan_of, walk_of}
@@ -64,7 +64,7 @@ events_after rule problem walk = if goes_on walk then events_from rule problem P
 -- the events still to come
 unfoldable pub left_of : RuleSet → Posed → Stage → List Frame → List BareEvent
 left_of rule problem (Before phase) frames = events_from rule problem phase
-left_of rule problem Barred frames = impossible ∷ events_from rule problem Play
+left_of rule problem NotPossible frames = impossible ∷ events_from rule problem Play
 left_of rule problem (First walk) frames =
     events_along problem walk.phase 0 (path frames ∷ phase_paths rule problem walk.phase frames)
     (events_after rule problem walk)
@@ -76,7 +76,7 @@ left_of rule problem After frames = []
 -- what holds of board and frames at a stage
 unfoldable pub HoldsAtStage : RuleSet → Posed → Stage → List Frame → Position → Type 0
 HoldsAtStage rule problem (Before phase) frames board = (frames ≡ []) × (board ≡ play_start problem)
-HoldsAtStage rule problem Barred frames board = (frames ≡ []) × (board ≡ play_start problem)
+HoldsAtStage rule problem NotPossible frames board = (frames ≡ []) × (board ≡ play_start problem)
 HoldsAtStage rule problem (First walk) frames board =
     IsWalking rule (phase_half_moves problem walk.phase) (phase_start problem walk.phase) frames
     board
@@ -119,7 +119,7 @@ pub record Gives (rule : RuleSet) (problem : Posed) (old new : List BareEvent) (
 -- the most positions that can still be counted in help play, or if only keys are shown
 unfoldable pub rest_open : RuleSet → Posed → Stage → List Frame → ℕ
 rest_open rule problem (Before phase) frames = walk_from rule problem phase
-rest_open rule problem Barred frames = walk_from rule problem Play
+rest_open rule problem NotPossible frames = walk_from rule problem Play
 rest_open rule problem (First walk) frames =
     to_open rule (phase_start problem walk.phase) frames
     + (if goes_on walk then walk_from rule problem Play else 0)
@@ -131,7 +131,7 @@ rest_open rule problem After frames = 0
 -- the fewest positions that have still to be tried
 unfoldable pub rest_fewest : RuleSet → Posed → Stage → List Frame → ℕ
 rest_fewest rule problem (Before phase) frames = fewest_from rule problem phase
-rest_fewest rule problem Barred frames = fewest_from rule problem Play
+rest_fewest rule problem NotPossible frames = fewest_from rule problem Play
 rest_fewest rule problem (First walk) frames =
     fewest_left rule (plan_of problem) (phase_half_moves problem walk.phase)
     (phase_start problem walk.phase) frames
@@ -153,7 +153,7 @@ pub record IsKeys (problem : Posed) (phase : Phase) : Type 0 where
 unfoldable pub IsNarrow : Posed → Stage → List Frame → Type 0
 IsNarrow problem (Before phase) frames = (play_of problem.stipulation.form ≡ HelpPlay)
     ⊎ IsKeys problem phase
-IsNarrow problem Barred frames = play_of problem.stipulation.form ≡ HelpPlay
+IsNarrow problem NotPossible frames = play_of problem.stipulation.form ≡ HelpPlay
 IsNarrow problem (First walk) frames =
     (play_of problem.stipulation.form ≡ HelpPlay)
     ⊎ ((keys : IsKeys problem walk.phase) × (are_whites keys.battle frames ≡ true))

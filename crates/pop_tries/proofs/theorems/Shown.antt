@@ -1,6 +1,8 @@
 -- What is shown below a first move, for any game: which threats and replies, in which order, and that
 -- nothing comes twice.
-use Rattle.pop_tries.proofs.Words.{AllPairs, Battle, Below, Bool, Contains, Game, List, Passing, [], ap, arith, below_first, below_reply, best_moves, Contains-append_cases, in_cases, but, check, cond, faced, false, filter_agree, flat_map, from_map, has_threat, in_map, inl, inr, is_defence, is_in_set_play, map, none_in_nil, pairs_append, pairs_later, pairs_map, pairs_of, pairs_weaker, refl, refutation, refutations, reply, reply_nodes, set_tree, shown_refutations, shown_replies, suc, sym, subst, threat, threat_nodes, threatened, threats, true, zugzwang, AllPairs-filter, node, ℕ, ◌&&◌, ◌++◌, ◌-◌, ◌<◌, ◌↔◌, ◌∙◌, ◌∷◌, ◌≡◌, ◌≢◌, ◌≤◌}
+use Rattle.pop_tries.proofs.Words.{AllPairs, Battle, Below, Bool, Contains, Game, List, Passing, [], ap, arith, below_first, below_reply, best_moves, Contains-append_cases, in_cases, but, check, cond, faced, false, filter_agree, flat_map, from_map, has_threat, in_map, inl, inr, is_defence, is_in_set_play, map, none_in_nil, pairs_append, pairs_later, pairs_map, pairs_of, pairs_weaker, refl, refutation, refutations, reply, reply_nodes, set_tree, shown_refutations, shown_replies, suc, sym, subst, threat, threat_nodes, threatened, threats, true, zugzwang, AllPairs-filter, node, ℕ, ◌&&◌, ◌++◌, ◌-◌, ◌↔◌, ◌∙◌, ◌∷◌, ◌≡◌, ◌≢◌, ◌≤◌}
+use Rattle.pop_battle.proofs.Words.{append_assoc}
+use Rattle.pop_tries.proofs.Words.{pairs_nil, ◌+◌}
 use Rattle.pop_solve.proofs.Nodes.{HoldsOfTrees, deeper_are, in_order, roots_are, set_tree_paths, singles_hold, trees_hold, unless}
 unfoldable use Rattle.pop_solve.proofs.Nodes.{below_set}
 use Rattle.pop_solve.proofs.theorems.Lists.{StandsBefore, never_before_itself}
@@ -11,6 +13,21 @@ use Rattle.pop_tries.proofs.theorems.Threats.{each_is_defence_where_nothing_thre
 pairs_back : {X : Type 0} (R : X → X → Type 0) (xs ys : List X) → AllPairs R (xs ++ ys) → AllPairs R ys
 pairs_back R [] ys a = a
 pairs_back R (x ∷ xs) ys a = pairs_back R xs ys (pairs_later R x (xs ++ ys) a)
+
+-- lists of which nothing comes twice, whose elements have ranks from k on
+module _ {X : Type 0} (rank : X → ℕ) where
+  abbrev pub Rising : ℕ → List X → Type 0
+  Rising k xs = AllPairs (λ x y. x ≢ y) xs × ((x : X) → Contains xs x → k ≤ rank x)
+
+  pub rising : (k : ℕ) (xs ys : List X) → AllPairs (λ x y. x ≢ y) xs → ((x : X) → Contains xs x → rank x ≡ k) → Rising (k + 1) ys → Rising k (xs ++ ys)
+  rising k xs ys differ same later = (
+    pairs_append (λ x y. x ≢ y) xs ys differ later.0 (λ x y c d e. omega (arith, ap rank e, same x c, later.1 y d)),
+    λ x c. elim (Contains-append_cases xs ys x c) [ inl a ↦ omega (arith, same x a) | inr b ↦ omega (arith, later.1 x b) ],
+  )
+
+  pub one : (k : ℕ) (x : X) (ys : List X) → rank x ≡ k → Rising (k + 1) ys → Rising k (x ∷ ys)
+  one k x ys is later = rising k (x ∷ []) ys (pairs_of (λ x y. x ≢ y) x [] (λ y c. absurd (none_in_nil y c)) (pairs_nil (λ x y. x ≢ y)))
+      (λ y c. elim (in_cases x [] y c) [ inl e ↦ ap rank (sym e) ∙ is | inr none ↦ absurd (none_in_nil y none) ]) later
 
 -- a first move leads to q, with h half-moves left
 module _ {P M : Type 0} (battle : Battle) (game : Game P M) (n : ℕ) (passing : Passing P M) (variation : Bool) (h : ℕ) (q : P) where
@@ -92,46 +109,22 @@ module _ {P M : Type 0} (battle : Battle) (game : Game P M) (n : ℕ) (passing :
   part but = 3
   part (refutation d) = 4
 
-  apart : (x y : Below M) → part x < part y → x ≢ y
-  apart x y less same = omega (arith, less, ap part same)
-
   part_of_map : {X : Type 0} (f : X → Below M) (k : ℕ) → ((x : X) → part (f x) ≡ k) → (xs : List X) (y : Below M) → Contains (map f xs) y → part y ≡ k
   part_of_map f k all xs y c = let w = from_map f xs y c in ap part (sym w.2) ∙ all w.0
 
   differ : (w : Below M) → part w ≡ 0 → (ts rs : List (List M)) (ds : List M) → AllPairs (λ a b. a ≢ b) ts → AllPairs (λ a b. a ≢ b) rs
       → AllPairs (λ a b. a ≢ b) ds → AllPairs (λ a b. a ≢ b) ((w ∷ map threatened ts ++ map reply rs) ++ (but ∷ map refutation ds))
   differ w first ts rs ds a b c =
-      let one = part_of_map threatened 1 (λ x. refl) ts in
-      let two = part_of_map reply 2 (λ x. refl) rs in
-      let four = part_of_map refutation 4 (λ x. refl) ds in
-      let shown = pairs_append (λ a b. a ≢ b) (map threatened ts) (map reply rs)
-      (pairs_map (λ a b. a ≢ b) (λ a b. a ≢ b) threatened ts (λ x y ne same. ne (grind arith)) a)
-      (pairs_map (λ a b. a ≢ b) (λ a b. a ≢ b) reply rs (λ x y ne same. ne (grind arith)) b)
-      (λ x y s t. apart x y (omega (arith, one x s, two y t))) in
-      let refuted = pairs_of (λ a b. a ≢ b) but (map refutation ds)
-      (λ y t. apart but y (omega (arith, four y t)))
-      (pairs_map (λ a b. a ≢ b) (λ a b. a ≢ b) refutation ds (λ x y ne same. ne (grind arith)) c) in
-      let early : (x : Below M) → Contains (w ∷ map threatened ts ++ map reply rs) x → part x ≤ 2 =
-      λ x s. elim (in_cases w (map threatened ts ++ map reply rs) x s) [
-        | inl same ↦ omega (arith, ap part same, first)
-        | inr later ↦ elim (Contains-append_cases (map threatened ts) (map reply rs) x later) [
-          | inl s ↦ omega (arith, one x s)
-          | inr t ↦ omega (arith, two x t)
-        ]
-      ] in
-      let late : (y : Below M) → Contains (but ∷ map refutation ds) y → 3 ≤ part y =
-      λ y t. elim (in_cases but (map refutation ds) y t) [
-        | inl same ↦ omega (arith, ap part same)
-        | inr later ↦ omega (arith, four y later)
-      ] in
-      let next : (y : Below M) → Contains (map threatened ts ++ map reply rs) y → 1 ≤ part y =
-      λ y t. elim (Contains-append_cases (map threatened ts) (map reply rs) y t) [
-        | inl s ↦ omega (arith, one y s)
-        | inr s ↦ omega (arith, two y s)
-      ] in
-      pairs_append (λ a b. a ≢ b) (w ∷ map threatened ts ++ map reply rs) (but ∷ map refutation ds)
-      (pairs_of (λ a b. a ≢ b) w (map threatened ts ++ map reply rs) (λ y t. apart w y (omega (arith, first, next y t))) shown)
-      refuted (λ x y s t. apart x y (omega (arith, early x s, late y t)))
+      let refuted : Rising part 3 (but ∷ map refutation ds) = one part 3 but (map refutation ds) refl (
+        pairs_map (λ a b. a ≢ b) (λ a b. a ≢ b) refutation ds (λ x y ne same. ne (grind arith)) c,
+        λ y s. omega (arith, part_of_map refutation 4 (λ x. refl) ds y s),
+      ) in
+      let replied : Rising part 2 (map reply rs ++ (but ∷ map refutation ds)) = rising part 2 (map reply rs) (but ∷ map refutation ds)
+      (pairs_map (λ a b. a ≢ b) (λ a b. a ≢ b) reply rs (λ x y ne same. ne (grind arith)) b) (part_of_map reply 2 (λ x. refl) rs) refuted in
+      subst (AllPairs (λ a b. a ≢ b)) (ap (λ l. w ∷ l) (sym (append_assoc (map threatened ts) (map reply rs) (but ∷ map refutation ds))))
+      (one part 0 w (map threatened ts ++ (map reply rs ++ (but ∷ map refutation ds))) first
+      (rising part 1 (map threatened ts) (map reply rs ++ (but ∷ map refutation ds))
+      (pairs_map (λ a b. a ≢ b) (λ a b. a ≢ b) threatened ts (λ x y ne same. ne (grind arith)) a) (part_of_map threatened 1 (λ x. refl) ts) replied)).0
 
   first_part : part (faced battle game n passing q) ≡ 0
   first_part = grind arith

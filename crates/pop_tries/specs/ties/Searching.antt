@@ -23,8 +23,8 @@ use Rattle.pop_solve.specs.ties.Phases.{HoldsAtStage, left_of as set_play_left}
 use Rattle.pop_solve.specs.ties.Plans.{plan_of}
 use Rattle.pop_solve.specs.ties.Walk.{IsWalking, to_come}
 use Rattle.pop_stipulation.specs.Stipulations.{half_moves}
-use Rattle.pop_tries.specs.Tries.{Below, below_reply, refutation, reply, reply_nodes, shown_refutations, threatened}
-use Rattle.pop_tries.specs.Events.{BareTryEvent, attempt, attempt_events, below, chess_passing, events_of_tries, key, key_events, key_total, keys, no_tries, play_events, set_event, shown_below, tries, try_total}
+use Rattle.pop_tries.specs.Tries.{Below, below_reply, refutation, reply, shown_refutations, threatened}
+use Rattle.pop_tries.specs.Events.{BareTryEvent, attempt, below, events_of_tries, key, key_total, keys, no_tries, play_events, set_event, shown_below, tries, try_total}
 use Rattle.pop_tries.specs.Shown.{try_event_of}
 use Rattle.pop_tries.specs.ties.Contests.{IsContest, IsThreat}
 use Rattle.pop_tries.specs.ties.FirstMoves.{belongs, is_shown, IsFew}

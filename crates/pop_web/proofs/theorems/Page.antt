@@ -1,37 +1,27 @@
 -- The page receives the bytes that the programs write for a text, and the number of their status.
 use Rattle.std.proofs.Common.{List, Some, [], ap, false, sym, take, ℕ, ◌∙◌, ◌≡◌, ◌≢◌}
-use Rattle.pop_run.specs.declared.choice.Choice.{Choice}
-use Rattle.pop_run.specs.Run.{Runs}
+use Rattle.pop_run.specs.Report.{ItemText}
+use Rattle.pop_run.specs.Run.{RunsBy}
 use Rattle.pop_run.specs.declared.status.Status.{Status}
 use Rattle.pop_run.specs.declared.status.Status.TheVariants.{OutputFailed}
-use Rattle.pop_parts.specs.Runs.{Lists as ListRuns, Shows as PartsRun}
+use Rattle.pop_parts.specs.Runs.{Shows as PartsRun}
 use Rattle.pop_parts.specs.declared.request.PartRequest.{PartRequest}
 use Rattle.pop_parts.specs.declared.request.Outcome.{Outcome}
 use Rattle.pop_parts.specs.declared.request.Outcome.TheVariants.{OutputFailed as PartsCut}
-use Rattle.pop_web.proofs.Filled.{list_first, list_whole, part_first, part_whole, report_first, report_whole}
-use Rattle.pop_web.specs.Page.{Lists, Shows, ShowsParts, status_number, outcome_number, room, whole_input}
+use Rattle.pop_web.proofs.Filled.{items_first, items_whole, part_first, part_whole}
+use Rattle.pop_web.specs.Page.{ShowsItems, ShowsParts, status_number, outcome_number, room, whole_input}
 
--- The bytes that a page is shown of a text, and the report that `pops` writes of it.
-module _ (choice : Choice) (text shown written : List ℕ) (answer : ℕ) (ends : Status)
-    (writes : Runs choice (whole_input text) (Some []) (Some written) false ends) where
-  -- if the report isn't cut, the bytes are those that the program writes, and the result is the number of its status
-  pub same_as_the_program : Shows choice text shown answer → answer ≢ status_number OutputFailed → (shown ≡ written) × (answer ≡ status_number ends)
-  same_as_the_program f other = let it = report_whole _ _ _ _ f other in (it.0 ∙ sym writes.0, it.1 ∙ ap status_number (sym writes.1))
+-- The bytes that a page is shown of a text, and those that a program writes of it: the report of `pops`, the list of `pops-part`, or the report of
+-- `pops-tries`. `items` is the text of an item, by its number.
+module _ (items : ItemText) (text shown written : List ℕ) (answer : ℕ) (ends : Status)
+    (writes : RunsBy items (whole_input text) (Some []) (Some written) false ends) where
+  -- if they aren't cut, the bytes are those that the program writes, and the result is the number of its status
+  pub same_as_the_program : ShowsItems items text shown answer → answer ≢ status_number OutputFailed → (shown ≡ written) × (answer ≡ status_number ends)
+  same_as_the_program f other = let it = items_whole _ _ _ _ f other in (it.0 ∙ sym writes.0, it.1 ∙ ap status_number (sym writes.1))
 
-  -- if the report is cut, the bytes are the first of those that the program writes, as many as the output has
-  pub first_of_the_program : Shows choice text shown answer → answer ≡ status_number OutputFailed → shown ≡ take room written
-  first_of_the_program f over = report_first _ _ _ _ f over ∙ ap (λ now. take room now) (sym writes.0)
-
--- The bytes that a page is shown of a text's list of parts, and the list that `pops-part` writes of it.
-module _ (depth : ℕ) (text shown written : List ℕ) (answer : ℕ) (ends : Status)
-    (writes : ListRuns depth (whole_input text) (Some []) (Some written) false ends) where
-  -- if the list isn't cut, the bytes and the status are the program's
-  pub same_list_as_the_program : Lists depth text shown answer → answer ≢ status_number OutputFailed → (shown ≡ written) × (answer ≡ status_number ends)
-  same_list_as_the_program f other = let it = list_whole _ _ _ _ f other in (it.0 ∙ sym writes.0, it.1 ∙ ap status_number (sym writes.1))
-
-  -- if the list is cut, the bytes are the first of the program's
-  pub first_of_the_list : Lists depth text shown answer → answer ≡ status_number OutputFailed → shown ≡ take room written
-  first_of_the_list f over = list_first _ _ _ _ f over ∙ ap (λ now. take room now) (sym writes.0)
+  -- if they are cut, the bytes are the first of those that the program writes, as many as the output has
+  pub first_of_the_program : ShowsItems items text shown answer → answer ≡ status_number OutputFailed → shown ≡ take room written
+  first_of_the_program f over = items_first _ _ _ _ f over ∙ ap (λ now. take room now) (sym writes.0)
 
 -- The bytes that a page is shown of a part, and the text that `pops-part` writes of it.
 module _ (request : PartRequest) (text shown written : List ℕ) (answer : ℕ) (ends : Outcome)

@@ -21,14 +21,14 @@ returns c = λ a b t inside small off low on there.
           let one = going.2.left b small off.critical there in
           let f = one.0 in
           let near : (bit_at g.near f == 1) ≡ true = search (rules, on_first, one.1.on) in
-          record {
+          inl (record {
             unsprung = c.may_spring.ensures c.if-may_spring.false t low left_on;
             hurdles = going.0;
             are = going.1;
             square = f;
             left = record { small = one.1.small; on = near; off = one.1.off; elsewhere = one.1.elsewhere; unreached = one.1.unreached };
             unguarded = at f (on_left _ o f (on_left g.near g.captures f near)) (search (rules, off_denied, one.1.small, one.1.on));
-          }))
+          })))
       | inr free ↦ elim (cases_Bool (bit_at watched.result t == 1)) [
         | inl on ↦
             let taken = left.ensures t low on free in

@@ -4,9 +4,9 @@ use Rattle.pop_solve.proofs.Events as events
 use Rattle.pop_solve.proofs.Opened as opened
 use Rattle.pop_solve.proofs.phases.advance.Goals as goal
 
-pub returns-in-Barred-clause-opens : goal.returns-in-Barred-clause-opens
+pub returns-in-NotPossible-clause-opens : goal.returns-in-NotPossible-clause-opens
 unfolding rest_open rest_fewest IsNarrow
-returns-in-Barred-clause-opens g c = search rules
+returns-in-NotPossible-clause-opens g c = search rules
 
 pub returns-in-First : goal.returns-in-First
 returns-in-First g c = record {

@@ -1,4 +1,4 @@
-use Rattle.pop_tries.proofs.Words.{ap, arith, but, below, refl, refutation, reply, rules, sym, threat, threatened, length, ◌∙◌, ◌∷◌, ◌≡◌, ◌≤◌, [], IsSound, half_moves, ◌-◌, ◌+◌, ℕ, true, false, check, zugzwang, position_after}
+use Rattle.pop_tries.proofs.Words.{arith, rules, sym, ◌∙◌, ◌≡◌, [], false, check, zugzwang}
 unfoldable use Rattle.pop_tries.specs.ties.Searching.{HoldsAt, left_of, rank}
 use Rattle.pop_tries.specs.ties.Searching.{after_first, contest_of}
 use Rattle.pop_tries.proofs.Goings.{with_event, without_event}

@@ -4,7 +4,6 @@ use Rattle.pop_tries.specs.ties.Searching.{after_first, contest_of}
 use Rattle.pop_tries.proofs.Goings.{with_event, without_event}
 use Rattle.pop_tries.proofs.StepsBelow as steps
 use Rattle.pop_tries.proofs.GoesBelow as goes
-use Rattle.pop_events.specs.declared.try_event.TryEvent.TheVariants as event
 use Rattle.chess_rules.specs.ties.Places.{moves_after}
 use Rattle.pop_tries.specs.ties.FirstMoves.{is_shown}
 use Rattle.pop_tries.proofs.Starts.{reply_comes}
@@ -34,20 +33,16 @@ returns g c =
     let q = after_first rule task first.by in
     let by = c.in-Some.by in
     let keeps = c.next_reply-found.ensures.rest in
-    let at = keeps.board ∙ h.1.bare.board_at in
+    let here = keeps.board ∙ h.1.bare.board_at in
     let next = rw (c.contest.ensures, h.1.bare.board_at) at c.in-Some.ensures.next in
-    let shown = rw (c.stipulation.ensures.stipulation, at) at c.shown-shown.ensures.shown in
-    let still = c.shown-shown.ensures.unchanged ∙ at in
-    let after = rw still at c.play-undo.ensures.after in
-    let walking = rw (c.half_moves_below.ensures, after) at c.open_walk.ensures.walking in
-    let come = rw (c.of.ensures, c.half_moves_below.ensures, after) at c.open_walk.ensures.come in
+    let played = rw here at c.play_reply-undo.ensures in
     let met = goes.shown_is_met rule (contest_of task) q by (goes.head_passes (is_shown rule (contest_of task) q) (moves_after rule q c.args.place) by _ next.0) in
     record {
       goes = with_event rule task _ _ _ _ _ (
         h.0,
-        record { first_is = h.1.first_is; threat = h.1.threat; walking = walking },
-        record { sound = h.1.first_is.sound; legal = next.1; led = refl; undone = rw still at c.play-undo.ensures.undo },
+        record { first_is = h.1.first_is; threat = h.1.threat; walking = played.walking },
+        record { sound = h.1.first_is.sound; legal = next.1; led = refl; undone = played.undo },
       ) _ _
-          (steps.reply_found rule task h.0 first c.args.place _ by _ _ c.play-undo.result next.0
-          (reply_comes rule task.problem task.battle h.0 (position_after rule q by) _ met come)) (ap (λ s. event.Node 1 2 s) shown);
+          (steps.reply_found rule task h.0 first c.args.place _ by _ _ c.play_reply-undo.result.0 next.0
+          (reply_comes rule task.problem task.battle h.0 (position_after rule q by) _ met played.come)) played.event;
     }

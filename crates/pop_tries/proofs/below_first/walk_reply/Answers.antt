@@ -1,6 +1,6 @@
-use Rattle.pop_tries.proofs.Words.{ap, arith, but, below, refl, refutation, reply, rules, sym, threat, threatened, length, ◌∙◌, ◌∷◌, ◌≡◌, ◌≤◌, [], IsSound, half_moves, ◌-◌, ◌+◌, ℕ, true, false, check, zugzwang, position_after}
+use Rattle.pop_tries.proofs.Words.{ap, arith, length, ◌∙◌, ◌≤◌}
 unfoldable use Rattle.pop_tries.specs.ties.Searching.{HoldsAt, left_of, rank}
-use Rattle.pop_tries.specs.ties.Searching.{after_first, contest_of}
+use Rattle.pop_tries.specs.ties.Searching.{after_first}
 use Rattle.pop_tries.proofs.Goings.{with_event, without_event}
 use Rattle.pop_tries.proofs.StepsBelow as steps
 use Rattle.pop_tries.proofs.GoesBelow as goes

@@ -1,4 +1,4 @@
-use Rattle.pop_tries.proofs.Words.{refl, rules, sym, ◌∙◌, ◌+◌, ◌≤◌, arith, length}
+use Rattle.pop_tries.proofs.Words.{refl, sym, ◌∙◌}
 unfoldable use Rattle.pop_tries.specs.ties.Searching.{HoldsAt, left_of}
 use Rattle.pop_tries.specs.ties.Searching.{beginning_of}
 use Rattle.pop_tries.specs.declared.stage.TriesStage.TheVariants.{FirstMove}

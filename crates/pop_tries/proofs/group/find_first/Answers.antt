@@ -1,4 +1,4 @@
-use Rattle.pop_tries.proofs.Words.{ap, play_start, refl, rules, sym, ◌∙◌}
+use Rattle.pop_tries.proofs.Words.{play_start, refl, sym, ◌∙◌}
 unfoldable use Rattle.pop_tries.specs.ties.Searching.{HoldsAt}
 use Rattle.pop_tries.specs.ties.Searching.{IsBare, first_event}
 use Rattle.pop_tries.proofs.Goings as goes

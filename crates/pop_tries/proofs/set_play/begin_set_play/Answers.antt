@@ -1,5 +1,5 @@
-use Rattle.pop_tries.proofs.Words.{Set, arith, false, refl, rules, set_event, true, ◌∙◌, ◌≡◌}
-use Rattle.pop_solve.specs.Events.{is_impossible_phase, opening, phase_half_moves, phase_start, play_start}
+use Rattle.pop_tries.proofs.Words.{Set, arith, false, refl, rules, set_event, true, ◌≡◌}
+use Rattle.pop_solve.specs.Events.{is_impossible_phase, opening, phase_start, play_start}
 unfoldable use Rattle.pop_solve.specs.ties.Phases.{HoldsAtStage}
 unfoldable use Rattle.pop_tries.specs.ties.Searching.{HoldsAt}
 use Rattle.pop_tries.proofs.Goings.{with_event}

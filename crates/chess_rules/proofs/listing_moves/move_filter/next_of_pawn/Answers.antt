@@ -8,7 +8,7 @@ loop-at-init g c = search (rules, none-from, and_right, g.met.S.MoveFilter.idle)
 pub is_found-requires-clause-aimed : goal.is_found-requires-clause-aimed
 is_found-requires-clause-aimed g c =
     let at : c.from-first.result * per_origin ≡ per_origin * c.args.from = omega (arith, c.from-first.ensures, c.index.ensures.value) in
-    rw (c.loop-at.invariant.board, c.triple.ensures, at)
+    rw (c.loop-at.invariant.board, c.move_at.ensures, at)
     (aimed_from _ _ _ _ _ _ (omega arith) c.requires.squares (c.loop-at.invariant.named (omega arith)))
 
 pub returns-then-is_found-clause-inside : goal.returns-then-is_found-clause-inside
@@ -17,7 +17,7 @@ returns-then-is_found-clause-inside g c = λ lt. rw (triple_of c.args.from c.loo
 pub loop-at-preserved : goal.loop-at-preserved
 loop-at-preserved g c =
     let at : c.from-first.result * per_origin ≡ per_origin * c.args.from = omega (arith, c.from-first.ensures, c.index.ensures.value) in
-    let fails = rw (c.loop-at.invariant.board, c.triple.ensures, at) at c.is_found.ensures.passed_over in
+    let fails = rw (c.loop-at.invariant.board, c.move_at.ensures, at) at c.is_found.ensures.passed_over in
     let next = rw (c.is_found.ensures.board, c.loop-at.invariant.board) at c.next_from-at-in-loop-at.ensures in
     let idle = g.met.S.MoveFilter.idle g.R.Rules.rule c.args.board.now in
     record {

@@ -1,6 +1,0 @@
-use Rattle.chess_rules.proofs.Chess.{rules, triple_at}
-use Rattle.chess_rules.proofs.listing_moves.triples.triple.Goals as goal
-
-pub returns : goal.returns
-unfolding triple_at
-returns c = search rules

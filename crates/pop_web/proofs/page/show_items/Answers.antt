@@ -1,0 +1,10 @@
+use Rattle.std.proofs.lemmas.Option.{same_Some}
+use Rattle.pop_web.proofs.Showing.{call_is_shown}
+use Rattle.pop_web.proofs.page.show_items.Goals as goal
+
+pub returns-clause-shows : goal.returns-clause-shows
+returns-clause-shows g c enough =
+    let text = same_Some _ _ c.new-source.ensures in
+    let empty = c.new-sink.ensures in
+    call_is_shown _ _ _ _ _ _ _ _ (rw (text, empty) at c.run_with-status.ensures.headline) c.copy_out.ensures.text
+    c.copy_out.ensures.full c.status_number.ensures
