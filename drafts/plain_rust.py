@@ -22,7 +22,7 @@ CLONE = re.compile(r"(impl(?:<[^{]*?>)? Clone for [^{]*)\{")
 DERIVED = re.compile(
     r"#\[derive_where\(([^)]*)\)\]\n((?:\s*#\[.*\]\n|\s*//.*\n)*)\s*pub(?:\(crate\))? (?:struct|enum) (\w+)<([^>]*)>"
 )
-# Such a macro belongs to the root of the one crate.
+# The macro belongs to the root of the one crate.
 MACRO = re.compile(r"#\[macro_export\]\s*macro_rules! (\w+)")
 ARRAYVEC = '''//! Fixed room.
 use std::mem::MaybeUninit;
