@@ -181,7 +181,7 @@ def tries_by_pops(pops: str, text: bytes, most: int) -> bytes:
     battle = asked.battle
     asker = Asker(pops, asked)
     report = subprocess.run([pops], input=text, capture_output=True, check=True).stdout.decode()
-    # (head and set play are those of pops, and its keys have to be found again)
+    # Head and set play come from pops; its keys have to be found again.
     before, play = report.split("play\n")
     firsts = [First(asker, asked, it) for it in battle.moves(asked.start)]
     keys = [it for it in firsts if it.is_key][: asked.limit]

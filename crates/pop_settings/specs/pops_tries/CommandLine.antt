@@ -34,7 +34,7 @@ abbrev pub refutations_said : Option Text → Option ℕ
 refutations_said None = Some 1
 refutations_said (Some text) = refutations_in text
 
--- the greatest number of refutations of a try, by clap's matches: none if the option's value isn't such a number
+-- the greatest number of refutations of a try, by clap's matches: none if the option's value is no number from 0 to 200
 abbrev pub refutations_by : List Row → Option ℕ
 refutations_by rows = refutations_said (first_of (codes "refutations") rows)
 

@@ -138,7 +138,7 @@ module _ (rule : RuleSet) (task : Task) where
   firsts_after group place = filter (λ m. belongs rule (contest_of task) group (after_first m))
       (moves_after rule (play_start task.problem) place)
 
-  -- those of them that are still to be shown, after `count` have been shown
+  -- the first moves still to be shown after the place, when `count` have been shown
   abbrev pub firsts_left : {A : Type 0} → Firsts A → List Move
   firsts_left firsts = within_limit task.problem firsts.group firsts.count
       (firsts_after firsts.group firsts.place)
