@@ -22,6 +22,7 @@ TAVERNER = (
     b"Stipulation #2\nOption NoBoard SetPlay\nEndProblem\n"
 )
 # Loyd's story of Charles XII at Bender, Chess Monthly 1859: each time a bullet takes a man away.
+# (from memory: with a pawn on h7 too, as first remembered, the last two have no key)
 CHARLES = (
     ("Kf5 Rg7 Se1 Pg2h2", "#3", "1.Rg7*g3!"),
     ("Kf5 Rg7 Pg2h2", "#4", "1.h2*g3!"),
