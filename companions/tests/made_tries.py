@@ -25,7 +25,8 @@ _EDGE = [it for it in _SQUARES if it[0] in "ah" or it[1] in "18"]
 _STIPULATIONS = ["#2"] * 6 + ["#3"] * 4 + ["s#2"] * 3 + ["=2"] * 3 + ["s=2"] * 2
 _CONDITIONS = ["", "", "Circe", "Madrasi"]
 # What White mates or stalemates with in two moves and in three, and forces Black with.
-_TWO = ["Q R", "Q S", "Q B", "R R", "R B S", "R R P", "Q P P", "R S P", "B B S", "R P P", "Q G", "R N"]
+_TWO = ["Q R", "Q S", "Q B", "R R", "R B S", "R R P", "Q P P", "R S P", "B B S", "R P P"]
+_TWO += ["Q G", "R N"]
 _THREE = ["Q", "R", "R P", "S P", "P P", "B P", "Q P", "R S"]
 _FORCING = ["Q", "Q R", "Q P", "R P", "R R", "R B", "Q S", "Q B"]
 _DEFENDING = ["", "", "P", "P", "P P", "S", "B", "R", "P S", "Q"]
@@ -75,7 +76,8 @@ class _Men:
         """Two pawns, one of which may make its double step beside the other."""
         file = self._chance.choice("bcdefg")
         beside = chr(ord(file) + self._chance.choice([-1, 1]))
-        white, black = self._chance.choice([(f"P{file}2", f"P{beside}4"), (f"P{beside}5", f"P{file}7")])
+        pairs = [(f"P{file}2", f"P{beside}4"), (f"P{beside}5", f"P{file}7")]
+        white, black = self._chance.choice(pairs)
         if white[1:] in self._free and black[1:] in self._free:
             self._put(self.white, white)
             self._put(self.black, black)
@@ -122,7 +124,10 @@ def _is_small(text: bytes) -> bool:
     rules, start = asked.battle.rules, asked.start
     white, black = (len(legal_moves(rules, it)) for it in (start, start.passed))
     half_moves = 2 * asked.moves - (asked.battle.form is not Play.SELF)
-    return white ** ((half_moves + 1) // 2) * (black + 1) ** (half_moves // 2) < 5000
+    lines = 1
+    for half in range(half_moves):
+        lines *= black + 1 if half % 2 else white
+    return lines < 3000
 
 
 def disagreements(program: str, text: bytes) -> "tuple[list[str], Counter[str]]":
@@ -144,10 +149,11 @@ def disagreements(program: str, text: bytes) -> "tuple[list[str], Counter[str]]"
 
 def _kinds(text: str) -> list[str]:
     """What stands in a text of tries, a name for each line that counts."""
-    names = [("key", r"1\..*!$"), ("try", r"1\..*\?$"), ("check", "  check"), ("threat", "  threat")]
-    names += [("zugzwang", "  zugzwang"), ("refutation", r"    1\.\.\..*!$"), ("set", "set$")]
+    names = [("key", r"1\..*!$"), ("try", r"1\..*\?$"), ("check", "  check")]
+    names += [("threat", "  threat"), ("zugzwang", "  zugzwang")]
+    names += [("refutation", r"    1\.\.\..*!$"), ("set", "set$")]
     names += [("not possible", "not possible"), ("stopped", ".*, stopped"), ("castling", ".*0-0")]
-    names += [("en passant", ".* ep\\."), ("promotion", ".*="), ("rebirth", r".*\[\+")]
+    names += [("en passant", ".* ep\\."), ("promotion", ".*=[A-Z]"), ("rebirth", r".*\[\+")]
     names += [("defence", r"  1\.\.\..*[^!]$"), ("deep", "      ")]
     lines = text.split("\n")
     return [name for name, form in names for line in lines if re.match(form, line)]

@@ -4,12 +4,11 @@ The first is the plain solver of the tests, the second asks `pops` about every p
 first move and a reply. Without pops-tries here the two are compared with each other.
 """
 
+import functools
 import re
 import unittest
 from typing import Optional
 
-from pops_companions.input.pieces import cut
-from pops_companions.input.reading import read_piece
 from pops_companions.many.tries_program import find_tries
 from tests import support
 from tests.made_tries import REFUTATIONS, disagreements, made_problems
@@ -23,6 +22,7 @@ TAVERNER = (
     b"Stipulation #2\nOption NoBoard SetPlay\nEndProblem\n"
 )
 # Loyd's story of Charles XII at Bender, Chess Monthly 1859: each time a bullet takes a man away.
+# (from memory: with a pawn on h7 too, as first remembered, the last two have no key)
 CHARLES = (
     ("Kf5 Rg7 Se1 Pg2h2", "#3", "1.Rg7*g3!"),
     ("Kf5 Rg7 Pg2h2", "#4", "1.h2*g3!"),
@@ -69,37 +69,34 @@ def pairs(lines: list[str]) -> dict[str, list[str]]:
     return found
 
 
-class Case(unittest.TestCase):
-    """With the program, where it is."""
-
-    program: Optional[str]
-
-    @classmethod
-    def setUpClass(cls) -> None:
-        cls.program = find_tries(None, support.pops())
-        if cls.program is None:
-            print("test_plain_tries: no pops-tries here: its text wasn't compared")
-
-    def tries(self, text: bytes, most: int) -> str:
-        """The text of tries of the program, or made of reports of `pops`."""
-        if self.program is None:
-            return tries_by_pops(support.pops(), text, most).decode()
-        return support.run([self.program, "--refutations", str(most)], text).output.decode()
+@functools.lru_cache(maxsize=None)
+def program() -> Optional[str]:
+    found = find_tries(None, support.pops())
+    if found is None:
+        print("test_plain_tries: no pops-tries here: its text wasn't compared")
+    return found
 
 
-class Made(Case):
+def tries_of(text: bytes, most: int) -> str:
+    """The text of tries of the program; where it isn't here, made of reports of `pops`."""
+    named = program()
+    if named is None:
+        return tries_by_pops(support.pops(), text, most).decode()
+    return support.run([named, "--refutations", str(most)], text).output.decode()
+
+
+class Made(unittest.TestCase):
     def test_few_men(self) -> None:
         """Two and three moves, both goals, all conditions, with 0, 1, 2 and 200 refutations."""
-        text = made_problems(20261128, 60)
-        if self.program is not None:
-            differing, shown = disagreements(self.program, text)
+        named = program()
+        if named is not None:
+            differing, shown = disagreements(named, made_problems(20261128, 60))
             self.assertEqual(differing, [])
-            self.assertGreater(min(shown["threat"], shown["zugzwang"], shown["check"]), 50)
-            self.assertGreater(min(shown["defence"], shown["stopped"], shown["deep"]), 10)
+            for kind in ("key", "try", "threat", "zugzwang", "check", "defence", "set"):
+                self.assertGreater(shown[kind], 20, kind)
 
-    def test_few_men_by_pops(self) -> None:
-        """The two slower ways agree."""
-        for seed in range(12):
+    def test_the_two_slower_ways(self) -> None:
+        for seed in range(6):
             text = made_problems(seed, 1)
             writer = Writer(text)
             for most in REFUTATIONS:
@@ -108,29 +105,25 @@ class Made(Case):
                 self.assertEqual(found, wanted, (seed, most))
 
     def test_many_men(self) -> None:
-        for seed in range(12):
+        for seed in range(8):
             text = made_problems(seed, 1, are_many=True)
             most = REFUTATIONS[seed % 4]
             wanted = tries_by_pops(support.pops(), text, most).decode()
-            self.assertEqual(self.tries(text, most), wanted, text)
+            self.assertEqual(tries_of(text, most), wanted, text)
 
-
-class Examples(Case):
     def test_examples(self) -> None:
         for name in EXAMPLES:
             text = (support.REPOSITORY / "examples" / f"{name}.pop").read_bytes()
-            self.assertIsNone(read_piece(text, cut(text)[0]).number)
-            for most in (1, 3):
-                wanted = tries_by_pops(support.pops(), text, most).decode()
-                self.assertEqual(self.tries(text, most), wanted, name)
+            wanted = tries_by_pops(support.pops(), text, 2).decode()
+            self.assertEqual(tries_of(text, 2), wanted, name)
 
 
-class Published(Case):
+class Published(unittest.TestCase):
     """What is published of these problems; positions and words from memory."""
 
     def test_taverner(self) -> None:
         """Zugzwang: nineteen replies, of which two spoil a mate of the set play."""
-        for text in (plain_tries(TAVERNER, 1).decode(), self.tries(TAVERNER, 1)):
+        for text in (plain_tries(TAVERNER, 1).decode(), tries_of(TAVERNER, 1)):
             key, menace, *below = phase(text, "play")
             self.assertEqual((key, menace), ("1.Rh2-h1!", "  zugzwang"))
             found, before = pairs(below), pairs(phase(text, "set"))
@@ -145,11 +138,11 @@ class Published(Case):
     def test_charles_the_twelfth(self) -> None:
         """Each problem has one key. In the first the bishop takes the rook."""
         for white, stipulation, key in CHARLES:
-            text = self.tries(charles_problem(white, stipulation), 0)
+            text = tries_of(charles_problem(white, stipulation), 0)
             keys = [it for it in phase(text, "play") if not it.startswith(" ")]
             self.assertEqual(keys, [key])
         first = charles_problem("Kf5 Rg7 Se1 Pg2h2", "#3").replace(b"NoBoard", b"Variation")
-        after = self.tries(first, 0).split("\n  1...Bf2*g3\n")[1].split("\nsolutions")[0]
+        after = tries_of(first, 0).split("\n  1...Bf2*g3\n")[1].split("\nsolutions")[0]
         move, *lines = after.split("\n")
         self.assertEqual(move, "    2.Se1-f3")
         self.assertEqual({it.strip() for it in lines[1::2]}, {"3.g2-g4#"})
@@ -157,21 +150,21 @@ class Published(Case):
     def test_excelsior(self) -> None:
         """White threatens to move his rook from b5 to d5 or f5."""
         text = (support.REPOSITORY / "examples" / "excelsior_1861.pop").read_bytes()
-        if self.program is not None:
-            key, menace, *threats = phase(self.tries(text, 0), "play")[:5]
+        if program() is not None:
+            key, menace, *threats = phase(tries_of(text, 0), "play")[:5]
             self.assertEqual((key, menace), ("1.b2-b4!", "  threat"))
             self.assertEqual(threats[:2], ["    2.Rb5-d5", "    2.Rb5-f5"])
             self.assertTrue(threats[2].startswith("  1..."))
 
     def test_three_threats_and_one_defence(self) -> None:
-        text = self.tries(THREE_THREATS, 0)
+        text = tries_of(THREE_THREATS, 0)
         self.assertEqual(phase(text, "play")[0], "1.Qb5-f1!")
         found = pairs(phase(text, "play"))
         self.assertEqual(found.pop("threat"), ["2.Qf1-g1#", "2.Qf1-h3#", "2.Rg3-h3#"])
         self.assertEqual(list(found), ["1...Bf3-g2"])
 
     def test_the_try_of_the_manual(self) -> None:
-        text = self.tries(MATE_IN_TWO, 1)
+        text = tries_of(MATE_IN_TWO, 1)
         self.assertEqual(phase(text, "play")[0], "1.Qh8-b2!")
         after = text.split("\n1.Qh8-h2?\n")[1].split("\ntries")[0]
         self.assertEqual(after.split("  but\n")[1], "    1...Ke1-d1!")

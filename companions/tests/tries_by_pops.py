@@ -1,4 +1,4 @@
-"""The text of tries made from reports of `pops`, for problems that the plain solver is too slow for.
+"""The text of tries made from reports of `pops`: for problems too large for the plain solver.
 
 `python3 -m tests.tries_by_pops POPS FILE [N]`, called in companions/, writes the text of an input
 without fairy men. The plain rules of chess give the first moves, the replies and what is check;
@@ -124,7 +124,7 @@ class First:
         self.move = move
         self.after = battle.after(asked.start, move)
         self.is_over = battle.form is Play.DIRECT and battle.is_goal(self.after)
-        self.replies = () if self.is_over else battle.moves(self.after)
+        self.replies: tuple[Move, ...] = () if self.is_over else battle.moves(self.after)
         self.met = self._met()
 
     @property
