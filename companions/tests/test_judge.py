@@ -4,6 +4,7 @@ import sys
 import tempfile
 import unittest
 from pathlib import Path
+from unittest import mock
 
 from tests import support, test_pages, test_sheet, test_soundness
 
@@ -37,7 +38,8 @@ class Judging(unittest.TestCase):
         return sorted(path.name for path in self.room.iterdir())
 
     def test_the_collection_of_known_soundness(self) -> None:
-        outcome = self.judged(text=str(test_soundness.COLLECTION))
+        with mock.patch("pops_companions.commands.judge.find_tries", lambda *_: None):
+            outcome = self.judged(text=str(test_soundness.COLLECTION))
         self.assertEqual((outcome.status, outcome.error), (1, ""))
         verdicts = [verdict for verdict, _ in test_soundness.Collection.WANTED]
         lines = outcome.output.decode().splitlines()
