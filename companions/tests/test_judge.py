@@ -4,7 +4,6 @@ import sys
 import tempfile
 import unittest
 from pathlib import Path
-from unittest import mock
 
 from tests import support, test_pages, test_sheet, test_soundness
 
@@ -38,8 +37,9 @@ class Judging(unittest.TestCase):
         return sorted(path.name for path in self.room.iterdir())
 
     def test_the_collection_of_known_soundness(self) -> None:
-        with mock.patch("pops_companions.commands.judge.find_tries", lambda *_: None):
-            outcome = self.judged(text=str(test_soundness.COLLECTION))
+        # No pops-tries stands next to this program.
+        alone = self.script("alone", f"exec '{support.pops()}' \"$@\"\n")
+        outcome = self.judged(pops=alone, text=str(test_soundness.COLLECTION))
         self.assertEqual((outcome.status, outcome.error), (1, ""))
         verdicts = [verdict for verdict, _ in test_soundness.Collection.WANTED]
         lines = outcome.output.decode().splitlines()
@@ -51,7 +51,7 @@ class Judging(unittest.TestCase):
             self.assertIn(verdict, article.words)
             for text in findings:
                 self.assertIn(text, article.words)
-        self.assertEqual(self.files(), ["sheet.html", "some.pop"])
+        self.assertEqual(self.files(), ["alone", "sheet.html", "some.pop"])
 
     def test_sound_problems_and_their_origin(self) -> None:
         outcome = self.judged("--heading", "Ours & yours")
