@@ -1,4 +1,5 @@
 pub mod Excluded
+pub mod ExitStatuses
 pub mod Findings
 pub mod Meeting
 pub mod Reached

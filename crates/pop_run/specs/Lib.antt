@@ -1,3 +1,4 @@
+pub mod ExitStatus
 pub mod Report
 pub mod Run
 pub mod Laws

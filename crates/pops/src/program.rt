@@ -1,8 +1,7 @@
 //! The program `pops`: its settings, its files and its exit statuses.
 ghost use Rattle.std.specs.Prelude.{◌≡◌, ◌≤◌};
-ghost use Rattle.pops.specs.ExitStatus.{exit_status_of};
 
-use pop_run::{Settings, Status, run};
+use pop_run::{Settings, run};
 use pop_settings::{ArgFault, settings};
 use pop_text::read_source::ReadSource;
 use pop_text::write_sink::WriteSink;
@@ -65,22 +64,9 @@ fn report<R: Read + Drop, W: Write + Drop, E: Write + Drop>(
     let status = run(settings, &mut source, &mut sink);
     let mut output = sink.into_inner();
     let flushed = output.flush().is_ok();
-    match exit_status(status, flushed) {
+    match status.exit_status(flushed) {
         Some(status) => status,
         None => refuse(errors, b"pops: output failed\n", 3),
-    }
-}
-
-// Returns the exit status of a run, or `None` if a write or the last flush failed.
-fn exit_status(status: Status, flushed: bool) -> Option<u8>
-    ensures { result ≡ exit_status_of status flushed }
-{
-    match status {
-        _ if !flushed => None,
-        Status::OutputFailed => None,
-        Status::InputFailed => Some(3),
-        Status::Faulty => Some(1),
-        Status::Sound => Some(0),
     }
 }
 

@@ -1,9 +1,8 @@
 //! The program `pops-tries`: its settings, its files and its exit statuses.
 ghost use Rattle.std.specs.Prelude.{◌≡◌, ◌≤◌};
 ghost use Rattle.pop_settings.specs.pops_tries.CommandLine.{most_refutations};
-ghost use Rattle.pops_tries.specs.ExitStatus.{exit_status_of};
 
-use pop_run::{Choice, Status};
+use pop_run::Choice;
 use pop_settings::ArgFault;
 use pop_settings::pops_tries::{Settings, settings};
 use pop_text::{ReadSource, WriteSink};
@@ -73,7 +72,7 @@ fn report<R: Read + Drop, W: Write + Drop, E: Write + Drop>(
     );
     let mut output = sink.into_inner();
     let flushed = output.flush().is_ok();
-    match exit_status(status, flushed) {
+    match status.exit_status(flushed) {
         Some(status) => status,
         None => refuse(errors, b"pops-tries: output failed\n", 3),
     }
@@ -86,19 +85,6 @@ fn choice_of(settings: &Settings) -> Choice
     Choice {
         check: settings.check,
         no_board: settings.no_board,
-    }
-}
-
-// Returns the exit status of a run, or `None` if a write or the last flush failed.
-fn exit_status(status: Status, flushed: bool) -> Option<u8>
-    ensures { result ≡ exit_status_of status flushed }
-{
-    match status {
-        _ if !flushed => None,
-        Status::OutputFailed => None,
-        Status::InputFailed => Some(3),
-        Status::Faulty => Some(1),
-        Status::Sound => Some(0),
     }
 }
 

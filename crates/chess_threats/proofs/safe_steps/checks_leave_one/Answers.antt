@@ -1,4 +1,4 @@
-use Rattle.chess_threats.proofs.Chess.{bit_at, cases_Bool, false_by, false≢true, inl, inr, sym, ◌==◌, ◌∙◌}
+use Rattle.chess_threats.proofs.Chess.{bit_at, cases_Bool, false_by, false≢true, inl, inr, rules, sym, ◌==◌, ◌∙◌}
 use Rattle.chess_flights.proofs.Bitboards.{on_both, none_at}
 use Rattle.chess_threats.proofs.safe_steps.checks_leave_one.Goals as goal
 
@@ -7,6 +7,6 @@ returns-then-targets-eq0 c = λ yes t small on. absurd (none_at _ t c.if-targets
 
 pub returns : goal.returns
 returns c = λ yes t small on. elim (cases_Bool (bit_at c.open_approaches-checks.result t == 1)) [
-  | inl may ↦ inr (c.kind_leaves_one.ensures yes t small (on_both _ _ t on may))
+  | inl may ↦ inr (c.kind_leaves_one.ensures yes t small (search (rules, on_both, on, may)))
   | inr none ↦ inl (λ men. false_by _ (λ r. false≢true (sym none ∙ c.open_approaches-checks.ensures.inside men t small r)))
 ]

@@ -1,9 +1,8 @@
--- What the clause of the exit status excludes: reporting a failed output as another end, and one status for different
--- ends.
+-- What the clause of the exit status excludes: reporting a failed output as another end, and one status for different ends.
 use Rattle.std.proofs.Common.{Some, false, refl, true, ℕ, ◌≡◌, ◌≢◌}
 use Rattle.pop_run.specs.declared.status.Status.{Status}
 use Rattle.pop_run.specs.declared.status.Status.TheVariants.{Sound, Faulty, InputFailed, OutputFailed}
-use Rattle.pops_tries.specs.ExitStatus.{exit_status_of}
+use Rattle.pop_run.specs.ExitStatus.{exit_status_of}
 
 -- a run whose output or last flush failed has no status of its own
 pub no_status_of_a_failed_output : (s : Status) (n : ℕ) → (exit_status_of s false ≢ Some n) × (exit_status_of OutputFailed true ≢ Some n)
