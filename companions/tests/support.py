@@ -1,8 +1,10 @@
 """What the tests share: where things are, runs of programs, the stored rows and examples."""
 
+import contextlib
 import importlib
 import importlib.util
 import os
+import pty
 import subprocess
 import sys
 import tempfile
@@ -59,6 +61,22 @@ def run(words: Sequence[str], text: bytes = b"") -> Outcome:
     """Runs a program on a standard input."""
     done = subprocess.run(list(words), input=text, capture_output=True, timeout=120)
     return Outcome(done.returncode, done.stdout, done.stderr.decode("utf-8", "replace"))
+
+
+def said_on_terminal(words: Sequence[str], text: bytes = b"", columns: int = 0) -> tuple[int, str]:
+    """Status, and what a run writes to standard error, a terminal of that width."""
+    terminal, other_side = pty.openpty()
+    if columns:
+        run(["stty", "-F", os.ttyname(other_side), "cols", str(columns)])
+    done = subprocess.run(words, input=text, stdout=subprocess.DEVNULL, stderr=other_side)
+    os.close(other_side)
+    said = b""
+    # (a read returns at most a page of it; after the last one it fails, since the other side is closed)
+    with contextlib.suppress(OSError):
+        while more := os.read(terminal, 100000):
+            said += more
+    os.close(terminal)
+    return done.returncode, said.decode()
 
 
 def companion(name: str, *words: str, text: bytes = b"") -> Outcome:

@@ -2,7 +2,6 @@
 
 import io
 import os
-import pty
 import random
 import subprocess
 import sys
@@ -286,13 +285,9 @@ class Command(unittest.TestCase):
         )
 
     def test_a_terminal_shows_the_progress(self) -> None:
-        terminal, other_side = pty.openpty()
         words = [sys.executable, str(support.COMPANIONS / "pops-many"), "--pops", support.pops()]
-        done = subprocess.run(words, input=SIX, stdout=subprocess.PIPE, stderr=other_side)
-        os.close(other_side)
-        said = os.read(terminal, 10000).decode()
-        os.close(terminal)
-        self.assertEqual(done.returncode, 0)
+        status, said = support.said_on_terminal(words, SIX)
+        self.assertEqual(status, 0)
         self.assertRegex(said, r"\rpops-many: 1 of 6 problems, about 0:\d\d left")
         self.assertRegex(said, r"\rpops-many: 6 of 6 problems *\r\n$")
 
@@ -301,14 +296,10 @@ class Command(unittest.TestCase):
             slow = Path(room) / "slow"
             slow.write_text(f"#!/bin/sh\nsleep 1.2\nexec '{support.pops()}'\n")
             slow.chmod(0o755)
-            terminal, other_side = pty.openpty()
             words = [sys.executable, str(support.COMPANIONS / "pops-many"), "--pops", str(slow)]
             one = SIX.split(b"NextProblem")[0] + b"EndProblem\n"
-            done = subprocess.run(words, input=one, stdout=subprocess.PIPE, stderr=other_side)
-            os.close(other_side)
-            said = os.read(terminal, 10000).decode()
-            os.close(terminal)
-        self.assertEqual(done.returncode, 0)
+            status, said = support.said_on_terminal(words, one)
+        self.assertEqual(status, 0)
         self.assertRegex(said, r"\rpops-many: 0 of 1 problems, 0:01 so far")
 
     def test_progress(self) -> None:

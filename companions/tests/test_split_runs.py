@@ -1,11 +1,7 @@
 """pops-many --split on this machine: parts that fail, limits, journals, ends and progress."""
 
-import contextlib
-import os
-import pty
 import re
 import signal
-import subprocess
 import sys
 import time
 import unittest
@@ -256,22 +252,12 @@ class Ends(SplitRoom):
 
     def on_terminal(self, columns: int) -> str:
         """What a run writes on a terminal of that width."""
-        terminal, other_side = pty.openpty()
-        if columns:
-            support.run(["stty", "-F", os.ttyname(other_side), "cols", str(columns)])
         words: list[str] = [sys.executable, str(support.COMPANIONS / "pops-many")]
         # The eighth part of the set play waits longer than a line is shown.
         words += self.words_of_split(self.pops_part("problem-set-8", "sleep 0.6"), "--jobs", "1")
-        done = subprocess.run(words, stdin=subprocess.DEVNULL, stderr=other_side)
-        os.close(other_side)
-        said = b""
-        # (a read returns at most a page of it; after the last one it fails, since the other side is closed)
-        with contextlib.suppress(OSError):
-            while more := os.read(terminal, 100000):
-                said += more
-        os.close(terminal)
-        self.assertEqual(done.returncode, 0)
-        return said.decode()
+        status, said = support.said_on_terminal(words, columns=columns)
+        self.assertEqual(status, 0)
+        return said
 
 
 class Command(unittest.TestCase):
