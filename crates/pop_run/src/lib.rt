@@ -1,19 +1,19 @@
 //! Runs: reads all problems of an input and writes their report.
 //!
 //! ```rust
-//! use pop_run::{Choice, Status, report};
+//! use pop_run::{Choice, Status, run_with};
 //! use pop_text::{TrialSink, TrialSource};
 //!
 //! let choice = Choice { check: true, no_board: true };
 //! let text = b"BeginProblem Pieces White Kg6 Ra1 Black Kg8 Stipulation #1 EndProblem\n";
 //! let mut source = TrialSource::new(text, 4096, None);
 //! let mut sink = TrialSink::<64>::new(64, None);
-//! let status = report(choice, &mut source, &mut sink);
+//! let status = run_with(choice, &mut source, &mut sink);
 //! assert!(rt; status == Status::Sound);
 //! assert!(rt; sink.text() == b"problem 1\n#1\nsound\n\n".as_slice());
 //! ```
 //!
-//! The interface is `run`, `report` and `Session`, which reports one item a call, with `Settings`, `Choice`, `Status` and
+//! The interface is `run` and `Session`, which reports one item a call, with `Settings`, `Choice`, `Status` and
 //! `Step`. `run_with` and `Session::with` write items in the way of an `ItemWriter`. The module `solutions` is internal.
 //! `specs/Report.antt` defines the report, `specs/Run.antt` what a run does. No call allocates.
 #![tactic(auto)]
@@ -32,4 +32,4 @@ pub use laws::no_neighbour_changes_a_text;
 pub use run_settings::Settings;
 pub use session::Session;
 pub use status::{Status, Step};
-pub use whole_run::{report, run, run_with};
+pub use whole_run::{run, run_with};

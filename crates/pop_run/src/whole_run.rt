@@ -37,31 +37,10 @@ pub fn run<S: Source, W: Sink>(settings: &Settings, source: &mut S, sink: &mut W
     ensures taken { IfSome (S.remaining source.old)
         (λ had. length (taken_of had (S.remaining source.new)) ≤ 2 ^ 30 + window_size) }
 {
-    report(Choice::of(settings), source, sink)
+    run_with(Choice::of(settings), source, sink)
 }
 
-/// Does what `run` does, for callers that have only the flags. Returns the status.
-pub fn report<S: Source, W: Sink>(choice: Choice, source: &mut S, sink: &mut W) -> Status
-    requires source { S.failures source.old < greatest_count }
-    requires sink { W.failures sink.old < greatest_count }
-    ensures headline { IfSome (S.remaining source.old) (λ had.
-        Runs choice
-        (input_met (has_grown (S.failures source.old) (S.failures source.new))
-        had (S.remaining source.new))
-        (W.taken sink.old) (W.taken sink.new)
-        (has_grown (W.failures sink.old) (W.failures sink.new)) result) }
-    ensures reads { IfSome (S.remaining source.old) (λ had.
-        ReadsUpTo (input_met (has_grown (S.failures source.old) (S.failures source.new))
-        had (S.remaining source.new)) (taken_of had (S.remaining source.new))) }
-    ensures once { FailsOnce (S.failures source.old) (S.failures source.new)
-        × FailsOnce (W.failures sink.old) (W.failures sink.new) }
-    ensures taken { IfSome (S.remaining source.old)
-        (λ had. length (taken_of had (S.remaining source.new)) ≤ 2 ^ 30 + window_size) }
-{
-    run_with(choice, source, sink)
-}
-
-/// Does what `run` does, but writes items in the way of the writer. Returns the status.
+/// Does what `run` does, but writes items in the way of the writer, such as a `Choice`. Returns the status.
 pub fn run_with<I: ItemWriter, S: Source, W: Sink>(
     writer: I,
     source: &mut S,
