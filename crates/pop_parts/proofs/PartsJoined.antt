@@ -1,5 +1,5 @@
 -- The parts of a phase joined are the phase, and each solution is in one part.
-use Rattle.pop_parts.proofs.Words.{AllPairs, Bool, Contains, IsPlayable, IsSound, List, Move, None, Option, Phase, Posed, Precedes, RuleSet, Some, StandsBefore, [], ap, arith, battle_of, beginnings, begins_so, cond, eqb, false, filter, flat_map, flat_map_single, from_filter, from_map, game_of, help_lines, is_impossible_phase, is_help, legal_moves, length, lines_to_goal, map, min, moves_in_order, nat_tests, none_in_nil, pairs_nil, part_depth, part_solutions, parts, phase_half_moves, phase_start, refl, set_tree, solutions, solutions_by, some_way, subst, suc, sym, true, zero, ℕ, ◌||◌, ◌↔◌, ◌∙◌, ◌∷◌, ◌≡◌, ◌≤◌}
+use Rattle.pop_parts.proofs.Words.{AllPairs, Bool, Contains, IsPlayable, IsSound, List, Move, None, Option, Phase, Posed, Precedes, RuleSet, Some, StandsBefore, [], ap, arith, battle_of, beginnings, begins_so, cond, eqb, false, filter, flat_map, flat_map_single, from_filter, from_map, game_of, help_lines, is_impossible_phase, is_help, is_none, legal_moves, length, lines_to_goal, map, min, moves_in_order, nat_tests, none_in_nil, pairs_nil, part_depth, part_solutions, parts, phase_half_moves, phase_start, refl, set_tree, solutions, solutions_by, some_way, subst, suc, sym, true, zero, ℕ, ◌||◌, ◌↔◌, ◌∙◌, ◌∷◌, ◌≡◌, ◌≤◌}
 use Rattle.pop_stipulation.specs.declared.stipulation.Battle.{Battle}
 use Rattle.pop_events.specs.declared.event.Phase.TheVariants.{Play, Set}
 use Rattle.std.proofs.lemmas.List.Folds.{flat_map-map}
