@@ -1,7 +1,7 @@
 -- Definitions and lemmas of the standard library and of other crates that most proofs use.
 pub use Rattle.pop_battle.proofs.Words.{Bool, CameFrom, CameFromAt, Frame, Game, Goal, HasCounted, IfSome, IsPlaceIn, IsWellFormed, LegalPlace, List, MatchOption, Mate, Move, None, Option, Position, RuleSet, Some, Undo, [], after_well_formed, all_triples, and_parts, ap, append-nil, append_assoc, arith, can_move, cases_lt, chess, cond, drop, eqb, every_move, false, filter, from_map, inl, inr, is_for_mate, is_goal_reached, is_mating, is_pseudo_legal-from_legal, is_some, left_at_top, legal_moves, length, length-append, length-reverse, list_all, list_any, min, moves_after-end, nat_tests, not, position_after, range_with_len, refl, reverse, reverse-append, rules, attacker_to_move, some_move, suc, sum_by, sum_by-cons, sym, take, take_all, true, zero, ℕ, ◌%◌, ◌&&◌, ◌++◌, ◌+◌, ◌-◌, ◌<◌, ◌^◌, ◌||◌, ◌∙◌, ◌∷◌, ◌≡◌, ◌≤◌, ◌⊎◌}
 unfoldable pub use Rattle.pop_battle.proofs.Words.{AreKnown, IsLinked, is_legal, is_mate, mates_after, moves_after, position, smallest_tree, undo_of, value, walk_count, work_from}
-pub use Rattle.std.proofs.Common.{get_or, length-take, map, slice_get, subst, ◌*◌, ◌/◌, ◌↔◌, ◌≢◌}
+pub use Rattle.std.proofs.Common.{get_or, is_none, length-take, map, slice_get, subst, ◌*◌, ◌/◌, ◌↔◌, ◌≢◌}
 pub use Rattle.std.proofs.lemmas.Bool.{false≢true, or_cases}
 pub use Rattle.std.proofs.lemmas.List.{map-append, take-append-drop, take-map, take_more, drop-drop, map-id, nil_from_length}
 pub use Rattle.std.proofs.lemmas.List.Concat.{flat_map-append, flat_map_single}
@@ -16,9 +16,8 @@ pub use Rattle.chess_rules.proofs.theorems.Moves.{Precedes, moves_are_the_legal_
 pub use Rattle.chess_mates.specs.ties.MatingPlaces.{IsNextMate}
 pub use Rattle.chess_flights.specs.ties.Mates.{allows_mate}
 pub use Rattle.pop_input.specs.Posed.{IsSound, Posed}
-pub use Rattle.pop_stipulation.specs.Stipulations.{half_moves, half_moves_of, is_help}
+pub use Rattle.pop_stipulation.specs.Stipulations.{battle_of, half_moves, half_moves_of, is_help}
 pub use Rattle.pop_stipulation.specs.declared.stipulation.Form.{Form}
-pub use Rattle.pop_battle.specs.Plays.{play_of}
 unfoldable pub use Rattle.pop_events.specs.Shown.{shown_move}
 pub use Rattle.pop_solve.specs.Events.{BareEvent, event_of, events, events_from, first_phase, game_of, impossible, is_impossible_phase, is_set, line, opening, path_event, phase_count, phase_half_moves, phase_start, play_start, moves_shown, last_shown, solutions_by, total, tree_node}
 unfoldable pub use Rattle.pop_solve.specs.Events.{phase_events, solutions}
@@ -27,10 +26,8 @@ unfoldable pub use Rattle.pop_battle.specs.Game.{help_lines, is_lost, is_self_lo
 pub use Rattle.pop_events.specs.Shown.{Shown}
 pub use Rattle.pop_solve.specs.Tree.{best_moves, keeps_win, least_moves, node, is_in_set_play, tree, wins_in}
 unfoldable pub use Rattle.pop_solve.specs.Tree.{continuations, nodes_below, set_tree}
-pub use Rattle.pop_battle.specs.declared.aim.Battle.{Battle}
-pub use Rattle.pop_battle.specs.declared.aim.Battle.TheVariants.{Direct, Selfmate}
-pub use Rattle.pop_battle.specs.declared.aim.Play.{Play as PlayOfSides}
-pub use Rattle.pop_battle.specs.declared.aim.Play.TheVariants.{Help as HelpPlay, Battle as BattlePlay}
+pub use Rattle.pop_stipulation.specs.declared.stipulation.Battle.{Battle}
+pub use Rattle.pop_stipulation.specs.declared.stipulation.Battle.TheVariants.{Direct, Selfmate}
 pub use Rattle.pop_events.specs.declared.event.Event.{Event}
 pub use Rattle.pop_events.specs.declared.event.Event.TheVariants.{Line, Node, Total}
 pub use Rattle.pop_events.specs.declared.event.Phase.{Phase}
@@ -45,7 +42,7 @@ pub use Rattle.pop_battle.specs.ties.Frames.{opened_frame}
 unfoldable pub use Rattle.pop_battle.specs.ties.Frames.{work_after, to_open, walk_after}
 pub use Rattle.pop_solve.specs.ties.Phases.{Gives, events_after, events_along, IsCountedUpTo, IsKeys, IsOpened, OpensOn, Walks, begins_solution, phase_paths}
 unfoldable pub use Rattle.pop_solve.specs.ties.Phases.{IsNarrow, HoldsAtStage, beginning_count, kept_paths, left_of, rest_fewest, rest_open}
-pub use Rattle.pop_solve.specs.ties.Plans.{goes_on, is_help_play, plan_of, walk_of}
+pub use Rattle.pop_solve.specs.ties.Plans.{goes_on, plan_of, walk_of}
 pub use Rattle.pop_solve.specs.ties.Seen.{IsAtPathOf}
 pub use Rattle.pop_solve.specs.Walks.{is_stop, is_unstopped, is_walked_once, phase_walk}
 pub use Rattle.pop_solve.specs.ties.Walk.{GoesTo, IsCounted, IsEnded, IsNextOf, IsWalking, Opens, Steps, Tries, ends_at_goal, fewest_half_moves, fewest_for, seeks_last}
