@@ -25,10 +25,9 @@ from pops_companions.show.authors import persons
 from tests import run_here, support
 from tests.plain_tries import plain_tries
 
-# From memory, with no source at hand: the queen's square and the pawn on b3 were found with `pops`, so that
-# the key is the only one.
+# As the database YACPDB has it, a version of a problem of 1859 (tests/tries/organ_pipes.pop).
 ORGAN_PIPES = (
-    b"BeginProblem\nTitle The Organ Pipes\nAuthor Loyd, Samuel\nOrigin Boston Gazette 1859\n"
+    b"BeginProblem\nTitle The Organ Pipes\nAuthor Loyd, Samuel\nOrigin Chess Monthly 1860\n"
     b"Pieces White Kg3 Qh5 Se3 Pb3 Pd2 Pf4 Black Kd4 Rd8 Re8 Bc8 Bf8 Pa6 Pb4 Pd3 Pe4 Pg4\n"
     b"Stipulation #2\nEndProblem\n"
 )
@@ -114,12 +113,12 @@ class Case(unittest.TestCase):
 
 
 class Published(Case):
-    """Solutions as published, but for the Organ Pipes: these are from memory."""
+    """Solutions as published."""
 
     def test_the_organ_pipes(self) -> None:
         """Zugzwang; rooks and bishops interfere on each of four squares, in both orders."""
         told = self.text(ORGAN_PIPES)
-        self.assertIn("1. Samuel Loyd: The Organ Pipes\n  Boston Gazette 1859\n", told)
+        self.assertIn("1. Samuel Loyd: The Organ Pipes\n  Chess Monthly 1860\n", told)
         self.assertIn("  #2 (6 + 10)\n", told)
         self.assertIn("Authors\n  Loyd, Samuel: 1\n", told)
         solution = told.split("  Solution\n")[1].split("\n\n")[0].split("\n")
@@ -133,6 +132,7 @@ class Published(Case):
             *(("Bd7", "Qd5#"), ("Rd7", "Sf5#"), ("Be7", "Qe5#"), ("Re7", "Qxb4#")),
             *(("Bd6", "Qd5#"), ("Rd6", "Qxb4#"), ("Be6", "Qe5#"), ("Re6", "Sf5#")),
             *(("Bb7", "Sf5#"), ("Bf5", "Sxf5#"), ("Bc5", "Qa1#")),
+            *((bishop, mate) for bishop in ("Bg7", "Bh6") for mate in ("Qxb4#", "Qb6#")),
             *(("Rd5", "Qxd5#"), ("Re5", "Qxe5#")),
         ):
             self.assertIn(mate, mates[defence].split("/"), defence)
