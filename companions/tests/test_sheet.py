@@ -311,7 +311,7 @@ class Forms(Case):
         self.assertIn("\\piecedefs{{w}{DU}{Grasshopper}; {w}{SU}{Nightrider}}", figures)
 
     def test_latex_is_typeset(self) -> None:
-        if shutil.which("latex") is None or not self.has_package():
+        if not support.has_latex():
             print("test_sheet: no LaTeX with the package diagram here: nothing was typeset")
             return
         marks = "".join(chr(code) for code in range(33, 127)) + " Réti"
@@ -323,9 +323,6 @@ class Forms(Case):
                 words = ["latex", "-interaction=nonstopmode", "-halt-on-error", source.name]
                 done = subprocess.run(words, cwd=self.room, capture_output=True, timeout=120)
                 self.assertEqual(done.returncode, 0, done.stdout[-2000:])
-
-    def has_package(self) -> bool:
-        return subprocess.run(["kpsewhich", "diagram.sty"], capture_output=True).returncode == 0
 
     def test_a_pdf(self) -> None:
         if shutil.which("chromium") is None:
