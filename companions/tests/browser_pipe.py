@@ -5,25 +5,36 @@ import json
 import os
 import select
 import shutil
+import signal
 import subprocess
 import tempfile
 import time
 from pathlib import Path
 from typing import Any, Optional
 
-SECONDS_OF_AN_ANSWER = 60
+# Generous: a machine may have much else to do.
+SECONDS_OF_AN_ANSWER = 240
+SECONDS_OF_AN_END = 20
+# (the superuser's browser has no sandbox; no host is found, so nothing goes into a network)
 _FLAGS = (
     "--headless",
     "--no-sandbox",
+    "--no-first-run",
     "--disable-gpu",
     "--hide-scrollbars",
     "--disable-dev-shm-usage",
+    "--disable-background-networking",
+    "--host-resolver-rules=MAP * ~NOTFOUND",
     "--remote-debugging-pipe",
 )
 
 
 class BrowserError(Exception):
     """What a browser refused, or a page's script threw."""
+
+
+class BrowserGoneError(BrowserError):
+    """The browser has ended, or doesn't answer."""
 
 
 class Browser:
@@ -47,6 +58,7 @@ class Browser:
             stderr=subprocess.DEVNULL,
             close_fds=False,
             preexec_fn=take_pipes,
+            start_new_session=True,
         )
         os.close(theirs_in)
         os.close(theirs_out)
@@ -55,6 +67,13 @@ class Browser:
         self._number = 0
         self._session: Optional[str] = None
         self.events: list[dict[str, Any]] = []
+        try:
+            self._attach()
+        except BrowserError:
+            self.close()
+            raise
+
+    def _attach(self) -> None:
         target = self.call("Target.createTarget", url="about:blank")["targetId"]
         attached = self.call("Target.attachToTarget", targetId=target, flatten=True)
         self._session = attached["sessionId"]
@@ -62,8 +81,13 @@ class Browser:
             self.call(f"{part}.enable")
 
     def close(self) -> None:
+        """Ends the browser with all its processes."""
         self._process.terminate()
-        self._process.wait()
+        try:
+            self._process.wait(SECONDS_OF_AN_END)
+        except subprocess.TimeoutExpired:
+            os.killpg(self._process.pid, signal.SIGKILL)
+            self._process.wait()
         os.close(self._in)
         os.close(self._out)
         shutil.rmtree(self._room, ignore_errors=True)
@@ -73,10 +97,10 @@ class Browser:
         while b"\0" not in self._kept:
             ready, _, _ = select.select([self._in], [], [], max(0, end - time.monotonic()))
             if not ready:
-                raise BrowserError("the browser doesn't answer")
+                raise BrowserGoneError("the browser doesn't answer")
             part = os.read(self._in, 1 << 20)
             if not part:
-                raise BrowserError("the browser has gone")
+                raise BrowserGoneError("the browser has gone")
             self._kept += part
         message, self._kept = self._kept.split(b"\0", 1)
         found: dict[str, Any] = json.loads(message)
@@ -89,8 +113,11 @@ class Browser:
         if self._session is not None:
             asked["sessionId"] = self._session
         data = json.dumps(asked).encode() + b"\0"
-        while data:
-            data = data[os.write(self._out, data) :]
+        try:
+            while data:
+                data = data[os.write(self._out, data) :]
+        except BrokenPipeError:
+            raise BrowserGoneError("the browser has gone") from None
         while True:
             message = self._message(SECONDS_OF_AN_ANSWER)
             if message.get("id") == self._number:

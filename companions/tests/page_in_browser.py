@@ -1,17 +1,23 @@
 """What `companions/try-browser` does with the page that solves: a problem entered by mouse, solved, folded, walked
-through, stopped, printed; texts pasted and dropped, hostile ones too; nothing asked of any server."""
+through, stopped, printed; tries and threats; texts pasted and dropped, hostile ones too; no server contacted."""
 
 import json
 from collections.abc import Callable
 from pathlib import Path
 from typing import Optional
 
-from tests.browser_pipe import Browser, BrowserError
+from tests.browser_pipe import Browser, BrowserError, BrowserGoneError
 
 READY = "document.getElementById('solve') && !document.getElementById('solve').disabled"
 IDLE = "document.getElementById('stop').disabled"
 SOLVED = f"{IDLE} && document.getElementById('report').textContent.endsWith('\\n\\n')"
 NARROW = 360
+# The least width and height of what is pressed.
+LEAST_SIZE = 18
+# The manual's problem: the key is 1.Qh8-b2, and 1.Qh8-h2 fails to 1...Ke1-d1.
+MATE_IN_TWO = "BeginProblem\nPieces White Kd6 Qh8 Rc7 Black Ke1 Pa6\nStipulation #2\nOption Variation\nEndProblem\n"
+# A page that reads a long text again for each of its words takes hours.
+SECONDS_OF_A_LONG_TEXT = 60
 HOSTILE = "<img src=x onerror='window.ran = 1'><script>window.ran = 1</script>\"'&"
 CONTROL = 2
 
@@ -43,6 +49,32 @@ class Page:
     def solve(self) -> None:
         self.browser.click("#solve")
         self.browser.wait(SOLVED)
+
+    def solve_and_stop(self, text: str) -> None:
+        """Solves a text that would take years, by one worker, for a second."""
+        self.open(text)
+        self.browser.run("Object.defineProperty(navigator, 'hardwareConcurrency', { value: 1 })")
+        self.solve_for_a_second()
+
+    def solve_for_a_second(self) -> None:
+        self.browser.click("#solve")
+        self.browser.wait("Number(/: ([0-9]+) s/.exec(document.getElementById('state').textContent)?.[1]) >= 1")
+        self.browser.click("#stop")
+        self.holds("stopped after" in self.told("state"), self.told("state"))
+        self.browser.wait(READY)
+
+    def row(self, said: str, part: str = "move") -> str:
+        """A selector of what unfolds the first row with this text, or of its move."""
+        self.browser.run(
+            "document.querySelector('.sought')?.classList.remove('sought');"
+            f"[...document.querySelectorAll('#tree li')].find(it => it.querySelector('.move').textContent === {json.dumps(said)})"
+            f".querySelector('.{part}').classList.add('sought')"
+        )
+        return ".sought"
+
+    def men(self, *squares: str) -> str:
+        """The men on these squares of the board, as `wK,,bP`."""
+        return str(self.browser.run(f"{json.dumps(squares)}.map(it => document.getElementById(it).dataset.man).join()"))
 
     def picture(self, name: str) -> None:
         if self.pictures is not None:
@@ -79,8 +111,8 @@ def entered(page: Page) -> None:
     browser.key("ArrowRight")
     browser.key("ArrowRight")
     page.holds(page.told("reached") == "2.Rc7-c1#", f"walked to {page.told('reached')}")
-    men = browser.run("['c1', 'd1', 'b2', 'e1', 'h8'].map(it => document.getElementById(it).dataset.man).join()")
-    page.holds(men == "wR,bK,wQ,,", f"the position behind three half-moves: {men}")
+    men = page.men("c1", "d1", "b2", "e1", "h8")
+    page.holds(men == "wR,bK,wQ,,", f"the position after three half-moves: {men}")
     page.picture("page.png")
     label = browser.run("document.getElementById('d1').getAttribute('aria-label')")
     page.holds(label == "d1 black king", f"a square is read as {label}")
@@ -105,26 +137,75 @@ def printed(page: Page) -> None:
 
 def stopped(page: Page) -> None:
     """An h#8 that would take years."""
-    page.open("BeginProblem\nPieces White Kd1 Ra1 Bc1 Pa2 Black Ke8 Qb8 Pa7\nStipulation h#8\nEndProblem\n")
-    page.browser.click("#solve")
-    page.browser.wait("document.getElementById('state').textContent.includes('2 s')")
-    page.browser.click("#stop")
-    page.holds("stopped after" in page.told("state"), page.told("state"))
-    page.browser.wait(READY)
+    page.solve_and_stop("BeginProblem\nPieces White Kd1 Ra1 Bc1 Pa2 Black Ke8 Qb8 Pa7\nStipulation h#8\nEndProblem\n")
+
+
+def with_tries(page: Page) -> None:
+    """Tries, threats and refutations: folded, unfolded, walked through, stopped; none with 0 refutations or in help play."""
+    browser = page.browser
+    browser.size(1280, 800)
+    page.open(MATE_IN_TWO)
+    page.holds(not browser.run("document.getElementById('most').offsetParent"), "no number of refutations without tries")
+    browser.click("#tries")
+    page.solve()
+    shown = page.told("tree")
+    page.holds(all(it in shown for it in ("1.Qh8-b2!", "1.Qh8-h2?", "1 key, ")), f"a key and a try: {shown}")
+    page.holds("threat" not in shown and "but" not in shown, "the tree with tries begins folded")
+    browser.click(page.row("1.Qh8-h2?", "turn"))
+    browser.click(page.row("threat", "turn"))
+    browser.click(page.row("but", "turn"))
+    browser.click(page.row("2.Rc7-c1#"))
+    page.holds(page.men("e1", "h2", "c1") == "bK,wQ,wR", f"a threat, as if Black passed: {page.men('e1', 'h2', 'c1')}")
+    browser.click(page.row("1...Ke1-d1!"))
+    page.holds(page.told("reached") == "1...Ke1-d1!", f"walked to {page.told('reached')}")
+    page.holds(page.men("d1", "e1", "h2", "h8") == "bK,,wQ,", f"the refutation of a try: {page.men('d1', 'e1', 'h2', 'h8')}")
+    page.picture("tries.png")
+    browser.click(page.row("but"))
+    page.holds(page.men("d1", "e1", "h2") == ",bK,wQ", "a word shows the position before its row")
+    browser.click("#fold")
+    page.holds(not browser.run("document.querySelector('#tree ul ul').offsetHeight"), "tries folded")
+    browser.run("document.getElementById('refutations').select()")
+    browser.call("Input.insertText", text="0")
+    page.solve()
+    page.holds("1.Qh8-b2!" in page.told("tree") and "?" not in page.told("tree"), "no tries with 0 refutations")
+    browser.run(f"takeText({json.dumps(MATE_IN_TWO.replace('#2', 'h#2'))})")
+    page.solve()
+    page.holds("no tries in help play" in page.told("tree"), "help play has no tries")
+    browser.run(f"takeText({json.dumps(MATE_IN_TWO.replace('Rc7 ', '').replace('#2', '#9'))})")
+    page.solve_for_a_second()
+    browser.click("#tries")
+    browser.run(f"takeText({json.dumps(MATE_IN_TWO)})")
+    page.solve()
+    page.holds("1.Qh8-b2" in page.told("tree") and "!" not in page.told("tree"), "the switch is off")
+
+
+# Run in the page: no part of a problem begins while the report is longer than `most` characters.
+HELD = """
+(() => {
+  const { free } = Crew.prototype;
+  window.most = 1000;
+  Crew.prototype.free = async function () {
+    await free.call(this);
+    while (state.report.length > most) await new Promise(go => { setTimeout(go, 20); });
+  };
+})()
+"""
 
 
 def grown(page: Page) -> None:
-    """A report of some seconds and 100,000 lines, by two workers: walked while it grows, then stopped."""
+    """A report of 100,000 lines, by two workers: walked while it grows, then stopped."""
     browser = page.browser
     page.open("BeginProblem\nPieces White Ke1 Qd1 Ra1 Black Ke8 Pa7b7\nStipulation h#3.5\nOption SetPlay\nEndProblem\n")
     browser.run("Object.defineProperty(navigator, 'hardwareConcurrency', { value: 2 })")
+    browser.run(HELD)
     browser.click("#solve")
-    browser.wait("document.querySelectorAll('#tree .move').length > 3")
+    drawn_up_to = "document.getElementById('report').textContent.length > most"
+    browser.wait(drawn_up_to)
     browser.click("#tree .move")
     browser.key("ArrowRight")
     reached = page.told("reached")
-    length = len(page.told("report"))
-    browser.wait(f"document.getElementById('report').textContent.length > {length}")
+    browser.run("most = state.report.length + 1000")
+    browser.wait(drawn_up_to)
     marked = browser.run("document.querySelectorAll('#tree [aria-current]').length")
     page.holds(reached != "" and page.told("reached") == reached and marked == 1, f"walked to {reached} while the report grew")
     page.holds(" parts, " in page.told("state"), page.told("state"))
@@ -153,8 +234,13 @@ def faulty(page: Page) -> None:
     page.holds(selected == "Pieces White Kg6 Ta1 Black Kg8", f"the faulty line: {selected}")
 
 
+def seconds(page: Page, script: str) -> float:
+    """How long a script takes in the page."""
+    return float(page.browser.run(f"(() => {{ const begun = performance.now(); {script}; return (performance.now() - begun) / 1000; }})()"))
+
+
 def hostile(page: Page) -> None:
-    """Markup, a million words, any bytes, 20,000 lines: the page stays usable, and nothing of them runs."""
+    """Markup, 65,536 words, any bytes, 20,000 lines: the page stays usable, and nothing of them runs."""
     browser = page.browser
     page.open(f"BeginProblem\nTitle {HOSTILE}\nAuthor {HOSTILE}\nPieces White Kg6 Ra1 Black Kg8\nStipulation #1\nEndProblem\n")
     page.solve()
@@ -165,20 +251,18 @@ def hostile(page: Page) -> None:
     browser.open(address, READY)
     page.holds(HOSTILE in page.text(), "a link carries it")
     for what, script in (
-        ("words", "'BeginProblem\\n' + 'Kg6 '.repeat(262144)"),
-        ("lines", "'BeginProblem\\n' + 'Kg6\\n'.repeat(262144)"),
+        ("words", "'BeginProblem\\n' + 'Kg6 '.repeat(65536)"),
+        ("lines", "'BeginProblem\\n' + 'Kg6\\n'.repeat(65536)"),
         ("bytes", "textOfBytes(Uint8Array.from({ length: 200000 }, (_, at) => at * 7919 >> 3)).text"),
     ):
-        taken = browser.run(f"(() => {{ const begun = performance.now(); takeText({script}); return performance.now() - begun; }})()")
-        page.holds(taken < 5000, f"{what} took {taken:.0f} ms")
+        page.holds(seconds(page, f"takeText({script})") < SECONDS_OF_A_LONG_TEXT, f"{what} take too long")
         page.solve()
         page.holds("fault" in page.told("tree"), f"{what}: a fault is told")
     browser.run(
         "(() => { state.report = 'problem 1\\nh#1\\nplay\\n' + '1.Kg8-h8 Ra1-h1#\\n1.Kg8-f8 Ra1-a8#\\n'.repeat(10000)"
         " + 'solutions: 20000\\n\\n'; state.solved = ''; })()"
     )
-    taken = browser.run("(() => { const begun = performance.now(); drawReport(); tree.foldAll(true); return performance.now() - begun; })()")
-    page.holds(taken < 3000, f"a report of 20,000 lines took {taken:.0f} ms")
+    page.holds(seconds(page, "drawReport(); tree.foldAll(true)") < SECONDS_OF_A_LONG_TEXT, "a report of 20,000 lines takes too long")
     page.holds(browser.run("document.querySelectorAll('#tree li').length") < 3000, "not all rows are drawn at once")
     page.holds(not browser.run("window.ran"), "something of a text ran")
 
@@ -227,7 +311,7 @@ def composed(page: Page) -> None:
     """A man dragged from the palette; a FEN pasted while a solution is stepped through; a move played, and solved from there."""
     browser = page.browser
     browser.size(1280, 800)
-    page.open("BeginProblem\nPieces White Kd6 Qh8 Rc7 Black Ke1\nStipulation #2\nOption Variation\nEndProblem\n")
+    page.open(MATE_IN_TWO.replace(" Pa6", ""))
     browser.drag("#men [data-tool=bP]", "#a6")
     page.holds("Black Ke1 Pa6" in page.text(), f"dragged from the palette: {page.text()}")
     page.solve()
@@ -266,12 +350,7 @@ def narrow(page: Page) -> None:
     browser.size(NARROW, 780)
     page.open("BeginProblem\nPieces White Kc1 Ge3 Na4 Black Ka1 Gh5 Ne7\nStipulation h#2\nOption Variation\nEndProblem\n")
     page.solve()
-    width = browser.run("document.documentElement.scrollWidth")
-    page.holds(width <= NARROW, f"the page is {width} wide")
-    small = browser.run(
-        "[...document.querySelectorAll('button, input, select')].filter(it => it.offsetParent && it.offsetHeight < 18).map(it => it.id)"
-    )
-    page.holds(not small, f"too small to press: {small}")
+    fits(page)
     nameless = browser.run(
         "[...document.querySelectorAll('button, input:not([hidden]), select, textarea')].filter(it =>"
         " !it.getAttribute('aria-label') && !it.textContent.trim() && !it.labels?.length).map(it => it.id || it.className)"
@@ -283,11 +362,26 @@ def narrow(page: Page) -> None:
     browser.click("#tree .move")
     top, bottom = browser.run("(it => [it.top, it.bottom])(document.getElementById('squares').getBoundingClientRect())")
     page.holds(0 <= top < bottom < 400, f"the board stays in sight: {top} to {bottom}")
+    browser.click("#tries")
+    fits(page)
+    page.picture("narrow_tries.png")
+
+
+def fits(page: Page) -> None:
+    """Nothing stands outside of the narrow page, and nothing is too small to press."""
+    width = page.browser.run("document.documentElement.scrollWidth")
+    page.holds(width <= NARROW, f"the page is {width} wide")
+    small = page.browser.run(
+        "[...document.querySelectorAll('button, input, select')].filter(it =>"
+        f" it.offsetParent && Math.min(it.offsetWidth, it.offsetHeight) < {LEAST_SIZE}).map(it => it.id)"
+    )
+    page.holds(not small, f"too small to press: {small}")
 
 
 LOOKS: list[Callable[[Page], None]] = [
     entered,
     printed,
+    with_tries,
     stopped,
     grown,
     faulty,
@@ -299,22 +393,24 @@ LOOKS: list[Callable[[Page], None]] = [
 ]
 
 
-def look(program: str, file: Path, pictures: Optional[Path] = None) -> list[str]:
-    """Uses the page in a browser. Returns what is wrong."""
-    browser = Browser(program)
-    page = Page(browser, file, pictures)
+def look(browser: Browser, file: Path, pictures: Optional[Path] = None) -> dict[str, list[str]]:
+    """Uses the page in a browser. Returns what is wrong, by what was tried."""
+    return {one.__name__: used(browser, Page(browser, file, pictures), one) for one in LOOKS}
+
+
+def used(browser: Browser, page: Page, one: Callable[[Page], None]) -> list[str]:
+    """Uses the page in one way. Returns what is wrong. The page contacts no server, and no script throws."""
+    browser.events.clear()
     try:
-        for one in LOOKS:
-            try:
-                one(page)
-            except BrowserError as error:
-                page.wrong.append(f"{one.__name__}: {error}")
-        for event in browser.events:
-            if event["method"] == "Network.requestWillBeSent":
-                address = event["params"]["request"]["url"]
-                page.holds(address.startswith(("file:", "blob:")), f"asked for {address[:80]}")
-            elif event["method"] == "Runtime.exceptionThrown":
-                page.wrong.append(f"thrown: {json.dumps(event['params'])[:300]}")
-    finally:
-        browser.close()
+        one(page)
+    except BrowserGoneError:
+        raise
+    except BrowserError as error:
+        page.wrong.append(str(error))
+    for event in browser.events:
+        if event["method"] == "Network.requestWillBeSent":
+            address = event["params"]["request"]["url"]
+            page.holds(address.startswith(("file:", "blob:")), f"asked for {address[:80]}")
+        elif event["method"] == "Runtime.exceptionThrown":
+            page.wrong.append(f"thrown: {json.dumps(event['params'])[:300]}")
     return page.wrong

@@ -5,6 +5,7 @@ import importlib
 import importlib.util
 import os
 import pty
+import shutil
 import subprocess
 import sys
 import tempfile
@@ -50,6 +51,13 @@ class Outcome(NamedTuple):
 def needs_module(name: str) -> Callable[[Test], Test]:
     """Leaves a test out, with a line that says so, where this module isn't installed."""
     return unittest.skipUnless(importlib.util.find_spec(name), f"{name} isn't installed")
+
+
+def has_latex() -> bool:
+    """Whether LaTeX is here with the package diagram, and with pstricks, which diagram loads."""
+    if shutil.which("latex") is None or shutil.which("kpsewhich") is None:
+        return False
+    return run(["kpsewhich", "diagram.sty", "pstricks.sty"]).status == 0
 
 
 def pops() -> str:

@@ -191,7 +191,7 @@ class Drawings(unittest.TestCase):
 
     def test_latex_typesets_every_stored_report(self) -> None:
         """The package itself stops where the number of men isn't that in the brackets."""
-        if shutil.which("latex") is None or not self.has_package():
+        if not support.has_latex():
             print("test_diagram: no LaTeX with the package diagram here: nothing was typeset")
             return
         marks = "".join(chr(code) for code in range(33, 127)) + " Réti \x00\x1b\xff"
@@ -208,9 +208,6 @@ class Drawings(unittest.TestCase):
             words = ["latex", "-interaction=nonstopmode", "-halt-on-error", "all.tex"]
             done = subprocess.run(words, cwd=room, capture_output=True, timeout=120)
         self.assertEqual(done.returncode, 0, done.stdout[-2000:])
-
-    def has_package(self) -> bool:
-        return subprocess.run(["kpsewhich", "diagram.sty"], capture_output=True).returncode == 0
 
 
 class Pictures(unittest.TestCase):

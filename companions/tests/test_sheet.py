@@ -274,7 +274,7 @@ class Forms(Case):
         ):
             self.assertIn(wanted, self.text(SEVERAL_THREATS, "--language", language))
         outcome = self.sheet(SEVERAL_THREATS, "--figures")
-        self.assertIn("1.♕f1! threat: 2.♕g1#/♕h3#/♖h3#</p>", outcome.output.decode())
+        self.assertIn("1.♕f1! threat: 2.♕g1#/<wbr>♕h3#/<wbr>♖h3#</p>", outcome.output.decode())
         told = self.sheet(WITH_FAIRY_MEN, "--figures", "--language", "de").output.decode()
         self.assertIn('<span class="turned">', told)
         self.assertIn('<p class="fairy">Grashüpfer d5</p>', told)
@@ -311,21 +311,23 @@ class Forms(Case):
         self.assertIn("\\piecedefs{{w}{DU}{Grasshopper}; {w}{SU}{Nightrider}}", figures)
 
     def test_latex_is_typeset(self) -> None:
-        if shutil.which("latex") is None or not self.has_package():
+        if not support.has_latex():
             print("test_sheet: no LaTeX with the package diagram here: nothing was typeset")
             return
         marks = "".join(chr(code) for code in range(33, 127)) + " Réti"
         strange = WITH_FAIRY_MEN.replace(b"Sam Loyd", marks.encode())
-        for place, text in enumerate((TWINS, SEVERAL_THREATS, ORGAN_PIPES, strange)):
+        # (three diagrams side by side)
+        row = b"NextProblem\n".join((ORGAN_PIPES, SEVERAL_THREATS, OF_THE_MANUAL))
+        row = row.replace(b"EndProblem\nNextProblem\nBegin", b"Next")
+        for place, text in enumerate((TWINS, row, strange)):
             for option in ("--apart", "--figures"):
                 source = self.room / f"sheet-{place}.tex"
                 source.write_bytes(self.sheet(text, "--to", "latex", option).output)
                 words = ["latex", "-interaction=nonstopmode", "-halt-on-error", source.name]
                 done = subprocess.run(words, cwd=self.room, capture_output=True, timeout=120)
                 self.assertEqual(done.returncode, 0, done.stdout[-2000:])
-
-    def has_package(self) -> bool:
-        return subprocess.run(["kpsewhich", "diagram.sty"], capture_output=True).returncode == 0
+                if text is not strange:
+                    self.assertNotIn(b"Overfull", done.stdout)
 
     def test_a_pdf(self) -> None:
         if shutil.which("chromium") is None:

@@ -92,7 +92,7 @@ class Reading(unittest.TestCase):
                 for one in (*item.keys, *item.tries)
             ]
             refutations = [it for one in first_moves for it in one.refutations]
-            shown = [it.text for it in (*first_moves, *refutations)]
+            shown = [it.text for it in first_moves] + [it.text for it in refutations]
             wanted = [it for it in text.split("\n") if it.endswith(("!", "?"))]
             self.assertEqual(sorted(shown), sorted(wanted), path.name)
 

@@ -19,11 +19,14 @@ h3.block { margin-top: .4em; }
 .index p { margin: 0 0 0 1em; text-indent: -1em; }
 article { break-inside: avoid; }
 """
+# A line of many moves may be broken after each.
+_BREAKS = {ord(sign): sign + "<wbr>" for sign in ",/"}
 
 
 def as_html(entries: Iterable[Entry], language: Language, heading: str, figures: bool) -> str:
     """Returns the page of a sheet, with the index of authors at its end."""
-    page = _Page(language, marked_as(language, _figures() if figures else {}))
+    marks = marked_as(language, _figures() if figures else {})
+    page = _Page(language, {**marks, **_BREAKS})
     return page.of(list(entries), html.escape(printable(heading)))
 
 

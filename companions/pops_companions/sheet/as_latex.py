@@ -14,10 +14,11 @@ _HEAD = r"""\documentclass[a4paper]{article}
 \usepackage[utf8]{inputenc}
 \usepackage{diagram}
 \nocomputer
-\setlength{\parindent}{0pt}
 \setlength{\lineskip}{2ex}
 """
-_BETWEEN = "\\hspace{2em}\n"
+_BETWEEN = "\\hspace{1em}\n"
+# A line of many moves may be broken after each.
+_BREAKS = {ord(sign): sign + r"\allowbreak{}" for sign in ",/"}
 # White's figures of the package; its upside-down queen and knight are the fairy men.
 _FIGURES = {
     Kind.KING: "K",
@@ -40,8 +41,8 @@ def as_latex(
     """
     all_entries = [entry for entry in entries if isinstance(entry.group.first, SoundItem)]
     men = {kind: rf"\w{name}{{}}" for kind, name in _FIGURES.items()} if figures else {}
-    marks = marked_as(language, men)
-    parts = [_HEAD, "\\begin{document}\n", f"\\section*{{{escaped(heading)}}}\n"]
+    marks = {**marked_as(language, men), **_BREAKS}
+    parts = [_HEAD, "\\begin{document}\n\\raggedright\n", f"\\section*{{{escaped(heading)}}}\n"]
     # (the diagrams of a paragraph are set side by side, as many as a line holds)
     parts += [_diagram(entry, encoding, language, marks) + _BETWEEN for entry in all_entries]
     parts.append("\n\\putsol\n")
