@@ -31,7 +31,7 @@ from tests.published_moves import meant
 from tests.published_text import Published, read_solution
 from tests.published_tries import solution_of
 
-# So many refutations that all first moves are shown.
+# With this many refutations all first moves are shown.
 _MOST = 200
 _FAIRY = {Kind.GRASSHOPPER, Kind.NIGHTRIDER}
 

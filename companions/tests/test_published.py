@@ -1,6 +1,6 @@
 """Published solutions: the stored texts made from them, and collections of YACPDB beside pops-tries.
 
-The collections are those of Debian's package pychess; $POPS_PUBLISHED names another folder of .olv
+The collections come from Debian's package pychess; $POPS_PUBLISHED names another folder of .olv
 files. Without them, or without pops-tries, a line says that they weren't compared.
 """
 
@@ -16,7 +16,7 @@ from tests.published_text import Menace, read_solution
 from tests.published_tries import VagueError, published_tries, solution_of
 
 COLLECTIONS = Path(os.environ.get("POPS_PUBLISHED", "/usr/share/pychess/learn/puzzles"))
-# The collections that are compared, and at least so many tries are in them.
+# The collections that are compared, and the least number of tries in them.
 _COMPARED = ("baird.olv", "kubbel.olv")
 _TRIES = 1500
 
