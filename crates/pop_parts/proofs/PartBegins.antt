@@ -1,9 +1,10 @@
 -- How a part begins: its solutions come after its first moves.
-use Rattle.pop_parts.proofs.Words.{Frame, IsCounted, IsLinked, IsPartOpened, IsSound, List, Move, Phase, Posed, Position, RuleSet, Stage, [], ap, cut-at, eqb, events_along, false, get_or, is_help, is_legal, is_part_stopped, is_unstopped, left_of, legal_moves, length, length-append, length-reverse, map, min, nat_tests, nil_from_length, part_events, part_solutions, part_walk, path, path-length, path-more, path_end, path_end-append, path_end-path, path_event, phase_half_moves, phase_start, position_after, refl, rest_open, reverse, rules, some-taken, suc, take, total, true, walk_count, arith, ℕ, ◌++◌, ◌+◌, ◌-◌, ◌<◌, ◌^◌, ◌∙◌, ◌∷◌, ◌≡◌, ◌≤◌}
+use Rattle.pop_parts.proofs.Words.{Frame, IsLinked, IsPartOpened, IsSound, List, Move, Phase, Posed, Position, RuleSet, Stage, [], ap, cut-at, eqb, events_along, false, get_or, is_help, is_legal, is_part_stopped, is_unstopped, left_of, legal_moves, length, length-append, length-reverse, map, min, nat_tests, nil_from_length, part_events, part_solutions, part_walk, path, path-length, path-more, path_end, path_end-append, path_end-path, path_event, phase_half_moves, phase_start, position_after, refl, reverse, rules, some-taken, suc, take, total, true, walk_count, arith, ℕ, ◌++◌, ◌+◌, ◌-◌, ◌<◌, ◌^◌, ◌∙◌, ◌∷◌, ◌≡◌, ◌≤◌}
 use Rattle.pop_parts.proofs.Parts.{part_cut}
 use Rattle.pop_parts.specs.ties.Beginnings.{IsSeeking}
 use Rattle.pop_parts.specs.ties.PartsSeen.{are_legal}
 use Rattle.pop_solve.proofs.Opened.{none-left}
+use Rattle.pop_solve.specs.ties.Counts.{Counts, exactly, untried_at}
 use Rattle.pop_solve.proofs.Solved.{IsCutInto}
 use Rattle.pop_solve.proofs.Walking.{popped}
 use Rattle.pop_solve.specs.ties.Beginnings.{IsBeginning, paths_by}
@@ -59,11 +60,11 @@ unstopped rule problem phase front full = rw full (unstopped-paths problem phase
 
 -- after its total a part of help play has tried all its positions
 pub all-opened : (rule : RuleSet) (problem : Posed) (phase : Phase) (front : List Move) (stage : Stage) (frames : List Frame)
-    (opened : ℕ) → IsPartOpened rule problem phase front stage frames opened
+    (opened : ℕ) → IsPartOpened rule problem phase front stage frames opened → opened < 2 ^ 64
     → is_help problem.stipulation.form ≡ true → is_part_stopped rule problem phase front ≡ false → left_of rule problem stage frames ≡ []
     → opened ≡ min (part_walk rule problem phase front) (2 ^ 64 - 1)
-all-opened rule problem phase front stage frames opened o help full none =
-    omega (arith, (o help full).1.counts, none-left rule problem stage frames none)
+all-opened rule problem phase front stage frames opened o fits help full none =
+    let c = rw (none-left rule problem stage frames none) at (o help full).1 in omega (arith, fits, c.most refl, c.least)
 
 module _ (rule : RuleSet) (problem : Posed) (sound : IsSound problem) (phase : Phase) (frames : List Frame) (board : Position) (d : ℕ)
     (s : IsSeeking rule (phase_half_moves problem phase) d (phase_start problem phase) (reverse frames) board) (long : length frames ≡ d)
@@ -121,7 +122,8 @@ module _ (rule : RuleSet) (problem : Posed) (sound : IsSound problem) (phase : P
   -- the part has begun
   pub opens-begun : (stage : Stage) (new : List Frame) (opened : ℕ) → left_of rule problem stage new ≡ events_along problem phase 0 come []
       → (is_help problem.stipulation.form ≡ true
-      → IsCounted (walk_count (legal_moves rule) (position_after rule) (h - n) (position_after rule board m)) opened (rest_open rule problem stage new))
+      → Counts (exactly (walk_count (legal_moves rule) (position_after rule) (h - n) (position_after rule board m))) (untried_at rule problem stage new) 0
+      opened)
       → IsPartOpened rule problem phase front stage new opened
   opens-begun stage new opened left counted help full =
       (ap is_unstopped (left ∙ events-begun) ∙ unstopped rule problem phase front full, rw walk-is (counted help))

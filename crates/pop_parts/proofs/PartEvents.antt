@@ -1,7 +1,10 @@
 -- What a call of `PartSearch::next` returns, and what it counts.
-use Rattle.pop_parts.proofs.Words.{BareEvent, Frame, Gives, IsAtPathOf, IsPartOpened, List, MatchOption, Move, None, OpensOn, Option, Phase, Posed, Position, RuleSet, Some, Stage, [], and_parts, ap, drop, event_of, is_stop, is_unstopped, left_of, no-battle, not, play_start, refl, slice_get, true, ℕ, ◌≡◌}
+use Rattle.pop_parts.proofs.Words.{BareEvent, Frame, Gives, IsAtPathOf, IsPartOpened, List, MatchOption, Move, None, Option, Phase, Posed, Position, RuleSet, Some, Stage, [], and_parts, ap, drop, event_of, is_stop, is_unstopped, left_of, not, play_start, refl, slice_get, true, ℕ, ◌≡◌}
 use Rattle.pop_events.specs.declared.event.Event.{Event}
 use Rattle.std.specs.Option.{option_map}
+use Rattle.pop_solve.proofs.Counting.{counts_then}
+use Rattle.pop_solve.proofs.Opened.{counts-unstopped}
+use Rattle.pop_solve.specs.ties.Counts.{CountsOn}
 
 module _ (rule : RuleSet) (problem : Posed) (old new : List BareEvent) (board : Position) (depth : ℕ) where
   -- the first event still to come, or none
@@ -30,8 +33,8 @@ module _ (rule : RuleSet) (problem : Posed) (old new : List BareEvent) (board : 
 pub opened-on : (rule : RuleSet) (problem : Posed) (phase : Phase) (front : List Move) (stage next : Stage) (frames last : List Frame) (board : Position)
     (depth before after : ℕ) (found : Option Event)
     → Returns rule problem (left_of rule problem stage frames) (left_of rule problem next last) board depth found
-    → OpensOn rule problem stage next frames last before after (left_of rule problem stage frames)
+    → CountsOn rule problem stage next frames last before after
     → IsPartOpened rule problem phase front stage frames before → IsPartOpened rule problem phase front next last after
 opened-on rule problem phase front stage next frames last board depth before after found g x o help full =
     let so_far = o help full in
-    (unstopped-on rule problem _ _ board depth found g so_far.0, x.counted (no-battle problem.stipulation.form help) so_far.0 _ so_far.1)
+    (unstopped-on rule problem _ _ board depth found g so_far.0, counts_then _ _ _ _ _ _ so_far.1 (counts-unstopped rule problem _ _ _ _ _ _ x so_far.0))

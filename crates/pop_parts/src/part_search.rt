@@ -208,6 +208,8 @@ impl<R: Rules, const N: usize> PartSearch<R, N> {
             → result ≡ min (part_walk R.rule self.now.problem self.now.phase self.now.front)
             (2 ^ 64 - 1) }
     {
+        // For the proof: the count is below 2^64.
+        let _count = self.search_state.opened;
         self.search_state.opened
     }
 }

@@ -1,13 +1,14 @@
 -- How the search of a phase after a beginning of moves begins.
-use Rattle.pop_solve.proofs.Words.{AreKnown, Bool, Counts, Frame, Game, HoldsAtStage, First, IsCounted, IsLinked, IsRoomy, IsWalking, List, Move, Part, Phase, Plan, Posed, Position, RuleSet, Stage, Within, [], after_well_formed, ap, append-nil, arith, eqb, events_along, false, false≢true, game_of, inl, inr, is_emitted, is_followed, is_for_mate, is_help, is_legal, is_mate, is_pseudo_legal-from_legal, left_of, legal_moves, length, map, moves_after, nat_tests, opened_frame, path, phase_half_moves, phase_paths, phase_start, plan_of, position, position_after, refl, rest_open, reverse, rules, seeks_last, shown_paths, sym, to_come, to_open, true, undo_of, walk_count, walk_length, walk_of, ℕ, ◌++◌, ◌+◌, ◌-◌, ◌<◌, ◌∙◌, ◌∷◌, ◌≡◌, ◌≤◌}
+use Rattle.pop_solve.proofs.Words.{AreKnown, Bool, Frame, Game, HoldsAtStage, First, IsLinked, IsRoomy, IsWalking, List, Move, Part, Phase, Plan, Posed, Position, RuleSet, Stage, Within, [], after_well_formed, ap, append-nil, arith, eqb, events_along, false, false≢true, game_of, inl, inr, is_emitted, is_followed, is_for_mate, is_help, is_legal, is_mate, is_pseudo_legal-from_legal, left_of, legal_moves, length, map, moves_after, nat_tests, opened_frame, path, phase_half_moves, phase_paths, phase_start, plan_of, position, position_after, refl, reverse, rules, seeks_last, shown_paths, sym, to_come, to_open, true, undo_of, walk_count, walk_length, walk_of, ℕ, ◌++◌, ◌+◌, ◌-◌, ◌<◌, ◌∙◌, ◌∷◌, ◌≡◌, ◌≤◌}
 use Rattle.pop_battle.proofs.Boards.{after_start, for_mate}
 use Rattle.pop_solve.proofs.GoingOn.{cases, ended-reached, follows-help, walk_length-help, walk_length-most}
-use Rattle.pop_solve.proofs.Outcomes.{counted_by}
+use Rattle.pop_solve.proofs.Counting.{at_most_one, counts-help, open-close, walk_count-start}
 use Rattle.pop_solve.proofs.Paths.{path-more, position-more}
 use Rattle.pop_solve.proofs.Sound.{no-battle}
-use Rattle.pop_solve.proofs.ToCome.{come-close, given_path, open-close, skipped, turn, walk_count-start}
+use Rattle.pop_solve.proofs.ToCome.{come-close, given_path, skipped, turn}
 use Rattle.pop_solve.proofs.Walking.{popped}
 use Rattle.pop_solve.specs.ties.Beginnings.{IsBeginning, are_idle, paths_by}
+use Rattle.pop_solve.specs.ties.Counts.{Counts, CountsMove, exactly, is_walked_once_by, untried, untried_at}
 
 -- from idle frames nothing is to come
 idle-parts : (f : Frame) (below : List Frame) → are_idle (f ∷ below) ≡ true → (f.left ≡ 0) × (are_idle below ≡ true)
@@ -43,7 +44,7 @@ pub record HasBegun (rule : RuleSet) (problem : Posed) (phase : Phase) (paths : 
     (board : Position) (opened : ℕ) : Type 0 where
   pub standing : HoldsAtStage rule problem stage frames board
   pub left : left_of rule problem stage frames ≡ events_along problem phase 0 paths []
-  pub opens : is_help problem.stipulation.form ≡ true → IsCounted walk opened (rest_open rule problem stage frames)
+  pub counts : is_help problem.stipulation.form ≡ true → Counts (exactly walk) (untried_at rule problem stage frames) 0 opened
 
 module _ (rule : RuleSet) (problem : Posed) (phase : Phase) (n : ℕ) (frames : List Frame) (board : Position)
     (s : IsBeginning rule problem phase n (reverse frames) board) (m : Move) (lawful : is_legal rule board m ≡ true) where
@@ -87,19 +88,20 @@ module _ (rule : RuleSet) (problem : Posed) (phase : Phase) (n : ℕ) (frames : 
   abbrev Begun : Bool → List Frame → Position → ℕ → Type 0
   Begun given new stand opened = HasBegun rule problem phase come tried (begins_at problem phase given) new stand opened
 
-  -- nothing else is still to be tried
-  rest-is : (given : Bool) (new : List Frame) → rest_open rule problem (begins_at problem phase given) new ≡ to_open rule p new
-  unfolding rest_open
-  rest-is true new = omega arith
-  rest-is false new = omega arith
+  -- in help play the frames are all that is still to be tried
+  counts-on : (given : Bool) (new : List Frame) (opened : ℕ) → is_help problem.stipulation.form ≡ true → opened + to_open rule p new ≡ tried
+      → Counts (exactly tried) (untried_at rule problem (begins_at problem phase given) new) 0 opened
+  unfolding untried_at untried is_walked_once_by
+  counts-on true new opened help e = let helps = no-battle problem.stipulation.form help in rw helps (search rules)
+  counts-on false new opened help e = let helps = no-battle problem.stipulation.form help in rw helps (search rules)
 
   -- none of the paths is to come
-  begun-none : (opened : ℕ) → come ≡ [] → (is_help problem.stipulation.form ≡ true → IsCounted tried opened 0) → Begun false old board opened
+  begun-none : (opened : ℕ) → come ≡ [] → (is_help problem.stipulation.form ≡ true → opened ≡ tried) → Begun false old board opened
   unfolding HoldsAtStage left_of
   begun-none opened none o = record {
     standing = (s.walking, omega arith, refl);
     left = rw (idle-come rule plan p h old s.idle, none) refl;
-    opens = λ help. rw (rest-is false old, idle-open rule plan p old s.idle) (o help);
+    counts = λ help. counts-on false old opened help (omega (arith, o help, idle-open rule plan p old s.idle));
   }
 
   -- the last move doesn't mate where each path ends with it
@@ -139,18 +141,17 @@ module _ (rule : RuleSet) (problem : Posed) (phase : Phase) (n : ℕ) (frames : 
   walking-entered = walking-opened rule h p old board m _ deep s.walking lawful
       (omega (arith, walk_length-most game plan.battle plan.variation left q, s.long, s.within))
 
-  opens-entered : (opened : ℕ) → Counts rule plan root left q 0 opened → is_help problem.stipulation.form ≡ true
-      → IsCounted tried opened (to_open rule p entered)
+  opens-entered : (opened : ℕ) → CountsMove rule plan root left q 0 opened → is_help problem.stipulation.form ≡ true
+      → opened + to_open rule p entered ≡ tried
   unfolding to_open
   opens-entered opened c help =
       let helps = no-battle problem.stipulation.form help in
-      let start : IsCounted tried 0 tried = search rules in
       let idle = idle-open rule plan p old s.idle in
       rw (walk_length-help plan game left q helps, idle, position-more rule p _ old deep, ← s.walking.board_at)
-      (counted_by rule plan left _ 0 opened _ _ (walk_count-start rule plan left q ∙ omega arith) (c.more helps) (c.none helps) start)
+      (let one = counts-help rule plan root left q 0 opened helps c in omega (arith, walk_count-start rule left q, at_most_one (eqb left 0), one.0, one.1))
 
   begun-entered : (opened : ℕ) (given : Bool) → given ≡ is_emitted plan.battle game left q → is_followed plan.battle game root left q ≡ true
-      → Counts rule plan root left q 0 opened → Begun given entered q opened
+      → CountsMove rule plan root left q 0 opened → Begun given entered q opened
   unfolding HoldsAtStage left_of
   begun-entered opened true g followed c =
       let e : path entered ∷ phase_paths rule problem phase entered ≡ come =
@@ -163,14 +164,14 @@ module _ (rule : RuleSet) (problem : Posed) (phase : Phase) (n : ℕ) (frames : 
           ended-reached game plan.battle plan.variation root left q followed (sym g),
         );
         left = ap (λ paths. events_along problem phase 0 paths []) e;
-        opens = λ help. rw (rest-is true entered) (opens-entered opened c help);
+        counts = λ help. counts-on true entered opened help (opens-entered opened c help);
       }
   begun-entered opened false g followed c =
       let e : phase_paths rule problem phase entered ≡ come = sym (come-entered followed ∙ rw (← g) refl) in
       record {
         standing = (walking-entered, omega arith, refl);
         left = ap (λ paths. events_along problem phase 0 paths []) e;
-        opens = λ help. rw (rest-is false entered) (opens-entered opened c help);
+        counts = λ help. counts-on false entered opened help (opens-entered opened c help);
       }
 
   -- what `enter` leaves
@@ -178,7 +179,7 @@ module _ (rule : RuleSet) (problem : Posed) (phase : Phase) (n : ℕ) (frames : 
       → (is_followed plan.battle game low left q ≡ false → (given ≡ false) × (after ≡ board) × (last ≡ frames))
       → (is_followed plan.battle game low left q ≡ true → (given ≡ is_emitted plan.battle game left q) × (after ≡ q)
       × (last ≡ frames ++ opened_frame m (undo_of rule board m) (walk_length plan.battle plan.variation game left q) ∷ []))
-      → Counts rule plan low left q opened opened2 → low ≡ root → Begun given (reverse last) after opened2
+      → CountsMove rule plan low left q opened opened2 → low ≡ root → Begun given (reverse last) after opened2
   begun-by opened opened2 low given last after z passes enters counts lowest =
       elim (cases (is_followed plan.battle game low left q)) [
         | inl passed ↦ let x = passes passed in rw (x.0, x.1, ap reverse x.2) (begun-passed opened2 (rw lowest at passed))

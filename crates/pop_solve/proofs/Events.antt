@@ -132,6 +132,16 @@ module _ (rule : RuleSet) (problem : Posed) (walk : Walk) (frames : List Frame) 
       let some : 0 < problem.max_solutions - 0 = omega (arith, sound.some_solution) in
       rw stays (gives-next 0 _ _ _ (keep-next help _ _ _ _ refl (λ b. some)) (beginning_count-next help _ _ _ _ refl (λ b. some)) next n event e)
 
+  -- a path that the walk finds is given next
+  pub found-gives : (count : ℕ) (old : List Frame)
+      → Walks rule (plan_of problem) help (phase_half_moves problem walk.phase) (phase_start problem walk.phase) (problem.max_solutions - count) old
+      (reverse frames) board true → (next : ℕ) → next ≡ count + more → (event : Event) → event ≡ event_of rule problem (path_event problem walk.phase top)
+      → (stand : Position) → stand ≡ board
+      → Gives rule problem (left_of rule problem (Within walk count) old) (left_of rule problem (Within walk next) (reverse frames)) event stand
+      (length frames)
+  unfolding left_of
+  found-gives count old w next n event e stand stays = rw stays (gives-next count _ _ _ (w.come refl) (w.starts refl) next n event e)
+
   -- the path of a beginning fits a line's room
   pub first-shallow : IsSound problem → length frames ≤ 33
   first-shallow s = search (rules, room-length, length-reverse, in_range)

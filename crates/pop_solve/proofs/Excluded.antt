@@ -1,7 +1,8 @@
 -- What the clauses of a search exclude: events emitted after the board was taken back, or twice; totals
 -- that are wrong or come too early; mates that are skipped; and counts of events and frames that begin or
 -- grow otherwise.
-use Rattle.pop_solve.proofs.Words.{ArrayVec, BareEvent, NotPossible, Before, Bool, Event, Frame, Gives, GoesTo, IsCountedUpTo, IsOpened, Line, List, Move, Node, Plan, Posed, Position, RuleSet, Shown, Total, Within, [], allows_mate, ap, arith, eqb, event_of, false, filter, filter-append, first_phase, is_help, is_mating, is_none, is_walked_once, kept_paths, left_of, length, length-append, map, min, moves_after, path_event, phase_paths, rest_open, total, true, ℕ, ◌++◌, ◌+◌, ◌-◌, ◌^◌, ◌<◌, ◌∷◌, ◌≡◌, ◌⊎◌, Walk}
+use Rattle.pop_solve.proofs.Words.{ArrayVec, BareEvent, NotPossible, Before, Bool, Event, Frame, Gives, GoesTo, IsCountedUpTo, Line, List, Move, Node, Plan, Posed, Position, RuleSet, Shown, Total, Within, [], allows_mate, ap, arith, eqb, event_of, false, filter, filter-append, first_phase, is_help, is_mating, is_none, is_walked_once, kept_paths, left_of, length, length-append, map, min, moves_after, path_event, phase_paths, rules, total, true, ℕ, ◌++◌, ◌+◌, ◌-◌, ◌^◌, ◌<◌, ◌∷◌, ◌≡◌, ◌⊎◌, Walk}
+use Rattle.pop_solve.specs.ties.Counts.{IsOpened, least_if, untried_at}
 use Rattle.pop_stipulation.specs.declared.stipulation.Goal.TheVariants.{Stalemate}
 
 module _ (rule : RuleSet) (problem : Posed) (old new : List BareEvent) (board : Position) where
@@ -54,8 +55,8 @@ module _ (rule : RuleSet) (problem : Posed) where
   -- a search before its first event has tried nothing, if no line of moves is walked twice
   pub nothing_is_opened_at_first : (frames : List Frame) (opened : ℕ) → is_walked_once problem ≡ true
       → IsOpened rule problem (Before (first_phase problem)) frames opened → opened ≡ 0
-  unfolding rest_open
-  nothing_is_opened_at_first frames opened once o = omega (arith, o.most once)
+  unfolding least_if untried_at
+  nothing_is_opened_at_first frames opened once o = omega (arith, o.most (search rules))
 
 module _ (rule : RuleSet) (plan : Plan) (p : Position) (place before after : ℕ) (rest : List Move) where
   -- with one half-move left no mate after the cursor is passed over

@@ -54,8 +54,8 @@ module _ (rule : RuleSet) (plan : Plan) (h : ℕ) (p : Position) where
     walks_ended limit board r e = grind (arith, nat_tests, and_parts, full plan.battle refl mid, nil_from_length)
 
     -- a step that gives a path ends it too
-    pub walks_given : (limit : ℕ) (new : List Frame) (board : Position) (before after : ℕ) (given : Bool) → Steps rule plan h p mid new board before after given
+    pub walks_given : (limit : ℕ) (new : List Frame) (board : Position) (given : Bool) → Steps rule plan h p mid new board given
         → given ≡ true → 0 < length mid → (eqb limit 0 && (is_none plan.battle || eqb (length mid) 1)) ≡ false
         → Walks rule plan (is_none plan.battle) h p limit old new board true
     unfolding to_come
-    walks_given limit new board before after given made is some e = grind (arith, path-length, nat_tests, keep-next, beginning_count-next, nil_from_length)
+    walks_given limit new board given made is some e = grind (arith, path-length, nat_tests, keep-next, beginning_count-next, nil_from_length)

@@ -4,6 +4,7 @@ pub mod Lengths
 pub mod Least
 pub mod GoingOn
 pub mod ToCome
+pub mod Counting
 pub mod Outcomes
 pub mod Walking
 pub mod Paths

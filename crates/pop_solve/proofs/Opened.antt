@@ -1,73 +1,59 @@
--- How many positions a search counts.
-use Rattle.pop_solve.proofs.Words.{BareEvent, None, NotPossible, Set, Before, ◌++◌, After, Frame, IsCounted, IsCountedUpTo, IsKeys, IsNarrow, IsOpened, IsSound, are_whites, List, Opens, OpensOn, Phase, Plan, Play, Posed, RuleSet, Stage, Tries, First, Whole, Within, battle_of, goes_on, left_of, refl, phase_events, [], arith, cond, drop, eqb, false, fewest_left, inl, inr, Walk, walk_of, and_parts, is_impossible_phase, is_stop, is_unstopped, min, not, phase_half_moves, phase_start, phase_walk, plan_of, position, rest_fewest, rest_open, rules, suc, to_open, total, true, zero, ℕ, ◌+◌, ◌-◌, ◌<◌, ◌^◌, ◌∷◌, ◌≡◌, ◌≤◌, ◌⊎◌}
+-- How many positions a search counts, from stage to stage.
+use Rattle.pop_solve.proofs.Words.{BareEvent, Bool, NotPossible, Set, Before, ◌++◌, After, Frame, HasCounted, IsCountedUpTo, IsSound, List, Phase, Play, Posed, RuleSet, Stage, First, Whole, Within, goes_on, left_of, refl, phase_events, [], arith, cond, drop, eqb, false, first_phase, is_help, is_walked_once, Walk, walk_of, and_parts, is_impossible_phase, is_stop, is_unstopped, min, not, phase_half_moves, phase_start, phase_walk, plan_of, position, rules, suc, to_open, total, true, zero, ℕ, ◌+◌, ◌-◌, ◌<◌, ◌^◌, ◌∷◌, ◌≡◌, ◌≤◌, ◌⊎◌}
+use Rattle.pop_solve.specs.ties.Counts.{Counts, CountsOn, CountsWalk, IsOpened, are_whites, fewest_left, fewest_tried, is_walked_once_by, least_if, none_untried, untried, untried_at, untried_from}
+use Rattle.pop_solve.specs.Walks.{is_never_stopped, whole_walk}
 use Rattle.pop_battle.proofs.Boards.{after_start}
+use Rattle.pop_solve.proofs.Counting.{walk_count-start}
+use Rattle.pop_solve.proofs.GoingOn.{ways}
 use Rattle.pop_solve.proofs.Sound.{some_way}
-use Rattle.pop_solve.proofs.ToCome.{one, walk_count-start}
-use Rattle.pop_solve.proofs.Outcomes.{counted_by}
 
 some-event : (xs : List BareEvent) (y : BareEvent) (ys : List BareEvent) → (xs ++ y ∷ ys) ≡ [] → ⊥
 some-event [] y ys e = cc
 some-event (x ∷ xs) y ys e = cc
 
-counted-along : (walk later opened rest : ℕ) → later ≤ walk → IsCounted (walk - later) opened rest → IsCounted walk opened (rest + later)
-counted-along walk later opened rest l c = search rules
-
 module _ (rule : RuleSet) (problem : Posed) where
+  -- what a call counts, where something has to be tried only if `full`
+  abbrev CountsIf : Bool → (old new : Stage) → (frames last : List Frame) → (before after : ℕ) → Type 0
+  CountsIf full old new frames last before after =
+      Counts (least_if full (untried_at rule problem old frames)) (untried_at rule problem new last) before after
+
   -- a phase begins: its root is opened
   module _ (sound : IsSound problem) (phase : Phase) (f : Frame) (left_is : f.left ≡ phase_half_moves problem phase) (place_is : f.place ≡ 0)
       (possible : is_impossible_phase rule problem phase ≡ false) where
-    abbrev plan : Plan
-    plan = plan_of problem
-
-    root-open : phase_walk rule problem phase ≡ one rule plan f.left + to_open rule (phase_start problem phase) (f ∷ [])
+    root-open : phase_walk rule problem phase ≡ cond (eqb f.left 0) 0 1 + to_open rule (phase_start problem phase) (f ∷ [])
     unfolding to_open position
-    root-open = rw (possible, place_is, ← left_is) (omega (arith, walk_count-start rule plan f.left (phase_start problem phase)))
-
-    narrow-begun : (battle_of problem.stipulation.form ≡ None) ⊎ IsKeys problem phase
-        → (battle_of problem.stipulation.form ≡ None) ⊎ ((keys : IsKeys problem phase) × (are_whites keys.battle (f ∷ []) ≡ true))
-    unfolding are_whites
-    narrow-begun (inl help) = inl help
-    narrow-begun (inr keys) = inr (keys, search (rules, some_way))
+    root-open = rw (possible, place_is, ← left_is) (omega (arith, walk_count-start rule f.left (phase_start problem phase)))
 
     -- the root of a phase is counted
-    pub opens-begun : (old : List Frame) (count count2 : ℕ) (left : List BareEvent) → (0 < f.left → count2 ≡ min (count + 1) (2 ^ 64 - 1))
-        → (f.left ≡ 0 → count2 ≡ count) → OpensOn rule problem (Before phase) (Within (walk_of problem phase Whole) 0) old (f ∷ []) count count2 left
-    unfolding rest_open rest_fewest IsNarrow fewest_left position
-    opens-begun old count count2 left more same = search (rules, counted_by, narrow-begun, after_start, root-open)
+    pub counts-begun : (old : List Frame) (before after : ℕ) (full : Bool) → after ≡ min (before + cond (eqb f.left 0) 0 1) (2 ^ 64 - 1)
+        → CountsIf full (Before phase) (Within (walk_of problem phase Whole) 0) old (f ∷ []) before after
+    unfolding untried_at least_if untried fewest_left position is_walked_once_by are_whites
+    counts-begun old before after full one = search (rules, ways, some_way, after_start, root-open)
 
   -- within a phase
   module _ (walk : Walk) (count : ℕ) (old new : List Frame) (before after : ℕ)
-      (x : Opens rule (plan_of problem) (phase_start problem walk.phase) old new before after)
-      (y : Tries rule (plan_of problem) (phase_half_moves problem walk.phase) (phase_start problem walk.phase) old new before after) where
-    abbrev Narrow : List Frame → Type 0
-    Narrow frames = (battle_of problem.stipulation.form ≡ None) ⊎ ((keys : IsKeys problem walk.phase) × (are_whites keys.battle frames ≡ true))
+      (x : CountsWalk rule (plan_of problem) (phase_half_moves problem walk.phase) (phase_start problem walk.phase) old new before after) where
+    -- what a call counts that gives a path
+    pub counts-given : (next : ℕ) (full : Bool) (last : List Frame) → last ≡ new → CountsIf full (Within walk count) (Within walk next) old last before after
+    unfolding untried_at least_if
+    counts-given next full last kept = rw kept (search rules)
 
-    narrowed : Narrow old → Narrow new
-    narrowed (inl help) = inl help
-    narrowed (inr w) = inr (w.0, search (rules, x.whites w.0.battle w.0.fought, w.0.keys, w.1))
-
-    -- what a call opens that gives a path
-    pub opens-given : (next : ℕ) (left : List BareEvent) (last : List Frame) → last ≡ new
-        → OpensOn rule problem (Within walk count) (Within walk next) old last before after left
-    unfolding rest_open rest_fewest IsNarrow
-    opens-given next left last kept = rw kept (search (rules, counted-along, narrowed))
-
-    -- what it opens that ends the phase
-    pub opens-ended : (stage : Stage) (last : List Frame) (left : List BareEvent) → stage ≡ cond (goes_on walk) (Before Play) After
+    -- what it counts that ends the phase
+    pub counts-ended : (stage : Stage) (last : List Frame) (left : List BareEvent) → stage ≡ cond (goes_on walk) (Before Play) After
         → count ≤ problem.max_solutions → (new ≡ []) ⊎ (problem.max_solutions - count ≡ 0)
-        → OpensOn rule problem (Within walk count) stage old last before after (total count (eqb count problem.max_solutions) ∷ left)
-    unfolding rest_open rest_fewest IsNarrow to_open fewest_left
-    opens-ended stage last left at most over = search (rules, counted-along)
+        → CountsIf (is_unstopped (total count (eqb count problem.max_solutions) ∷ left)) (Within walk count) stage old last before after
+    unfolding untried_at least_if untried to_open fewest_left
+    counts-ended stage last left at most over = search rules
 
   -- nothing is tried between the path of a beginning and the paths after it
-  pub opens-first : (walk : Walk) (stage : Stage) (is : (n : ℕ) × (stage ≡ Within walk n)) (frames : List Frame) (opened : ℕ) (left : List BareEvent)
-      → OpensOn rule problem (First walk) stage frames frames opened opened left
-  unfolding rest_open rest_fewest IsNarrow
-  opens-first walk stage is frames opened left = rw is.1 (search rules)
+  pub counts-first : (walk : Walk) (stage : Stage) (is : (n : ℕ) × (stage ≡ Within walk n)) (frames : List Frame) (opened : ℕ) (full : Bool)
+      → CountsIf full (First walk) stage frames frames opened opened
+  unfolding untried_at least_if
+  counts-first walk stage is frames opened full = rw is.1 (search rules)
 
   -- where no event is to come nothing is still to be tried
-  pub none-left : (stage : Stage) (frames : List Frame) → left_of rule problem stage frames ≡ [] → rest_open rule problem stage frames ≡ 0
-  unfolding left_of rest_open phase_events
+  pub none-left : (stage : Stage) (frames : List Frame) → left_of rule problem stage frames ≡ [] → untried_at rule problem stage frames ≡ none_untried
+  unfolding left_of untried_at phase_events
   none-left (Before Set) frames e = absurd cc
   none-left (Before Play) frames e = absurd cc
   none-left NotPossible frames e = absurd cc
@@ -75,12 +61,38 @@ module _ (rule : RuleSet) (problem : Posed) where
   none-left (Within walk count) frames e = absurd (some-event _ _ _ e)
   none-left After frames e = refl
 
-  -- a call that walked again from the phase's first position would count what had been opened before twice
-  pub no_second_walk : (old new : Stage) (frames last : List Frame) (before after again walk : ℕ) (left : List BareEvent)
-      → OpensOn rule problem old new frames last before after left → battle_of problem.stipulation.form ≡ None → is_unstopped left ≡ true
-      → IsCounted walk before (rest_open rule problem old frames) → 0 < before → walk - rest_open rule problem new last ≤ again
-      → after ≡ before + again → after < 2 ^ 64 → ⊥
-  no_second_walk old new frames last before after again walk left x h u c some whole sum fits = search rules
+  -- what a call counts, if no event to come says that the limit stops a phase
+  pub counts-unstopped : (old new : Stage) (frames last : List Frame) (before after : ℕ) → CountsOn rule problem old new frames last before after
+      → is_unstopped (left_of rule problem old frames) ≡ true → Counts (untried_at rule problem old frames) (untried_at rule problem new last) before after
+  unfolding least_if
+  counts-unstopped old new frames last before after x u = search rules
+
+  -- what a count says: at most the walk count, and after the last event all that had to be tried
+  module _ (stage : Stage) (frames : List Frame) (opened : ℕ) (o : IsOpened rule problem stage frames opened) where
+    pub most-opened : is_walked_once problem ≡ true → opened ≤ whole_walk rule problem
+    unfolding least_if
+    most-opened once = let first : (untried_from rule problem (first_phase problem)).once ≡ true = search rules in omega (arith, o.most first)
+
+    module _ (never : is_never_stopped rule problem ≡ true) (none : left_of rule problem stage frames ≡ []) where
+      at_the_end : HasCounted 0 opened (untried_from rule problem (first_phase problem)).least
+      unfolding least_if
+      at_the_end = let least = rw (never, none-left stage frames none) at o.least in omega (arith, least)
+
+      pub all-opened : opened < 2 ^ 64 → is_help problem.stipulation.form ≡ true → opened ≡ min (whole_walk rule problem) (2 ^ 64 - 1)
+      all-opened fits help =
+          let least = rw help at at_the_end in
+          let once : is_walked_once problem ≡ true = search rules in
+          omega (arith, least, fits, most-opened once)
+
+      pub fewest-opened : is_help problem.stipulation.form ≡ false → min (fewest_tried rule problem) (2 ^ 64 - 1) ≤ opened
+      fewest-opened battle = let least = rw battle at at_the_end in omega (arith, least)
+
+  -- a call that walked again from the phase's first position would count what had been counted before twice
+  pub no_second_walk : (old new : Stage) (frames last : List Frame) (before after again : ℕ)
+      → CountsOn rule problem old new frames last before after → (untried_at rule problem old frames).once ≡ true → 0 < before
+      → before + (untried_at rule problem old frames).most - (untried_at rule problem new last).most ≤ again → after ≡ before + again → ⊥
+  unfolding least_if
+  no_second_walk old new frames last before after again x once some whole sum = omega (arith, x.most once)
 
   all-drop : (k : ℕ) (xs : List BareEvent) → is_unstopped xs ≡ true → is_unstopped (drop k xs) ≡ true
   all-drop zero xs e = e
@@ -88,6 +100,7 @@ module _ (rule : RuleSet) (problem : Posed) where
   all-drop (suc k) (x ∷ xs) e = all-drop k xs (and_parts (not (is_stop x)) (is_unstopped xs) e).1
 
   -- the counts hold on after a call
-  pub opened-on : (old new : Stage) (frames last : List Frame) (before after given : ℕ) (left : List BareEvent) → IsCountedUpTo rule problem left given
-      → OpensOn rule problem old new frames last before after left → IsOpened rule problem old frames before → IsOpened rule problem new last after
-  opened-on old new frames last before after given left g x o = search (rules, all-drop)
+  pub opened-on : (old new : Stage) (frames last : List Frame) (before after given : ℕ) → IsCountedUpTo rule problem (left_of rule problem old frames) given
+      → CountsOn rule problem old new frames last before after → IsOpened rule problem old frames before → IsOpened rule problem new last after
+  unfolding least_if
+  opened-on old new frames last before after given g x o = search (rules, all-drop)

@@ -1,5 +1,5 @@
 -- What a sound problem guarantees, and which forms have a battle.
-use Rattle.pop_solve.proofs.Words.{Battle, Form, None, Some, arith, battle_of, false, is_help, length-append, rules, IsSound, IsWellFormed, Phase, Posed, half_moves, is_en_passant_square_right, phase_start, true, ◌≡◌, ◌≤◌}
+use Rattle.pop_solve.proofs.Words.{Battle, Form, None, Some, arith, battle_of, false, is_help, rules, IsSound, IsWellFormed, Phase, Posed, half_moves, is_en_passant_square_right, phase_start, true, ◌≡◌, ◌≤◌}
 
 -- a problem has 1 to 32 half-moves
 pub some_way : (problem : Posed) → IsSound problem → 1 ≤ half_moves problem.stipulation
@@ -22,8 +22,5 @@ no-battle form e = search rules
 pub some-battle : (form : Form) → is_help form ≡ false → (battle : Battle) × (battle_of form ≡ Some battle)
 some-battle form e = search rules
 
--- for `Search::new` and `Search::opened`: which forms have a battle
+-- for `Search::new`: which forms have a battle
 pub ruleset ways_to_play = (some-battle, no-battle)
-
--- for `Search::opened`: what is left at the end
-pub ruleset at_the_end = (some-battle, no-battle, length-append)

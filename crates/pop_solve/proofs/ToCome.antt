@@ -1,7 +1,6 @@
--- What the moves still to come mean for paths, turns and counts: the next move, and the moves that are
--- skipped.
-use Rattle.pop_solve.proofs.Words.{Battle, Bool, Frame, GoesTo, None, Some, are_whites, List, Mate, Move, Plan, Position, RuleSet, Steps, Undo, [], ap, append_assoc, append-nil, allows_mate, arith, chess, cond, eqb, false, fewest_for, fewest_left, fewest_walked, filter, is_followed, is_emitted, walk_length, is_mating, length, length-append, map, map-append, mates_after, moves_after, opened_frame, path, position, refl, rules, seeks_last, shown_paths, smallest_tree, work_from, work_after, suc, sum_by-append, sum_by-cons, to_come, to_open, true, walk_work, value, walk_after, walk_count, zero, ℕ, ◌++◌, ◌+◌, ◌-◌, ◌<◌, ◌∙◌, ◌∷◌, ◌≡◌, ◌≤◌, ◌⊎◌, position_after, legal_moves}
-use Rattle.pop_battle.proofs.Boards.{after_start, each_one, none_of}
+-- What the moves still to come mean for paths and turns: the next move, and the moves that are skipped.
+use Rattle.pop_solve.proofs.Words.{Bool, Frame, GoesTo, List, Mate, Move, None, Plan, Position, RuleSet, Steps, Undo, [], ap, append_assoc, append-nil, allows_mate, arith, chess, cond, eqb, false, filter, is_followed, is_emitted, walk_length, is_mating, length, map, map-append, mates_after, moves_after, opened_frame, path, position, refl, rules, seeks_last, shown_paths, work_from, work_after, suc, sum_by-append, sum_by-cons, to_come, true, walk_work, value, ℕ, ◌++◌, ◌+◌, ◌-◌, ◌<◌, ◌∙◌, ◌∷◌, ◌≡◌, ◌≤◌, ◌⊎◌, position_after, legal_moves}
+use Rattle.pop_battle.proofs.Boards.{after_start}
 use Rattle.pop_battle.specs.ties.Frames.{moved}
 use Rattle.pop_solve.proofs.GoingOn.{cases, no_zero, ways, walk_length-help, follows-help}
 
@@ -38,16 +37,6 @@ unfolding work_after
 work_after-next rule k P place next m e = rw e (sum_by-cons (λ x. 1 + work_from rule k (position_after rule P x)) m (moves_after rule P next))
 
 module _ (rule : RuleSet) (plan : Plan) where
-  -- a frame counts where it has half-moves below it
-  abbrev pub one : ℕ → ℕ
-  one zero = 0
-  one (suc k) = 1
-
-  -- a position counts one where moves are tried from it, and what these open
-  pub walk_count-start : (k : ℕ) (q : Position) → walk_count (legal_moves rule) (position_after rule) k q ≡ one k + walk_after rule k q 0
-  unfolding walk_count walk_after
-  walk_count-start k q = search (rules, after_start)
-
   module _ (h : ℕ) (p : Position) (f : Frame) (next : ℕ) (m : Move) (below : List Frame) (k t : ℕ) (fuel : h - length below ≡ suc k)
       (left : f.left ≡ suc t) (e : moves_after rule (position rule p (f ∷ below)) f.place ≡ m ∷ moves_after rule (position rule p (f ∷ below)) next) where
     -- the position after the move
@@ -74,22 +63,6 @@ module _ (rule : RuleSet) (plan : Plan) where
         let less : h - suc (length below) ≡ k = omega arith in
         simp (fuel, less, left, e, b, after_start, no_zero) (search (rules, turn))
 
-    -- a move that isn't followed has only its test
-    pub tries-pass : is_followed plan.battle (chess plan.goal rule) root t q ≡ false
-        → fewest_left rule plan h p (f ∷ below) ≡ fewest_for plan.battle plan.variation (chess plan.goal rule) root t q + fewest_left rule plan h p
-        (moved f next ∷ below)
-    unfolding fewest_left position fewest_walked
-    tries-pass b = simp (fuel, left, e, sum_by-cons, b) (omega arith)
-
-    -- one that is followed adds what is tried below it
-    pub tries-enter : (undo : Undo) → is_followed plan.battle (chess plan.goal rule) root t q ≡ true → fewest_left rule plan h p (f ∷ below)
-        ≡ fewest_for plan.battle plan.variation (chess plan.goal rule) root t q + fewest_left rule plan h p
-        (opened_frame m undo (walk_length plan.battle plan.variation (chess plan.goal rule) t q) ∷ (moved f next ∷ below))
-    unfolding fewest_left position fewest_walked
-    tries-enter undo b =
-        let less : h - suc (length below) ≡ k = omega arith in
-        simp (fuel, less, left, e, sum_by-cons, b, after_start, no_zero) (omega arith)
-
     -- passing a move over takes a turn
     pub turns-pass : walk_work rule h p (moved f next ∷ below) < walk_work rule h p (f ∷ below)
     unfolding walk_work position
@@ -100,24 +73,11 @@ module _ (rule : RuleSet) (plan : Plan) where
     unfolding walk_work position
     turns-enter undo tried = search (rules, work_after-next rule k (position rule p (f ∷ below)) f.place next m e, steps-start rule k q)
 
-    -- the next move opens what it can, and the others theirs
-    pub open-next : to_open rule p (f ∷ below) ≡ walk_count (legal_moves rule) (position_after rule) t q + to_open rule p (moved f next ∷ below)
-    unfolding to_open position walk_after
-    open-next =
-        let counts = λ (x : Move). walk_count (legal_moves rule) (position_after rule) t (position_after rule (position rule p (f ∷ below)) x) in
-        rw (left, e) (omega (arith, sum_by-cons counts m (moves_after rule (position rule p (f ∷ below)) next)))
-
   -- a frame without moves gives no path
   pub come-close : (h : ℕ) (p : Position) (f : Frame) (below : List Frame) → (f.left ≡ 0) ⊎ (moves_after rule (position rule p (f ∷ below)) f.place ≡ [])
       → to_come rule plan h p (f ∷ below) ≡ to_come rule plan h p below
   unfolding to_come shown_paths
   come-close h p f below e = search rules
-
-  -- a frame without moves opens nothing
-  pub open-close : (p : Position) (f : Frame) (below : List Frame) → (f.left ≡ 0) ⊎ (moves_after rule (position rule p (f ∷ below)) f.place ≡ [])
-      → to_open rule p (f ∷ below) ≡ to_open rule p below
-  unfolding to_open walk_after
-  open-close p f below e = search rules
 
   -- moves that have no paths: at the last half-move those that don't mate, by a side that seeks mate
   module _ (P : Position) where
@@ -132,16 +92,6 @@ module _ (rule : RuleSet) (plan : Plan) where
         → shown_paths plan (chess plan.goal rule) low fuel 1 P (m ∷ ms) ≡ shown_paths plan (chess plan.goal rule) low fuel 1 P ms
     unfolding shown_paths is_emitted is_followed value
     skipped low fuel last for m ms misses = search (rules, ways, walk_length-help, ends)
-
-    fewest-skipped : (low : Bool) (fuel : ℕ) → seeks_last plan.battle ≡ true → plan.goal ≡ Mate → (battle : Battle) → plan.battle ≡ Some battle
-        → (m : Move) (ms : List Move) → is_mating rule P m ≡ false
-        → fewest_walked plan (chess plan.goal rule) low fuel 1 P (m ∷ ms) ≡ fewest_walked plan (chess plan.goal rule) low fuel 1 P ms
-    unfolding fewest_walked smallest_tree is_followed value
-    fewest-skipped low fuel last for battle fought m ms misses = search (rules, sum_by-cons)
-
-    nothing : (k place : ℕ) → k ≡ 1 → walk_after rule k P place ≡ 0
-    unfolding walk_after
-    nothing k place e = rw e (none_of (legal_moves rule) (position_after rule) P (moves_after rule P place))
 
   -- the last half-move but one of help play, after moves to which no reply mates
   module _ (help : plan.battle ≡ None) (for : plan.goal ≡ Mate) where
@@ -167,7 +117,7 @@ module _ (rule : RuleSet) (plan : Plan) where
     later = moved f g.mid ∷ below
 
     -- a count to which these moves add nothing is the same from the later cursor on
-    same-later : {A : Type 0} (F : ℕ → List Move → A) → (seeks_last plan.battle ≡ true → plan.goal ≡ Mate → (m : Move) (ms : List Move)
+    pub same-later : {A : Type 0} (F : ℕ → List Move → A) → (seeks_last plan.battle ≡ true → plan.goal ≡ Mate → (m : Move) (ms : List Move)
         → is_mating rule P m ≡ false → F 1 (m ∷ ms) ≡ F 1 ms) → (plan.battle ≡ None → plan.goal ≡ Mate → (m : Move) (ms : List Move)
         → allows_mate rule P m ≡ false → F 2 (m ∷ ms) ≡ F 2 ms) → F f.left (moves_after rule P f.place) ≡ F f.left (moves_after rule P g.mid)
     unfolding position
@@ -183,18 +133,7 @@ module _ (rule : RuleSet) (plan : Plan) where
     unfolding work_after
     fewer k = search (rules, sum_by-append)
 
-    -- in play with two half-moves left each opens one frame
-    each : (k : ℕ) → k ≡ 2 → walk_after rule k P f.place ≡ length g.over + walk_after rule k P g.mid
-    unfolding walk_after
-    each k e = rw (e, each_one (legal_moves rule) (position_after rule) P, each_one (legal_moves rule) (position_after rule) P) (simp (g.passed, length-append))
-
-    tries-skip : (battle : Battle) → plan.battle ≡ Some battle → fewest_left rule plan h p (f ∷ below) ≡ fewest_left rule plan h p later
-    unfolding fewest_left position
-    tries-skip battle fought =
-        search (rules, same-later (λ n ms. fewest_walked plan (chess plan.goal rule) (eqb (length below) 0) (h - length below) n P ms), fewest-skipped P)
-
     -- what follows moves that are passed over follows from before them
-    pub steps-skip : (new : List Frame) (board : Position) (after : ℕ) (given : Bool) → Steps rule plan h p later new board between after given
-        → Steps rule plan h p (f ∷ below) new board before after given
-    unfolding are_whites to_open position walk_work walk_after
-    steps-skip new board after given s = search (rules, come-skip, tries-skip, nothing, each, fewer)
+    pub walk-skip : (new : List Frame) (board : Position) (given : Bool) → Steps rule plan h p later new board given → Steps rule plan h p (f ∷ below) new board given
+    unfolding position walk_work
+    walk-skip new board given s = search (rules, come-skip, fewer)

@@ -1,12 +1,12 @@
 -- The outcomes of a step, with frames listed from the bottom up, as the code holds them, and what its calls
 -- return.
-use Rattle.pop_solve.proofs.Words.{all_triples, AreKnown, Bool, CameFrom, CameFromAt, Counts, Frame, GoesTo, IfSome, IsNextMate, IsNextOf, IsPlaceIn, IsRoomy, IsWalking, LegalPlace, List, MatchOption, Mate, Option, Plan, Position, RuleSet, Steps, [], ap, append-nil, arith, chess, eqb, false, is_followed, is_emitted, walk_length, inl, inr, is_legal, length, length-append, length-reverse, get_or, take, mates_after, nat_tests, moves_after, moves_after-end, position, refl, reverse, reverse-append, rules, seeks_last, suc, sym, true, undo_of, ℕ, ◌++◌, ◌+◌, ◌-◌, ◌<◌, ◌∙◌, ◌∷◌, ◌≡◌, ◌≤◌, ◌⊎◌, Move, position_after, opened_frame, nil_from_length}
+use Rattle.pop_solve.proofs.Words.{all_triples, AreKnown, Bool, CameFrom, CameFromAt, Frame, GoesTo, IfSome, IsNextMate, IsNextOf, IsPlaceIn, IsRoomy, IsWalking, LegalPlace, List, MatchOption, Mate, Option, Plan, Position, RuleSet, [], ap, append-nil, arith, chess, eqb, false, is_followed, is_emitted, walk_length, inl, inr, is_legal, length, length-append, length-reverse, get_or, take, mates_after, nat_tests, moves_after, moves_after-end, position, refl, reverse, reverse-append, rules, seeks_last, suc, sym, true, undo_of, ℕ, ◌++◌, ◌+◌, ◌-◌, ◌<◌, ◌∙◌, ◌∷◌, ◌≡◌, ◌≤◌, ◌⊎◌, Move, position_after, opened_frame, nil_from_length}
 use Rattle.std.proofs.lemmas.List.{same_from_push, take_all, take_more}
 use Rattle.pop_battle.specs.ties.Frames.{learned, moved}
 use Rattle.pop_solve.specs.ties.Walk.{MovesOn}
 use Rattle.pop_solve.proofs.GoingOn.{cases}
-use Rattle.pop_solve.proofs.Outcomes.{CameFrom-deep, walking-close, walking-learned, steps-learned, skips-close, steps-pass, steps-enter, walking-moved}
-use Rattle.pop_solve.proofs.ToCome.{steps-skip}
+use Rattle.pop_solve.proofs.Outcomes.{CameFrom-deep, walking-close, Taken, walking-learned, steps-learned, skips-close, steps-pass, steps-enter, steps-skip, walking-moved}
+use Rattle.pop_solve.specs.ties.Counts.{CountsMove}
 
 -- a push, and the frames before a frame was taken off, seen from the top
 pub reverse-push : (xs : List Frame) (x : Frame) → reverse (xs ++ x ∷ []) ≡ x ∷ reverse xs
@@ -44,10 +44,11 @@ module _ (rule : RuleSet) (plan : Plan) (h : ℕ) (top : Frame) (old new : List 
   walking_top p board now r e = search (rules, popped)
 
   -- a step that closes the top frame
-  pub close_steps : (p board now after : Position) (depth opened count : ℕ) → IsWalking rule h p (reverse old) board → now ≡ board → depth ≡ length new
+  pub close_steps : (board now after : Position) (depth opened count : ℕ) → now ≡ board → depth ≡ length new
       → ((top.left ≡ 0) × (count ≡ opened)) ⊎ GoesTo rule plan top.left board top.place [] opened count → (depth ≡ 0 → after ≡ now)
-      → ((q : Position) → 0 < depth → CameFromAt rule top now q → after ≡ q) → Steps rule plan h p (reverse old) (reverse new) after opened count false
-  close_steps p board now after depth opened count r e d none lowest before =
+      → ((q : Position) → 0 < depth → CameFromAt rule top now q → after ≡ q) → (p : Position) → IsWalking rule h p (reverse old) board
+      → Taken rule plan h p (reverse old) (reverse new) after opened count false
+  close_steps board now after depth opened count e d none lowest before p r =
       let r2 = walking_top p board now r e in
       rw (popped old new top taken)
       (search (rules, skips-close rule plan h p top (reverse new) now r2 after opened count (rw (← e, r2.board_at) at none), depth_is))
@@ -84,8 +85,8 @@ module _ (rule : RuleSet) (plan : Plan) (h : ℕ) (top : Frame) (old new : List 
         → (is_followed plan.battle (chess plan.goal rule) root following arrived ≡ true
         → (given ≡ is_emitted plan.battle (chess plan.goal rule) following arrived) × (after ≡ arrived)
         × (last ≡ mid ++ opened_frame m (undo_of rule now m) (walk_length plan.battle plan.variation (chess plan.goal rule) following arrived) ∷ []))
-        → Counts rule plan root following arrived between opened2
-        → (p : Position) → IsWalking rule h p (reverse old) board → Steps rule plan h p (reverse old) (reverse last) after opened opened2 given
+        → CountsMove rule plan root following arrived between opened2
+        → (p : Position) → IsWalking rule h p (reverse old) board → Taken rule plan h p (reverse old) (reverse last) after opened opened2 given
     enter_steps root given after opened2 flag passes enters counts p r =
         let left : top.left ≡ suc following = omega (arith, some.0) in
         let f = learned top known in

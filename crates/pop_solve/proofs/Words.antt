@@ -37,14 +37,13 @@ pub use Rattle.pop_solve.specs.declared.phases.Walk.{Walk}
 pub use Rattle.pop_solve.specs.declared.phases.Stage.TheVariants.{NotPossible, Before, First, After, Within}
 pub use Rattle.pop_solve.specs.declared.phases.Scope.TheVariants.{Part, Whole}
 pub use Rattle.pop_solve.specs.declared.plan.Plan.{Plan}
-pub use Rattle.pop_solve.specs.ties.Calls.{Counts}
 pub use Rattle.pop_battle.specs.ties.Frames.{opened_frame}
 unfoldable pub use Rattle.pop_battle.specs.ties.Frames.{work_after, to_open, walk_after}
-pub use Rattle.pop_solve.specs.ties.Phases.{Gives, events_after, events_along, IsCountedUpTo, IsKeys, IsOpened, OpensOn, Walks, begins_solution, phase_paths}
-unfoldable pub use Rattle.pop_solve.specs.ties.Phases.{IsNarrow, HoldsAtStage, beginning_count, kept_paths, left_of, rest_fewest, rest_open}
+pub use Rattle.pop_solve.specs.ties.Phases.{Gives, events_after, events_along, IsCountedUpTo, Walks, begins_solution, phase_paths}
+unfoldable pub use Rattle.pop_solve.specs.ties.Phases.{HoldsAtStage, beginning_count, kept_paths, left_of}
 pub use Rattle.pop_solve.specs.ties.Plans.{goes_on, plan_of, walk_of}
 pub use Rattle.pop_solve.specs.ties.Seen.{IsAtPathOf}
 pub use Rattle.pop_solve.specs.Walks.{is_stop, is_unstopped, is_walked_once, phase_walk}
-pub use Rattle.pop_solve.specs.ties.Walk.{GoesTo, IsCounted, IsEnded, IsNextOf, IsWalking, Opens, Steps, Tries, ends_at_goal, fewest_half_moves, fewest_for, seeks_last}
-unfoldable pub use Rattle.pop_solve.specs.ties.Walk.{IsRoomy, are_whites, fewest_left, fewest_walked, least_length_from, is_followed, is_emitted, walk_length, shown_length, path, shown_paths, to_come, walk_work}
+pub use Rattle.pop_solve.specs.ties.Walk.{GoesTo, IsEnded, IsNextOf, IsWalking, Steps, ends_at_goal, fewest_half_moves, seeks_last}
+unfoldable pub use Rattle.pop_solve.specs.ties.Walk.{IsRoomy, least_length_from, is_followed, is_emitted, walk_length, shown_length, path, shown_paths, to_come, walk_work}
 pub use Rattle.std.proofs.lemmas.List.Folds.{flat_map-map, list_all-append}

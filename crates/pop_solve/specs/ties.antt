@@ -1,5 +1,5 @@
 pub mod Beginnings
-pub mod Calls
+pub mod Counts
 pub mod Phases
 pub mod Plans
 pub mod Seen

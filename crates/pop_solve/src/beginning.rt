@@ -8,8 +8,9 @@ ghost use Rattle.pop_stipulation.specs.Stipulations.{half_moves, is_help};
 ghost use Rattle.pop_battle.specs.Walks.{walk_count};
 ghost use Rattle.pop_solve.specs.Events.{phase_half_moves as half_moves_of_phase};
 ghost use Rattle.pop_solve.specs.ties.Beginnings.{IsBeginning, paths_by};
-ghost use Rattle.pop_solve.specs.ties.Phases.{events_along, left_of, rest_open, HoldsAtStage};
-ghost use Rattle.pop_solve.specs.ties.Walk.{IsCounted, IsMatedAtLast, IsWellFormed, is_for_mate, seeks_last};
+ghost use Rattle.pop_solve.specs.ties.Counts.{Counts, exactly, untried_at};
+ghost use Rattle.pop_solve.specs.ties.Phases.{events_along, left_of, HoldsAtStage};
+ghost use Rattle.pop_solve.specs.ties.Walk.{IsMatedAtLast, IsWellFormed, is_for_mate, seeks_last};
 
 use crate::guess::guess_killers;
 use crate::phases::{Scope, Stage, Walk, phase_half_moves};
@@ -67,11 +68,12 @@ pub fn begin_after<R: Rules, const N: usize>(
     ensures left { left_of R.rule problem.now result (reverse frames.new.items)
         ≡ events_along problem.now phase 0 (paths_by R.rule problem.now phase
         (array_vec_len frames.old) (reverse frames.old.items) board.old by) [] }
-    ensures opens { is_help problem.now.stipulation.form ≡ true
-        → IsCounted (walk_count (legal_moves R.rule) (position_after R.rule)
+    ensures counts { is_help problem.now.stipulation.form ≡ true
+        → Counts (exactly (walk_count (legal_moves R.rule) (position_after R.rule)
         (half_moves_of_phase problem.now phase - array_vec_len frames.old)
-        (position_after R.rule board.old by)) search_state.new.opened
-        (rest_open R.rule problem.now result (reverse frames.new.items)) }
+        (position_after R.rule board.old by)))
+        (untried_at R.rule problem.now result (reverse frames.new.items)) 0
+        search_state.new.opened }
 {
     let walk = Walk::of(problem, phase, Scope::Part);
     let plan = Plan::of(problem);

@@ -5,9 +5,10 @@ ghost use Rattle.chess_core.specs.Position.{Position};
 ghost use Rattle.pop_input.specs.Posed.{IsSound};
 ghost use Rattle.pop_stipulation.specs.Stipulations.{half_moves, is_help};
 ghost use Rattle.pop_solve.specs.Events.{first_phase, moves_shown, play_start, phase_half_moves as half_moves_of_phase, phase_start, phase_half as half_of_phase, event_of, is_impossible_phase, path_event, opening};
-ghost use Rattle.pop_solve.specs.ties.Walk.{IsEnded, IsWalking, Opens, Tries, path};
+ghost use Rattle.pop_solve.specs.ties.Counts.{CountsOn, CountsWalk};
+ghost use Rattle.pop_solve.specs.ties.Walk.{IsEnded, IsWalking, path};
 ghost use Rattle.pop_solve.specs.ties.Plans.{goes_on, plan_of, walk_of};
-ghost use Rattle.pop_solve.specs.ties.Phases.{left_of, HoldsAtStage, Walks, Gives, OpensOn};
+ghost use Rattle.pop_solve.specs.ties.Phases.{left_of, HoldsAtStage, Walks, Gives};
 ghost use Rattle.pop_events.specs.declared.event.Event.TheVariants.{Line, Total};
 ghost use Rattle.pop_events.specs.declared.event.Phase.TheVariants.{Play};
 ghost use Rattle.pop_solve.specs.declared.phases.Stage.TheVariants.{Before, First, Within, After};
@@ -141,12 +142,9 @@ fn walk_on<R: Rules, const N: usize>(
         (phase_start problem.now walk.phase) (problem.now.max_solutions - count)
         (reverse frames.old.items) (reverse frames.new.items)
         board.new result }
-    ensures opens { Opens R.rule walk.plan (phase_start problem.now walk.phase)
-        (reverse frames.old.items)
+    ensures counts { CountsWalk R.rule walk.plan walk.half_moves
+        (phase_start problem.now walk.phase) (reverse frames.old.items)
         (reverse frames.new.items) search_state.old.opened search_state.new.opened }
-    ensures tries { Tries R.rule walk.plan walk.half_moves (phase_start problem.now walk.phase)
-        (reverse frames.old.items) (reverse frames.new.items)
-        search_state.old.opened search_state.new.opened }
 {
     let limit = still_to_begin(problem, count);
     while !frames.is_empty() && !limit_ends_phase(problem, frames.len(), limit) {
@@ -253,10 +251,8 @@ fn begin<R: Rules, const N: usize>(
     ensures standing { HoldsAtStage R.rule problem.now result (reverse frames.new.items) board.new }
     ensures left { left_of R.rule problem.now (Before phase) (reverse frames.old.items)
         ≡ opening phase ∷ left_of R.rule problem.now result (reverse frames.new.items) }
-    ensures opens { OpensOn R.rule problem.now (Before phase) result (reverse frames.old.items)
-        (reverse frames.new.items)
-        search_state.old.opened search_state.new.opened
-        (left_of R.rule problem.now (Before phase) (reverse frames.old.items)) }
+    ensures counts { CountsOn R.rule problem.now (Before phase) result (reverse frames.old.items)
+        (reverse frames.new.items) search_state.old.opened search_state.new.opened }
 {
     if !set_up::<R>(problem, phase, board) {
         return Stage::NotPossible;
@@ -378,10 +374,8 @@ pub fn advance<R: Rules, const N: usize>(
         (left_of R.rule problem.now stage.old (reverse frames.old.items))
         (left_of R.rule problem.now stage.new (reverse frames.new.items))
         event board.new (array_vec_len frames.new)) }
-    ensures opens { OpensOn R.rule problem.now stage.old stage.new (reverse frames.old.items)
-        (reverse frames.new.items)
-        search_state.old.opened search_state.new.opened (left_of R.rule problem.now stage.old
-        (reverse frames.old.items)) }
+    ensures counts { CountsOn R.rule problem.now stage.old stage.new (reverse frames.old.items)
+        (reverse frames.new.items) search_state.old.opened search_state.new.opened }
 {
     match *stage {
         Stage::Before { phase } => {

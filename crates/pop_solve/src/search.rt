@@ -31,7 +31,8 @@ impl<R: Rules, const N: usize> Model for Search<R, N> {
     ghost use Rattle.pop_stipulation.specs.Stipulations.{half_moves};
     ghost use Rattle.pop_solve.specs.Events.{events};
     ghost use Rattle.pop_solve.specs.ties.Seen.{Seen};
-    ghost use Rattle.pop_solve.specs.ties.Phases.{left_of, HoldsAtStage, IsCountedUpTo, IsOpened};
+    ghost use Rattle.pop_solve.specs.ties.Counts.{IsOpened};
+    ghost use Rattle.pop_solve.specs.ties.Phases.{left_of, HoldsAtStage, IsCountedUpTo};
 
     ghost Value = { Seen };
 
@@ -59,12 +60,13 @@ impl<R: Rules, const N: usize> Search<R, N> {
     ghost use Rattle.pop_stipulation.specs.Stipulations.{half_moves, is_help};
     ghost use Rattle.pop_solve.specs.Events.{events, event_of, play_start};
     ghost use Rattle.pop_solve.specs.Walks.{is_never_stopped, is_walked_once, whole_walk};
-    ghost use Rattle.pop_solve.specs.ties.Seen.{fewest_tried, IsAtPathOf};
+    ghost use Rattle.pop_solve.specs.ties.Counts.{fewest_tried};
+    ghost use Rattle.pop_solve.specs.ties.Seen.{IsAtPathOf};
 
     /// Returns a search before its first event: its board has the play's first position, and no frame is in
     /// use. `N` must be more than the half-moves of the play, and `R` must be the rules of the problem's
     /// condition.
-    #[tactic(auto, using(crate::proofs::Sound::ways_to_play), unfolding(crate::specs::ties::Phases::HoldsAtStage, crate::specs::ties::Phases::left_of, crate::specs::ties::Phases::rest_fewest, crate::specs::ties::Phases::rest_open, crate::specs::ties::Phases::IsNarrow))]
+    #[tactic(auto, using(crate::proofs::Sound::ways_to_play), unfolding(crate::specs::ties::Counts::least_if, crate::specs::ties::Counts::untried_at, crate::specs::ties::Phases::HoldsAtStage, crate::specs::ties::Phases::left_of))]
     pub fn new(problem: &Problem) -> Self
         requires room { half_moves problem.now.stipulation < N }
         requires rule { R.rule ≡ rule_of problem.now.condition }
@@ -148,7 +150,6 @@ impl<R: Rules, const N: usize> Search<R, N> {
     /// list of moves once. After the last event, if no limit stopped a phase, it is the walk count in help
     /// play; in direct mates and selfmates it is at least the number of positions in a smallest tree for
     /// each tested move.
-    #[tactic(auto, using(crate::proofs::Sound::at_the_end), unfolding(crate::specs::ties::Phases::left_of, crate::specs::ties::Phases::rest_fewest, crate::specs::ties::Phases::rest_open, crate::specs::Events::phase_events))]
     pub fn opened(&self) -> u64
         ensures opened { result ≡ self.now.opened }
         ensures most { is_walked_once self.now.problem ≡ true
@@ -161,6 +162,8 @@ impl<R: Rules, const N: usize> Search<R, N> {
             → self.now.left ≡ []
             → min (fewest_tried R.rule self.now.problem) (2 ^ 64 - 1) ≤ result }
     {
+        // For the proof: the count is below 2^64.
+        let _count = self.search_state.opened;
         self.search_state.opened
     }
 }

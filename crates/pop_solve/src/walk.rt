@@ -1,5 +1,5 @@
 //! The walk over the moves of a phase, with a stack of frames.
-ghost use Rattle.std.specs.Prelude.{◌≡◌, ◌↔◌, ◌+◌, ◌<◌, ◌≤◌, ◌/◌, [], ◌∷◌, ◌++◌, length, reverse, take, List, IsTrue, true, false, is_some, IfSome, MatchOption, Some, None, ◌⊎◌, not, ◌&&◌, ◌||◌, ◌==◌, ◌-◌, ◌^◌, min};
+ghost use Rattle.std.specs.Prelude.{◌≡◌, ◌↔◌, ◌+◌, ◌<◌, ◌≤◌, ◌/◌, [], ◌∷◌, ◌++◌, length, reverse, take, List, IsTrue, true, false, is_some, IfSome, MatchOption, Some, None, ◌⊎◌, not, ◌&&◌, ◌||◌, ◌==◌, ◌-◌, ◌^◌, if◌then◌else◌, min};
 ghost use Rattle.arrayvec.specs.ArrayVec.{array_vec_len};
 ghost use Rattle.chess_threats.specs.ties.Threats.{AreThreatsOf};
 ghost use Rattle.chess_rules.specs.Legal.{is_legal, is_mate, moves as legal_moves};
@@ -8,7 +8,7 @@ ghost use Rattle.chess_rules.specs.ties.Places.{IsPlaceIn, moves_after};
 ghost use Rattle.pop_battle.specs.ties.Calls.{Evaluates, Restores};
 ghost use Rattle.pop_battle.specs.ties.Frames.{CameFrom, CameFromAt, Frame as Level, opened_frame};
 ghost use Rattle.pop_battle.specs.ties.Passing.{IsNextMatable};
-ghost use Rattle.pop_solve.specs.ties.Calls.{Counts};
+ghost use Rattle.pop_solve.specs.ties.Counts.{CountsMove, CountsWalk};
 ghost use Rattle.pop_solve.specs.ties.Walk.{Battle, IsWellFormed, Mate, Position, attacker_to_move, chess, is_for_mate, value, MovesOn, fewest_half_moves, least_length_from, shown_length, is_followed, is_emitted, walk_length, IsMatedAtLast, IsNextOf, IsWalking, seeks_last, Steps};
 
 use crate::plan::Plan;
@@ -195,8 +195,7 @@ fn is_emitted<R: Rules>(plan: Plan, left: usize, board: &mut Board) -> bool
 /// Returns the count of tried positions after a frame with `tried` half-moves has been opened. A frame
 /// without half-moves doesn't count.
 pub(crate) fn opened_with(opened: u64, tried: usize) -> u64
-    ensures more { 0 < tried → result ≡ min (opened + 1) (2 ^ 64 - 1) }
-    ensures none { tried ≡ 0 → result ≡ opened }
+    ensures { result ≡ min (opened + (if tried == 0 then 0 else 1)) (2 ^ 64 - 1) }
 {
     if tried > 0 {
         opened.saturating_add(1)
@@ -208,9 +207,7 @@ pub(crate) fn opened_with(opened: u64, tried: usize) -> u64
 /// Returns the count of tried positions after a move whose frame has `tried` half-moves. A position that
 /// was tested in a battle isn't counted again: its test has counted it.
 fn opened_after(opened: u64, tried: usize, tested: Option<Battle>) -> u64
-    ensures more { 0 < tried → tested ≡ None → result ≡ min (opened + 1) (2 ^ 64 - 1) }
-    ensures none { tried ≡ 0 → result ≡ opened }
-    ensures tested { is_some tested ≡ true → result ≡ opened }
+    ensures { result ≡ min (opened + (if is_some tested || (tried == 0) then 0 else 1)) (2 ^ 64 - 1) }
 {
     match tested {
         Some(_) => opened,
@@ -249,7 +246,7 @@ pub(crate) fn enter<R: Rules, const N: usize>(
         (walk_length plan.battle plan.variation (chess plan.goal R.rule) left
         (position_after R.rule board.old by))
         ∷ []) }
-    ensures counts { Counts R.rule plan (array_vec_len frames.old == 1) left
+    ensures counts { CountsMove R.rule plan (array_vec_len frames.old == 1) left
         (position_after R.rule board.old by) search_state.old.opened search_state.new.opened }
 {
     let depth = frames.len();
@@ -452,7 +449,11 @@ pub fn step<R: Rules, const N: usize>(
     ensures steps { (p : Position) → IsWalking R.rule half_moves p (reverse frames.old.items)
         board.old
         → Steps R.rule plan half_moves p (reverse frames.old.items) (reverse frames.new.items)
-        board.new search_state.old.opened search_state.new.opened result }
+        board.new result }
+    ensures counts { (p : Position) → IsWalking R.rule half_moves p (reverse frames.old.items)
+        board.old
+        → CountsWalk R.rule plan half_moves p (reverse frames.old.items)
+        (reverse frames.new.items) search_state.old.opened search_state.new.opened }
 {
     let depth = frames.len() - 1;
     let top = top_of(frames);

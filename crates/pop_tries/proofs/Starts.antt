@@ -28,9 +28,9 @@ shows_below rule plan h p f start long battle n fought white few v =
 
 module _ (rule : RuleSet) (plan : Plan) (h : ℕ) (p : Position) (old mid : List Frame) (same : to_come rule plan h p old ≡ to_come rule plan h p mid) where
   -- a step that shows a node
-  pub node_shown : (new : List Frame) (board : Position) (before after : ℕ) (given : Bool) → Steps rule plan h p mid new board before after given
+  pub node_shown : (new : List Frame) (board : Position) (given : Bool) → Steps rule plan h p mid new board given
       → given ≡ true → 0 < length mid → ShowsNext rule plan h p old new board true
-  node_shown new board before after given s e some = grind (arith, s.come, s.deep, s.ended, same)
+  node_shown new board given s e some = grind (arith, s.come, s.deep, s.ended, same)
 
   -- with no frame left nothing is to come
   pub none_left : (board : Position) → IsWalking rule h p mid board → length mid ≡ 0 → ShowsNext rule plan h p old mid board false

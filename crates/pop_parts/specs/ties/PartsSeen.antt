@@ -10,8 +10,8 @@ use Rattle.pop_stipulation.specs.Stipulations.{is_help}
 use Rattle.pop_solve.specs.Events.{BareEvent, Path, phase_half_moves, phase_start}
 use Rattle.pop_solve.specs.Walks.{is_unstopped}
 use Rattle.pop_solve.specs.declared.phases.Stage.{Stage}
-use Rattle.pop_solve.specs.ties.Phases.{left_of, rest_open}
-use Rattle.pop_solve.specs.ties.Walk.{IsCounted}
+use Rattle.pop_solve.specs.ties.Counts.{Counts, exactly, untried_at}
+use Rattle.pop_solve.specs.ties.Phases.{left_of}
 use Rattle.pop_battle.specs.ties.Frames.{Frame}
 use Rattle.pop_battle.specs.Game.{path_end}
 use Rattle.pop_parts.specs.PhaseParts.{part_count}
@@ -57,7 +57,8 @@ abbrev pub IsPartOpened : RuleSet → Posed → Phase → Path → Stage → Lis
 IsPartOpened rule problem phase front stage frames opened =
     is_help problem.stipulation.form ≡ true → is_part_stopped rule problem phase front ≡ false
     → (is_unstopped (left_of rule problem stage frames) ≡ true)
-    × IsCounted (part_walk rule problem phase front) opened (rest_open rule problem stage frames)
+    × Counts (exactly (part_walk rule problem phase front)) (untried_at rule problem stage frames)
+    0 opened
 
 -- each of the moves, played from p on, is legal
 unfoldable pub are_legal : RuleSet → Position → Path → Bool

@@ -1,15 +1,13 @@
 -- What a search in a phase has still to emit (own).
-use Rattle.pop_stipulation.specs.Stipulations.{battle_of, is_help}
-use Rattle.pop_stipulation.specs.declared.stipulation.Battle.{Battle}
-use Rattle.std.specs.Prelude.{◌≡◌, ℕ, zero, suc, ◌+◌, ◌-◌, ◌≤◌, ◌^◌, min, ◌==◌, Bool, true, false, ◌||◌, if◌then◌else◌, List, [], ◌∷◌, ◌++◌, map, length, drop, ◌⊎◌, None, Some}
+use Rattle.std.specs.Prelude.{◌≡◌, ℕ, zero, suc, ◌+◌, ◌-◌, ◌≤◌, ◌^◌, min, ◌==◌, Bool, true, false, ◌||◌, if◌then◌else◌, List, [], ◌∷◌, ◌++◌, map, length, drop, ◌⊎◌}
 use Rattle.chess_core.specs.Position.{Position}
 use Rattle.chess_attacks.specs.RuleSet.{RuleSet}
 use Rattle.pop_input.specs.Posed.{Posed}
-use Rattle.pop_battle.specs.ties.Frames.{Frame, to_open}
-use Rattle.pop_solve.specs.ties.Walk.{fewest_left, path, to_come, IsEnded, IsWalking, IsCounted, are_whites}
-use Rattle.pop_solve.specs.Events.{BareEvent, Path, impossible, is_set, total, play_start, events_from, path_event, phase_start, phase_half_moves, event_of, events}
-use Rattle.pop_solve.specs.Walks.{is_never_stopped, is_unstopped, is_walked_once, walk_from, whole_walk}
-use Rattle.pop_solve.specs.ties.Seen.{fewest_from, fewest_tried, IsAtPathOf}
+use Rattle.pop_stipulation.specs.Stipulations.{is_help}
+use Rattle.pop_battle.specs.ties.Frames.{Frame}
+use Rattle.pop_solve.specs.ties.Walk.{path, to_come, IsEnded, IsWalking}
+use Rattle.pop_solve.specs.Events.{BareEvent, Path, impossible, total, play_start, events_from, path_event, phase_start, phase_half_moves, event_of, events}
+use Rattle.pop_solve.specs.ties.Seen.{IsAtPathOf}
 use Rattle.pop_events.specs.declared.event.Event.{Event}
 use Rattle.pop_events.specs.declared.event.Phase.{Phase}
 use Rattle.pop_events.specs.declared.event.Phase.TheVariants.{Play}
@@ -113,82 +111,6 @@ pub record Gives (rule : RuleSet) (problem : Posed) (old new : List BareEvent) (
   pub left : old ≡ bare ∷ new
   pub event_is : event ≡ event_of rule problem bare
   pub stands : IsAtPathOf rule problem bare board depth
-
--- the most positions that can still be counted in help play, or if only keys are shown
-unfoldable pub rest_open : RuleSet → Posed → Stage → List Frame → ℕ
-rest_open rule problem (Before phase) frames = walk_from rule problem phase
-rest_open rule problem NotPossible frames = walk_from rule problem Play
-rest_open rule problem (First walk) frames =
-    to_open rule (phase_start problem walk.phase) frames
-    + (if goes_on walk then walk_from rule problem Play else 0)
-rest_open rule problem (Within walk count) frames =
-    to_open rule (phase_start problem walk.phase) frames
-    + (if goes_on walk then walk_from rule problem Play else 0)
-rest_open rule problem After frames = 0
-
--- the fewest positions that have still to be tried
-unfoldable pub rest_fewest : RuleSet → Posed → Stage → List Frame → ℕ
-rest_fewest rule problem (Before phase) frames = fewest_from rule problem phase
-rest_fewest rule problem NotPossible frames = fewest_from rule problem Play
-rest_fewest rule problem (First walk) frames =
-    fewest_left rule (plan_of problem) (phase_half_moves problem walk.phase)
-    (phase_start problem walk.phase) frames
-    + (if goes_on walk then fewest_from rule problem Play else 0)
-rest_fewest rule problem (Within walk count) frames =
-    fewest_left rule (plan_of problem) (phase_half_moves problem walk.phase)
-    (phase_start problem walk.phase) frames
-    + (if goes_on walk then fewest_from rule problem Play else 0)
-rest_fewest rule problem After frames = 0
-
--- the phase is the play of a battle, and only keys are shown
-pub record IsKeys (problem : Posed) (phase : Phase) : Type 0 where
-  pub battle : Battle
-  pub fought : battle_of problem.stipulation.form ≡ Some battle
-  pub keys : problem.variation ≡ false
-  pub play : is_set phase ≡ false
-
--- help play, or only keys are shown, so that White alone has frames
-unfoldable pub IsNarrow : Posed → Stage → List Frame → Type 0
-IsNarrow problem (Before phase) frames = (battle_of problem.stipulation.form ≡ None)
-    ⊎ IsKeys problem phase
-IsNarrow problem NotPossible frames = battle_of problem.stipulation.form ≡ None
-IsNarrow problem (First walk) frames =
-    (battle_of problem.stipulation.form ≡ None)
-    ⊎ ((keys : IsKeys problem walk.phase) × (are_whites keys.battle frames ≡ true))
-IsNarrow problem (Within walk count) frames =
-    (battle_of problem.stipulation.form ≡ None)
-    ⊎ ((keys : IsKeys problem walk.phase) × (are_whites keys.battle frames ≡ true))
-IsNarrow problem After frames = Unit {0}
-
--- how many positions a call counts; `left` are the events still to come before the call
-pub record OpensOn (rule : RuleSet) (problem : Posed) (old new : Stage) (frames last : List Frame)
-    (before after : ℕ) (left : List BareEvent) : Type 0 where
-  pub narrow : IsNarrow problem old frames → IsNarrow problem new last
-  pub most : IsNarrow problem old frames
-      → after + rest_open rule problem new last ≤ before + rest_open rule problem old frames
-  pub counted : battle_of problem.stipulation.form ≡ None → is_unstopped left ≡ true → (walk : ℕ)
-      → IsCounted walk before (rest_open rule problem old frames)
-      → IsCounted walk after (rest_open rule problem new last)
-  pub grows : min before (2 ^ 64 - 1) ≤ after
-  pub fewest : (battle : Battle) → battle_of problem.stipulation.form ≡ Some battle
-      → is_unstopped left ≡ true
-      → min (before + rest_fewest rule problem old frames) (2 ^ 64 - 1)
-      ≤ after + rest_fewest rule problem new last
-
--- the count of tried positions so far: if no list of moves is walked twice, at most the walk count; in
--- help play, exactly the positions of the walk that aren't still to come; in a battle, no fewer than have
--- to be tried
-pub record IsOpened (rule : RuleSet) (problem : Posed) (stage : Stage) (frames : List Frame)
-    (opened : ℕ) : Type 0 where
-  pub narrow : is_walked_once problem ≡ true → IsNarrow problem stage frames
-  pub most : is_walked_once problem ≡ true
-      → opened + rest_open rule problem stage frames ≤ whole_walk rule problem
-  pub counted : battle_of problem.stipulation.form ≡ None → is_never_stopped rule problem ≡ true
-      → IsCounted (whole_walk rule problem) opened (rest_open rule problem stage frames)
-  pub fewest : (battle : Battle) → battle_of problem.stipulation.form ≡ Some battle
-      → is_never_stopped rule problem ≡ true
-      → min (fewest_tried rule problem) (2 ^ 64 - 1)
-      ≤ opened + rest_fewest rule problem stage frames
 
 -- `given` counts the events returned so far, up to the greatest u64, and the events still to come are the
 -- rest of all events

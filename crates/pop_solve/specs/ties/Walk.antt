@@ -3,8 +3,8 @@ use Rattle.pop_solve.specs.Events.{Path}
 pub use Rattle.pop_stipulation.specs.declared.stipulation.Battle.{Battle}
 use Rattle.pop_stipulation.specs.declared.stipulation.Battle.TheVariants.{Direct, Selfmate}
 pub use Rattle.pop_stipulation.specs.declared.stipulation.Goal.TheVariants.{Mate}
-use Rattle.std.specs.Prelude.{◌≡◌, ℕ, zero, suc, ◌+◌, ◌-◌, ◌/◌, ◌≤◌, ◌<◌, ◌^◌, min, ◌==◌, Bool, true, false, not, ◌&&◌, ◌||◌, if◌then◌else◌, List, [], ◌∷◌, ◌++◌, map, length, filter, Option, Some, None, IfSome, MatchOption, ◌⊎◌}
-use Rattle.std.specs.List.{flat_map, list_all, sum_by}
+use Rattle.std.specs.Prelude.{◌≡◌, ℕ, zero, suc, ◌+◌, ◌-◌, ◌/◌, ◌≤◌, ◌<◌, ◌==◌, Bool, true, false, not, ◌&&◌, ◌||◌, if◌then◌else◌, List, [], ◌∷◌, ◌++◌, map, length, filter, Option, Some, None, IfSome, MatchOption, ◌⊎◌}
+use Rattle.std.specs.List.{flat_map}
 pub use Rattle.chess_core.specs.Position.{Position}
 use Rattle.chess_core.specs.declared.man.Move.{Move}
 pub use Rattle.chess_core.specs.WellFormed.{IsWellFormed}
@@ -14,11 +14,10 @@ use Rattle.chess_flights.specs.ties.Mates.{is_mating}
 use Rattle.chess_rules.specs.Legal.{is_legal, is_mate}
 use Rattle.chess_attacks.specs.RuleSet.{RuleSet}
 use Rattle.pop_battle.specs.Game.{Game}
-use Rattle.pop_battle.specs.ties.Counts.{smallest_tree}
 pub use Rattle.pop_battle.specs.ties.Values.{attacker_to_move, value}
 pub use Rattle.pop_battle.specs.Chess.{chess}
 pub use Rattle.pop_battle.specs.ties.Frames.{Frame}
-use Rattle.pop_battle.specs.ties.Frames.{AreKnown, learned, moved, position, IsLinked, work_after, to_open, left_at_top}
+use Rattle.pop_battle.specs.ties.Frames.{AreKnown, learned, moved, position, IsLinked, work_after, left_at_top}
 use Rattle.pop_battle.specs.ties.Passing.{CannotBeMated, Passes}
 use Rattle.pop_solve.specs.declared.plan.Plan.{Plan}
 pub use Rattle.pop_battle.specs.ties.Marks.{is_for_mate}
@@ -74,25 +73,6 @@ module _ {P M : Type 0} where
       (walk_length plan.battle plan.variation game t q) q (game.moves q))
       else []) ms
 
-  -- the fewest positions that have to be tried for a move to q, with t half-moves left: for a tested move
-  -- the positions of a smallest tree, otherwise q itself if the walk goes on from it
-  abbrev pub fewest_for : Option Battle → Bool → Game P M → Bool → ℕ → P → ℕ
-  fewest_for None variation game root t q = if t == 0 then 0 else 1
-  fewest_for (Some battle) variation game root t q =
-      if root || attacker_to_move battle (t + 1) then smallest_tree battle game t q
-      else (if walk_length (Some battle) variation game t q == 0 then 0 else 1)
-
-  -- the fewest positions that have to be tried for these moves of p, with `left` half-moves, and for all
-  -- that the walk emits below them
-  unfoldable pub fewest_walked : Plan → Game P M → Bool → ℕ → ℕ → P → List M → ℕ
-  fewest_walked plan game root zero left p ms = 0
-  fewest_walked plan game root (suc fuel) zero p ms = 0
-  fewest_walked plan game root (suc fuel) (suc t) p ms =
-      sum_by (λ m. let q = game.after p m in
-      fewest_for plan.battle plan.variation game root t q
-      + (if is_followed plan.battle game root t q then fewest_walked plan game false fuel
-      (walk_length plan.battle plan.variation game t q) q (game.moves q) else 0)) ms
-
 -- the moves that lead to the top frame
 unfoldable pub path : List Frame → Path
 path [] = []
@@ -107,14 +87,6 @@ to_come rule plan h p (f ∷ below) =
     (shown_paths plan (chess plan.goal rule) (length below == 0) (h - length below) f.left
     (position rule p (f ∷ below)) (moves_after rule (position rule p (f ∷ below)) f.place))
     ++ to_come rule plan h p below
-
--- the fewest positions that have still to be tried for all frames
-unfoldable pub fewest_left : RuleSet → Plan → ℕ → Position → List Frame → ℕ
-fewest_left rule plan h p [] = 0
-fewest_left rule plan h p (f ∷ below) =
-    fewest_walked plan (chess plan.goal rule) (length below == 0) (h - length below) f.left
-    (position rule p (f ∷ below)) (moves_after rule (position rule p (f ∷ below)) f.place)
-    + fewest_left rule plan h p below
 
 -- each frame has room for its half-moves
 unfoldable pub IsRoomy : ℕ → List Frame → Type 0
@@ -136,37 +108,6 @@ walk_work rule h p [] = 0
 walk_work rule h p (f ∷ below) =
     1 + work_after rule (h - length below) (position rule p (f ∷ below)) f.place
     + walk_work rule h p below
-
--- all but `rest` of `walk` frames have been opened, counted up to the greatest u64
-pub record IsCounted (walk opened rest : ℕ) : Type 0 where
-  pub within : rest ≤ walk
-  pub counts : opened ≡ min (walk - rest) (2 ^ 64 - 1)
-
--- at each frame White is to move, or nothing is tried
-unfoldable pub are_whites : Battle → List Frame → Bool
-are_whites battle frames = list_all (λ f. f.left == 0 || attacker_to_move battle f.left) frames
-
--- what some steps of a walk count: in help play, and if only keys are shown, the sum of the positions
--- counted and of those still to be counted doesn't grow
-pub record Opens (rule : RuleSet) (plan : Plan) (p : Position) (old new : List Frame)
-    (before after : ℕ) : Type 0 where
-  pub whites : (battle : Battle) → plan.battle ≡ Some battle → plan.variation ≡ false
-      → are_whites battle old ≡ true → are_whites battle new ≡ true
-  pub most : (battle : Battle) → plan.battle ≡ Some battle → plan.variation ≡ false
-      → are_whites battle old ≡ true
-      → after + to_open rule p new ≤ before + to_open rule p old
-  pub helped : plan.battle ≡ None
-      → after + to_open rule p new ≤ before + to_open rule p old
-  pub counted : plan.battle ≡ None → (walk : ℕ) → IsCounted walk before (to_open rule p old)
-      → IsCounted walk after (to_open rule p new)
-
--- what some steps of a walk count: in a battle, no fewer positions than have to be tried
-pub record Tries (rule : RuleSet) (plan : Plan) (h : ℕ) (p : Position) (old new : List Frame)
-    (before after : ℕ) : Type 0 where
-  pub grows : min before (2 ^ 64 - 1) ≤ after
-  pub fewest : (battle : Battle) → plan.battle ≡ Some battle
-      → min (before + fewest_left rule plan h p old) (2 ^ 64 - 1)
-      ≤ after + fewest_left rule plan h p new
 
 -- the side that makes the last half-move wants to reach the goal: either side in help play, White in a
 -- direct mate
@@ -233,12 +174,10 @@ IsEnded rule plan frames board = ends_at_goal plan.battle plan.variation
 -- what one step of a walk leaves, with frames listed from the top down; `given`: the path to the new top
 -- frame is emitted
 pub record Steps (rule : RuleSet) (plan : Plan) (h : ℕ) (p : Position) (old new : List Frame)
-    (board : Position) (before after : ℕ) (given : Bool) : Type 0 where
+    (board : Position) (given : Bool) : Type 0 where
   pub walking : IsWalking rule h p new board
   pub come : to_come rule plan h p old ≡ (if given then path new ∷ [] else [])
       ++ to_come rule plan h p new
   pub deep : given ≡ true → length new ≡ length old + 1
   pub ended : given ≡ true → IsEnded rule plan new board
   pub falls : walk_work rule h p new < walk_work rule h p old
-  pub opens : Opens rule plan p old new before after
-  pub tries : Tries rule plan h p old new before after

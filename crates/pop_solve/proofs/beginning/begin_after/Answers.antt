@@ -8,7 +8,7 @@ returns-then-not-may_lead g c =
     let x = rw (c.of-plan.ensures, c.phase_half_moves.ensures) at c.if-not-may_lead.ensures.fails refl in
     let b = beginning.begun-fails g.R.Rules.rule c.args.problem.now c.args.phase _ c.args.frames.now.items _ s _ c.requires.legal _ _ c.requires.opened
     c.may_lead.ensures.unchanged x.0 x.1 x.2 x.3 in
-    rw (c.of-walk.ensures, ← c.len-depth.ensures.value) (record { standing = b.standing; left = b.left; opens = b.opens })
+    rw (c.of-walk.ensures, ← c.len-depth.ensures.value) (record { standing = b.standing; left = b.left; counts = b.counts })
 
 pub returns-then-enter : goal.returns-then-enter
 returns-then-enter g c =
@@ -17,7 +17,7 @@ returns-then-enter g c =
     (rw (c.of-plan.ensures, c.phase_half_moves.ensures, c.may_lead.ensures.unchanged) at c.if-enter.ensures.passes)
     (rw (c.of-plan.ensures, c.phase_half_moves.ensures, c.may_lead.ensures.unchanged) at c.if-enter.ensures.enters)
     (rw (c.of-plan.ensures, c.phase_half_moves.ensures, c.may_lead.ensures.unchanged) at c.if-enter.ensures.counts) (search rules) in
-    rw (c.of-walk.ensures, ← c.len-depth.ensures.value) (record { standing = b.standing; left = b.left; opens = b.opens })
+    rw (c.of-walk.ensures, ← c.len-depth.ensures.value) (record { standing = b.standing; left = b.left; counts = b.counts })
 
 pub returns : goal.returns
 returns g c =
@@ -26,4 +26,4 @@ returns g c =
     (rw (c.of-plan.ensures, c.phase_half_moves.ensures, c.may_lead.ensures.unchanged) at c.if-enter.ensures.passes)
     (rw (c.of-plan.ensures, c.phase_half_moves.ensures, c.may_lead.ensures.unchanged) at c.if-enter.ensures.enters)
     (rw (c.of-plan.ensures, c.phase_half_moves.ensures, c.may_lead.ensures.unchanged) at c.if-enter.ensures.counts) (search rules) in
-    rw (c.of-walk.ensures, ← c.len-depth.ensures.value) (record { standing = b.standing; left = b.left; opens = b.opens })
+    rw (c.of-walk.ensures, ← c.len-depth.ensures.value) (record { standing = b.standing; left = b.left; counts = b.counts })

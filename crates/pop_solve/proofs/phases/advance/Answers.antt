@@ -1,18 +1,22 @@
-use Rattle.pop_solve.proofs.Words.{IsNarrow, HoldsAtStage, left_of, length-reverse, nat_tests, refl, rest_fewest, rest_open, rules}
-use Rattle.pop_solve.proofs.Paths.{path_end-path, path-length}
+use Rattle.pop_solve.proofs.Words.{HoldsAtStage, events_after, left_of, refl, rules}
 use Rattle.pop_solve.proofs.Events as events
 use Rattle.pop_solve.proofs.Opened as opened
+use Rattle.pop_solve.specs.ties.Counts.{least_if, untried_at}
 use Rattle.pop_solve.proofs.phases.advance.Goals as goal
 
-pub returns-in-NotPossible-clause-opens : goal.returns-in-NotPossible-clause-opens
-unfolding rest_open rest_fewest IsNarrow
-returns-in-NotPossible-clause-opens g c = search rules
+pub returns-in-NotPossible-clause-counts : goal.returns-in-NotPossible-clause-counts
+unfolding least_if untried_at
+returns-in-NotPossible-clause-counts g c = search rules
+
+pub returns-in-After-clause-counts : goal.returns-in-After-clause-counts
+unfolding least_if untried_at
+returns-in-After-clause-counts g c = search rules
 
 pub returns-in-First : goal.returns-in-First
 returns-in-First g c = record {
   standing = search rules;
   gives = rw c.in-First.is (search rules);
-  opens = rw c.in-First.is (opened.opens-first g.R.Rules.rule c.args.problem.now c.in-First.walk _ c.first_event-next.ensures.stage _ _ _);
+  counts = rw c.in-First.is (opened.counts-first g.R.Rules.rule c.args.problem.now c.in-First.walk _ c.first_event-next.ensures.stage _ _ _);
 }
 
 pub count_with-count-requires-clause-begins : goal.count_with-count-requires-clause-begins
@@ -37,11 +41,13 @@ returns-then-walk_on g c =
     let w = events.walks-are c.args.problem.now walk stands.2 _ _ _ _ _ _ _ c.if-walk_on.ensures.walks in
     let plan = events.plan-is c.args.problem.now walk stands.2 in
     let half_moves = events.half_moves-are c.args.problem.now walk stands.2 in
+    let deep = events.deep-given g.R.Rules.rule c.args.problem.now walk _ _ _ _ stands.1 w in
     record {
       standing = search (rules, events.room-given, w);
-      gives = rw c.in-Within.is (search (rules, events.deep-given, path_end-path, path-length, length-reverse, nat_tests, w));
-      opens = rw c.in-Within.is (opened.opens-given g.R.Rules.rule c.args.problem.now walk _ _ _ _ _ (rw plan at c.walk_on.ensures.opens)
-          (rw (plan, half_moves) at c.walk_on.ensures.tries) _ _ _ (search rules));
+      gives = rw c.in-Within.is (events.found-gives g.R.Rules.rule c.args.problem.now walk _ _ deep w.walking _ _ w _ (search rules) _ (search rules) _
+          (search rules));
+      counts = rw c.in-Within.is (opened.counts-given g.R.Rules.rule c.args.problem.now walk _ _ _ _ _
+          (rw (plan, half_moves) at c.walk_on.ensures.counts) _ _ _ (search rules));
     }
 
 pub returns-else-walk_on : goal.returns-else-walk_on
@@ -55,7 +61,8 @@ returns-else-walk_on g c =
     record {
       standing = search rules;
       gives = rw c.in-Within.is (events.ended-gives g.R.Rules.rule c.args.problem.now walk _ _ _ _ w _ c.end.ensures.stage _ _ c.total.ensures _ _);
-      opens = rw (c.in-Within.is, events.left-ended g.R.Rules.rule c.args.problem.now walk _ _ _ _ w) (opened.opens-ended g.R.Rules.rule
-          c.args.problem.now walk _ _ _ _ _ (rw plan at c.walk_on.ensures.opens) (rw (plan, half_moves) at c.walk_on.ensures.tries) _ _ _ c.end.ensures.stage
+      counts = rw (c.in-Within.is, events.left-ended g.R.Rules.rule c.args.problem.now walk _ _ _ _ w) (opened.counts-ended g.R.Rules.rule
+          c.args.problem.now walk _ _ _ _ _ (rw (plan, half_moves) at c.walk_on.ensures.counts) _ _
+          (events_after g.R.Rules.rule c.args.problem.now walk) c.end.ensures.stage
           stands.1 (w.over refl));
     }

@@ -1,10 +1,11 @@
-use Rattle.pop_solve.proofs.Words.{ap, Walk, HoldsAtStage, refl, rules, left_of, phase_events, rest_open, rest_fewest, IsNarrow, IsLinked, IsRoomy, AreKnown, position}
+use Rattle.pop_solve.proofs.Words.{ap, Walk, HoldsAtStage, refl, rules, left_of, phase_events, IsLinked, IsRoomy, AreKnown, position}
 use Rattle.pop_solve.proofs.Walking as walking
 use Rattle.pop_solve.proofs.Events as events
 use Rattle.pop_solve.proofs.Opened as opened
 use Rattle.pop_solve.proofs.Solved as solved
 use Rattle.pop_battle.proofs.Boards.{after_start}
 use Rattle.pop_solve.proofs.Sound.{start_sound}
+use Rattle.pop_solve.specs.ties.Counts.{least_if, untried_at}
 use Rattle.pop_solve.proofs.phases.begin.Goals as goal
 
 pub returns-then-not-set_up-clause-left : goal.returns-then-not-set_up-clause-left
@@ -19,12 +20,12 @@ pub returns-clause-left : goal.returns-clause-left
 unfolding HoldsAtStage
 returns-clause-left g c = search (rules, solved.root-solutions, after_start, walking.reverse-push, events.left-begun)
 
-pub returns-then-not-set_up-clause-opens : goal.returns-then-not-set_up-clause-opens
-unfolding rest_open rest_fewest IsNarrow
-returns-then-not-set_up-clause-opens g c = search rules
+pub returns-then-not-set_up-clause-counts : goal.returns-then-not-set_up-clause-counts
+unfolding least_if untried_at
+returns-then-not-set_up-clause-counts g c = search rules
 
-pub returns-clause-opens : goal.returns-clause-opens
+pub returns-clause-counts : goal.returns-clause-counts
 unfolding HoldsAtStage
-returns-clause-opens g c = rw (c.of-walk.ensures, c.push-2.ensures.items, walking.reverse-push, c.requires.standing.0)
-    (opened.opens-begun g.R.Rules.rule c.args.problem.now c.requires.sound c.args.phase _ (ap (λ (w : Walk). w.half_moves) c.of-walk.ensures) c.start.ensures
-    (search rules) _ _ _ _ c.opened_with-search_state.ensures.more c.opened_with-search_state.ensures.none)
+returns-clause-counts g c = rw (c.of-walk.ensures, c.push-2.ensures.items, walking.reverse-push, c.requires.standing.0)
+    (opened.counts-begun g.R.Rules.rule c.args.problem.now c.requires.sound c.args.phase _ (ap (λ (w : Walk). w.half_moves) c.of-walk.ensures) c.start.ensures
+    (search rules) _ _ _ _ c.opened_with-search_state.ensures)

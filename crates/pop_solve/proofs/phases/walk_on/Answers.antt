@@ -1,20 +1,24 @@
 use Rattle.pop_solve.proofs.Words.{arith, inl, inr, length, length-reverse, nat_tests, rules, sym, ◌<◌, ◌∙◌, ◌≡◌}
+use Rattle.pop_solve.proofs.Counting.{counts_then}
 use Rattle.pop_solve.proofs.Kept as kept
 use Rattle.pop_solve.proofs.phases.walk_on.Goals as goal
 
 pub loop-frames-preserved : goal.loop-frames-preserved
-loop-frames-preserved g c = search (rules, c.step.ensures.steps)
+loop-frames-preserved g c =
+    let counts = counts_then _ _ _ _ _ _ c.loop-frames.invariant.2 (c.step.ensures.counts _ c.loop-frames.invariant.0) in
+    search (rules, c.step.ensures.steps, counts)
 
 pub returns-then-step : goal.returns-then-step
 returns-then-step g c =
     let l = length-reverse c.loop-frames.frames.items in
     let some : 0 < length c.loop-frames.frames.items = grind (arith, nat_tests) in
     let s = c.step.ensures.steps _ c.loop-frames.invariant.0 in
-    let w = kept.walks_given g.R.Rules.rule _ _ _ _ _ c.loop-frames.invariant.1 c.still_to_begin-limit.result _ _ _ _ _ s c.if-step.true
+    let w = kept.walks_given g.R.Rules.rule _ _ _ _ _ c.loop-frames.invariant.1 c.still_to_begin-limit.result _ _ _ s c.if-step.true
     (omega (arith, l, some))
     (rw (c.requires.plan, l, ← c.len.ensures.value)
     (sym c.limit_ends_phase.ensures ∙ c.if-not-limit_ends_phase.true)) in
-    search (rules, w, s, c.still_to_begin-limit.ensures)
+    let counts = counts_then _ _ _ _ _ _ c.loop-frames.invariant.2 (c.step.ensures.counts _ c.loop-frames.invariant.0) in
+    search (rules, w, s, counts, c.still_to_begin-limit.ensures)
 
 pub returns-else-not-limit_ends_phase : goal.returns-else-not-limit_ends_phase
 returns-else-not-limit_ends_phase g c =

@@ -11,7 +11,7 @@ returns-then-step g c =
     let l = length-reverse c.loop-walk.frames.items in
     let some : 0 < length c.loop-walk.frames.items = grind (arith, nat_tests) in
     let s = c.step.ensures.steps _ c.loop-walk.invariant.0 in
-    let n = starts.node_shown g.R.Rules.rule _ _ _ _ _ c.loop-walk.invariant.1 _ _ _ _ _ s c.if-step.true (omega (arith, l, some)) in
+    let n = starts.node_shown g.R.Rules.rule _ _ _ _ _ c.loop-walk.invariant.1 _ _ _ s c.if-step.true (omega (arith, l, some)) in
     search (rules, s, n)
 
 pub returns-clause-next : goal.returns-clause-next
