@@ -8,7 +8,5 @@ pub returns : goal.returns
 unfolding HoldsAt
 returns g c =
     let h = c.requires.holds in
-    record {
-      goes = with_event g.R.Rules.rule c.args.task.now _ _ _ _ _ h _ _
-          (steps.refutations_begin g.R.Rules.rule c.args.task.now h.0 c.args.first c.start.result _ _ c.start.ensures) refl;
-    }
+    with_event g.R.Rules.rule c.args.task.now _ _ _ _ _ h _ _
+    (steps.refutations_begin g.R.Rules.rule c.args.task.now h.0 c.args.first c.start.result _ _ c.start.ensures) refl

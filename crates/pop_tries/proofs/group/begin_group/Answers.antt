@@ -24,12 +24,8 @@ returns g c =
       },
     ) in
     elim c.match-group.branch [
-      | in-Keys w ↦ record {
-        goes = goes.with_event rule task _ _ _ _ _ holds _ (beginning_of group)
-            (goes.group_comes g.row.R.Denot rule task group c.start.result c.start.ensures _ _) (w.result-is ∙ sym (rw w.in-Keys.is refl));
-      }
-      | in-Tries w ↦ record {
-        goes = goes.with_event rule task _ _ _ _ _ holds _ (beginning_of group)
-            (goes.group_comes g.row.R.Denot rule task group c.start.result c.start.ensures _ _) (w.result-is ∙ sym (rw w.in-Tries.is refl));
-      }
+      | in-Keys w ↦ goes.with_event rule task _ _ _ _ _ holds _ (beginning_of group)
+          (goes.group_comes g.row.R.Denot rule task group c.start.result c.start.ensures _ _) (w.result-is ∙ sym (rw w.in-Keys.is refl))
+      | in-Tries w ↦ goes.with_event rule task _ _ _ _ _ holds _ (beginning_of group)
+          (goes.group_comes g.row.R.Denot rule task group c.start.result c.start.ensures _ _) (w.result-is ∙ sym (rw w.in-Tries.is refl))
     ]

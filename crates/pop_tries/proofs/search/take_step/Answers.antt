@@ -6,10 +6,10 @@ use Rattle.pop_tries.proofs.search.take_step.Goals as goal
 
 pub returns-in-NoTries : goal.returns-in-NoTries
 unfolding HoldsAt left_of
-returns-in-NoTries g c = rw c.in-NoTries.is (record { goes = with_event g.R.Rules.rule c.args.task.now _ _ _ _ _ tt _ no_tries refl refl })
+returns-in-NoTries g c = rw c.in-NoTries.is (with_event g.R.Rules.rule c.args.task.now _ _ _ _ _ tt _ no_tries refl refl)
 
 pub returns-in-Impossible : goal.returns-in-Impossible
 unfolding HoldsAt left_of
 returns-in-Impossible g c =
-    let h = rw c.in-Impossible.is at c.requires.holds in
-    rw c.in-Impossible.is (record { goes = with_event g.R.Rules.rule c.args.task.now _ _ _ _ _ (h.0, h.1, tt) _ (set_event impossible) refl refl })
+    let h = rw c.in-Impossible.is at c.requires.may_step.holds in
+    rw c.in-Impossible.is (with_event g.R.Rules.rule c.args.task.now _ _ _ _ _ (h.0, h.1, tt) _ (set_event impossible) refl refl)
