@@ -2,7 +2,6 @@
 use Rattle.pop_tries.proofs.Words.{IsWellFormed, Game, List, Move, [], ◌∷◌, cases_lt, false≢true, inl, inr, legal_moves, Battle, Bool, Direct, Goal, Position, RuleSet, Selfmate, and_parts, arith, chess, false, is_goal_reached, is_in_set_play, is_try, keeps_win, length, list_any, nat_le, nat_tests, not, refl, refutations, rules, suc, sym, true, wins_in, zero, ℕ, ◌&&◌, ◌+◌, ◌-◌, ◌<◌, ◌∙◌, ◌≡◌, ◌≤◌, half_moves}
 unfoldable use Rattle.pop_tries.proofs.Words.{self_wins, wins}
 unfoldable use Rattle.pop_battle.specs.ties.Values.{value}
-unfoldable use Rattle.pop_tries.proofs.Words.{is_lost}
 unfoldable use Rattle.chess_rules.specs.Legal.{is_mate, is_stalemate}
 unfoldable use Rattle.chess_core.specs.WellFormed.{is_en_passant_square_right}
 use Rattle.chess_rules.specs.Legal.{is_nil}

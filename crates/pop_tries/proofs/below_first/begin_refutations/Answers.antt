@@ -1,5 +1,5 @@
 use Rattle.pop_tries.proofs.Words.{refl}
-unfoldable use Rattle.pop_tries.specs.ties.Searching.{HoldsAt, left_of, rank}
+unfoldable use Rattle.pop_tries.specs.ties.Searching.{HoldsAt}
 use Rattle.pop_tries.proofs.Goings.{with_event}
 use Rattle.pop_tries.proofs.StepsBelow as steps
 use Rattle.pop_tries.proofs.below_first.begin_refutations.Goals as goal

@@ -1,5 +1,5 @@
 use Rattle.pop_tries.proofs.Words.{ap, arith, below, play_start, refutation, rules, ◌∙◌}
-unfoldable use Rattle.pop_tries.specs.ties.Searching.{HoldsAt, left_of, rank}
+unfoldable use Rattle.pop_tries.specs.ties.Searching.{HoldsAt, rank}
 use Rattle.pop_battle.specs.ties.Frames.{CameBy}
 use Rattle.pop_tries.proofs.Goings.{with_event, without_event}
 use Rattle.pop_tries.proofs.StepsBelow as steps

@@ -1,5 +1,5 @@
 use Rattle.pop_tries.proofs.Words.{arith, below, refl, reply, rules, ◌∙◌, ◌∷◌, [], position_after}
-unfoldable use Rattle.pop_tries.specs.ties.Searching.{HoldsAt, left_of, rank}
+unfoldable use Rattle.pop_tries.specs.ties.Searching.{HoldsAt, rank}
 use Rattle.pop_tries.specs.ties.Searching.{after_first, contest_of}
 use Rattle.pop_tries.proofs.Goings.{with_event, without_event}
 use Rattle.pop_tries.proofs.StepsBelow as steps

@@ -1,5 +1,5 @@
 use Rattle.pop_tries.proofs.Words.{refl, sym, ◌∙◌}
-unfoldable use Rattle.pop_tries.specs.ties.Searching.{HoldsAt, left_of}
+unfoldable use Rattle.pop_tries.specs.ties.Searching.{HoldsAt}
 use Rattle.pop_tries.specs.ties.Searching.{beginning_of}
 use Rattle.pop_tries.specs.declared.stage.TriesStage.TheVariants.{FirstMove}
 use Rattle.pop_tries.proofs.Goings as goes

@@ -2,8 +2,8 @@ use Rattle.pop_tries.proofs.Words.{ap, is_pseudo_legal-from_legal, keeps_win, no
 use Rattle.pop_battle.specs.Chess.{set_start}
 use Rattle.pop_tries.specs.Events.{chess_passing}
 use Rattle.pop_tries.specs.ties.Contests.{game_in, moves_of}
-use Rattle.pop_tries.proofs.Contests.{defence_by_loop, passed_well_formed, placed}
-use Rattle.pop_tries.proofs.Loops.{found, not_there}
+use Rattle.pop_tries.proofs.Contests.{defence_by_loop, defence_without_threat, passed_well_formed, placed}
+use Rattle.pop_tries.proofs.Loops.{found, not_asked, not_there}
 use Rattle.pop_tries.proofs.threats.is_defence.Goals as goal
 
 pub works-still-requires : goal.works-still-requires
@@ -52,3 +52,25 @@ loop-tried-preserved-then-wins_by g c =
     (works c.args.contest.battle (game_in g.R.Rules.rule c.args.contest) c.args.contest.stipulation.n (chess_passing g.R.Rules.rule) (moves_of c.in-Some.length)
     (position_after g.R.Rules.rule c.args.board.now c.args.by)) _ (search rules) (search (rules, back, on.2)) c.loop-tried.invariant.5 in
     (search (rules, home), search (rules, home), search rules, search rules, c.in-Some.is, none)
+
+pub loop-tried-preserved : goal.loop-tried-preserved
+loop-tried-preserved g c =
+    let next = rw c.loop-tried.invariant.0 at c.in-Some-next_move.ensures.next in
+    let none = not_asked (λ m. keeps_win c.args.contest.battle (game_in g.R.Rules.rule c.args.contest) (moves_of c.in-Some.length)
+    (position_after g.R.Rules.rule (set_start c.args.board.now) m)) c.in-Some-next_move.tried _ _ next.0
+    (works c.args.contest.battle (game_in g.R.Rules.rule c.args.contest) c.args.contest.stipulation.n (chess_passing g.R.Rules.rule) (moves_of c.in-Some.length)
+    (position_after g.R.Rules.rule c.args.board.now c.args.by)) _ (search rules) c.loop-tried.invariant.5 in
+    (search rules, search rules, search rules, search rules, c.in-Some.is, none)
+
+pub returns-then-still-clause-rest : goal.returns-then-still-clause-rest
+returns-then-still-clause-rest g c =
+    let back : c.unpass.new.board ≡ c.args.board.now = c.unpass.ensures.before c.args.board.now (search rules) c.loop-tried.invariant.1 in
+    record {
+      board = c.unplay.ensures.before c.args.board.now c.requires.well_formed (is_pseudo_legal-from_legal _ _ _ c.requires.legal)
+          (c.works-still.ensures.rest.board ∙ (rw back at c.play-undo.ensures.after)) (rw back at c.play-undo.ensures.undo);
+      frames = c.works-still.ensures.rest.frames ∙ (c.wins_by.ensures.rest.frames ∙ c.loop-tried.invariant.2);
+    }
+
+pub returns-in_default-clause-defence : goal.returns-in_default-clause-defence
+returns-in_default-clause-defence g c =
+    sym (defence_without_threat g.R.Rules.rule c.args.contest c.args.board.now c.args.by (rw c.in_default.is at c.requires.threat))
