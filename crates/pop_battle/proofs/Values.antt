@@ -1,6 +1,6 @@
 -- The value of a position from the values after its moves.
 use Rattle.pop_battle.proofs.Words.{Battle, Game, Selfmate, arith, can_move, every_move, false, joined_value, refl, rules, attacker_to_move, some_move, true, value, ℕ, ◌%◌, ◌&&◌, ◌<◌, ◌≡◌, and_parts, nat_tests}
-use Rattle.pop_battle.specs.declared.aim.Battle.TheVariants.{Direct}
+use Rattle.pop_stipulation.specs.declared.stipulation.Battle.TheVariants.{Direct}
 use Rattle.std.specs.Prelude.{◌==◌}
 use Rattle.std.proofs.lemmas.List.{nil_from_length}
 

@@ -1,6 +1,6 @@
 //! What a search looks for: the battle and its goal.
 ghost use Rattle.std.specs.Prelude.{◌≡◌};
-ghost use Rattle.pop_battle.specs.Plays.{play_of};
+ghost use Rattle.pop_stipulation.specs.Stipulations.{battle_of};
 
 use pop_stipulation::{Form, Goal};
 
@@ -25,12 +25,12 @@ pub enum Play {
 impl Play {
     /// Returns how a form is played.
     pub fn of(form: Form) -> Play
-        ensures { result ≡ play_of form }
+        ensures { result ≡ battle_of form }
     {
         match form {
-            Form::Direct => Play::Battle(Battle::Direct),
-            Form::Selfmate => Play::Battle(Battle::Selfmate),
-            Form::Help | Form::HelpHalf => Play::Help,
+            Form::Direct => Some(Battle::Direct),
+            Form::Selfmate => Some(Battle::Selfmate),
+            Form::Help | Form::HelpHalf => None,
         }
     }
 }

@@ -6,12 +6,12 @@ ghost use Rattle.chess_rules.specs.Legal.{is_legal};
 ghost use Rattle.chess_rules.specs.Play.{position_after};
 ghost use Rattle.chess_flights.specs.ties.Mates.{mates_after};
 ghost use Rattle.chess_threats.specs.ties.Threats.{AreThreatsOf};
-ghost use Rattle.pop_battle.specs.declared.aim.Battle.TheVariants.{Direct};
+ghost use Rattle.pop_stipulation.specs.declared.stipulation.Battle.TheVariants.{Direct};
 
-use crate::aim::Battle;
 use chess_core::{Board, Move};
 use chess_rules::{Moves, Rules};
 use chess_threats::Threats;
+use pop_stipulation::Battle;
 
 /// For each number of half-moves below 32, the last two moves that decided a position with that many
 /// half-moves left. A direct mate tries them first in the next position with as many half-moves left. A

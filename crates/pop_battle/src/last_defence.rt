@@ -10,14 +10,13 @@ ghost use Rattle.chess_rules.specs.ties.Places.{IsPlaceIn};
 ghost use Rattle.chess_flights.specs.ties.Mates.{allows_mate};
 ghost use Rattle.pop_stipulation.specs.declared.stipulation.Goal.TheVariants.{Mate};
 ghost use Rattle.pop_battle.specs.Chess.{chess};
-ghost use Rattle.pop_battle.specs.declared.aim.Battle.TheVariants.{Direct};
+ghost use Rattle.pop_stipulation.specs.declared.stipulation.Battle.TheVariants.{Direct};
 ghost use Rattle.pop_battle.specs.declared.frame.MoveStage.TheVariants.{Killer};
 ghost use Rattle.pop_battle.specs.ties.Calls.{EvaluatesMate, Finds};
 ghost use Rattle.pop_battle.specs.ties.Counts.{HasCounted};
 ghost use Rattle.pop_battle.specs.ties.Frames.{moves_ahead, moves_unlooked};
 ghost use Rattle.pop_battle.specs.ties.Values.{value};
 
-use crate::aim::Battle;
 use crate::chess::{find_mate, is_reached_without_move, moves_at};
 use crate::frame::{MoveStage, Order};
 use crate::killers::Killers;
@@ -26,7 +25,7 @@ use crate::search_state::SearchState;
 use chess_core::{Board, Kind, Move, Square};
 use chess_rules::{LegalCursor, Moves, Rules, play, unplay};
 use chess_threats::KeptFlights;
-use pop_stipulation::Goal;
+use pop_stipulation::{Battle, Goal};
 
 /// Returns whether White, to move, mates at once. The mating move becomes the killer; without one the
 /// killer is cleared.

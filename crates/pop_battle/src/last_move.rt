@@ -7,7 +7,7 @@ ghost use Rattle.chess_rules.specs.ties.Places.{IsPlaceIn, moves_after};
 ghost use Rattle.chess_flights.specs.ties.QuietSteps.{must_reply_with_mate};
 ghost use Rattle.pop_stipulation.specs.declared.stipulation.Goal.TheVariants.{Mate};
 ghost use Rattle.pop_battle.specs.Chess.{chess};
-ghost use Rattle.pop_battle.specs.declared.aim.Battle.TheVariants.{Selfmate};
+ghost use Rattle.pop_stipulation.specs.declared.stipulation.Battle.TheVariants.{Selfmate};
 ghost use Rattle.pop_battle.specs.ties.Calls.{EvaluatesMate};
 ghost use Rattle.pop_battle.specs.ties.Counts.{HasCounted, smallest_below};
 ghost use Rattle.pop_battle.specs.ties.Passing.{IsNextLeft};

@@ -6,12 +6,11 @@ ghost use Rattle.chess_rules.specs.Play.{position_after};
 ghost use Rattle.pop_stipulation.specs.declared.stipulation.Goal.TheVariants.{Mate};
 ghost use Rattle.pop_battle.specs.Chess.{chess};
 ghost use Rattle.pop_battle.specs.Walks.{walk_count};
-ghost use Rattle.pop_battle.specs.declared.aim.Battle.TheVariants.{Direct};
+ghost use Rattle.pop_stipulation.specs.declared.stipulation.Battle.TheVariants.{Direct};
 ghost use Rattle.pop_battle.specs.ties.Calls.{EvaluatesMate};
 ghost use Rattle.pop_battle.specs.ties.Counts.{HasCounted, smallest_tree};
 ghost use Rattle.pop_battle.specs.ties.Values.{value};
 
-use crate::aim::Battle;
 use crate::chess::moves_at;
 use crate::frame::MoveStage;
 use crate::last_defence::value_of_last_defence;
@@ -19,6 +18,7 @@ use crate::move_stages::{next_tried, order_of};
 use crate::search_state::SearchState;
 use chess_core::{Board, Move};
 use chess_rules::{Rules, play, unplay};
+use pop_stipulation::Battle;
 
 /// Returns whether White mates next after this move, whatever Black's defence.
 #[tactic(auto, using(chess_rules::proofs::listing_moves::Calls::playing))]

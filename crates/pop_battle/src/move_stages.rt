@@ -9,12 +9,12 @@ ghost use Rattle.pop_battle.specs.declared.frame.MoveStage.TheVariants.{Aimed};
 ghost use Rattle.pop_battle.specs.ties.Calls.{Finds};
 ghost use Rattle.pop_battle.specs.ties.Frames.{all_moves_of, belongs, comes_early, move_stages_after, moves_ahead, moves_here, moves_later};
 
-use crate::aim::Battle;
 use crate::frame::{Early, MoveStage, Order};
 use crate::killers::Killers;
 use chess_core::{Board, Move};
 use chess_mates::{aims_at_king, next_aimed};
 use chess_rules::{LegalCursor, Moves, Rules};
+use pop_stipulation::Battle;
 
 /// Returns which moves come right after the killers: those that give check or attack next to the king, if
 /// White has two or more moves left to mate; otherwise none.

@@ -10,14 +10,14 @@ ghost use Rattle.pop_stipulation.specs.declared.stipulation.Goal.TheVariants.{Ma
 ghost use Rattle.pop_battle.specs.Chess.{chess};
 ghost use Rattle.pop_battle.specs.Game.{can_move as has_move};
 ghost use Rattle.pop_battle.specs.Walks.{walk_count};
-ghost use Rattle.pop_battle.specs.declared.aim.Battle.TheVariants.{Direct, Selfmate};
+ghost use Rattle.pop_stipulation.specs.declared.stipulation.Battle.TheVariants.{Direct, Selfmate};
 ghost use Rattle.pop_battle.specs.ties.Calls.{Evaluates, EvaluatesMate};
 ghost use Rattle.pop_battle.specs.ties.Counts.{HasCounted, smallest_tree};
 ghost use Rattle.pop_battle.specs.ties.Frames.{CameFrom, CameFromAt, Ends, IsOpenedOn, IsTesting, Turns, left_at_top, tests};
 ghost use Rattle.pop_battle.specs.ties.Marks.{is_for_mate};
 ghost use Rattle.pop_battle.specs.ties.Values.{attacker_to_move, joined_value, value};
 
-use crate::aim::{Aim, Battle};
+use crate::aim::Aim;
 use crate::chess::{
     cursor_if_any_move, is_for_mate, is_reached_without_move, moves_at, reaches_goal,
 };
@@ -32,7 +32,7 @@ use arrayvec::ArrayVec;
 use chess_core::{Board, Move};
 use chess_mates::every_move_mates;
 use chess_rules::{LegalCursor, Rules, play, unplay};
-use pop_stipulation::Goal;
+use pop_stipulation::{Battle, Goal};
 
 /// Returns whether White, who needs only one good move, is to move with `left` half-moves left.
 pub fn attacker_to_move(battle: Battle, left: usize) -> bool

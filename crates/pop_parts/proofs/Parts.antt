@@ -1,8 +1,6 @@
 -- After a part's first moves the walk shows exactly the part's solutions.
-use Rattle.pop_parts.proofs.Words.{Bool, Contains, IsPlayable, IsSound, IsWellFormed, List, Move, Phase, Posed, Position, RuleSet, [], after_well_formed, ap, append-nil, append_assoc, arith, battle-form, begins_path, begins_so, chess, eqb, false, filter, game_of, help_lines, helps-form, is_help, is_help_play, is_pseudo_legal-from_legal, legal_moves, length, length-append, lines_to_goal, map, map-id, moves_are_the_legal_moves, moves_in_order, part_solutions, path_end, path_end-append, phase_half_moves, phase_start, plan_of, play_of, position_after, refl, set_tree, shown_paths, solutions, start_sound, subst, suc, sym, true, zero, ℕ, ◌++◌, ◌+◌, ◌-◌, ◌∙◌, ◌∷◌, ◌≡◌, ◌≤◌}
-use Rattle.pop_battle.specs.declared.aim.Battle.{Battle}
-use Rattle.pop_battle.specs.declared.aim.Play.{Play as PlayOfSides}
-use Rattle.pop_battle.specs.declared.aim.Play.TheVariants.{Help as HelpPlay, Battle as BattlePlay}
+use Rattle.pop_parts.proofs.Words.{Bool, Contains, IsPlayable, IsSound, IsWellFormed, List, Move, None, Option, Phase, Posed, Position, RuleSet, Some, [], after_well_formed, ap, append-nil, append_assoc, arith, battle-form, battle_of, begins_path, begins_so, chess, eqb, false, filter, game_of, help_lines, helps-form, is_help, is_none, is_pseudo_legal-from_legal, legal_moves, length, length-append, lines_to_goal, map, map-id, moves_are_the_legal_moves, moves_in_order, part_solutions, path_end, path_end-append, phase_half_moves, phase_start, plan_of, position_after, refl, set_tree, shown_paths, solutions, start_sound, subst, suc, sym, true, zero, ℕ, ◌++◌, ◌+◌, ◌-◌, ◌∙◌, ◌∷◌, ◌≡◌, ◌≤◌}
+use Rattle.pop_stipulation.specs.declared.stipulation.Battle.{Battle}
 use Rattle.pop_events.specs.declared.event.Phase.TheVariants.{Play, Set}
 use Rattle.std.proofs.lemmas.Simd.{map-map}
 use Rattle.pop_parts.proofs.PartLists.{front-lines, filter-map, map-each, root-part}
@@ -33,7 +31,7 @@ module _ (rule : RuleSet) (problem : Posed) where
   each-alone (suc h) p front some = filter-map (begins_so front) (λ path. path ∷ []) (lines_to_goal (game_of rule problem) (suc h) p)
 
   -- the solutions of a part of help play are these lines
-  pub help-part : play_of problem.stipulation.form ≡ HelpPlay → (phase : Phase) (front : List Move)
+  pub help-part : battle_of problem.stipulation.form ≡ None → (phase : Phase) (front : List Move)
       → IsPlayable (game_of rule problem) (phase_start problem phase) front → length front ≤ phase_half_moves problem phase
       → 1 ≤ phase_half_moves problem phase → part_solutions rule problem phase front ≡ map (λ path. path ∷ []) (lines-following phase front)
   unfolding part_solutions solutions
@@ -48,7 +46,7 @@ module _ (rule : RuleSet) (problem : Posed) where
   battle-by battle Play h ms = tree_by battle (game_of rule problem) problem.variation problem.stipulation.n (suc h) (phase_start problem Play) ms
 
   -- the solutions of a phase are those that begin with any of its moves
-  pub battle-solutions : (battle : Battle) → play_of problem.stipulation.form ≡ BattlePlay battle → (phase : Phase) (h : ℕ)
+  pub battle-solutions : (battle : Battle) → battle_of problem.stipulation.form ≡ Some battle → (phase : Phase) (h : ℕ)
       → phase_half_moves problem phase ≡ suc h
       → solutions rule problem phase ≡ battle-by battle phase h (legal_moves rule (phase_start problem phase))
   unfolding set_tree solutions
@@ -61,13 +59,13 @@ module _ (rule : RuleSet) (problem : Posed) where
   of-one battle Play h m c = root-part _ _ m (legal_moves rule (phase_start problem Play)) (moves_in_order rule (phase_start problem Play)) c
 
   -- the solutions of a part are the solutions that begin with its move
-  pub battle-part : (battle : Battle) → play_of problem.stipulation.form ≡ BattlePlay battle → (phase : Phase) (h : ℕ) → phase_half_moves problem phase ≡ suc h
+  pub battle-part : (battle : Battle) → battle_of problem.stipulation.form ≡ Some battle → (phase : Phase) (h : ℕ) → phase_half_moves problem phase ≡ suc h
       → (m : Move) → Contains (legal_moves rule (phase_start problem phase)) m → part_solutions rule problem phase (m ∷ []) ≡ battle-by battle phase h (m ∷ [])
   unfolding part_solutions
   battle-part battle fought phase h z m c = ap (filter (begins_so (m ∷ []))) (battle-solutions battle fought phase h z) ∙ of-one battle phase h m c
 
   -- what the walk shows after some moves in help play
-  walked : play_of problem.stipulation.form ≡ HelpPlay → (start : Bool) (h : ℕ) (p : Position) (front : List Move) (m : Move) → length front + 1 ≤ h
+  walked : battle_of problem.stipulation.form ≡ None → (start : Bool) (h : ℕ) (p : Position) (front : List Move) (m : Move) → length front + 1 ≤ h
       → map (λ line. front ++ line) (shown_paths (plan_of problem) (game_of rule problem) start (h - length front) (h - length front)
       (path_end (position_after rule) p front) (m ∷ []))
       ≡ map (λ line. (front ++ m ∷ []) ++ line) (lines_to_goal (game_of rule problem) (h - length (front ++ m ∷ []))
@@ -83,7 +81,7 @@ module _ (rule : RuleSet) (problem : Posed) where
       ∙ map-map (λ line. front ++ line) (λ line. m ∷ line) L
       ∙ map-each _ _ L (λ line. sym (append_assoc front (m ∷ []) line)))
 
-  help-cut : play_of problem.stipulation.form ≡ HelpPlay → IsSound problem → (phase : Phase) (front : List Move) (m : Move)
+  help-cut : battle_of problem.stipulation.form ≡ None → IsSound problem → (phase : Phase) (front : List Move) (m : Move)
       → length front + 1 ≤ phase_half_moves problem phase → are_legal rule (phase_start problem phase) (front ++ m ∷ []) ≡ true → (start : Bool)
       → IsCutInto true problem.max_solutions
       (map (λ line. front ++ line) (shown_paths (plan_of problem) (game_of rule problem) start
@@ -97,7 +95,7 @@ module _ (rule : RuleSet) (problem : Posed) where
       rw (walked help start (phase_half_moves problem phase) (phase_start problem phase) front m room, part)
       (lines-cut _ _)
 
-  one-cut : (battle : Battle) → play_of problem.stipulation.form ≡ BattlePlay battle → (phase : Phase) (h : ℕ) → phase_half_moves problem phase ≡ suc h
+  one-cut : (battle : Battle) → battle_of problem.stipulation.form ≡ Some battle → (phase : Phase) (h : ℕ) → phase_half_moves problem phase ≡ suc h
       → (m : Move)
       → IsCutInto false problem.max_solutions (shown_paths (plan_of problem) (game_of rule problem) true (suc h) (suc h) (phase_start problem phase) (m ∷ []))
       (battle-by battle phase h (m ∷ []))
@@ -115,7 +113,7 @@ module _ (rule : RuleSet) (problem : Posed) where
       let e : h - 0 ≡ suc k = omega (arith, z) in
       rw (e, map-id (shown_paths (plan_of problem) (game_of rule problem) true (suc k) (suc k) p ms)) c
 
-  battle-cut : (battle : Battle) → play_of problem.stipulation.form ≡ BattlePlay battle → IsSound problem → (phase : Phase) (m : Move)
+  battle-cut : (battle : Battle) → battle_of problem.stipulation.form ≡ Some battle → IsSound problem → (phase : Phase) (m : Move)
       → 0 + 1 ≤ phase_half_moves problem phase → are_legal rule (phase_start problem phase) (m ∷ []) ≡ true
       → IsCutInto false problem.max_solutions
       (map (λ line. [] ++ line) (shown_paths (plan_of problem) (game_of rule problem) true
@@ -140,11 +138,11 @@ pub part_cut : (rule : RuleSet) (problem : Posed) (sound : IsSound problem) (pha
     → length front + 1 ≤ phase_half_moves problem phase → (is_help problem.stipulation.form ≡ false → front ≡ [])
     → are_legal rule (phase_start problem phase) (front ++ m ∷ []) ≡ true → IsPartCut rule problem phase (is_help problem.stipulation.form) front m
 part_cut rule problem sound phase front m room alone may =
-    rw (← helps-form problem.stipulation.form) (by_play (play_of problem.stipulation.form) refl)
+    rw (← helps-form problem.stipulation.form) (by_play (battle_of problem.stipulation.form) refl)
   where
-    by_play : (play : PlayOfSides) → play_of problem.stipulation.form ≡ play → IsPartCut rule problem phase (is_help_play play) front m
-    by_play HelpPlay help = help-cut rule problem help sound phase front m room may (eqb (length front) 0)
-    by_play (BattlePlay battle) fought =
+    by_play : (battle : Option Battle) → battle_of problem.stipulation.form ≡ battle → IsPartCut rule problem phase (is_none battle) front m
+    by_play None help = help-cut rule problem help sound phase front m room may (eqb (length front) 0)
+    by_play (Some battle) fought =
         let Cut : List Move → Type 0 = λ front. length front + 1 ≤ phase_half_moves problem phase
         → are_legal rule (phase_start problem phase) (front ++ m ∷ []) ≡ true → IsPartCut rule problem phase false front m in
         subst Cut (sym (alone (battle-form problem.stipulation.form battle fought))) (battle-cut rule problem battle fought sound phase m) room may

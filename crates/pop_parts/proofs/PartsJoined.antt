@@ -1,8 +1,6 @@
 -- The parts of a phase joined are the phase, and each solution is in one part.
-use Rattle.pop_parts.proofs.Words.{AllPairs, Bool, Contains, IsPlayable, IsSound, List, Move, Phase, Posed, Precedes, RuleSet, StandsBefore, [], ap, arith, battle-form, beginnings, begins_so, cond, eqb, false, filter, flat_map, flat_map_single, from_filter, from_map, game_of, help-form, help_lines, is_impossible_phase, is_help, legal_moves, length, lines_to_goal, map, min, moves_in_order, nat_tests, none_in_nil, pairs_nil, part_depth, part_solutions, parts, phase_half_moves, phase_start, play_of, refl, set_tree, solutions, solutions_by, some_way, subst, suc, sym, true, zero, ℕ, ◌||◌, ◌↔◌, ◌∙◌, ◌∷◌, ◌≡◌, ◌≤◌}
-use Rattle.pop_battle.specs.declared.aim.Battle.{Battle}
-use Rattle.pop_battle.specs.declared.aim.Play.{Play as PlayOfSides}
-use Rattle.pop_battle.specs.declared.aim.Play.TheVariants.{Help as HelpPlay, Battle as BattlePlay}
+use Rattle.pop_parts.proofs.Words.{AllPairs, Bool, Contains, IsPlayable, IsSound, List, Move, None, Option, Phase, Posed, Precedes, RuleSet, Some, StandsBefore, [], ap, arith, battle-form, battle_of, beginnings, begins_so, cond, eqb, false, filter, flat_map, flat_map_single, from_filter, from_map, game_of, help-form, help_lines, is_impossible_phase, is_help, legal_moves, length, lines_to_goal, map, min, moves_in_order, nat_tests, none_in_nil, pairs_nil, part_depth, part_solutions, parts, phase_half_moves, phase_start, refl, set_tree, solutions, solutions_by, some_way, subst, suc, sym, true, zero, ℕ, ◌||◌, ◌↔◌, ◌∙◌, ◌∷◌, ◌≡◌, ◌≤◌}
+use Rattle.pop_stipulation.specs.declared.stipulation.Battle.{Battle}
 use Rattle.pop_events.specs.declared.event.Phase.TheVariants.{Play, Set}
 use Rattle.std.proofs.lemmas.List.Folds.{flat_map-map}
 use Rattle.pop_solve.proofs.HelpPlay.{from_lines}
@@ -60,13 +58,13 @@ module _ (rule : RuleSet) (problem : Posed) (phase : Phase) where
   help-some zero some = absurd (omega (arith, some))
   help-some (suc h) some = refl
 
-  help-solutions : play_of problem.stipulation.form ≡ HelpPlay → 1 ≤ phase_half_moves problem phase
+  help-solutions : battle_of problem.stipulation.form ≡ None → 1 ≤ phase_half_moves problem phase
       → solutions rule problem phase
       ≡ map (λ path. path ∷ []) (lines_to_goal (game_of rule problem) (phase_half_moves problem phase) (phase_start problem phase))
   unfolding solutions
   help-solutions help some = rw help (ap (map (λ path. path ∷ [])) (help-some (phase_half_moves problem phase) some))
 
-  help-joined : play_of problem.stipulation.form ≡ HelpPlay → 1 ≤ phase_half_moves problem phase → (d : ℕ) → d ≤ phase_half_moves problem phase
+  help-joined : battle_of problem.stipulation.form ≡ None → 1 ≤ phase_half_moves problem phase → (d : ℕ) → d ≤ phase_half_moves problem phase
       → flat_map (part_solutions rule problem phase) (beginnings (game_of rule problem) d (phase_start problem phase)) ≡ solutions rule problem phase
   help-joined help some d most =
       let fronts = beginnings (game_of rule problem) d (phase_start problem phase) in
@@ -78,7 +76,7 @@ module _ (rule : RuleSet) (problem : Posed) (phase : Phase) where
       (beginnings-lines (game_of rule problem) d (phase_half_moves problem phase) (phase_start problem phase) most)
       ∙ sym (help-solutions help some)
 
-  help-once : play_of problem.stipulation.form ≡ HelpPlay → 1 ≤ phase_half_moves problem phase → (d : ℕ) → d ≤ phase_half_moves problem phase
+  help-once : battle_of problem.stipulation.form ≡ None → 1 ≤ phase_half_moves problem phase → (d : ℕ) → d ≤ phase_half_moves problem phase
       → (s : List (List Move)) → Contains (solutions rule problem phase) s
       → length (filter (λ front. begins_so front s) (beginnings (game_of rule problem) d (phase_start problem phase))) ≡ 1
   help-once help some d most s c =
@@ -104,7 +102,7 @@ module _ (rule : RuleSet) (problem : Posed) where
   by-roots battle Set h ms s c = let w = from_map _ _ s c in let f = from_filter _ ms w.0 w.1 in (w.0, _, f.0, w.2)
   by-roots battle Play h ms s c = let w = from_map _ _ s c in let f = from_filter _ ms w.0 w.1 in (w.0, _, f.0, w.2)
 
-  battle-joined : (battle : Battle) → play_of problem.stipulation.form ≡ BattlePlay battle → (phase : Phase) (h : ℕ) → phase_half_moves problem phase ≡ suc h
+  battle-joined : (battle : Battle) → battle_of problem.stipulation.form ≡ Some battle → (phase : Phase) (h : ℕ) → phase_half_moves problem phase ≡ suc h
       → flat_map (part_solutions rule problem phase) (beginnings (game_of rule problem) 1 (phase_start problem phase)) ≡ solutions rule problem phase
   battle-joined battle fought phase h z =
       let ms = legal_moves rule (phase_start problem phase) in
@@ -114,7 +112,7 @@ module _ (rule : RuleSet) (problem : Posed) where
       (λ m c. battle-part rule problem battle fought phase h z m c)
       ∙ by-joined battle phase h ms ∙ sym (battle-solutions rule problem battle fought phase h z)
 
-  battle-once : (battle : Battle) → play_of problem.stipulation.form ≡ BattlePlay battle → (phase : Phase) (h : ℕ) → phase_half_moves problem phase ≡ suc h
+  battle-once : (battle : Battle) → battle_of problem.stipulation.form ≡ Some battle → (phase : Phase) (h : ℕ) → phase_half_moves problem phase ≡ suc h
       → (s : List (List Move)) → Contains (solutions rule problem phase) s
       → length (filter (λ front. begins_so front s) (beginnings (game_of rule problem) 1 (phase_start problem phase))) ≡ 1
   battle-once battle fought phase h z s c =
@@ -125,38 +123,38 @@ module _ (rule : RuleSet) (problem : Posed) where
   none-solved : IsSound problem → (phase : Phase) → phase_half_moves problem phase ≡ 0 → solutions rule problem phase ≡ []
   unfolding solutions help_lines set_tree
   none-solved sound Play z = absurd (omega (arith, z, some_way problem sound))
-  none-solved sound Set z = by_play (play_of problem.stipulation.form)
+  none-solved sound Set z = by_play (battle_of problem.stipulation.form)
     where
-      by_play : (play : PlayOfSides) → solutions_by play rule problem Set ≡ []
-      by_play HelpPlay = rw z refl
-      by_play (BattlePlay battle) = rw z refl
+      by_play : (battle : Option Battle) → solutions_by battle rule problem Set ≡ []
+      by_play None = rw z refl
+      by_play (Some battle) = rw z refl
 
   module _ (phase : Phase) (depth : ℕ) (free : is_impossible_phase rule problem phase ≡ false) (sound : IsSound problem) where
-    all-joined : (h : ℕ) → phase_half_moves problem phase ≡ h → (play : PlayOfSides) → play_of problem.stipulation.form ≡ play
+    all-joined : (h : ℕ) → phase_half_moves problem phase ≡ h → (battle : Option Battle) → battle_of problem.stipulation.form ≡ battle
         → flat_map (part_solutions rule problem phase) (parts rule problem phase depth) ≡ solutions rule problem phase
     all-joined zero z play e = ap (flat_map (part_solutions rule problem phase)) (parts-none rule problem phase depth free z) ∙ sym (none-solved sound phase z)
-    all-joined (suc h) z HelpPlay help =
+    all-joined (suc h) z None help =
         ap (flat_map (part_solutions rule problem phase))
         (parts-help rule problem phase depth free (omega (arith, z)) (help-form problem.stipulation.form help))
         ∙ help-joined rule problem phase help (omega (arith, z)) (min depth (phase_half_moves problem phase)) (omega arith)
-    all-joined (suc h) z (BattlePlay battle) fought =
+    all-joined (suc h) z (Some battle) fought =
         ap (flat_map (part_solutions rule problem phase))
         (parts-battle rule problem phase depth free (omega (arith, z)) (battle-form problem.stipulation.form battle fought))
         ∙ battle-joined battle fought phase h z
 
     -- the solutions of all parts, joined, are the phase's
     pub joined : flat_map (part_solutions rule problem phase) (parts rule problem phase depth) ≡ solutions rule problem phase
-    joined = all-joined (phase_half_moves problem phase) refl (play_of problem.stipulation.form) refl
+    joined = all-joined (phase_half_moves problem phase) refl (battle_of problem.stipulation.form) refl
 
-    all-once : (h : ℕ) → phase_half_moves problem phase ≡ h → (play : PlayOfSides) → play_of problem.stipulation.form ≡ play
+    all-once : (h : ℕ) → phase_half_moves problem phase ≡ h → (battle : Option Battle) → battle_of problem.stipulation.form ≡ battle
         → (s : List (List Move)) → Contains (solutions rule problem phase) s
         → length (filter (λ front. begins_so front s) (parts rule problem phase depth)) ≡ 1
     all-once zero z play e s c = absurd (none_in_nil s (rw (none-solved sound phase z) at c))
-    all-once (suc h) z HelpPlay help s c =
+    all-once (suc h) z None help s c =
         ap (λ fronts. length (filter (λ front. begins_so front s) fronts)) (parts-help rule problem phase depth free (omega (arith, z))
         (help-form problem.stipulation.form help))
         ∙ help-once rule problem phase help (omega (arith, z)) (min depth (phase_half_moves problem phase)) (omega arith) s c
-    all-once (suc h) z (BattlePlay battle) fought s c =
+    all-once (suc h) z (Some battle) fought s c =
         ap (λ fronts. length (filter (λ front. begins_so front s) fronts)) (parts-battle rule problem phase depth free (omega (arith, z))
         (battle-form problem.stipulation.form battle fought))
         ∙ battle-once battle fought phase h z s c
@@ -164,4 +162,4 @@ module _ (rule : RuleSet) (problem : Posed) where
     -- each solution begins as one part alone
     pub once : (s : List (List Move)) → Contains (solutions rule problem phase) s
         → length (filter (λ front. begins_so front s) (parts rule problem phase depth)) ≡ 1
-    once s c = all-once (phase_half_moves problem phase) refl (play_of problem.stipulation.form) refl s c
+    once s c = all-once (phase_half_moves problem phase) refl (battle_of problem.stipulation.form) refl s c

@@ -103,13 +103,13 @@ module _ (rule : RuleSet) (problem : Posed) (phase : Phase) (n : ℕ) (frames : 
   }
 
   -- the last move doesn't mate where each path ends with it
-  come-fails : is_for_mate problem.stipulation.goal ≡ true → seeks_last plan.play ≡ true → left ≡ 0 → is_mate rule q ≡ false → come ≡ []
+  come-fails : is_for_mate problem.stipulation.goal ≡ true → seeks_last plan.battle ≡ true → left ≡ 0 → is_mate rule q ≡ false → come ≡ []
   unfolding shown_paths position moves_after
   come-fails for last none misses =
       rw none (ap (map (λ line. path old ++ line)) (skipped rule plan board root 1 last (for_mate _ for) m [] misses))
 
   -- a beginning whose last move doesn't mate where it has to has no path
-  pub begun-fails : (opened : ℕ) (after : Position) → opened ≡ 0 → after ≡ board → is_for_mate problem.stipulation.goal ≡ true → seeks_last plan.play ≡ true
+  pub begun-fails : (opened : ℕ) (after : Position) → opened ≡ 0 → after ≡ board → is_for_mate problem.stipulation.goal ≡ true → seeks_last plan.battle ≡ true
       → left ≡ 0 → is_mate rule q ≡ false → Begun false old after opened
   unfolding walk_count
   begun-fails opened after z stays for last none misses =
@@ -117,17 +117,17 @@ module _ (rule : RuleSet) (problem : Posed) (phase : Phase) (n : ℕ) (frames : 
       rw stays (begun-none opened come (λ help. search rules))
 
   -- the move is not followed
-  begun-passed : (opened : ℕ) → is_followed plan.play game root left q ≡ false → Begun false old board opened
+  begun-passed : (opened : ℕ) → is_followed plan.battle game root left q ≡ false → Begun false old board opened
   unfolding shown_paths
   begun-passed opened passed = begun-none opened (rw passed refl) (λ help.
       absurd (false≢true (sym passed ∙ follows-help plan game root left q (help-play problem.stipulation.form help))))
 
   -- the move is followed
   abbrev entered : List Frame
-  entered = opened_frame m (undo_of rule board m) (walk_length plan.play plan.variation game left q) ∷ old
+  entered = opened_frame m (undo_of rule board m) (walk_length plan.battle plan.variation game left q) ∷ old
 
-  come-entered : is_followed plan.play game root left q ≡ true
-      → come ≡ given_path (is_emitted plan.play game left q) (path old ++ m ∷ []) ++ to_come rule plan h p entered
+  come-entered : is_followed plan.battle game root left q ≡ true
+      → come ≡ given_path (is_emitted plan.battle game left q) (path old ++ m ∷ []) ++ to_come rule plan h p entered
   unfolding shown_paths to_come
   come-entered followed =
       let more : eqb (length old) 0 ≡ false = grind (arith, nat_tests, deep) in
@@ -137,7 +137,7 @@ module _ (rule : RuleSet) (problem : Posed) (phase : Phase) (n : ℕ) (frames : 
 
   walking-entered : IsWalking rule h p entered q
   walking-entered = walking-opened rule h p old board m _ deep s.walking lawful
-      (omega (arith, walk_length-most game plan.play plan.variation left q, s.long, s.within))
+      (omega (arith, walk_length-most game plan.battle plan.variation left q, s.long, s.within))
 
   opens-entered : (opened : ℕ) → Counts rule plan root left q 0 opened → is_help problem.stipulation.form ≡ true
       → IsCounted tried opened (to_open rule p entered)
@@ -149,7 +149,7 @@ module _ (rule : RuleSet) (problem : Posed) (phase : Phase) (n : ℕ) (frames : 
       rw (walk_length-help plan game left q helps, idle, position-more rule p _ old deep, ← s.walking.board_at)
       (counted_by rule plan left _ 0 opened _ _ (walk_count-start rule plan left q ∙ omega arith) (c.more helps) (c.none helps) start)
 
-  begun-entered : (opened : ℕ) (given : Bool) → given ≡ is_emitted plan.play game left q → is_followed plan.play game root left q ≡ true
+  begun-entered : (opened : ℕ) (given : Bool) → given ≡ is_emitted plan.battle game left q → is_followed plan.battle game root left q ≡ true
       → Counts rule plan root left q 0 opened → Begun given entered q opened
   unfolding HoldsAtStage left_of
   begun-entered opened true g followed c =
@@ -160,7 +160,7 @@ module _ (rule : RuleSet) (problem : Posed) (phase : Phase) (n : ℕ) (frames : 
           walking-entered,
           refl,
           omega (arith, deep),
-          ended-reached game plan.play plan.variation root left q followed (sym g),
+          ended-reached game plan.battle plan.variation root left q followed (sym g),
         );
         left = ap (λ paths. events_along problem phase 0 paths []) e;
         opens = λ help. rw (rest-is true entered) (opens-entered opened c help);
@@ -175,12 +175,12 @@ module _ (rule : RuleSet) (problem : Posed) (phase : Phase) (n : ℕ) (frames : 
 
   -- what `enter` leaves
   pub begun-by : (opened opened2 : ℕ) (low given : Bool) (last : List Frame) (after : Position) → opened ≡ 0
-      → (is_followed plan.play game low left q ≡ false → (given ≡ false) × (after ≡ board) × (last ≡ frames))
-      → (is_followed plan.play game low left q ≡ true → (given ≡ is_emitted plan.play game left q) × (after ≡ q)
-      × (last ≡ frames ++ opened_frame m (undo_of rule board m) (walk_length plan.play plan.variation game left q) ∷ []))
+      → (is_followed plan.battle game low left q ≡ false → (given ≡ false) × (after ≡ board) × (last ≡ frames))
+      → (is_followed plan.battle game low left q ≡ true → (given ≡ is_emitted plan.battle game left q) × (after ≡ q)
+      × (last ≡ frames ++ opened_frame m (undo_of rule board m) (walk_length plan.battle plan.variation game left q) ∷ []))
       → Counts rule plan low left q opened opened2 → low ≡ root → Begun given (reverse last) after opened2
   begun-by opened opened2 low given last after z passes enters counts lowest =
-      elim (cases (is_followed plan.play game low left q)) [
+      elim (cases (is_followed plan.battle game low left q)) [
         | inl passed ↦ let x = passes passed in rw (x.0, x.1, ap reverse x.2) (begun-passed opened2 (rw lowest at passed))
         | inr followed ↦
             let x = enters followed in

@@ -1,7 +1,7 @@
 -- What the clauses of a search exclude: events emitted after the board was taken back, or twice; totals
 -- that are wrong or come too early; mates that are skipped; and counts of events and frames that begin or
 -- grow otherwise.
-use Rattle.pop_solve.proofs.Words.{ArrayVec, BareEvent, NotPossible, Before, Bool, Event, Frame, Gives, GoesTo, IsCountedUpTo, IsOpened, Line, List, Move, Node, Plan, Posed, Position, RuleSet, Shown, Total, Within, [], allows_mate, ap, arith, eqb, event_of, false, filter, filter-append, first_phase, is_help_play, is_help, is_mating, is_walked_once, kept_paths, left_of, length, length-append, map, min, moves_after, path_event, phase_paths, rest_open, total, true, ℕ, ◌++◌, ◌+◌, ◌-◌, ◌^◌, ◌<◌, ◌∷◌, ◌≡◌, ◌⊎◌, Walk}
+use Rattle.pop_solve.proofs.Words.{ArrayVec, BareEvent, NotPossible, Before, Bool, Event, Frame, Gives, GoesTo, IsCountedUpTo, IsOpened, Line, List, Move, Node, Plan, Posed, Position, RuleSet, Shown, Total, Within, [], allows_mate, ap, arith, eqb, event_of, false, filter, filter-append, first_phase, is_help, is_mating, is_none, is_walked_once, kept_paths, left_of, length, length-append, map, min, moves_after, path_event, phase_paths, rest_open, total, true, ℕ, ◌++◌, ◌+◌, ◌-◌, ◌^◌, ◌<◌, ◌∷◌, ◌≡◌, ◌⊎◌, Walk}
 use Rattle.pop_stipulation.specs.declared.stipulation.Goal.TheVariants.{Stalemate}
 
 module _ (rule : RuleSet) (problem : Posed) (old new : List BareEvent) (board : Position) where
@@ -74,7 +74,7 @@ module _ (rule : RuleSet) (plan : Plan) (p : Position) (place before after : ℕ
   moves_passed_over_count_once range t = grind (arith, length-append t.over)
 
   -- with more none is passed over, nor before the last half-move of battle play, nor in play for stalemate
-  pub none_is_passed_over : (left : ℕ) → (2 < left) ⊎ (((left ≡ 2) × (is_help_play plan.play ≡ false)) ⊎ (plan.goal ≡ Stalemate))
+  pub none_is_passed_over : (left : ℕ) → (2 < left) ⊎ (((left ≡ 2) × (is_none plan.battle ≡ false)) ⊎ (plan.goal ≡ Stalemate))
       → GoesTo rule plan left p place rest before after → moves_after rule p place ≡ rest
   none_is_passed_over left early t = grind arith
 

@@ -1,5 +1,5 @@
 -- How many positions a search counts.
-use Rattle.pop_solve.proofs.Words.{BareEvent, NotPossible, Set, Before, ◌++◌, After, Frame, IsCounted, IsCountedUpTo, IsKeys, IsNarrow, IsOpened, IsSound, are_whites, List, Opens, OpensOn, Phase, Plan, Play, Posed, RuleSet, Stage, Tries, First, Whole, Within, goes_on, left_of, refl, phase_events, [], arith, cond, drop, eqb, false, fewest_left, inl, inr, HelpPlay, Walk, walk_of, and_parts, is_impossible_phase, is_stop, is_unstopped, min, not, phase_half_moves, phase_start, phase_walk, plan_of, play_of, position, rest_fewest, rest_open, rules, suc, to_open, total, true, zero, ℕ, ◌+◌, ◌-◌, ◌<◌, ◌^◌, ◌∷◌, ◌≡◌, ◌≤◌, ◌⊎◌}
+use Rattle.pop_solve.proofs.Words.{BareEvent, None, NotPossible, Set, Before, ◌++◌, After, Frame, IsCounted, IsCountedUpTo, IsKeys, IsNarrow, IsOpened, IsSound, are_whites, List, Opens, OpensOn, Phase, Plan, Play, Posed, RuleSet, Stage, Tries, First, Whole, Within, battle_of, goes_on, left_of, refl, phase_events, [], arith, cond, drop, eqb, false, fewest_left, inl, inr, Walk, walk_of, and_parts, is_impossible_phase, is_stop, is_unstopped, min, not, phase_half_moves, phase_start, phase_walk, plan_of, position, rest_fewest, rest_open, rules, suc, to_open, total, true, zero, ℕ, ◌+◌, ◌-◌, ◌<◌, ◌^◌, ◌∷◌, ◌≡◌, ◌≤◌, ◌⊎◌}
 use Rattle.pop_battle.proofs.Boards.{after_start}
 use Rattle.pop_solve.proofs.Sound.{some_way}
 use Rattle.pop_solve.proofs.ToCome.{one, walk_count-start}
@@ -23,8 +23,8 @@ module _ (rule : RuleSet) (problem : Posed) where
     unfolding to_open position
     root-open = rw (possible, place_is, ← left_is) (omega (arith, walk_count-start rule plan f.left (phase_start problem phase)))
 
-    narrow-begun : (play_of problem.stipulation.form ≡ HelpPlay) ⊎ IsKeys problem phase
-        → (play_of problem.stipulation.form ≡ HelpPlay) ⊎ ((keys : IsKeys problem phase) × (are_whites keys.battle (f ∷ []) ≡ true))
+    narrow-begun : (battle_of problem.stipulation.form ≡ None) ⊎ IsKeys problem phase
+        → (battle_of problem.stipulation.form ≡ None) ⊎ ((keys : IsKeys problem phase) × (are_whites keys.battle (f ∷ []) ≡ true))
     unfolding are_whites
     narrow-begun (inl help) = inl help
     narrow-begun (inr keys) = inr (keys, search (rules, some_way))
@@ -40,7 +40,7 @@ module _ (rule : RuleSet) (problem : Posed) where
       (x : Opens rule (plan_of problem) (phase_start problem walk.phase) old new before after)
       (y : Tries rule (plan_of problem) (phase_half_moves problem walk.phase) (phase_start problem walk.phase) old new before after) where
     abbrev Narrow : List Frame → Type 0
-    Narrow frames = (play_of problem.stipulation.form ≡ HelpPlay) ⊎ ((keys : IsKeys problem walk.phase) × (are_whites keys.battle frames ≡ true))
+    Narrow frames = (battle_of problem.stipulation.form ≡ None) ⊎ ((keys : IsKeys problem walk.phase) × (are_whites keys.battle frames ≡ true))
 
     narrowed : Narrow old → Narrow new
     narrowed (inl help) = inl help
@@ -77,7 +77,7 @@ module _ (rule : RuleSet) (problem : Posed) where
 
   -- a call that walked again from the phase's first position would count what had been opened before twice
   pub no_second_walk : (old new : Stage) (frames last : List Frame) (before after again walk : ℕ) (left : List BareEvent)
-      → OpensOn rule problem old new frames last before after left → play_of problem.stipulation.form ≡ HelpPlay → is_unstopped left ≡ true
+      → OpensOn rule problem old new frames last before after left → battle_of problem.stipulation.form ≡ None → is_unstopped left ≡ true
       → IsCounted walk before (rest_open rule problem old frames) → 0 < before → walk - rest_open rule problem new last ≤ again
       → after ≡ before + again → after < 2 ^ 64 → ⊥
   no_second_walk old new frames last before after again walk left x h u c some whole sum fits = search rules

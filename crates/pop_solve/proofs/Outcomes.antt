@@ -1,5 +1,5 @@
 -- The outcomes of a step, with frames listed from the top down.
-use Rattle.pop_solve.proofs.Words.{AreKnown, Bool, CameFrom, CameFromAt, Counts, Frame, GoesTo, HelpPlay, IfSome, IsCounted, IsLinked, IsPlaceIn, IsRoomy, IsWalking, are_whites, LegalPlace, List, Move, Option, Plan, Position, RuleSet, Steps, [], after_well_formed, ap, arith, chess, eqb, false, fewest_left, fewest_walked, shown_paths, is_followed, is_emitted, walk_length, inl, inr, is_legal, is_pseudo_legal-from_legal, length, min, moves_after, opened_frame, path, position, refl, rules, suc, to_come, to_open, true, walk_work, undo_of, walk_after, ℕ, ◌+◌, ◌-◌, ◌<◌, ◌^◌, ◌∷◌, ◌≡◌, ◌⊎◌, position_after}
+use Rattle.pop_solve.proofs.Words.{AreKnown, Bool, CameFrom, CameFromAt, Counts, Frame, GoesTo, IfSome, IsCounted, IsLinked, IsPlaceIn, IsRoomy, IsWalking, None, are_whites, LegalPlace, List, Move, Option, Plan, Position, RuleSet, Steps, [], after_well_formed, ap, arith, chess, eqb, false, fewest_left, fewest_walked, shown_paths, is_followed, is_emitted, walk_length, inl, inr, is_legal, is_pseudo_legal-from_legal, length, min, moves_after, opened_frame, path, position, refl, rules, suc, to_come, to_open, true, walk_work, undo_of, walk_after, ℕ, ◌+◌, ◌-◌, ◌<◌, ◌^◌, ◌∷◌, ◌≡◌, ◌⊎◌, position_after}
 use Rattle.pop_battle.specs.ties.Frames.{learned, moved}
 use Rattle.pop_battle.proofs.Tests.{came_from}
 use Rattle.pop_solve.proofs.GoingOn.{no_zero, walk_length-help, follows-help, walk_length-keys, walk_length-most, ended-reached}
@@ -55,7 +55,7 @@ module _ (rule : RuleSet) (plan : Plan) (h : ℕ) (p : Position) (f : Frame) (be
 
     -- the top frame's next move is skipped
     pub steps-pass : (after : Position) (opened opened2 : ℕ)
-        → is_followed plan.play (chess plan.goal rule) (eqb (length below) 0) t (position_after rule board m) ≡ false → after ≡ board
+        → is_followed plan.battle (chess plan.goal rule) (eqb (length below) 0) t (position_after rule board m) ≡ false → after ≡ board
         → Counts rule plan (eqb (length below) 0) t (position_after rule board m) opened opened2
         → Steps rule plan h p (f ∷ below) (moved f next ∷ below) after opened opened2 false
     unfolding are_whites
@@ -69,30 +69,30 @@ module _ (rule : RuleSet) (plan : Plan) (h : ℕ) (p : Position) (f : Frame) (be
 
     -- the top frame's next move is followed
     pub steps-enter : (after : Position) (opened opened2 : ℕ) → is_legal rule board m ≡ true
-        → is_followed plan.play (chess plan.goal rule) (eqb (length below) 0) t (position_after rule board m) ≡ true → after ≡ position_after rule board m
+        → is_followed plan.battle (chess plan.goal rule) (eqb (length below) 0) t (position_after rule board m) ≡ true → after ≡ position_after rule board m
         → Counts rule plan (eqb (length below) 0) t (position_after rule board m) opened opened2
         → Steps rule plan h p (f ∷ below) (opened_frame m (undo_of rule board m)
-        (walk_length plan.play plan.variation (chess plan.goal rule) t (position_after rule board m)) ∷ (moved f next ∷
-        below)) after opened opened2 (is_emitted plan.play (chess plan.goal rule) t (position_after rule board m))
+        (walk_length plan.battle plan.variation (chess plan.goal rule) t (position_after rule board m)) ∷ (moved f next ∷
+        below)) after opened opened2 (is_emitted plan.battle (chess plan.goal rule) t (position_after rule board m))
     unfolding are_whites IsLinked IsRoomy AreKnown position walk_after to_open
     steps-enter after opened opened2 lawful b at x =
         let o = open-next rule plan h p f next m below _ t fuel left here in
         let u = undo_of rule board m in
         let q = position_after rule (position rule p (f ∷ below)) m in
-        let tried = walk_length plan.play plan.variation (chess plan.goal rule) t (position_after rule board m) in
-        let helped : plan.play ≡ HelpPlay
+        let tried = walk_length plan.battle plan.variation (chess plan.goal rule) t (position_after rule board m) in
+        let helped : plan.battle ≡ None
         → to_open rule p (f ∷ below) ≡ one rule plan t + to_open rule p (opened_frame m u tried ∷ (moved f next ∷ below)) = λ a.
         let w : walk_after rule tried q 0 ≡ walk_after rule t q 0 = ap (λ x. walk_after rule x q 0) (walk_length-help plan (chess plan.goal rule) t _ a) in
         omega (arith, o, w, walk_count-start rule plan t q) in
         let more = tries-enter rule plan h p f next m below _ t fuel left here u (rw (← after_here) b) in
-        let less = walk_length-most (chess plan.goal rule) plan.play plan.variation t (position_after rule board m) in
+        let less = walk_length-most (chess plan.goal rule) plan.battle plan.variation t (position_after rule board m) in
         let pseudo = is_pseudo_legal-from_legal rule board m lawful in
         record {
           walking = grind (arith, less, after_well_formed rule board m r.sound pseudo, pseudo);
           come = rw after_here (come-enter rule plan h p f next m below _ t fuel left here u (rw (← after_here) b));
           deep = λ g. omega arith;
           ended = λ g e. rw at
-              (ended-reached (chess plan.goal rule) plan.play plan.variation (eqb (length below) 0) t (position_after rule board m) b g e);
+              (ended-reached (chess plan.goal rule) plan.battle plan.variation (eqb (length below) 0) t (position_after rule board m) b g e);
           falls = turns-enter rule plan h p f next m below _ t fuel left here u tried;
           opens = grind (arith, walk_length-keys, after_here, counted_by, no_zero);
           tries = search (rules, after_here, x.tries, more);

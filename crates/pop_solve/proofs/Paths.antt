@@ -131,7 +131,7 @@ module _ (rule : RuleSet) where
 
       -- the move leads to the goal, where it ends with the goal
       pub back-ended : (plan : Plan) → IsEnded rule plan (reverse upper) board → (b : Reached)
-          → b ≡ cond (ends_at_goal plan.play plan.variation f.left) Surely Perhaps → b ≡ Surely
+          → b ≡ cond (ends_at_goal plan.battle plan.variation f.left) Surely Perhaps → b ≡ Surely
           → (chess plan.goal rule).goal (position_after rule after f.by) ≡ true
       back-ended plan ended b e here = search (rules, back-again, stacked)
 

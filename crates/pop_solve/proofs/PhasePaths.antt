@@ -1,5 +1,5 @@
 -- The paths of a phase's solutions.
-use Rattle.pop_solve.proofs.Words.{AllPairs, HelpPlay, List, Move, Phase, Posed, RuleSet, [], arith, drop, flat_map, flat_map-append, game_of, help_lines, pairs_front, phase_half_moves, phase_start, play_of, solutions, take, take-append-drop, ℕ, ◌<◌, ◌∷◌, ◌≡◌, flat_map_single, ◌∙◌, map-id, flat_map-map}
+use Rattle.pop_solve.proofs.Words.{AllPairs, List, Move, None, Phase, Posed, RuleSet, [], arith, battle_of, drop, flat_map, flat_map-append, game_of, help_lines, pairs_front, phase_half_moves, phase_start, solutions, take, take-append-drop, ℕ, ◌<◌, ◌∷◌, ◌≡◌, flat_map_single, ◌∙◌, map-id, flat_map-map}
 use Rattle.chess_core.specs.MoveOrder.{order_number}
 
 -- the first of joined lists
@@ -13,7 +13,7 @@ pub never_itself : (m : Move) → order_number m < order_number m → ⊥
 never_itself m less = omega (arith, less)
 
 -- the paths of help play are its lines
-pub help_paths : (rule : RuleSet) (problem : Posed) (phase : Phase) → play_of problem.stipulation.form ≡ HelpPlay
+pub help_paths : (rule : RuleSet) (problem : Posed) (phase : Phase) → battle_of problem.stipulation.form ≡ None
     → flat_map (λ s. s) (solutions rule problem phase) ≡ help_lines (game_of rule problem) (phase_half_moves problem phase) (phase_start problem phase)
 unfolding solutions
 help_paths rule problem phase help = rw help (flat_map-map (λ s. s) (λ x. x ∷ []) _ ∙ flat_map_single (λ x. x) _ ∙ map-id _)

@@ -1,5 +1,5 @@
 -- The paths to come from the root frame of a phase are the phase's solutions.
-use Rattle.pop_solve.proofs.Words.{Battle, BattlePlay, Bool, Form, Frame, Game, HelpPlay, IsSound, List, Phase, Plan, Play, PlayOfSides, Posed, RuleSet, Set, [], continuations, ap, arith, beginning_count, best_moves, cond, false, filter, flat_map, game_of, half_moves_of, help_lines, is_help_play, is_help, kept_paths, keeps_win, length, list_all, map, moves_after, nat_tests, node, nodes_below, phase_half_moves, phase_paths, phase_start, plan_of, play_of, refl, rules, attacker_to_move, is_in_set_play, set_tree, shown_paths, solutions, solutions_by, suc, sym, take, true, value, zero, ℕ, ◌++◌, ◌+◌, ◌-◌, ◌∙◌, ◌∷◌, ◌≡◌, legal_moves, list_all-append}
+use Rattle.pop_solve.proofs.Words.{Battle, Bool, Form, Frame, Game, IsSound, List, None, Option, Phase, Plan, Play, Posed, RuleSet, Set, Some, [], battle_of, continuations, ap, arith, beginning_count, best_moves, cond, false, filter, flat_map, game_of, half_moves_of, help_lines, is_help, is_none, kept_paths, keeps_win, length, list_all, map, moves_after, nat_tests, node, nodes_below, phase_half_moves, phase_paths, phase_start, plan_of, refl, rules, attacker_to_move, is_in_set_play, set_tree, shown_paths, solutions, solutions_by, suc, sym, take, true, value, zero, ℕ, ◌++◌, ◌+◌, ◌-◌, ◌∙◌, ◌∷◌, ◌≡◌, legal_moves, list_all-append}
 use Rattle.pop_solve.proofs.Sound.{helps-form, some_way}
 use Rattle.pop_solve.proofs.Battles.{value-wins, value-self_wins}
 use Rattle.pop_solve.proofs.Trees.{as_nodes, beneath, by_test, flat-filter, halves, halves-seek, keeps-value, nodes_below-key, nodes_below-set, shown_paths-help, shown_paths-zero}
@@ -58,7 +58,7 @@ module _ {P M : Type 0} (game : Game P M) (plan : Plan) where
   shown_paths-full root (suc k) (suc t) p (m ∷ ms) = search (rules, list_all-append, all-over, shown_paths-full root (suc k) (suc t) p ms)
 
   -- the root in battle play: its moves that pass the test, each with the nodes below it
-  root-cut : (battle : Battle) (fought : plan.play ≡ BattlePlay battle) (h n : ℕ) (p : P) (ms : List M) (other : M → Bool) (G : M → List (List M))
+  root-cut : (battle : Battle) (fought : plan.battle ≡ Some battle) (h n : ℕ) (p : P) (ms : List M) (other : M → Bool) (G : M → List (List M))
       → ((m : M) → value battle game h (game.after p m) ≡ other m)
       → ((m : M) → value battle game h (game.after p m) ≡ true → beneath game plan battle fought h h (game.after p m) ≡ G m)
       → IsCutInto false n (shown_paths plan game true (suc h) (suc h) p ms) (map (λ m. node m (G m)) (filter other ms))
@@ -71,7 +71,7 @@ module _ {P M : Type 0} (game : Game P M) (plan : Plan) where
       (nodes-cut X (grind (arith, shown_paths-full)) n (filter T ms))
 
 -- half-moves of a battle
-pub halves-form : (form : Form) (n : ℕ) (battle : Battle) → play_of form ≡ BattlePlay battle → half_moves_of form n ≡ halves battle n
+pub halves-form : (form : Form) (n : ℕ) (battle : Battle) → battle_of form ≡ Some battle → half_moves_of form n ≡ halves battle n
 halves-form form n battle e = search rules
 
 module _ {P M : Type 0} where
@@ -87,7 +87,7 @@ module _ {P M : Type 0} where
       (cond (game.goal (game.after p d)) [] (map (λ m. m ∷ []) (best_moves battle game n (game.after p d))))))
       (filter (λ d. is_in_set_play battle game n (game.after p d)) ms)
 
-module _ {P M : Type 0} (game : Game P M) (plan : Plan) (battle : Battle) (fought : plan.play ≡ BattlePlay battle) where
+module _ {P M : Type 0} (game : Game P M) (plan : Plan) (battle : Battle) (fought : plan.battle ≡ Some battle) where
   set_value : (battle : Battle) (n h : ℕ) (r : P) → suc h ≡ halves battle n - 1 → value battle game h r ≡ is_in_set_play battle game n r
   set_value battle n h r e = grind (arith, value-wins game (n - 2) r, value-self_wins game (n - 1) r)
 
@@ -116,19 +116,19 @@ module _ (rule : RuleSet) (problem : Posed) (stated : IsSound problem) where
   abbrev plan : Plan
   plan = plan_of problem
 
-  cut : (phase : Phase) (play : PlayOfSides) → play_of problem.stipulation.form ≡ play → (h : ℕ) → phase_half_moves problem phase ≡ h
-      → IsCutInto (is_help_play play) problem.max_solutions (shown_paths plan (game_of rule problem) true h h (phase_start problem phase) (legal_moves rule
-      (phase_start problem phase))) (solutions_by play rule problem phase)
+  cut : (phase : Phase) (battle : Option Battle) → battle_of problem.stipulation.form ≡ battle → (h : ℕ) → phase_half_moves problem phase ≡ h
+      → IsCutInto (is_none battle) problem.max_solutions (shown_paths plan (game_of rule problem) true h h (phase_start problem phase) (legal_moves rule
+      (phase_start problem phase))) (solutions_by battle rule problem phase)
   unfolding help_lines set_tree
-  cut phase HelpPlay e zero z = rw z (search (rules, shown_paths-zero, none-cut))
-  cut phase HelpPlay e (suc h) z = rw (z, shown_paths-help (game_of rule problem) plan e true h (phase_start problem phase)) (lines-cut _ _)
-  cut Set (BattlePlay battle) e zero z = rw z (search (rules, shown_paths-zero, none-cut))
-  cut Set (BattlePlay battle) e (suc h) z =
+  cut phase None e zero z = rw z (search (rules, shown_paths-zero, none-cut))
+  cut phase None e (suc h) z = rw (z, shown_paths-help (game_of rule problem) plan e true h (phase_start problem phase)) (lines-cut _ _)
+  cut Set (Some battle) e zero z = rw z (search (rules, shown_paths-zero, none-cut))
+  cut Set (Some battle) e (suc h) z =
       rw z (set-cut (game_of rule problem) plan battle e problem.stipulation.n h problem.max_solutions
       (phase_start problem Set) (legal_moves rule (phase_start problem Set))
       (sym z ∙ ap (λ x. x - 1) (halves-form problem.stipulation.form problem.stipulation.n battle e)))
-  cut Play (BattlePlay battle) e zero z = absurd (omega (arith, z, some_way problem stated))
-  cut Play (BattlePlay battle) e (suc h) z =
+  cut Play (Some battle) e zero z = absurd (omega (arith, z, some_way problem stated))
+  cut Play (Some battle) e (suc h) z =
       rw z (tree-cut (game_of rule problem) plan battle e problem.stipulation.n h problem.max_solutions
       (phase_start problem Play) (legal_moves rule (phase_start problem Play))
       (sym z ∙ halves-form problem.stipulation.form problem.stipulation.n battle e))

@@ -1,6 +1,6 @@
 -- What the moves still to come mean for paths, turns and counts: the next move, and the moves that are
 -- skipped.
-use Rattle.pop_solve.proofs.Words.{Battle, BattlePlay, Bool, Frame, GoesTo, HelpPlay, are_whites, List, Mate, Move, Plan, Position, RuleSet, Steps, Undo, [], ap, append_assoc, append-nil, allows_mate, arith, chess, cond, eqb, false, fewest_for, fewest_left, fewest_walked, filter, is_followed, is_emitted, walk_length, is_mating, length, length-append, map, map-append, mates_after, moves_after, opened_frame, path, position, refl, rules, seeks_last, shown_paths, smallest_tree, work_from, work_after, suc, sum_by-append, sum_by-cons, to_come, to_open, true, walk_work, value, walk_after, walk_count, zero, ℕ, ◌++◌, ◌+◌, ◌-◌, ◌<◌, ◌∙◌, ◌∷◌, ◌≡◌, ◌≤◌, ◌⊎◌, position_after, legal_moves}
+use Rattle.pop_solve.proofs.Words.{Battle, Bool, Frame, GoesTo, None, Some, are_whites, List, Mate, Move, Plan, Position, RuleSet, Steps, Undo, [], ap, append_assoc, append-nil, allows_mate, arith, chess, cond, eqb, false, fewest_for, fewest_left, fewest_walked, filter, is_followed, is_emitted, walk_length, is_mating, length, length-append, map, map-append, mates_after, moves_after, opened_frame, path, position, refl, rules, seeks_last, shown_paths, smallest_tree, work_from, work_after, suc, sum_by-append, sum_by-cons, to_come, to_open, true, walk_work, value, walk_after, walk_count, zero, ℕ, ◌++◌, ◌+◌, ◌-◌, ◌<◌, ◌∙◌, ◌∷◌, ◌≡◌, ◌≤◌, ◌⊎◌, position_after, legal_moves}
 use Rattle.pop_battle.proofs.Boards.{after_start, each_one, none_of}
 use Rattle.pop_battle.specs.ties.Frames.{moved}
 use Rattle.pop_solve.proofs.GoingOn.{cases, no_zero, ways, walk_length-help, follows-help}
@@ -58,16 +58,16 @@ module _ (rule : RuleSet) (plan : Plan) where
     root = eqb (length below) 0
 
     -- a move that is not followed is passed over
-    pub come-pass : is_followed plan.play (chess plan.goal rule) root t q ≡ false
+    pub come-pass : is_followed plan.battle (chess plan.goal rule) root t q ≡ false
         → to_come rule plan h p (f ∷ below) ≡ to_come rule plan h p (moved f next ∷ below)
     unfolding to_come position path shown_paths
     come-pass b = search rules
 
     -- a move that is followed: its path, where that is given, and what stands below it
-    pub come-enter : (undo : Undo) → is_followed plan.play (chess plan.goal rule) root t q ≡ true
-        → to_come rule plan h p (f ∷ below) ≡ given_path (is_emitted plan.play (chess plan.goal rule) t q)
-        (path (opened_frame m undo (walk_length plan.play plan.variation (chess plan.goal rule) t q)
-        ∷ (moved f next ∷ below))) ++ to_come rule plan h p (opened_frame m undo (walk_length plan.play plan.variation (chess plan.goal rule) t q) ∷
+    pub come-enter : (undo : Undo) → is_followed plan.battle (chess plan.goal rule) root t q ≡ true
+        → to_come rule plan h p (f ∷ below) ≡ given_path (is_emitted plan.battle (chess plan.goal rule) t q)
+        (path (opened_frame m undo (walk_length plan.battle plan.variation (chess plan.goal rule) t q)
+        ∷ (moved f next ∷ below))) ++ to_come rule plan h p (opened_frame m undo (walk_length plan.battle plan.variation (chess plan.goal rule) t q) ∷
         (moved f next ∷ below))
     unfolding to_come position path shown_paths
     come-enter undo b =
@@ -75,16 +75,16 @@ module _ (rule : RuleSet) (plan : Plan) where
         simp (fuel, less, left, e, b, after_start, no_zero) (search (rules, turn))
 
     -- a move that isn't followed has only its test
-    pub tries-pass : is_followed plan.play (chess plan.goal rule) root t q ≡ false
-        → fewest_left rule plan h p (f ∷ below) ≡ fewest_for plan.play plan.variation (chess plan.goal rule) root t q + fewest_left rule plan h p
+    pub tries-pass : is_followed plan.battle (chess plan.goal rule) root t q ≡ false
+        → fewest_left rule plan h p (f ∷ below) ≡ fewest_for plan.battle plan.variation (chess plan.goal rule) root t q + fewest_left rule plan h p
         (moved f next ∷ below)
     unfolding fewest_left position fewest_walked
     tries-pass b = simp (fuel, left, e, sum_by-cons, b) (omega arith)
 
     -- one that is followed adds what is tried below it
-    pub tries-enter : (undo : Undo) → is_followed plan.play (chess plan.goal rule) root t q ≡ true → fewest_left rule plan h p (f ∷ below)
-        ≡ fewest_for plan.play plan.variation (chess plan.goal rule) root t q + fewest_left rule plan h p
-        (opened_frame m undo (walk_length plan.play plan.variation (chess plan.goal rule) t q) ∷ (moved f next ∷ below))
+    pub tries-enter : (undo : Undo) → is_followed plan.battle (chess plan.goal rule) root t q ≡ true → fewest_left rule plan h p (f ∷ below)
+        ≡ fewest_for plan.battle plan.variation (chess plan.goal rule) root t q + fewest_left rule plan h p
+        (opened_frame m undo (walk_length plan.battle plan.variation (chess plan.goal rule) t q) ∷ (moved f next ∷ below))
     unfolding fewest_left position fewest_walked
     tries-enter undo b =
         let less : h - suc (length below) ≡ k = omega arith in
@@ -128,12 +128,12 @@ module _ (rule : RuleSet) (plan : Plan) where
     ends low fuel k m q qs ms = search rules
 
     -- a last move that doesn't mate gives no path, where the side seeks mate
-    pub skipped : (low : Bool) (fuel : ℕ) → seeks_last plan.play ≡ true → plan.goal ≡ Mate → (m : Move) (ms : List Move) → is_mating rule P m ≡ false
+    pub skipped : (low : Bool) (fuel : ℕ) → seeks_last plan.battle ≡ true → plan.goal ≡ Mate → (m : Move) (ms : List Move) → is_mating rule P m ≡ false
         → shown_paths plan (chess plan.goal rule) low fuel 1 P (m ∷ ms) ≡ shown_paths plan (chess plan.goal rule) low fuel 1 P ms
     unfolding shown_paths is_emitted is_followed value
     skipped low fuel last for m ms misses = search (rules, ways, walk_length-help, ends)
 
-    fewest-skipped : (low : Bool) (fuel : ℕ) → seeks_last plan.play ≡ true → plan.goal ≡ Mate → (battle : Battle) → plan.play ≡ BattlePlay battle
+    fewest-skipped : (low : Bool) (fuel : ℕ) → seeks_last plan.battle ≡ true → plan.goal ≡ Mate → (battle : Battle) → plan.battle ≡ Some battle
         → (m : Move) (ms : List Move) → is_mating rule P m ≡ false
         → fewest_walked plan (chess plan.goal rule) low fuel 1 P (m ∷ ms) ≡ fewest_walked plan (chess plan.goal rule) low fuel 1 P ms
     unfolding fewest_walked smallest_tree is_followed value
@@ -144,7 +144,7 @@ module _ (rule : RuleSet) (plan : Plan) where
     nothing k place e = rw e (none_of (legal_moves rule) (position_after rule) P (moves_after rule P place))
 
   -- the last half-move but one of help play, after moves to which no reply mates
-  module _ (help : plan.play ≡ HelpPlay) (for : plan.goal ≡ Mate) where
+  module _ (help : plan.battle ≡ None) (for : plan.goal ≡ Mate) where
     -- where no move mates no path is left
     mateless : (P : Position) (fuel : ℕ) → mates_after rule P 0 ≡ [] → shown_paths plan (chess plan.goal rule) false fuel 1 P (legal_moves rule P) ≡ []
     unfolding mates_after shown_paths
@@ -167,8 +167,8 @@ module _ (rule : RuleSet) (plan : Plan) where
     later = moved f g.mid ∷ below
 
     -- a count to which these moves add nothing is the same from the later cursor on
-    same-later : {A : Type 0} (F : ℕ → List Move → A) → (seeks_last plan.play ≡ true → plan.goal ≡ Mate → (m : Move) (ms : List Move)
-        → is_mating rule P m ≡ false → F 1 (m ∷ ms) ≡ F 1 ms) → (plan.play ≡ HelpPlay → plan.goal ≡ Mate → (m : Move) (ms : List Move)
+    same-later : {A : Type 0} (F : ℕ → List Move → A) → (seeks_last plan.battle ≡ true → plan.goal ≡ Mate → (m : Move) (ms : List Move)
+        → is_mating rule P m ≡ false → F 1 (m ∷ ms) ≡ F 1 ms) → (plan.battle ≡ None → plan.goal ≡ Mate → (m : Move) (ms : List Move)
         → allows_mate rule P m ≡ false → F 2 (m ∷ ms) ≡ F 2 ms) → F f.left (moves_after rule P f.place) ≡ F f.left (moves_after rule P g.mid)
     unfolding position
     same-later F skip decide = grind (arith, g.fits, g.passed, passed-over (F 1) (is_mating rule P), passed-over (F 2) (allows_mate rule P))
@@ -188,7 +188,7 @@ module _ (rule : RuleSet) (plan : Plan) where
     unfolding walk_after
     each k e = rw (e, each_one (legal_moves rule) (position_after rule) P, each_one (legal_moves rule) (position_after rule) P) (simp (g.passed, length-append))
 
-    tries-skip : (battle : Battle) → plan.play ≡ BattlePlay battle → fewest_left rule plan h p (f ∷ below) ≡ fewest_left rule plan h p later
+    tries-skip : (battle : Battle) → plan.battle ≡ Some battle → fewest_left rule plan h p (f ∷ below) ≡ fewest_left rule plan h p later
     unfolding fewest_left position
     tries-skip battle fought =
         search (rules, same-later (λ n ms. fewest_walked plan (chess plan.goal rule) (eqb (length below) 0) (h - length below) n P ms), fewest-skipped P)

@@ -1,5 +1,5 @@
 -- The walk shows exactly the tree of the definitions.
-use Rattle.pop_solve.proofs.Words.{Battle, BattlePlay, Bool, Direct, Game, HelpPlay, List, Plan, Selfmate, [], continuations, ap, append-nil, arith, best_moves, cond, eqb, every_move, false, fewest_half_moves, filter, least_length_from, flat_map, flat_map_single, is_followed, is_emitted, walk_length, keeps_win, least_moves, lines_to_goal, list_all, map, nat_tests, node, nodes_below, not, shown_length, refl, rules, attacker_to_move, shown_paths, suc, sym, true, value, zero, ℕ, ◌%◌, ◌*◌, ◌++◌, ◌+◌, ◌-◌, ◌/◌, ◌<◌, ◌||◌, ◌∙◌, ◌∷◌, ◌≡◌, ◌≤◌, inl, inr}
+use Rattle.pop_solve.proofs.Words.{Battle, Bool, Direct, Game, List, None, Plan, Selfmate, Some, [], continuations, ap, append-nil, arith, best_moves, cond, eqb, every_move, false, fewest_half_moves, filter, least_length_from, flat_map, flat_map_single, is_followed, is_emitted, walk_length, keeps_win, least_moves, lines_to_goal, list_all, map, nat_tests, node, nodes_below, not, shown_length, refl, rules, attacker_to_move, shown_paths, suc, sym, true, value, zero, ℕ, ◌%◌, ◌*◌, ◌++◌, ◌+◌, ◌-◌, ◌/◌, ◌<◌, ◌||◌, ◌∙◌, ◌∷◌, ◌≡◌, ◌≤◌, inl, inr}
 use Rattle.pop_solve.proofs.Battles.{value-is_lost, value-is_self_lost, value-zero}
 use Rattle.pop_solve.proofs.Lengths.{length-more}
 use Rattle.pop_solve.proofs.GoingOn.{length_most, walk_length-keys, given-battle, walk_length-help, cases, least_length_from-least}
@@ -35,7 +35,7 @@ module _ {P M : Type 0} (game : Game P M) where
   shown_paths-zero plan root k p ms = search rules
 
   -- help play
-  module _ (plan : Plan) (help : plan.play ≡ HelpPlay) where
+  module _ (plan : Plan) (help : plan.battle ≡ None) where
     -- the lines by a move
     by_move : (b : Bool) (m : M) (xs ys : List (List M)) → cond b ([] ∷ []) [] ++ xs ≡ ys
         → cond b ((m ∷ []) ∷ []) [] ++ map (λ line. m ∷ line) xs ≡ map (λ line. m ∷ line) ys
@@ -83,24 +83,24 @@ module _ {P M : Type 0} (game : Game P M) where
   halves-seek battle k l e = grind (arith, nat_tests)
 
   -- in battle play
-  module _ (plan : Plan) (battle : Battle) (fought : plan.play ≡ BattlePlay battle) where
+  module _ (plan : Plan) (battle : Battle) (fought : plan.battle ≡ Some battle) where
     -- a move that is tested, and one that isn't
-    pub by_test : (root : Bool) (t : ℕ) (q : P) → (root || attacker_to_move battle (t + 1)) ≡ true → is_followed plan.play game root t q ≡ value battle game t q
+    pub by_test : (root : Bool) (t : ℕ) (q : P) → (root || attacker_to_move battle (t + 1)) ≡ true → is_followed plan.battle game root t q ≡ value battle game t q
     unfolding is_followed
     by_test root t q s = rw (fought, s) refl
 
-    by_none : (t : ℕ) (q : P) → attacker_to_move battle (t + 1) ≡ false → is_followed plan.play game false t q ≡ true
+    by_none : (t : ℕ) (q : P) → attacker_to_move battle (t + 1) ≡ false → is_followed plan.battle game false t q ≡ true
     unfolding is_followed
     by_none t q s = rw (fought, s) refl
 
     -- what the walk shows by some moves, as nodes
     abbrev pub beneath : ℕ → ℕ → P → List (List M)
-    beneath k t q = shown_paths plan game false k (walk_length plan.play plan.variation game t q) q (game.moves q)
+    beneath k t q = shown_paths plan game false k (walk_length plan.battle plan.variation game t q) q (game.moves q)
 
     -- each move that is followed is a node
     pub as_nodes : (root : Bool) (k t : ℕ) (p : P) (ms : List M)
         → shown_paths plan game root (suc k) (suc t) p ms
-        ≡ flat_map (λ m. cond (is_followed plan.play game root t (game.after p m)) (node m (beneath k t (game.after p m))) []) ms
+        ≡ flat_map (λ m. cond (is_followed plan.battle game root t (game.after p m)) (node m (beneath k t (game.after p m))) []) ms
     unfolding shown_paths
     as_nodes root k t p ms = search (rules, flat-same, given-battle)
 

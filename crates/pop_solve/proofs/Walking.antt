@@ -80,10 +80,10 @@ module _ (rule : RuleSet) (plan : Plan) (h : ℕ) (top : Frame) (old new : List 
 
     -- a step that plays its next move
     pub enter_steps : (root given : Bool) (after : Position) (opened2 : ℕ) → root ≡ eqb depth 0
-        → (is_followed plan.play (chess plan.goal rule) root following arrived ≡ false → (given ≡ false) × (after ≡ now) × (last ≡ mid))
-        → (is_followed plan.play (chess plan.goal rule) root following arrived ≡ true → (given ≡ is_emitted plan.play (chess plan.goal rule) following arrived)
+        → (is_followed plan.battle (chess plan.goal rule) root following arrived ≡ false → (given ≡ false) × (after ≡ now) × (last ≡ mid))
+        → (is_followed plan.battle (chess plan.goal rule) root following arrived ≡ true → (given ≡ is_emitted plan.battle (chess plan.goal rule) following arrived)
         × (after ≡ arrived)
-        × (last ≡ mid ++ opened_frame m (undo_of rule now m) (walk_length plan.play plan.variation (chess plan.goal rule) following arrived) ∷ []))
+        × (last ≡ mid ++ opened_frame m (undo_of rule now m) (walk_length plan.battle plan.variation (chess plan.goal rule) following arrived) ∷ []))
         → Counts rule plan root following arrived between opened2
         → (p : Position) → IsWalking rule h p (reverse old) board → Steps rule plan h p (reverse old) (reverse last) after opened opened2 given
     enter_steps root given after opened2 flag passes enters counts p r =
@@ -95,7 +95,7 @@ module _ (rule : RuleSet) (plan : Plan) (h : ℕ) (top : Frame) (old new : List 
         let g = rw (← at, r2.board_at) at some.1 in
         let r3 = walking-moved rule h p f g.mid (reverse new) now now r2 refl in
         let here : moves_after rule now g.mid ≡ m ∷ moves_after rule now place = rw r2.board_at g.here in
-        elim (cases (is_followed plan.play (chess plan.goal rule) root following arrived)) [
+        elim (cases (is_followed plan.battle (chess plan.goal rule) root following arrived)) [
           | inl passed ↦
               let x = passes passed in
               let s = steps-pass rule plan h p (moved f g.mid) (reverse new) now r3 place m following left here after between opened2
@@ -112,7 +112,7 @@ module _ (rule : RuleSet) (plan : Plan) (h : ℕ) (top : Frame) (old new : List 
 
 -- the next mate is the next move where play ends with it
 pub next_mating : (rule : RuleSet) (plan : Plan) (left : ℕ) (p : Position) (place next before after : ℕ) (o : Option Move) → plan.goal ≡ Mate
-    → seeks_last plan.play ≡ true → left ≡ 1 → after ≡ before
+    → seeks_last plan.battle ≡ true → left ≡ 1 → after ≡ before
     → MatchOption o (mates_after rule p place ≡ []) (λ m. mates_after rule p place ≡ m ∷ mates_after rule p next)
     → IfSome o (IsNextMate rule p place next) → IfSome o (λ m. is_legal rule p m ≡ true) → IsNextOf rule plan left p place next before after o
 unfolding mates_after

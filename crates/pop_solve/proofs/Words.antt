@@ -16,9 +16,8 @@ pub use Rattle.chess_rules.proofs.theorems.Moves.{Precedes, moves_are_the_legal_
 pub use Rattle.chess_mates.specs.ties.MatingPlaces.{IsNextMate}
 pub use Rattle.chess_flights.specs.ties.Mates.{allows_mate}
 pub use Rattle.pop_input.specs.Posed.{IsSound, Posed}
-pub use Rattle.pop_stipulation.specs.Stipulations.{half_moves, half_moves_of, is_help}
+pub use Rattle.pop_stipulation.specs.Stipulations.{battle_of, half_moves, half_moves_of, is_help}
 pub use Rattle.pop_stipulation.specs.declared.stipulation.Form.{Form}
-pub use Rattle.pop_battle.specs.Plays.{play_of}
 unfoldable pub use Rattle.pop_events.specs.Shown.{shown_move}
 pub use Rattle.pop_solve.specs.Events.{BareEvent, event_of, events, events_from, first_phase, game_of, impossible, is_impossible_phase, is_set, line, opening, path_event, phase_count, phase_half_moves, phase_start, play_start, moves_shown, last_shown, solutions_by, total, tree_node}
 unfoldable pub use Rattle.pop_solve.specs.Events.{phase_events, solutions}
@@ -27,10 +26,8 @@ unfoldable pub use Rattle.pop_battle.specs.Game.{help_lines, is_lost, is_self_lo
 pub use Rattle.pop_events.specs.Shown.{Shown}
 pub use Rattle.pop_solve.specs.Tree.{best_moves, keeps_win, least_moves, node, is_in_set_play, tree, wins_in}
 unfoldable pub use Rattle.pop_solve.specs.Tree.{continuations, nodes_below, set_tree}
-pub use Rattle.pop_battle.specs.declared.aim.Battle.{Battle}
-pub use Rattle.pop_battle.specs.declared.aim.Battle.TheVariants.{Direct, Selfmate}
-pub use Rattle.pop_battle.specs.declared.aim.Play.{Play as PlayOfSides}
-pub use Rattle.pop_battle.specs.declared.aim.Play.TheVariants.{Help as HelpPlay, Battle as BattlePlay}
+pub use Rattle.pop_stipulation.specs.declared.stipulation.Battle.{Battle}
+pub use Rattle.pop_stipulation.specs.declared.stipulation.Battle.TheVariants.{Direct, Selfmate}
 pub use Rattle.pop_events.specs.declared.event.Event.{Event}
 pub use Rattle.pop_events.specs.declared.event.Event.TheVariants.{Line, Node, Total}
 pub use Rattle.pop_events.specs.declared.event.Phase.{Phase}
@@ -45,7 +42,7 @@ pub use Rattle.pop_battle.specs.ties.Frames.{opened_frame}
 unfoldable pub use Rattle.pop_battle.specs.ties.Frames.{work_after, to_open, walk_after}
 pub use Rattle.pop_solve.specs.ties.Phases.{Gives, events_after, events_along, IsCountedUpTo, IsKeys, IsOpened, OpensOn, Walks, begins_solution, phase_paths}
 unfoldable pub use Rattle.pop_solve.specs.ties.Phases.{IsNarrow, HoldsAtStage, beginning_count, kept_paths, left_of, rest_fewest, rest_open}
-pub use Rattle.pop_solve.specs.ties.Plans.{goes_on, is_help_play, plan_of, walk_of}
+pub use Rattle.pop_solve.specs.ties.Plans.{goes_on, plan_of, walk_of}
 pub use Rattle.pop_solve.specs.ties.Seen.{IsAtPathOf}
 pub use Rattle.pop_solve.specs.Walks.{is_stop, is_unstopped, is_walked_once, phase_walk}
 pub use Rattle.pop_solve.specs.ties.Walk.{GoesTo, IsCounted, IsEnded, IsNextOf, IsWalking, Opens, Steps, Tries, ends_at_goal, fewest_half_moves, fewest_for, seeks_last}

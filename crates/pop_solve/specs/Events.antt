@@ -1,11 +1,9 @@
 -- The events of a problem: its phases, their solutions and their totals. Set play, the limit of solutions
 -- and the order of events are own; half-moves are numbered as in the Popeye manual.
-use Rattle.pop_battle.specs.Plays.{play_of}
-use Rattle.pop_battle.specs.declared.aim.Play.{Play as PlayOfSides}
-use Rattle.pop_battle.specs.declared.aim.Play.TheVariants.{Help as HelpPlay, Battle as BattlePlay}
+use Rattle.pop_stipulation.specs.Stipulations.{battle_of, first_half, half_moves, is_help}
 use Rattle.pop_stipulation.specs.declared.stipulation.Goal.{Goal}
 use Rattle.chess_rules.specs.Play.{position_after}
-use Rattle.std.specs.Prelude.{ℕ, ◌+◌, ◌-◌, ◌==◌, Bool, true, false, ◌&&◌, if◌then◌else◌, List, [], ◌∷◌, ◌++◌, map, take, length}
+use Rattle.std.specs.Prelude.{ℕ, ◌+◌, ◌-◌, ◌==◌, Bool, true, false, ◌&&◌, if◌then◌else◌, List, [], ◌∷◌, ◌++◌, map, take, length, None, Option, Some}
 use Rattle.std.specs.List.{flat_map}
 use Rattle.chess_core.specs.Diagrams.{position_of}
 use Rattle.chess_core.specs.Position.{Position}
@@ -14,7 +12,6 @@ use Rattle.chess_attacks.specs.RuleSet.{RuleSet}
 use Rattle.pop_battle.specs.Game.{Game, help_lines}
 use Rattle.pop_solve.specs.Tree.{tree, set_tree}
 use Rattle.pop_input.specs.Posed.{Posed, rule_of}
-use Rattle.pop_stipulation.specs.Stipulations.{is_help, first_half, half_moves}
 use Rattle.pop_battle.specs.Chess.{chess, is_impossible, set_start}
 pub use Rattle.pop_events.specs.Shown.{Shown, mark_of, no_move_shown, shown_move}
 pub use Rattle.pop_events.specs.declared.event.Event.{Event}
@@ -68,21 +65,21 @@ abbrev pub game_of : RuleSet → Posed → Game Position Move
 game_of rule problem = chess problem.stipulation.goal rule
 
 -- the solutions of a phase: its lines in help play, its tree in a battle
-abbrev pub solutions_by : PlayOfSides → RuleSet → Posed → Phase → List Solution
-solutions_by HelpPlay rule problem phase =
+abbrev pub solutions_by : Option Battle → RuleSet → Posed → Phase → List Solution
+solutions_by None rule problem phase =
     map (λ path. path ∷ []) (help_lines (game_of rule problem) (phase_half_moves problem phase)
     (phase_start problem phase))
-solutions_by (BattlePlay battle) rule problem Set =
+solutions_by (Some battle) rule problem Set =
     set_tree battle (game_of rule problem) problem.variation problem.stipulation.n
     (phase_half_moves problem Set) (phase_start problem Set)
-solutions_by (BattlePlay battle) rule problem Play =
+solutions_by (Some battle) rule problem Play =
     tree battle (game_of rule problem) problem.variation problem.stipulation.n
     (phase_half_moves problem Play) (phase_start problem Play)
 
 -- the solutions of a phase, by the problem's form
 unfoldable pub solutions : RuleSet → Posed → Phase → List Solution
 solutions rule problem phase =
-    solutions_by (play_of problem.stipulation.form) rule problem phase
+    solutions_by (battle_of problem.stipulation.form) rule problem phase
 
 -- the phase is set play, and its first position is impossible
 abbrev pub is_impossible_phase : RuleSet → Posed → Phase → Bool

@@ -1,8 +1,8 @@
 -- The tree of a battle problem: its keys, all defences, and the continuations of least length. Key and
 -- defence are the Codex's terms. That a tree shows exactly these, in the order of moves, and what set
 -- play is, are own rules.
-use Rattle.pop_battle.specs.declared.aim.Battle.{Battle}
-use Rattle.pop_battle.specs.declared.aim.Battle.TheVariants.{Direct, Selfmate}
+use Rattle.pop_stipulation.specs.declared.stipulation.Battle.{Battle}
+use Rattle.pop_stipulation.specs.declared.stipulation.Battle.TheVariants.{Direct, Selfmate}
 use Rattle.std.specs.Prelude.{ℕ, zero, suc, ◌-◌, Bool, ◌||◌, if◌then◌else◌, List, [], ◌∷◌, map}
 use Rattle.std.specs.List.{filter, flat_map, position_or_len, range_with_len}
 use Rattle.pop_battle.specs.Game.{Game, is_lost, wins, self_wins, is_self_lost}

@@ -1,33 +1,33 @@
 //! Guesses of killers, the moves that will probably decide a test, from tests with fewer half-moves. They
 //! affect speed only: no contract says which killers are guessed.
-ghost use Rattle.std.specs.Prelude.{◌≡◌, ◌≤◌, is_some, not, false, true};
+ghost use Rattle.std.specs.Prelude.{◌≡◌, ◌≤◌, is_some, not, false, true, None, Some};
 ghost use Rattle.chess_core.specs.WellFormed.{IsWellFormed};
 ghost use Rattle.chess_rules.specs.Legal.{is_legal};
 ghost use Rattle.chess_rules.specs.Play.{position_after};
 ghost use Rattle.pop_battle.specs.Chess.{chess};
-ghost use Rattle.pop_battle.specs.declared.aim.Battle.TheVariants.{Selfmate};
-ghost use Rattle.pop_battle.specs.declared.aim.Play.TheVariants.{Help as HelpPlay, Battle as BattlePlay};
+ghost use Rattle.pop_stipulation.specs.declared.stipulation.Battle.TheVariants.{Selfmate};
 ghost use Rattle.pop_battle.specs.ties.Values.{value};
 
 use crate::plan::Plan;
 use arrayvec::ArrayVec;
 use chess_core::{Board, Move};
 use chess_rules::{Moves, Rules, play};
-use pop_battle::aim::{Aim, Battle, Play};
+use pop_battle::aim::Aim;
 use pop_battle::chess::next_move;
 use pop_battle::frame::Frame;
 use pop_battle::killers::Killers;
 use pop_battle::search_state::SearchState;
 use pop_battle::value::value_of;
+use pop_stipulation::Battle;
 use std::mem;
 
 /// Returns whether to guess killers for a test with `left` half-moves: in a direct mate with Black to move.
 /// Selfmates keep no killers, and help play has no tests.
-fn wants_guess(play: Play, left: usize) -> bool
-    ensures help { play ≡ HelpPlay → result ≡ false }
-    ensures selfmate { play ≡ BattlePlay Selfmate → result ≡ false }
+fn wants_guess(battle: Option<Battle>, left: usize) -> bool
+    ensures help { play ≡ None → result ≡ false }
+    ensures selfmate { play ≡ Some Selfmate → result ≡ false }
 {
-    play == Play::Battle(Battle::Direct) && left % 2 == 0
+    battle == Some(Battle::Direct) && left % 2 == 0
 }
 
 /// Returns whether White reaches the aim within `left` half-moves, and how many positions were tried to
@@ -128,10 +128,10 @@ pub(crate) fn guess_killers<R: Rules>(
     requires well_formed { IsWellFormed board.now }
     requires legal { is_legal R.rule board.now by ≡ true }
     requires few { left ≤ 32 }
-    ensures help { plan.play ≡ HelpPlay → killers.new ≡ killers.old }
-    ensures selfmate { plan.play ≡ BattlePlay Selfmate → killers.new ≡ killers.old }
+    ensures help { plan.battle ≡ None → killers.new ≡ killers.old }
+    ensures selfmate { plan.battle ≡ Some Selfmate → killers.new ≡ killers.old }
 {
-    if !wants_guess(plan.play, left) {
+    if !wants_guess(plan.battle, left) {
         return;
     }
     let aim = Aim {

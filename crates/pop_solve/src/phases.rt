@@ -6,7 +6,7 @@ ghost use Rattle.pop_input.specs.Posed.{IsSound};
 ghost use Rattle.pop_stipulation.specs.Stipulations.{half_moves, is_help};
 ghost use Rattle.pop_solve.specs.Events.{first_phase, moves_shown, play_start, phase_half_moves as half_moves_of_phase, phase_start, phase_half as half_of_phase, event_of, is_impossible_phase, path_event, opening};
 ghost use Rattle.pop_solve.specs.ties.Walk.{IsEnded, IsWalking, Opens, Tries, path};
-ghost use Rattle.pop_solve.specs.ties.Plans.{goes_on, is_help_play, plan_of, walk_of};
+ghost use Rattle.pop_solve.specs.ties.Plans.{goes_on, plan_of, walk_of};
 ghost use Rattle.pop_solve.specs.ties.Phases.{left_of, HoldsAtStage, Walks, Gives, OpensOn};
 ghost use Rattle.pop_events.specs.declared.event.Event.TheVariants.{Line, Total};
 ghost use Rattle.pop_events.specs.declared.event.Phase.TheVariants.{Play};
@@ -137,7 +137,7 @@ fn walk_on<R: Rules, const N: usize>(
     requires count { count ≤ problem.now.max_solutions }
     requires walking { IsWalking R.rule walk.half_moves (phase_start problem.now walk.phase)
         (reverse frames.old.items) board.old }
-    ensures walks { Walks R.rule walk.plan (is_help_play walk.plan.play) walk.half_moves
+    ensures walks { Walks R.rule walk.plan (is_none walk.plan.battle) walk.half_moves
         (phase_start problem.now walk.phase) (problem.now.max_solutions - count)
         (reverse frames.old.items) (reverse frames.new.items)
         board.new result }

@@ -2,14 +2,13 @@
 ghost use Rattle.std.specs.Prelude.{◌≡◌};
 ghost use Rattle.pop_solve.specs.ties.Plans.{plan_of};
 
-use pop_battle::aim::Play;
 use pop_input::Problem;
 use pop_stipulation::Goal;
 
 /// What a search walks: help play or a battle, the goal, and what is shown of a battle.
 #[derive(Clone, Copy)]
 pub struct Plan {
-    pub play: Play,
+    pub battle: Option<Battle>,
     pub goal: Goal,
     /// Whether a battle shows the defences and what follows them. Help play ignores it.
     pub variation: bool,
@@ -22,7 +21,7 @@ impl Plan {
     {
         let stipulation = problem.stipulation();
         Plan {
-            play: Play::of(stipulation.form),
+            battle: stipulation.form.battle(),
             goal: stipulation.goal,
             variation: problem.variation(),
         }

@@ -16,7 +16,6 @@ use crate::plan::Plan;
 use arrayvec::ArrayVec;
 use chess_core::Board;
 use chess_rules::{Rules, play, unplay};
-use pop_battle::aim::Play;
 use pop_battle::chess::{Reached, mark_after, shown_of};
 use pop_battle::frame::Frame;
 use pop_battle::value::attacker_to_move;
@@ -35,12 +34,12 @@ fn take_back<R: Rules>(frame: &Frame<R>, board: &mut Board)
 /// Returns whether the goal is known to be reached at the frame where an emitted path ends: always in
 /// help play; in a direct mate or stalemate with variations, where a whole variation ends.
 fn reached_at<R: Rules>(plan: Plan, frame: &Frame<R>) -> Reached
-    ensures { result ≡ if ends_at_goal plan.play plan.variation frame.now.left
+    ensures { result ≡ if ends_at_goal plan.battle plan.variation frame.now.left
         then Surely else Perhaps }
 {
-    match plan.play {
-        Play::Help => Reached::Surely,
-        Play::Battle(battle) if frame.left == 0 && plan.variation && attacker_to_move(battle, 1) =>
+    match plan.battle {
+        None => Reached::Surely,
+        Some(battle) if frame.left == 0 && plan.variation && attacker_to_move(battle, 1) =>
             { Reached::Surely }
         _ => Reached::Perhaps,
     }
@@ -52,7 +51,7 @@ fn reached_at<R: Rules>(plan: Plan, frame: &Frame<R>) -> Reached
 fn reached_along<R: Rules>(plan: Plan, frames: &[Frame<R>], k: usize) -> Reached
     requires { k < length frames.now }
     ensures { result ≡ Surely → (k + 1 ≡ length frames.now)
-        × (ends_at_goal plan.play plan.variation (left_at_top (reverse frames.now))
+        × (ends_at_goal plan.battle plan.variation (left_at_top (reverse frames.now))
         ≡ true) }
 {
     if k + 1 < frames.len() {

@@ -9,7 +9,7 @@ ghost use Rattle.pop_battle.specs.ties.Calls.{Evaluates, Restores};
 ghost use Rattle.pop_battle.specs.ties.Frames.{CameFrom, CameFromAt, Frame as Level, opened_frame};
 ghost use Rattle.pop_battle.specs.ties.Passing.{IsNextMatable};
 ghost use Rattle.pop_solve.specs.ties.Calls.{Counts};
-ghost use Rattle.pop_solve.specs.ties.Walk.{Battle, BattlePlay, HelpPlay, IsWellFormed, Mate, Position, attacker_to_move, chess, is_for_mate, value, MovesOn, fewest_half_moves, least_length_from, shown_length, is_followed, is_emitted, walk_length, IsMatedAtLast, IsNextOf, IsWalking, seeks_last, Steps};
+ghost use Rattle.pop_solve.specs.ties.Walk.{Battle, IsWellFormed, Mate, None, Position, Some, attacker_to_move, chess, is_for_mate, value, MovesOn, fewest_half_moves, least_length_from, shown_length, is_followed, is_emitted, walk_length, IsMatedAtLast, IsNextOf, IsWalking, seeks_last, Steps};
 
 use crate::plan::Plan;
 use arrayvec::ArrayVec;
@@ -17,11 +17,12 @@ use chess_core::{Board, Move};
 use chess_mates::next_mate;
 use chess_rules::{LegalCursor, Moves, Rules, play, unplay};
 use chess_threats::Threats;
-use pop_battle::aim::{Aim, Battle, Play};
+use pop_battle::aim::Aim;
 use pop_battle::chess::{is_for_mate, next_move, reaches_goal};
 use pop_battle::frame::{Frame, MoveStage, Order};
 use pop_battle::search_state::SearchState;
 use pop_battle::value::{attacker_to_move, value_of};
+use pop_stipulation::Battle;
 
 /// Returns the fewest half-moves with which White, to move, can reach the aim.
 fn fewest_half_moves(battle: Battle) -> usize
@@ -97,15 +98,15 @@ pub fn walk_length<R: Rules, const N: usize>(
     requires well_formed { IsWellFormed board.old }
     requires room { array_vec_len frames.old + left ≤ N }
     ensures length { result
-        ≡ walk_length plan.play plan.variation (chess plan.goal R.rule) left board.old }
+        ≡ walk_length plan.battle plan.variation (chess plan.goal R.rule) left board.old }
     ensures rest { Restores board.old board.new frames.old.items frames.new.items
         search_state.old.opened search_state.new.opened }
-    ensures opened { plan.play ≡ HelpPlay → search_state.new.opened ≡ search_state.old.opened }
-    ensures keys_alone { (battle : Battle) → plan.play ≡ BattlePlay battle
+    ensures opened { plan.battle ≡ None → search_state.new.opened ≡ search_state.old.opened }
+    ensures keys_alone { (battle : Battle) → plan.battle ≡ Some battle
         → IsTrue (not plan.variation && attacker_to_move battle (left + 1))
         → search_state.new.opened ≡ search_state.old.opened }
 {
-    let Play::Battle(battle) = plan.play else {
+    let Some(battle) = plan.battle else {
         return left;
     };
     if !plan.variation && attacker_to_move(battle, left + 1) {
@@ -121,36 +122,36 @@ pub fn walk_length<R: Rules, const N: usize>(
 /// Returns the battle in which a move is tested before the walk follows it, with `left` half-moves left
 /// including the move: White's moves and the moves of a phase's first position are tested. `depth` is the
 /// number of frames, 1 at the first position.
-fn tested_in(play: Play, depth: usize, left: usize) -> Option<Battle>
-    ensures { MatchOption result ((battle : Battle) → play ≡ BattlePlay battle
+fn tested_in(battle: Option<Battle>, depth: usize, left: usize) -> Option<Battle>
+    ensures { MatchOption result ((battle : Battle) → play ≡ Some battle
         → ((depth == 1) || attacker_to_move battle left) ≡ false)
-        (λ battle. (play ≡ BattlePlay battle)
+        (λ battle. (play ≡ Some battle)
         × (((depth == 1) || attacker_to_move battle left) ≡ true)) }
 {
-    match play {
-        Play::Battle(battle) if depth == 1 || attacker_to_move(battle, left) => Some(battle),
+    match battle {
+        Some(battle) if depth == 1 || attacker_to_move(battle, left) => Some(battle),
         _ => None,
     }
 }
 
 /// Returns whether the side that makes the last half-move wants to reach the goal: either side in help
 /// play, White in a direct mate; in a selfmate Black doesn't.
-fn seeks_last(play: Play) -> bool
+fn seeks_last(battle: Option<Battle>) -> bool
     ensures { result ≡ seeks_last play }
 {
-    match play {
-        Play::Help => true,
-        Play::Battle(battle) => attacker_to_move(battle, 1),
+    match battle {
+        None => true,
+        Some(battle) => attacker_to_move(battle, 1),
     }
 }
 
 /// Returns whether the next half-move ends every path and must mate: it is the last half-move of play for
 /// mate, by a side that wants mate.
 pub(crate) fn ends_with_mate(plan: Plan, left: usize) -> bool
-    ensures { IsTrue result ↔ ((is_for_mate plan.goal ≡ true) × (seeks_last plan.play ≡ true)
+    ensures { IsTrue result ↔ ((is_for_mate plan.goal ≡ true) × (seeks_last plan.battle ≡ true)
         × (left ≡ 1)) }
 {
-    is_for_mate(plan.goal) && left == 1 && seeks_last(plan.play)
+    is_for_mate(plan.goal) && left == 1 && seeks_last(plan.battle)
 }
 
 /// Returns the value of the position that a move has reached, with `left` half-moves left. It tests
@@ -183,11 +184,11 @@ fn is_emitted<R: Rules>(plan: Plan, left: usize, board: &mut Board) -> bool
     requires well_formed { IsWellFormed board.old }
     requires mated { IsMatedAtLast R.rule plan left board.old }
     ensures unchanged { board.new ≡ board.old }
-    ensures given { result ≡ is_emitted plan.play (chess plan.goal R.rule) left board.old }
+    ensures given { result ≡ is_emitted plan.battle (chess plan.goal R.rule) left board.old }
 {
-    match plan.play {
-        Play::Battle(_) => true,
-        Play::Help => left == 0 && (is_for_mate(plan.goal) || reaches_goal::<R>(plan.goal, board)),
+    match plan.battle {
+        Some(_) => true,
+        None => left == 0 && (is_for_mate(plan.goal) || reaches_goal::<R>(plan.goal, board)),
     }
 }
 
@@ -234,18 +235,18 @@ pub(crate) fn enter<R: Rules, const N: usize>(
     requires room { array_vec_len frames.old + left < N }
     requires legal { is_legal R.rule board.old by ≡ true }
     requires mated { IsMatedAtLast R.rule plan left (position_after R.rule board.old by) }
-    ensures passes { is_followed plan.play (chess plan.goal R.rule)
+    ensures passes { is_followed plan.battle (chess plan.goal R.rule)
         (array_vec_len frames.old == 1) left
         (position_after R.rule board.old by) ≡ false
         → (result ≡ false) × (board.new ≡ board.old) × (frames.new.items ≡ frames.old.items) }
-    ensures enters { is_followed plan.play (chess plan.goal R.rule)
+    ensures enters { is_followed plan.battle (chess plan.goal R.rule)
         (array_vec_len frames.old == 1) left
         (position_after R.rule board.old by) ≡ true
-        → (result ≡ is_emitted plan.play (chess plan.goal R.rule) left
+        → (result ≡ is_emitted plan.battle (chess plan.goal R.rule) left
         (position_after R.rule board.old by))
         × (board.new ≡ position_after R.rule board.old by)
         × (frames.new.items ≡ frames.old.items ++ opened_frame by (undo_of R.rule board.old by)
-        (walk_length plan.play plan.variation (chess plan.goal R.rule) left
+        (walk_length plan.battle plan.variation (chess plan.goal R.rule) left
         (position_after R.rule board.old by))
         ∷ []) }
     ensures counts { Counts R.rule plan (array_vec_len frames.old == 1) left
@@ -253,7 +254,7 @@ pub(crate) fn enter<R: Rules, const N: usize>(
 {
     let depth = frames.len();
     let undo = play::<R>(board, by);
-    let tested = tested_in(plan.play, depth, left + 1);
+    let tested = tested_in(plan.battle, depth, left + 1);
     if let Some(battle) = tested {
         let aim = Aim {
             battle,
@@ -282,9 +283,9 @@ pub(crate) fn enter<R: Rules, const N: usize>(
 /// half-moves left.
 #[tactic(auto, using(pop_battle::proofs::Boards::for_mate))]
 fn may_pass_over(plan: Plan, left: usize) -> bool
-    ensures { result ≡ true → (plan.play ≡ HelpPlay) × (plan.goal ≡ Mate) × (left ≡ 2) }
+    ensures { result ≡ true → (plan.battle ≡ None) × (plan.goal ≡ Mate) × (left ≡ 2) }
 {
-    left == 2 && plan.play == Play::Help && is_for_mate(plan.goal)
+    left == 2 && plan.battle.is_none() && is_for_mate(plan.goal)
 }
 
 /// Returns the next legal move after `place`, and skips moves for which the threats rule out that a reply

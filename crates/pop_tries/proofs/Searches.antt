@@ -1,5 +1,5 @@
 -- How a search for tries begins, and what a call of `next` returns.
-use Rattle.pop_tries.proofs.Words.{BareTryEvent, Battle, BattlePlay, Bool, HelpPlay, IsSound, List, PlayOfSides, Posed, Position, RuleSet, [], arith, drop, false, nat_tests, play_of, play_start, refl, rules, true, ℕ, ◌∷◌, ◌≡◌, ◌≤◌}
+use Rattle.pop_tries.proofs.Words.{BareTryEvent, Battle, Bool, IsSound, List, None, Option, Posed, Position, RuleSet, Some, [], arith, battle_of, drop, false, nat_tests, play_start, refl, rules, true, ℕ, ◌∷◌, ◌≡◌, ◌≤◌}
 unfoldable use Rattle.pop_tries.proofs.Words.{try_events}
 use Rattle.std.specs.Prelude.{MatchOption, None, Option, Some, slice_get}
 use Rattle.std.specs.Option.{option_map}
@@ -15,10 +15,10 @@ use Rattle.pop_tries.specs.ties.Searching.{IsOf, first_stage, is_over, stage_by}
 unfoldable use Rattle.pop_tries.specs.ties.Searching.{HoldsAt, left_of}
 
 -- a battle has a move
-some_move : (form : Form) (battle : Battle) (n : ℕ) → play_of form ≡ BattlePlay battle → may_have form n ≡ true → 1 ≤ n
+some_move : (form : Form) (battle : Battle) (n : ℕ) → battle_of form ≡ Some battle → may_have form n ≡ true → 1 ≤ n
 some_move form battle n e r = grind (arith, nat_tests)
 
-module _ {A : Type 0} (rule : RuleSet) (problem : Posed) (battle : Battle) (most : ℕ) (is : IsOf (play_of problem.stipulation.form) battle)
+module _ {A : Type 0} (rule : RuleSet) (problem : Posed) (battle : Battle) (most : ℕ) (is : IsOf (battle_of problem.stipulation.form) battle)
     (stage : TriesStage A) (at_first : stage ≡ first_stage problem) (items : List Frame) (none : items ≡ []) where
   abbrev task : Task
   task = record { problem = problem; battle = battle; most = most }
@@ -26,27 +26,27 @@ module _ {A : Type 0} (rule : RuleSet) (problem : Posed) (battle : Battle) (most
   -- at first all events are to come
   pub all_to_come : left_of rule task stage items ≡ try_events rule problem most
   unfolding left_of try_events
-  all_to_come = rw (at_first, none) (by (play_of problem.stipulation.form) problem.set_play is refl)
+  all_to_come = rw (at_first, none) (by (battle_of problem.stipulation.form) problem.set_play is refl)
     where
-      by : (p : PlayOfSides) (set_play : Bool) → IsOf p battle → problem.set_play ≡ set_play
+      by : (p : Option Battle) (set_play : Bool) → IsOf p battle → problem.set_play ≡ set_play
           → left_of rule task {A = A} (stage_by p set_play) [] ≡ events_by p rule problem most
-      by HelpPlay set_play i e = refl
-      by (BattlePlay b) true i e = rw (i, e) refl
-      by (BattlePlay b) false i e = rw (i, e) refl
+      by None set_play i e = refl
+      by (Some b) true i e = rw (i, e) refl
+      by (Some b) false i e = rw (i, e) refl
 
   -- at first the board has the play's first position, and no frame is in use
   pub holds_first : IsSound problem → (board : Position) → board ≡ play_start problem → HoldsAt rule task stage items board
   unfolding HoldsAt
-  holds_first s board at = rw (at_first, none, at) (by (play_of problem.stipulation.form) problem.set_play is refl)
+  holds_first s board at = rw (at_first, none, at) (by (battle_of problem.stipulation.form) problem.set_play is refl)
     where
-      by : (p : PlayOfSides) (set_play : Bool) → IsOf p battle → play_of problem.stipulation.form ≡ p
+      by : (p : Option Battle) (set_play : Bool) → IsOf p battle → battle_of problem.stipulation.form ≡ p
           → HoldsAt rule task {A = A} (stage_by p set_play) [] (play_start problem)
-      by HelpPlay set_play i e = tt
-      by (BattlePlay b) true i e =
-          let fought : play_of problem.stipulation.form ≡ BattlePlay battle = rw i e in
+      by None set_play i e = tt
+      by (Some b) true i e =
+          let fought : battle_of problem.stipulation.form ≡ Some battle = rw i e in
           (record { fought = fought; some = some_move _ _ _ fought s.range }, record { board_at = refl; none = refl })
-      by (BattlePlay b) false i e =
-          let fought : play_of problem.stipulation.form ≡ BattlePlay battle = rw i e in
+      by (Some b) false i e =
+          let fought : battle_of problem.stipulation.form ≡ Some battle = rw i e in
           (record { fought = fought; some = some_move _ _ _ fought s.range }, record { board_at = refl; none = refl }, tt)
 
 module _ (rule : RuleSet) (problem : Posed) where

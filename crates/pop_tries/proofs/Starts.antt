@@ -21,7 +21,7 @@ use Rattle.pop_tries.proofs.Walks.{below_walked}
 
 -- a new frame shows what stands below a reply
 pub shows_below : (rule : RuleSet) (plan : Plan) (h : ℕ) (p : Position) (f : Frame) → f.place ≡ 0
-    → f.left ≡ walk_length plan.play plan.variation (chess plan.goal rule) h p → ShowsBelow rule plan h p (f ∷ [])
+    → f.left ≡ walk_length plan.battle plan.variation (chess plan.goal rule) h p → ShowsBelow rule plan h p (f ∷ [])
 shows_below rule plan h p f start long battle n fought white few v =
     let all : h - 0 ≡ h = omega arith in
     to_come-root rule plan h p f ∙ (rw (start, after_start rule p, all, long) (below_walked (chess plan.goal rule) plan battle fought n h p white few v))

@@ -1,6 +1,6 @@
 -- The least length of White's threats, in half-moves. That it is the least number of moves is stated in
 -- pop_solve for its own walks only.
-use Rattle.pop_tries.proofs.Words.{Battle, BattlePlay, Bool, Direct, Game, Position, RuleSet, Selfmate, ap, arith, cases_lt, chess_passing, eqb, false, false≢true, half_moves, has_threat, inl, inr, least_moves, nat_tests, not, refl, rules, sym, true, wins_in, ℕ, ◌+◌, ◌-◌, ◌<◌, ◌∙◌, ◌≡◌, ◌≤◌, suc}
+use Rattle.pop_tries.proofs.Words.{Battle, Bool, Direct, Game, Position, RuleSet, Selfmate, Some, ap, arith, cases_lt, chess_passing, eqb, false, false≢true, half_moves, has_threat, inl, inr, least_moves, nat_tests, not, refl, rules, sym, true, wins_in, ℕ, ◌+◌, ◌-◌, ◌<◌, ◌∙◌, ◌≡◌, ◌≤◌, suc}
 use Rattle.std.proofs.Common.{◌%◌, ◌*◌, ◌/◌}
 use Rattle.pop_battle.specs.Chess.{set_start}
 use Rattle.pop_battle.specs.ties.Values.{attacker_to_move}
@@ -30,7 +30,7 @@ module _ {P M : Type 0} (game : Game P M) where
 
   -- where White, to move, wins, the walk goes on for the least length
   pub walked_length : (battle : Battle) (variation : Bool) (n t : ℕ) (r : P) → attacker_to_move battle t ≡ true → 0 < t → t ≤ 2 * n → game.goal r ≡ false
-      → value battle game t r ≡ true → walk_length (BattlePlay battle) variation game t r ≡ halves battle (least_moves battle game n r)
+      → value battle game t r ≡ true → walk_length (Some battle) variation game t r ≡ halves battle (least_moves battle game n r)
   unfolding walk_length shown_length
   walked_length battle true n t r s some most open_yet v =
       let z : eqb t 0 ≡ false = grind (arith, nat_tests) in
@@ -99,7 +99,7 @@ module _ (rule : RuleSet) (contest : Contest) (fit : IsContest contest) (q : Pos
 
   -- the walk after Black has passed goes on for the least length of the threats
   pub threat_walked : (variation : Bool)
-      → walk_length (BattlePlay contest.battle) variation (game_in rule contest) (half_moves contest.stipulation - 2) (set_start q)
+      → walk_length (Some contest.battle) variation (game_in rule contest) (half_moves contest.stipulation - 2) (set_start q)
       ≡ halves contest.battle (least_moves contest.battle (game_in rule contest) contest.stipulation.n (set_start q))
   threat_walked variation =
       let some : 1 ≤ contest.stipulation.n - 1 = omega (arith, more_moves) in
@@ -111,13 +111,13 @@ module _ (rule : RuleSet) (contest : Contest) (fit : IsContest contest) (q : Pos
 
   -- the length of the walk where Black has passed is the length of the threats
   pub threat_length_is : (length : ℕ)
-      → length ≡ walk_length (BattlePlay contest.battle) false (game_in rule contest) (half_moves contest.stipulation - 2) (set_start q)
+      → length ≡ walk_length (Some contest.battle) false (game_in rule contest) (half_moves contest.stipulation - 2) (set_start q)
       → IsThreatLength rule contest q length
   threat_length_is length e =
       let least = least_moves contest.battle (game_in rule contest) contest.stipulation.n (set_start q) in
       let some = at_least_one contest.battle (game_in rule contest) contest.stipulation.n (chess_passing rule) q h in
       let in_halves : length ≡ halves contest.battle least = e ∙ threat_walked false in
-      let most = walk_length-most (game_in rule contest) (BattlePlay contest.battle) false (half_moves contest.stipulation - 2) (set_start q) in
+      let most = walk_length-most (game_in rule contest) (Some contest.battle) false (half_moves contest.stipulation - 2) (set_start q) in
       record {
         fits = record { white = rw in_halves (white_first contest.battle least some); some = rw in_halves (halves-some contest.battle least some) };
         most = omega (arith, e, most);

@@ -1,6 +1,6 @@
 -- The events of a problem with its tries: set play as `pops` shows it, the keys, and the tries, each with
 -- what is shown below it (own).
-use Rattle.std.specs.Prelude.{ℕ, ◌-◌, ◌==◌, Bool, if◌then◌else◌, List, [], ◌∷◌, ◌++◌, map, take, length}
+use Rattle.std.specs.Prelude.{ℕ, ◌-◌, ◌==◌, Bool, if◌then◌else◌, List, [], ◌∷◌, ◌++◌, map, take, length, None, Option, Some}
 use Rattle.std.specs.List.{filter, flat_map}
 use Rattle.chess_core.specs.Position.{Position}
 use Rattle.chess_core.specs.declared.man.Move.{Move}
@@ -9,15 +9,12 @@ use Rattle.chess_attacks.specs.RuleSet.{RuleSet}
 use Rattle.chess_rules.specs.Legal.{is_legal, moves}
 use Rattle.chess_rules.specs.Play.{position_after}
 use Rattle.pop_battle.specs.Chess.{set_start}
-use Rattle.pop_battle.specs.Plays.{play_of}
-use Rattle.pop_battle.specs.declared.aim.Battle.{Battle}
-use Rattle.pop_battle.specs.declared.aim.Play.{Play as PlayOfSides}
-use Rattle.pop_battle.specs.declared.aim.Play.TheVariants.{Help as HelpPlay, Battle as BattlePlay}
+use Rattle.pop_stipulation.specs.Stipulations.{battle_of, half_moves}
+use Rattle.pop_stipulation.specs.declared.stipulation.Battle.{Battle}
 use Rattle.pop_events.specs.declared.event.Phase.TheVariants.{Set}
 use Rattle.pop_input.specs.Posed.{Posed}
 use Rattle.pop_solve.specs.Events.{BareEvent, game_of, phase_events, play_start}
 use Rattle.pop_solve.specs.Tree.{keeps_win}
-use Rattle.pop_stipulation.specs.Stipulations.{half_moves}
 use Rattle.pop_tries.specs.Tries.{Below, Passing, below_first, is_try, shown_refutations}
 
 -- chess with passing: a side passes as set play begins, with no en passant square
@@ -93,10 +90,10 @@ module _ (battle : Battle) (rule : RuleSet) (problem : Posed) where
       ++ play_events most
 
 -- the events of a problem
-abbrev pub events_by : PlayOfSides → RuleSet → Posed → ℕ → List BareTryEvent
-events_by HelpPlay rule problem most = no_tries ∷ []
-events_by (BattlePlay battle) rule problem most = battle_events battle rule problem most
+abbrev pub events_by : Option Battle → RuleSet → Posed → ℕ → List BareTryEvent
+events_by None rule problem most = no_tries ∷ []
+events_by (Some battle) rule problem most = battle_events battle rule problem most
 
 -- the events of a problem, with tries of at most `most` refutations
 unfoldable pub try_events : RuleSet → Posed → ℕ → List BareTryEvent
-try_events rule problem most = events_by (play_of problem.stipulation.form) rule problem most
+try_events rule problem most = events_by (battle_of problem.stipulation.form) rule problem most

@@ -9,7 +9,7 @@ use Rattle.chess_rules.specs.Legal.{moves}
 use Rattle.chess_rules.specs.Play.{position_after}
 use Rattle.pop_battle.specs.Chess.{chess}
 use Rattle.pop_battle.specs.Game.{Game, can_move}
-use Rattle.pop_battle.specs.declared.aim.Battle.{Battle}
+use Rattle.pop_stipulation.specs.declared.stipulation.Battle.{Battle}
 use Rattle.pop_input.specs.Posed.{Posed}
 use Rattle.pop_solve.specs.Events.{game_of, play_start}
 use Rattle.pop_solve.specs.Tree.{keeps_win}

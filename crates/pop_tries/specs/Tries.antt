@@ -2,7 +2,7 @@
 -- defence are terms of the Codex for Chess Composition; the Popeye manual shows tries and threats by its
 -- options Try and Threat. That a try has at least one refutation and at most a given number, and which
 -- defences are shown, are own rules.
-use Rattle.pop_battle.specs.declared.aim.Battle.{Battle}
+use Rattle.pop_stipulation.specs.declared.stipulation.Battle.{Battle}
 use Rattle.pop_battle.specs.Game.{Game}
 use Rattle.pop_solve.specs.Tree.{best_moves, continuations, is_in_set_play, keeps_win, least_moves, node, wins_in}
 use Rattle.std.specs.Prelude.{ℕ, ◌-◌, nat_le, Bool, not, ◌&&◌, if◌then◌else◌, List, [], ◌∷◌, ◌++◌, map, length}

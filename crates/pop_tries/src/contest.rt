@@ -1,7 +1,8 @@
 //! The battle of a problem.
 ghost use Rattle.std.specs.Prelude.{◌≡◌};
 
-use pop_battle::aim::{Aim, Battle};
+use pop_battle::aim::Aim;
+use pop_stipulation::Battle;
 use pop_stipulation::stipulation::Stipulation;
 
 /// A battle: its kind, and the stipulation of which it is the form.

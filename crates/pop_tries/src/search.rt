@@ -1,6 +1,6 @@
 //! The search for keys and tries: an iterator over the events of a problem with its tries.
 ghost use Rattle.std.specs.Prelude.{◌≡◌, [], ◌∷◌, false, MatchOption};
-ghost use Rattle.pop_battle.specs.Plays.{play_of};
+ghost use Rattle.pop_stipulation.specs.Stipulations.{battle_of};
 ghost use Rattle.pop_tries.specs.Events.{BareTryEvent};
 ghost use Rattle.pop_tries.specs.Shown.{try_event_of};
 ghost use Rattle.pop_tries.specs.ties.Searching.{first_stage, is_over, IsOf, left_of, Goes, HoldsAt, MayStep};
@@ -15,12 +15,12 @@ use crate::stage::{Step, Task, TriesStage};
 use arrayvec::ArrayVec;
 use chess_core::board::Board;
 use chess_rules::Rules;
-use pop_battle::aim::{Battle, Play};
 use pop_battle::frame::Frame;
 use pop_battle::killers::Killers;
 use pop_battle::search_state::SearchState;
 use pop_events::{Event, TryEvent};
 use pop_input::problem::Problem;
+use pop_stipulation::Battle;
 use std::marker::Model;
 
 /// A search for the keys and tries of a problem, which returns its events one by one and may be dropped at any
@@ -101,12 +101,12 @@ impl<R: Rules, const N: usize> TriesSearch<R, N> {
 /// Returns the battle of a problem, any in help play, and the first stage of its search.
 fn first_stage<R: Rules>(problem: &Problem) -> (Battle, TriesStage<R>)
     ensures stage { result.1 ≡ first_stage problem.now }
-    ensures battle { IsOf (play_of problem.now.stipulation.form) result.0 }
+    ensures battle { IsOf (battle_of problem.now.stipulation.form) result.0 }
 {
-    match Play::of(problem.stipulation().form) {
-        Play::Help => (Battle::Direct, TriesStage::NoTries),
-        Play::Battle(battle) if problem.set_play() => (battle, TriesStage::SetPlay),
-        Play::Battle(battle) => (battle, TriesStage::Beginning { group: Group::Keys }),
+    match problem.stipulation().form.battle() {
+        None => (Battle::Direct, TriesStage::NoTries),
+        Some(battle) if problem.set_play() => (battle, TriesStage::SetPlay),
+        Some(battle) => (battle, TriesStage::Beginning { group: Group::Keys }),
     }
 }
 

@@ -10,11 +10,11 @@ use crate::first_moves::Group;
 use chess_core::man::Move;
 use chess_core::square::Square;
 use chess_rules::{Moves, Rules, Undo};
-use pop_battle::aim::Battle;
 use pop_events::TryEvent;
 use pop_input::problem::Problem;
 use pop_solve::phases::Stage;
 use pop_solve::plan::Plan;
+use pop_stipulation::Battle;
 use std::alloc::AllocError;
 
 /// What a search for tries covers: a problem, its battle (any in help play), and the most refutations of a

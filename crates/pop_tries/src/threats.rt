@@ -19,7 +19,6 @@ use chess_core::board::Board;
 use chess_core::man::Move;
 use chess_core::square::Square;
 use chess_rules::{Moves, Rules, in_check, play, unplay};
-use pop_battle::aim::Play;
 use pop_battle::chess::{next_move, reaches_goal, turn_over};
 use pop_battle::frame::Frame;
 use pop_battle::search_state::SearchState;
@@ -106,7 +105,7 @@ pub fn threat_length<R: Rules, const N: usize>(
         return None;
     }
     let plan = Plan {
-        play: Play::Battle(contest.battle),
+        battle: Some(contest.battle),
         goal: contest.stipulation.goal,
         variation: false,
     };

@@ -8,7 +8,7 @@ use Rattle.chess_rules.specs.ties.Places.{IsPlaceIn, LegalPlace, place_of}
 use Rattle.chess_flights.specs.ties.Mates.{mates}
 use Rattle.pop_battle.specs.Chess.{chess}
 use Rattle.pop_battle.specs.declared.aim.Aim.{Aim}
-use Rattle.pop_battle.specs.declared.aim.Battle.{Battle}
+use Rattle.pop_stipulation.specs.declared.stipulation.Battle.{Battle}
 use Rattle.pop_stipulation.specs.declared.stipulation.Goal.TheVariants.{Mate}
 use Rattle.pop_battle.specs.Walks.{walk_count}
 use Rattle.pop_battle.specs.ties.Counts.{HasCounted, smallest_tree}

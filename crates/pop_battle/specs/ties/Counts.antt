@@ -1,7 +1,7 @@
 -- The number of positions that a search has to try at least (own).
 use Rattle.std.specs.Prelude.{ℕ, zero, suc, ◌+◌, ◌-◌, ◌≤◌, ◌^◌, min, Bool, if◌then◌else◌, List, [], ◌∷◌}
 use Rattle.std.specs.List.{sum_by}
-use Rattle.pop_battle.specs.declared.aim.Battle.{Battle}
+use Rattle.pop_stipulation.specs.declared.stipulation.Battle.{Battle}
 use Rattle.pop_battle.specs.Game.{Game, can_move}
 use Rattle.pop_battle.specs.ties.Values.{decides, attacker_to_move, value}
 

@@ -1,6 +1,6 @@
 -- The solutions of a chess problem: which lines and keys they are, that no path of a phase comes twice, and
 -- in which order the paths come.
-use Rattle.pop_solve.proofs.Words.{AllPairs, Battle, BattlePlay, Contains, HelpPlay, IsSound, List, Move, Phase, Play, PlayOfSides, Posed, Precedes, RuleSet, Set, [], game_of, is_goal_reached, is_legal, keeps_win, length, moves_are_the_legal_moves, moves_in_order, pairs_weaker, path_end, phase_half_moves, phase_start, play_of, play_start, refl, rules, is_in_set_play, solutions, take, true, ◌↔◌, ◌∷◌, ◌≡◌, ◌≢◌, ◌≤◌, position_after}
+use Rattle.pop_solve.proofs.Words.{AllPairs, Battle, Contains, IsSound, List, Move, None, Option, Phase, Play, Posed, Precedes, RuleSet, Set, Some, [], battle_of, game_of, is_goal_reached, is_legal, keeps_win, length, moves_are_the_legal_moves, moves_in_order, pairs_weaker, path_end, phase_half_moves, phase_start, play_start, refl, rules, is_in_set_play, solutions, take, true, ◌↔◌, ◌∷◌, ◌≡◌, ◌≢◌, ◌≤◌, position_after}
 use Rattle.pop_solve.proofs.PhasePaths.{first_joined, help_paths, never_itself}
 use Rattle.pop_solve.proofs.Sound.{start_sound}
 use Rattle.pop_solve.proofs.theorems.HelpLines.{IsLegalLine, help_lines_of_chess_are, help_lines_of_chess_in_order}
@@ -11,7 +11,7 @@ module _ (rule : RuleSet) (problem : Posed) where
   -- Help play: a list of moves is a line of a phase of a sound problem exactly if it has as many moves as
   -- the phase has half-moves, one or more, each legal in its position, and the goal is reached in its last
   -- position.
-  pub lines_of_a_phase_are : (phase : Phase) (line : List Move) → IsSound problem → play_of problem.stipulation.form ≡ HelpPlay
+  pub lines_of_a_phase_are : (phase : Phase) (line : List Move) → IsSound problem → battle_of problem.stipulation.form ≡ None
       → Contains (paths (solutions rule problem phase)) line
       ↔ ((1 ≤ phase_half_moves problem phase) × (length line ≡ phase_half_moves problem phase) × IsLegalLine rule (phase_start problem phase) line
       × (is_goal_reached problem.stipulation.goal rule (path_end (position_after rule) (phase_start problem phase) line) ≡ true))
@@ -19,7 +19,7 @@ module _ (rule : RuleSet) (problem : Posed) where
 
   -- Battle play: a move is a key of a sound problem exactly if it is legal and keeps the win within the
   -- problem's number of moves.
-  pub keys_of_a_problem_are : (m : Move) (battle : Battle) → IsSound problem → play_of problem.stipulation.form ≡ BattlePlay battle
+  pub keys_of_a_problem_are : (m : Move) (battle : Battle) → IsSound problem → battle_of problem.stipulation.form ≡ Some battle
       → Contains (paths (solutions rule problem Play)) (m ∷ []) ↔ ((is_legal rule (play_start problem) m ≡ true)
       × (keeps_win battle (game_of rule problem) problem.stipulation.n (position_after rule (play_start problem) m) ≡ true))
   unfolding solutions
@@ -32,7 +32,7 @@ module _ (rule : RuleSet) (problem : Posed) where
   -- Set play: a move by Black is a first move exactly if set play has half-moves, the move is legal in its
   -- first position, and after it the goal is reached, if Black is to reach it, or White wins with one move
   -- less.
-  pub set_moves_of_a_problem_are : (d : Move) (battle : Battle) → IsSound problem → play_of problem.stipulation.form ≡ BattlePlay battle
+  pub set_moves_of_a_problem_are : (d : Move) (battle : Battle) → IsSound problem → battle_of problem.stipulation.form ≡ Some battle
       → Contains (paths (solutions rule problem Set)) (d ∷ []) ↔ ((1 ≤ phase_half_moves problem Set) × (is_legal rule (phase_start problem Set) d ≡ true)
       × (is_in_set_play battle (game_of rule problem) problem.stipulation.n (position_after rule (phase_start problem Set) d) ≡ true))
   unfolding solutions
@@ -43,12 +43,12 @@ module _ (rule : RuleSet) (problem : Posed) where
       let legal = moves_are_the_legal_moves rule from d (start_sound problem sound Set) in
       rw fought (λ c. let w = are.0 c in (w.0, legal.0 w.1, w.2), λ w. are.1 (w.0, legal.1 w.1, w.2))
 
-  by_play : (play : PlayOfSides) → play_of problem.stipulation.form ≡ play → (phase : Phase)
+  by_play : (battle : Option Battle) → battle_of problem.stipulation.form ≡ battle → (phase : Phase)
       → AllPairs (StandsBefore Precedes) (paths (solutions rule problem phase))
   unfolding solutions
-  by_play HelpPlay help phase = rw (help_paths rule problem phase help) (search (rules, help_lines_of_chess_in_order))
-  by_play (BattlePlay battle) fought Play = rw fought (search (rules, play_in_order, moves_in_order))
-  by_play (BattlePlay battle) fought Set = rw fought (search (rules, set_play_in_order, moves_in_order))
+  by_play None help phase = rw (help_paths rule problem phase help) (search (rules, help_lines_of_chess_in_order))
+  by_play (Some battle) fought Play = rw fought (search (rules, play_in_order, moves_in_order))
+  by_play (Some battle) fought Set = rw fought (search (rules, set_play_in_order, moves_in_order))
 
   -- The paths of each phase come in lexicographic order of the moves: lines in order, and in trees each
   -- node before the nodes below it, and these before its next sibling.
@@ -68,14 +68,14 @@ module _ (rule : RuleSet) (problem : Posed) where
   shown_paths_differ phase = first_joined (λ a b. a ≢ b) problem.max_solutions (solutions rule problem phase) (paths_differ phase)
 
   -- In battle play each beginning of a path is a path too: no node comes without the nodes above it.
-  pub nodes_stand_below_their_parents : (phase : Phase) (battle : Battle) → play_of problem.stipulation.form ≡ BattlePlay battle
+  pub nodes_stand_below_their_parents : (phase : Phase) (battle : Battle) → battle_of problem.stipulation.form ≡ Some battle
       → HasBeginnings (paths (solutions rule problem phase))
   unfolding solutions
   nodes_stand_below_their_parents Play battle fought = rw fought (search (rules, play_has_beginnings))
   nodes_stand_below_their_parents Set battle fought = rw fought (search (rules, set_play_has_beginnings))
 
   -- Each beginning of a shown path is shown too, even if the limit cuts the solutions.
-  pub shown_nodes_stand_below_their_parents : (phase : Phase) (battle : Battle) → play_of problem.stipulation.form ≡ BattlePlay battle
+  pub shown_nodes_stand_below_their_parents : (phase : Phase) (battle : Battle) → battle_of problem.stipulation.form ≡ Some battle
       → HasBeginnings (paths (take problem.max_solutions (solutions rule problem phase)))
   unfolding solutions
   shown_nodes_stand_below_their_parents Play battle fought = rw fought (search (rules, first_solutions_have_beginnings))

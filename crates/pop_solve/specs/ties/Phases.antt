@@ -1,12 +1,10 @@
 -- What a search in a phase has still to emit (own).
-use Rattle.pop_battle.specs.Plays.{play_of}
-use Rattle.pop_battle.specs.declared.aim.Battle.{Battle}
-use Rattle.pop_battle.specs.declared.aim.Play.TheVariants.{Help as HelpPlay, Battle as BattlePlay}
-use Rattle.std.specs.Prelude.{◌≡◌, ℕ, zero, suc, ◌+◌, ◌-◌, ◌≤◌, ◌^◌, min, ◌==◌, Bool, true, false, ◌||◌, if◌then◌else◌, List, [], ◌∷◌, ◌++◌, map, length, drop, ◌⊎◌}
+use Rattle.pop_stipulation.specs.Stipulations.{battle_of, is_help}
+use Rattle.pop_stipulation.specs.declared.stipulation.Battle.{Battle}
+use Rattle.std.specs.Prelude.{◌≡◌, ℕ, zero, suc, ◌+◌, ◌-◌, ◌≤◌, ◌^◌, min, ◌==◌, Bool, true, false, ◌||◌, if◌then◌else◌, List, [], ◌∷◌, ◌++◌, map, length, drop, ◌⊎◌, None, Some}
 use Rattle.chess_core.specs.Position.{Position}
 use Rattle.chess_attacks.specs.RuleSet.{RuleSet}
 use Rattle.pop_input.specs.Posed.{Posed}
-use Rattle.pop_stipulation.specs.Stipulations.{is_help}
 use Rattle.pop_battle.specs.ties.Frames.{Frame, to_open}
 use Rattle.pop_solve.specs.ties.Walk.{fewest_left, path, to_come, IsEnded, IsWalking, IsCounted, are_whites}
 use Rattle.pop_solve.specs.Events.{BareEvent, Path, impossible, is_set, total, play_start, events_from, path_event, phase_start, phase_half_moves, event_of, events}
@@ -145,20 +143,20 @@ rest_fewest rule problem After frames = 0
 -- the phase is the play of a battle, and only keys are shown
 pub record IsKeys (problem : Posed) (phase : Phase) : Type 0 where
   pub battle : Battle
-  pub fought : play_of problem.stipulation.form ≡ BattlePlay battle
+  pub fought : battle_of problem.stipulation.form ≡ Some battle
   pub keys : problem.variation ≡ false
   pub play : is_set phase ≡ false
 
 -- help play, or only keys are shown, so that White alone has frames
 unfoldable pub IsNarrow : Posed → Stage → List Frame → Type 0
-IsNarrow problem (Before phase) frames = (play_of problem.stipulation.form ≡ HelpPlay)
+IsNarrow problem (Before phase) frames = (battle_of problem.stipulation.form ≡ None)
     ⊎ IsKeys problem phase
-IsNarrow problem NotPossible frames = play_of problem.stipulation.form ≡ HelpPlay
+IsNarrow problem NotPossible frames = battle_of problem.stipulation.form ≡ None
 IsNarrow problem (First walk) frames =
-    (play_of problem.stipulation.form ≡ HelpPlay)
+    (battle_of problem.stipulation.form ≡ None)
     ⊎ ((keys : IsKeys problem walk.phase) × (are_whites keys.battle frames ≡ true))
 IsNarrow problem (Within walk count) frames =
-    (play_of problem.stipulation.form ≡ HelpPlay)
+    (battle_of problem.stipulation.form ≡ None)
     ⊎ ((keys : IsKeys problem walk.phase) × (are_whites keys.battle frames ≡ true))
 IsNarrow problem After frames = Unit {0}
 
@@ -168,11 +166,11 @@ pub record OpensOn (rule : RuleSet) (problem : Posed) (old new : Stage) (frames 
   pub narrow : IsNarrow problem old frames → IsNarrow problem new last
   pub most : IsNarrow problem old frames
       → after + rest_open rule problem new last ≤ before + rest_open rule problem old frames
-  pub counted : play_of problem.stipulation.form ≡ HelpPlay → is_unstopped left ≡ true → (walk : ℕ)
+  pub counted : battle_of problem.stipulation.form ≡ None → is_unstopped left ≡ true → (walk : ℕ)
       → IsCounted walk before (rest_open rule problem old frames)
       → IsCounted walk after (rest_open rule problem new last)
   pub grows : min before (2 ^ 64 - 1) ≤ after
-  pub fewest : (battle : Battle) → play_of problem.stipulation.form ≡ BattlePlay battle
+  pub fewest : (battle : Battle) → battle_of problem.stipulation.form ≡ Some battle
       → is_unstopped left ≡ true
       → min (before + rest_fewest rule problem old frames) (2 ^ 64 - 1)
       ≤ after + rest_fewest rule problem new last
@@ -185,9 +183,9 @@ pub record IsOpened (rule : RuleSet) (problem : Posed) (stage : Stage) (frames :
   pub narrow : is_walked_once problem ≡ true → IsNarrow problem stage frames
   pub most : is_walked_once problem ≡ true
       → opened + rest_open rule problem stage frames ≤ whole_walk rule problem
-  pub counted : play_of problem.stipulation.form ≡ HelpPlay → is_never_stopped rule problem ≡ true
+  pub counted : battle_of problem.stipulation.form ≡ None → is_never_stopped rule problem ≡ true
       → IsCounted (whole_walk rule problem) opened (rest_open rule problem stage frames)
-  pub fewest : (battle : Battle) → play_of problem.stipulation.form ≡ BattlePlay battle
+  pub fewest : (battle : Battle) → battle_of problem.stipulation.form ≡ Some battle
       → is_never_stopped rule problem ≡ true
       → min (fewest_tried rule problem) (2 ^ 64 - 1)
       ≤ opened + rest_fewest rule problem stage frames

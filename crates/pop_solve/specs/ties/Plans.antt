@@ -1,9 +1,7 @@
 -- What a search walks: help play, or a battle with only its keys or with variations (own).
-use Rattle.std.specs.Prelude.{Bool, true, false, if◌then◌else◌}
+use Rattle.std.specs.Prelude.{Bool, true, false, if◌then◌else◌, None, Some, is_none}
 use Rattle.pop_input.specs.Posed.{Posed}
-use Rattle.pop_battle.specs.Plays.{play_of}
-use Rattle.pop_battle.specs.declared.aim.Play.{Play}
-use Rattle.pop_battle.specs.declared.aim.Play.TheVariants.{Help as HelpPlay, Battle as BattlePlay}
+use Rattle.pop_stipulation.specs.Stipulations.{battle_of}
 use Rattle.pop_events.specs.declared.event.Phase.{Phase}
 use Rattle.pop_solve.specs.Events.{is_set, phase_half_moves}
 use Rattle.pop_solve.specs.declared.phases.Scope.{Scope}
@@ -14,7 +12,7 @@ use Rattle.pop_solve.specs.declared.plan.Plan.{Plan}
 -- the plan of a problem
 abbrev pub plan_of : Posed → Plan
 plan_of problem = record {
-  play = play_of problem.stipulation.form;
+  play = battle_of problem.stipulation.form;
   goal = problem.stipulation.goal;
   variation = problem.variation;
 }
@@ -38,6 +36,6 @@ abbrev pub goes_on : Walk → Bool
 goes_on walk = if is_whole walk.scope then is_set walk.phase else false
 
 -- both sides help
-abbrev pub is_help_play : Play → Bool
-is_help_play HelpPlay = true
-is_help_play (BattlePlay battle) = false
+abbrev pub is_none : Play → Bool
+is_none None = true
+is_none (Some battle) = false

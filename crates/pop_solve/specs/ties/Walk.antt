@@ -1,7 +1,7 @@
 -- What the frames of a walk mean (own).
 use Rattle.pop_solve.specs.Events.{Path}
-pub use Rattle.pop_battle.specs.declared.aim.Battle.{Battle}
-use Rattle.pop_battle.specs.declared.aim.Battle.TheVariants.{Direct, Selfmate}
+pub use Rattle.pop_stipulation.specs.declared.stipulation.Battle.{Battle}
+use Rattle.pop_stipulation.specs.declared.stipulation.Battle.TheVariants.{Direct, Selfmate}
 pub use Rattle.pop_stipulation.specs.declared.stipulation.Goal.TheVariants.{Mate}
 use Rattle.std.specs.Prelude.{◌≡◌, ℕ, zero, suc, ◌+◌, ◌-◌, ◌/◌, ◌≤◌, ◌<◌, ◌^◌, min, ◌==◌, Bool, true, false, not, ◌&&◌, ◌||◌, if◌then◌else◌, List, [], ◌∷◌, ◌++◌, map, length, filter, Option, IfSome, MatchOption, ◌⊎◌}
 use Rattle.std.specs.List.{flat_map, list_all, sum_by}
@@ -13,8 +13,7 @@ use Rattle.chess_rules.specs.ties.Places.{IsPlaceIn, LegalPlace, moves_after}
 use Rattle.chess_flights.specs.ties.Mates.{is_mating}
 use Rattle.chess_rules.specs.Legal.{is_legal, is_mate}
 use Rattle.chess_attacks.specs.RuleSet.{RuleSet}
-use Rattle.pop_battle.specs.declared.aim.Play.{Play}
-pub use Rattle.pop_battle.specs.declared.aim.Play.TheVariants.{Help as HelpPlay, Battle as BattlePlay}
+pub use Rattle.std.specs.Prelude.{None, Some}
 use Rattle.pop_battle.specs.Game.{Game}
 use Rattle.pop_battle.specs.ties.Counts.{smallest_tree}
 pub use Rattle.pop_battle.specs.ties.Values.{attacker_to_move, value}
@@ -48,20 +47,20 @@ module _ {P M : Type 0} where
 
   -- the walk follows a move to q, with t half-moves left: in a battle, White's moves and the moves of a
   -- phase's first position are tested
-  unfoldable pub is_followed : Play → Game P M → Bool → ℕ → P → Bool
-  is_followed HelpPlay game root t q = true
-  is_followed (BattlePlay battle) game root t q = not (root || attacker_to_move battle (t + 1))
+  unfoldable pub is_followed : Option Battle → Game P M → Bool → ℕ → P → Bool
+  is_followed None game root t q = true
+  is_followed (Some battle) game root t q = not (root || attacker_to_move battle (t + 1))
       || value battle game t q
 
   -- the path to q is emitted: in help play if the last half-move reaches the goal
-  unfoldable pub is_emitted : Play → Game P M → ℕ → P → Bool
-  is_emitted HelpPlay game t q = t == 0 && game.goal q
-  is_emitted (BattlePlay battle) game t q = true
+  unfoldable pub is_emitted : Option Battle → Game P M → ℕ → P → Bool
+  is_emitted None game t q = t == 0 && game.goal q
+  is_emitted (Some battle) game t q = true
 
   -- how many half-moves the walk goes on from q, with t half-moves left, with variations or without
-  unfoldable pub walk_length : Play → Bool → Game P M → ℕ → P → ℕ
-  walk_length HelpPlay variation game t q = t
-  walk_length (BattlePlay battle) variation game t q =
+  unfoldable pub walk_length : Option Battle → Bool → Game P M → ℕ → P → ℕ
+  walk_length None variation game t q = t
+  walk_length (Some battle) variation game t q =
       if not variation && attacker_to_move battle (t + 1) then 0 else shown_length battle game t q
 
   -- the paths that the walk emits from p by these moves, with `left` half-moves; `fuel` is at least `left`
@@ -70,19 +69,19 @@ module _ {P M : Type 0} where
   shown_paths plan game root (suc fuel) zero p ms = []
   shown_paths plan game root (suc fuel) (suc t) p ms =
       flat_map (λ m. let q = game.after p m in
-      if is_followed plan.play game root t q
-      then (if is_emitted plan.play game t q then (m ∷ []) ∷ [] else [])
+      if is_followed plan.battle game root t q
+      then (if is_emitted plan.battle game t q then (m ∷ []) ∷ [] else [])
       ++ map (λ path. m ∷ path) (shown_paths plan game false fuel
-      (walk_length plan.play plan.variation game t q) q (game.moves q))
+      (walk_length plan.battle plan.variation game t q) q (game.moves q))
       else []) ms
 
   -- the fewest positions that have to be tried for a move to q, with t half-moves left: for a tested move
   -- the positions of a smallest tree, otherwise q itself if the walk goes on from it
-  abbrev pub fewest_for : Play → Bool → Game P M → Bool → ℕ → P → ℕ
-  fewest_for HelpPlay variation game root t q = if t == 0 then 0 else 1
-  fewest_for (BattlePlay battle) variation game root t q =
+  abbrev pub fewest_for : Option Battle → Bool → Game P M → Bool → ℕ → P → ℕ
+  fewest_for None variation game root t q = if t == 0 then 0 else 1
+  fewest_for (Some battle) variation game root t q =
       if root || attacker_to_move battle (t + 1) then smallest_tree battle game t q
-      else (if walk_length (BattlePlay battle) variation game t q == 0 then 0 else 1)
+      else (if walk_length (Some battle) variation game t q == 0 then 0 else 1)
 
   -- the fewest positions that have to be tried for these moves of p, with `left` half-moves, and for all
   -- that the walk emits below them
@@ -91,9 +90,9 @@ module _ {P M : Type 0} where
   fewest_walked plan game root (suc fuel) zero p ms = 0
   fewest_walked plan game root (suc fuel) (suc t) p ms =
       sum_by (λ m. let q = game.after p m in
-      fewest_for plan.play plan.variation game root t q
-      + (if is_followed plan.play game root t q then fewest_walked plan game false fuel
-      (walk_length plan.play plan.variation game t q) q (game.moves q) else 0)) ms
+      fewest_for plan.battle plan.variation game root t q
+      + (if is_followed plan.battle game root t q then fewest_walked plan game false fuel
+      (walk_length plan.battle plan.variation game t q) q (game.moves q) else 0)) ms
 
 -- the moves that lead to the top frame
 unfoldable pub path : List Frame → Path
@@ -152,43 +151,43 @@ are_whites battle frames = list_all (λ f. f.left == 0 || attacker_to_move battl
 -- counted and of those still to be counted doesn't grow
 pub record Opens (rule : RuleSet) (plan : Plan) (p : Position) (old new : List Frame)
     (before after : ℕ) : Type 0 where
-  pub whites : (battle : Battle) → plan.play ≡ BattlePlay battle → plan.variation ≡ false
+  pub whites : (battle : Battle) → plan.battle ≡ Some battle → plan.variation ≡ false
       → are_whites battle old ≡ true → are_whites battle new ≡ true
-  pub most : (battle : Battle) → plan.play ≡ BattlePlay battle → plan.variation ≡ false
+  pub most : (battle : Battle) → plan.battle ≡ Some battle → plan.variation ≡ false
       → are_whites battle old ≡ true
       → after + to_open rule p new ≤ before + to_open rule p old
-  pub helped : plan.play ≡ HelpPlay
+  pub helped : plan.battle ≡ None
       → after + to_open rule p new ≤ before + to_open rule p old
-  pub counted : plan.play ≡ HelpPlay → (walk : ℕ) → IsCounted walk before (to_open rule p old)
+  pub counted : plan.battle ≡ None → (walk : ℕ) → IsCounted walk before (to_open rule p old)
       → IsCounted walk after (to_open rule p new)
 
 -- what some steps of a walk count: in a battle, no fewer positions than have to be tried
 pub record Tries (rule : RuleSet) (plan : Plan) (h : ℕ) (p : Position) (old new : List Frame)
     (before after : ℕ) : Type 0 where
   pub grows : min before (2 ^ 64 - 1) ≤ after
-  pub fewest : (battle : Battle) → plan.play ≡ BattlePlay battle
+  pub fewest : (battle : Battle) → plan.battle ≡ Some battle
       → min (before + fewest_left rule plan h p old) (2 ^ 64 - 1)
       ≤ after + fewest_left rule plan h p new
 
 -- the side that makes the last half-move wants to reach the goal: either side in help play, White in a
 -- direct mate
-abbrev pub seeks_last : Play → Bool
-seeks_last HelpPlay = true
-seeks_last (BattlePlay battle) = attacker_to_move battle 1
+abbrev pub seeks_last : Option Battle → Bool
+seeks_last None = true
+seeks_last (Some battle) = attacker_to_move battle 1
 
 -- if the move to q was the last half-move, by a side that wants mate, then it mated
 abbrev pub IsMatedAtLast : RuleSet → Plan → ℕ → Position → Type 0
 IsMatedAtLast rule plan left q =
-    is_for_mate plan.goal ≡ true → seeks_last plan.play ≡ true → left ≡ 0 → is_mate rule q ≡ true
+    is_for_mate plan.goal ≡ true → seeks_last plan.battle ≡ true → left ≡ 0 → is_mate rule q ≡ true
 
 -- these moves of p, with `left` half-moves left, lead to no path: there are none; or one half-move is left,
 -- for a side that wants mate, and they don't mate; or two are left in help play for mate, no reply to them
 -- mates, and they have counted
 abbrev pub HaveNoPaths : RuleSet → Plan → ℕ → Position → (before after : ℕ) → List Move → Type 0
 HaveNoPaths rule plan left p before after over =
-    ((after ≡ before) × ((over ≡ []) ⊎ ((seeks_last plan.play ≡ true) × (plan.goal ≡ Mate)
+    ((after ≡ before) × ((over ≡ []) ⊎ ((seeks_last plan.battle ≡ true) × (plan.goal ≡ Mate)
     × (left ≡ 1) × (filter (is_mating rule p) over ≡ []))))
-    ⊎ ((plan.play ≡ HelpPlay) × (plan.goal ≡ Mate) × (left ≡ 2)
+    ⊎ ((plan.battle ≡ None) × (plan.goal ≡ Mate) × (left ≡ 2)
     × CannotBeMated rule p before after over)
 
 -- from `place` on, the walk skips only moves without paths; the moves `rest` come after them
@@ -221,14 +220,14 @@ pub record MovesOn (rule : RuleSet) (plan : Plan) (p : Position) (old new : List
 
 -- the path that ends at a frame with `left` half-moves is known to reach the goal: always in help play,
 -- and in a direct mate with variations if it is a whole variation
-abbrev pub ends_at_goal : Play → Bool → ℕ → Bool
-ends_at_goal HelpPlay variation left = true
-ends_at_goal (BattlePlay battle) variation left = left == 0
+abbrev pub ends_at_goal : Option Battle → Bool → ℕ → Bool
+ends_at_goal None variation left = true
+ends_at_goal (Some battle) variation left = left == 0
     && (variation && attacker_to_move battle 1)
 
 -- if the path to the top frame ends with the goal, the board's position reaches it
 abbrev pub IsEnded : RuleSet → Plan → List Frame → Position → Type 0
-IsEnded rule plan frames board = ends_at_goal plan.play plan.variation
+IsEnded rule plan frames board = ends_at_goal plan.battle plan.variation
     (left_at_top frames) ≡ true
     → (chess plan.goal rule).goal board ≡ true
 

@@ -1,24 +1,22 @@
 -- The battle of a problem, as the code keeps it, and what its tests leave unchanged (own).
-use Rattle.std.specs.Prelude.{◌≡◌, ◌≤◌, ◌+◌, ◌/◌, ℕ, true, false, List, Option, MatchOption}
+use Rattle.std.specs.Prelude.{◌≡◌, ◌≤◌, ◌+◌, ◌/◌, ℕ, true, false, List, Option, Some, MatchOption}
 use Rattle.chess_core.specs.WellFormed.{IsWellFormed}
 use Rattle.chess_core.specs.Position.{Position}
 use Rattle.chess_core.specs.declared.man.Move.{Move}
 use Rattle.chess_attacks.specs.RuleSet.{RuleSet}
 use Rattle.pop_battle.specs.Chess.{chess, set_start}
 use Rattle.pop_battle.specs.Game.{Game}
-use Rattle.pop_battle.specs.Plays.{play_of}
-use Rattle.pop_battle.specs.declared.aim.Play.TheVariants.{Battle as BattlePlay}
+use Rattle.pop_stipulation.specs.Stipulations.{battle_of, half_moves}
 use Rattle.pop_battle.specs.ties.Frames.{Frame}
 use Rattle.pop_battle.specs.ties.Values.{attacker_to_move}
 use Rattle.pop_solve.specs.Tree.{least_moves}
-use Rattle.pop_stipulation.specs.Stipulations.{half_moves}
 use Rattle.pop_tries.specs.Events.{chess_passing}
 use Rattle.pop_tries.specs.Tries.{has_threat}
 use Rattle.pop_tries.specs.declared.contest.Contest.{Contest}
 
 -- the stipulation's form is this battle, of at least one move
 pub record IsContest (contest : Contest) : Type 0 where
-  pub fought : play_of contest.stipulation.form ≡ BattlePlay contest.battle
+  pub fought : battle_of contest.stipulation.form ≡ Some contest.battle
   pub some : 1 ≤ contest.stipulation.n
 
 -- a test of the contest may begin in p: the frames in use leave room for its half-moves

@@ -1,6 +1,6 @@
 -- How far a search for tries has come: what it has still to return, and what holds of its board and frames
 -- (own).
-use Rattle.std.specs.Prelude.{◌≡◌, ◌≤◌, ◌<◌, ℕ, ◌+◌, ◌-◌, ◌==◌, Bool, true, false, if◌then◌else◌, not, List, [], ◌∷◌, ◌++◌, map, take, filter, length, reverse, Option, None, MatchOption}
+use Rattle.std.specs.Prelude.{◌≡◌, ◌≤◌, ◌<◌, ℕ, ◌+◌, ◌-◌, ◌==◌, Bool, true, false, if◌then◌else◌, not, List, [], ◌∷◌, ◌++◌, map, take, filter, length, reverse, Option, None, Some, MatchOption}
 use Rattle.std.specs.List.{flat_map}
 use Rattle.chess_core.specs.WellFormed.{IsWellFormed}
 use Rattle.chess_core.specs.Position.{Position}
@@ -9,10 +9,8 @@ use Rattle.chess_attacks.specs.RuleSet.{RuleSet}
 use Rattle.chess_rules.specs.Play.{position_after}
 use Rattle.chess_rules.specs.ties.Places.{all_triples, moves_after}
 use Rattle.pop_battle.specs.Chess.{set_start}
-use Rattle.pop_battle.specs.Plays.{play_of}
-use Rattle.pop_battle.specs.declared.aim.Battle.{Battle}
-use Rattle.pop_battle.specs.declared.aim.Play.{Play as PlayOfSides}
-use Rattle.pop_battle.specs.declared.aim.Play.TheVariants.{Help as HelpPlay, Battle as BattlePlay}
+use Rattle.pop_stipulation.specs.Stipulations.{battle_of, half_moves}
+use Rattle.pop_stipulation.specs.declared.stipulation.Battle.{Battle}
 use Rattle.pop_battle.specs.ties.Frames.{CameBy, Frame}
 use Rattle.pop_events.specs.Shown.{Shown}
 use Rattle.pop_events.specs.declared.event.Phase.TheVariants.{Set}
@@ -22,7 +20,6 @@ use Rattle.pop_solve.specs.Tree.{is_in_set_play, node}
 use Rattle.pop_solve.specs.ties.Phases.{HoldsAtStage, left_of as set_play_left}
 use Rattle.pop_solve.specs.ties.Plans.{plan_of}
 use Rattle.pop_solve.specs.ties.Walk.{IsWalking, to_come}
-use Rattle.pop_stipulation.specs.Stipulations.{half_moves}
 use Rattle.pop_tries.specs.Tries.{Below, below_reply, refutation, reply, shown_refutations, threatened}
 use Rattle.pop_tries.specs.Events.{BareTryEvent, attempt, below, events_of_tries, key, key_total, keys, no_tries, play_events, set_event, shown_below, tries, try_total}
 use Rattle.pop_tries.specs.Shown.{try_event_of}
@@ -76,17 +73,17 @@ IsInLimit problem Keys count = count ≤ problem.max_solutions
 IsInLimit problem (Tries most) count = Unit {0}
 
 -- the first stage of a problem's search
-abbrev pub stage_by : {A : Type 0} → PlayOfSides → Bool → TriesStage A
-stage_by HelpPlay set_play = NoTries
-stage_by (BattlePlay battle) set_play = if set_play then SetPlay else Beginning Keys
+abbrev pub stage_by : {A : Type 0} → Option Battle → Bool → TriesStage A
+stage_by None set_play = NoTries
+stage_by (Some battle) set_play = if set_play then SetPlay else Beginning Keys
 
 abbrev pub first_stage : {A : Type 0} → Posed → TriesStage A
-first_stage problem = stage_by (play_of problem.stipulation.form) problem.set_play
+first_stage problem = stage_by (battle_of problem.stipulation.form) problem.set_play
 
 -- the battle belongs to the form, unless both sides help
-abbrev pub IsOf : PlayOfSides → Battle → Type 0
-IsOf HelpPlay battle = Unit {0}
-IsOf (BattlePlay fought) battle = battle ≡ fought
+abbrev pub IsOf : Option Battle → Battle → Type 0
+IsOf None battle = Unit {0}
+IsOf (Some fought) battle = battle ≡ fought
 
 -- nothing is left to return
 abbrev pub is_over : {A : Type 0} → TriesStage A → Bool

@@ -1,12 +1,11 @@
 -- Where the walks below a first move start, and what they show (own).
-use Rattle.std.specs.Prelude.{◌≡◌, ◌*◌, ◌≤◌, ℕ, Bool, true, false, List, [], ◌∷◌, length}
+use Rattle.std.specs.Prelude.{◌≡◌, ◌*◌, ◌≤◌, ℕ, Bool, true, false, List, [], ◌∷◌, length, Some}
 use Rattle.chess_core.specs.Position.{Position}
 use Rattle.chess_core.specs.declared.man.Move.{Move}
 use Rattle.chess_attacks.specs.RuleSet.{RuleSet}
 use Rattle.chess_rules.specs.Play.{position_after}
 use Rattle.pop_battle.specs.Chess.{chess, set_start}
-use Rattle.pop_battle.specs.declared.aim.Battle.{Battle}
-use Rattle.pop_battle.specs.declared.aim.Play.TheVariants.{Battle as BattlePlay}
+use Rattle.pop_stipulation.specs.declared.stipulation.Battle.{Battle}
 use Rattle.pop_battle.specs.ties.Frames.{Frame}
 use Rattle.pop_battle.specs.ties.Values.{attacker_to_move, value}
 use Rattle.pop_input.specs.Posed.{Posed}
@@ -25,7 +24,7 @@ base_position rule problem first (Reply by) =
 
 -- a walk from p with h half-moves left shows what stands below a reply, if White, to move, wins there
 abbrev pub ShowsBelow : RuleSet → Plan → ℕ → Position → List Frame → Type 0
-ShowsBelow rule plan h p frames = (battle : Battle) (n : ℕ) → plan.play ≡ BattlePlay battle
+ShowsBelow rule plan h p frames = (battle : Battle) (n : ℕ) → plan.battle ≡ Some battle
     → attacker_to_move battle h ≡ true → h ≤ 2 * n
     → value battle (chess plan.goal rule) h p ≡ true
     → to_come rule plan h p frames
