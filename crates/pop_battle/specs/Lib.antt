@@ -1,4 +1,3 @@
-pub mod Plays
 pub mod Game
 pub mod Chess
 pub mod Walks

@@ -5,12 +5,12 @@
 //! use arrayvec::ArrayVec;
 //! use chess_core::{Board, Colour, Diagram, Kind, Man, Square};
 //! use chess_rules::Orthodox;
-//! use pop_battle::aim::{Aim, Battle};
+//! use pop_battle::aim::Aim;
 //! use pop_battle::frame::Frame;
 //! use pop_battle::killers::Killers;
 //! use pop_battle::search_state::SearchState;
 //! use pop_battle::value::value_of;
-//! use pop_stipulation::Goal;
+//! use pop_stipulation::{Battle, Goal};
 //!
 //! // White Kg6 Ra1, Black Kg8: White mates in one half-move.
 //! let mut diagram = Diagram::new();

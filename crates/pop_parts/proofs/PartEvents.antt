@@ -1,5 +1,5 @@
 -- What a call of `PartSearch::next` returns, and what it counts.
-use Rattle.pop_parts.proofs.Words.{BareEvent, Frame, Gives, IsAtPathOf, IsPartOpened, List, MatchOption, Move, None, OpensOn, Option, Phase, Posed, Position, RuleSet, Some, Stage, [], and_parts, ap, drop, event_of, help-play, is_stop, is_unstopped, left_of, not, play_start, refl, slice_get, true, ℕ, ◌≡◌}
+use Rattle.pop_parts.proofs.Words.{BareEvent, Frame, Gives, IsAtPathOf, IsPartOpened, List, MatchOption, Move, None, OpensOn, Option, Phase, Posed, Position, RuleSet, Some, Stage, [], and_parts, ap, drop, event_of, is_stop, is_unstopped, left_of, no-battle, not, play_start, refl, slice_get, true, ℕ, ◌≡◌}
 use Rattle.pop_events.specs.declared.event.Event.{Event}
 use Rattle.std.specs.Option.{option_map}
 
@@ -34,4 +34,4 @@ pub opened-on : (rule : RuleSet) (problem : Posed) (phase : Phase) (front : List
     → IsPartOpened rule problem phase front stage frames before → IsPartOpened rule problem phase front next last after
 opened-on rule problem phase front stage next frames last board depth before after found g x o help full =
     let so_far = o help full in
-    (unstopped-on rule problem _ _ board depth found g so_far.0, x.counted (help-play problem.stipulation.form help) so_far.0 _ so_far.1)
+    (unstopped-on rule problem _ _ board depth found g so_far.0, x.counted (no-battle problem.stipulation.form help) so_far.0 _ so_far.1)

@@ -1,5 +1,5 @@
 -- After a part's first moves the walk shows exactly the part's solutions.
-use Rattle.pop_parts.proofs.Words.{Bool, Contains, IsPlayable, IsSound, IsWellFormed, List, Move, None, Option, Phase, Posed, Position, RuleSet, Some, [], after_well_formed, ap, append-nil, append_assoc, arith, battle-form, battle_of, begins_path, begins_so, chess, eqb, false, filter, game_of, help_lines, helps-form, is_help, is_none, is_pseudo_legal-from_legal, legal_moves, length, length-append, lines_to_goal, map, map-id, moves_are_the_legal_moves, moves_in_order, part_solutions, path_end, path_end-append, phase_half_moves, phase_start, plan_of, position_after, refl, set_tree, shown_paths, solutions, start_sound, subst, suc, sym, true, zero, ℕ, ◌++◌, ◌+◌, ◌-◌, ◌∙◌, ◌∷◌, ◌≡◌, ◌≤◌}
+use Rattle.pop_parts.proofs.Words.{Bool, Contains, IsPlayable, IsSound, IsWellFormed, List, Move, None, Option, Phase, Posed, Position, RuleSet, Some, [], after_well_formed, ap, append-nil, append_assoc, arith, battle_of, begins_path, begins_so, chess, eqb, false, filter, game_of, help_lines, is_help, is_none, is_pseudo_legal-from_legal, legal_moves, length, length-append, lines_to_goal, map, map-id, moves_are_the_legal_moves, moves_in_order, part_solutions, path_end, path_end-append, phase_half_moves, phase_start, plan_of, position_after, refl, set_tree, shown_paths, solutions, start_sound, subst, suc, sym, true, zero, ℕ, ◌++◌, ◌+◌, ◌-◌, ◌∙◌, ◌∷◌, ◌≡◌, ◌≤◌}
 use Rattle.pop_stipulation.specs.declared.stipulation.Battle.{Battle}
 use Rattle.pop_events.specs.declared.event.Phase.TheVariants.{Play, Set}
 use Rattle.std.proofs.lemmas.Simd.{map-map}
@@ -138,11 +138,11 @@ pub part_cut : (rule : RuleSet) (problem : Posed) (sound : IsSound problem) (pha
     → length front + 1 ≤ phase_half_moves problem phase → (is_help problem.stipulation.form ≡ false → front ≡ [])
     → are_legal rule (phase_start problem phase) (front ++ m ∷ []) ≡ true → IsPartCut rule problem phase (is_help problem.stipulation.form) front m
 part_cut rule problem sound phase front m room alone may =
-    rw (← helps-form problem.stipulation.form) (by_play (battle_of problem.stipulation.form) refl)
+    by_play (battle_of problem.stipulation.form) refl
   where
     by_play : (battle : Option Battle) → battle_of problem.stipulation.form ≡ battle → IsPartCut rule problem phase (is_none battle) front m
     by_play None help = help-cut rule problem help sound phase front m room may (eqb (length front) 0)
     by_play (Some battle) fought =
         let Cut : List Move → Type 0 = λ front. length front + 1 ≤ phase_half_moves problem phase
         → are_legal rule (phase_start problem phase) (front ++ m ∷ []) ≡ true → IsPartCut rule problem phase false front m in
-        subst Cut (sym (alone (battle-form problem.stipulation.form battle fought))) (battle-cut rule problem battle fought sound phase m) room may
+        subst Cut (sym (alone (ap is_none fought))) (battle-cut rule problem battle fought sound phase m) room may

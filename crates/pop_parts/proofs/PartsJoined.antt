@@ -1,5 +1,5 @@
 -- The parts of a phase joined are the phase, and each solution is in one part.
-use Rattle.pop_parts.proofs.Words.{AllPairs, Bool, Contains, IsPlayable, IsSound, List, Move, None, Option, Phase, Posed, Precedes, RuleSet, Some, StandsBefore, [], ap, arith, battle-form, battle_of, beginnings, begins_so, cond, eqb, false, filter, flat_map, flat_map_single, from_filter, from_map, game_of, help-form, help_lines, is_impossible_phase, is_help, legal_moves, length, lines_to_goal, map, min, moves_in_order, nat_tests, none_in_nil, pairs_nil, part_depth, part_solutions, parts, phase_half_moves, phase_start, refl, set_tree, solutions, solutions_by, some_way, subst, suc, sym, true, zero, ℕ, ◌||◌, ◌↔◌, ◌∙◌, ◌∷◌, ◌≡◌, ◌≤◌}
+use Rattle.pop_parts.proofs.Words.{AllPairs, Bool, Contains, IsPlayable, IsSound, List, Move, None, Option, Phase, Posed, Precedes, RuleSet, Some, StandsBefore, [], ap, arith, battle_of, beginnings, begins_so, cond, eqb, false, filter, flat_map, flat_map_single, from_filter, from_map, game_of, help_lines, is_impossible_phase, is_help, is_none, legal_moves, length, lines_to_goal, map, min, moves_in_order, nat_tests, none_in_nil, pairs_nil, part_depth, part_solutions, parts, phase_half_moves, phase_start, refl, set_tree, solutions, solutions_by, some_way, subst, suc, sym, true, zero, ℕ, ◌||◌, ◌↔◌, ◌∙◌, ◌∷◌, ◌≡◌, ◌≤◌}
 use Rattle.pop_stipulation.specs.declared.stipulation.Battle.{Battle}
 use Rattle.pop_events.specs.declared.event.Phase.TheVariants.{Play, Set}
 use Rattle.std.proofs.lemmas.List.Folds.{flat_map-map}
@@ -135,11 +135,11 @@ module _ (rule : RuleSet) (problem : Posed) where
     all-joined zero z play e = ap (flat_map (part_solutions rule problem phase)) (parts-none rule problem phase depth free z) ∙ sym (none-solved sound phase z)
     all-joined (suc h) z None help =
         ap (flat_map (part_solutions rule problem phase))
-        (parts-help rule problem phase depth free (omega (arith, z)) (help-form problem.stipulation.form help))
+        (parts-help rule problem phase depth free (omega (arith, z)) (ap is_none help))
         ∙ help-joined rule problem phase help (omega (arith, z)) (min depth (phase_half_moves problem phase)) (omega arith)
     all-joined (suc h) z (Some battle) fought =
         ap (flat_map (part_solutions rule problem phase))
-        (parts-battle rule problem phase depth free (omega (arith, z)) (battle-form problem.stipulation.form battle fought))
+        (parts-battle rule problem phase depth free (omega (arith, z)) (ap is_none fought))
         ∙ battle-joined battle fought phase h z
 
     -- the solutions of all parts, joined, are the phase's
@@ -152,11 +152,11 @@ module _ (rule : RuleSet) (problem : Posed) where
     all-once zero z play e s c = absurd (none_in_nil s (rw (none-solved sound phase z) at c))
     all-once (suc h) z None help s c =
         ap (λ fronts. length (filter (λ front. begins_so front s) fronts)) (parts-help rule problem phase depth free (omega (arith, z))
-        (help-form problem.stipulation.form help))
+        (ap is_none help))
         ∙ help-once rule problem phase help (omega (arith, z)) (min depth (phase_half_moves problem phase)) (omega arith) s c
     all-once (suc h) z (Some battle) fought s c =
         ap (λ fronts. length (filter (λ front. begins_so front s) fronts)) (parts-battle rule problem phase depth free (omega (arith, z))
-        (battle-form problem.stipulation.form battle fought))
+        (ap is_none fought))
         ∙ battle-once battle fought phase h z s c
 
     -- each solution begins as one part alone

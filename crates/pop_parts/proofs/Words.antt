@@ -5,7 +5,7 @@ pub use Rattle.std.proofs.Common.{codes}
 pub use Rattle.pop_events.specs.declared.event.Phase.{Phase}
 pub use Rattle.pop_parts.specs.PhaseParts.{begins_so, part_count, part_depth, part_numbered}
 unfoldable pub use Rattle.pop_parts.specs.PhaseParts.{beginnings, begins_path, part_events, part_solutions, parts}
-pub use Rattle.pop_solve.proofs.Sound.{battle-form, help-form, help-play, helps-form, in_range, some_way, start_sound}
+pub use Rattle.pop_solve.proofs.Sound.{in_range, no-battle, some_way, start_sound}
 pub use Rattle.pop_parts.specs.ties.Items.{entry_in, is_failure, text_if}
 pub use Rattle.pop_parts.specs.Parts.{entry_numbered, outcome_at, part_text, text_at}
 unfoldable pub use Rattle.pop_parts.specs.Parts.{text_in}

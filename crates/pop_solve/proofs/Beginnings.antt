@@ -4,7 +4,7 @@ use Rattle.pop_battle.proofs.Boards.{after_start, for_mate}
 use Rattle.pop_solve.proofs.GoingOn.{cases, ended-reached, follows-help, walk_length-help, walk_length-most}
 use Rattle.pop_solve.proofs.Outcomes.{counted_by}
 use Rattle.pop_solve.proofs.Paths.{path-more, position-more}
-use Rattle.pop_solve.proofs.Sound.{help-play}
+use Rattle.pop_solve.proofs.Sound.{no-battle}
 use Rattle.pop_solve.proofs.ToCome.{come-close, given_path, open-close, skipped, turn, walk_count-start}
 use Rattle.pop_solve.proofs.Walking.{popped}
 use Rattle.pop_solve.specs.ties.Beginnings.{IsBeginning, are_idle, paths_by}
@@ -120,7 +120,7 @@ module _ (rule : RuleSet) (problem : Posed) (phase : Phase) (n : ℕ) (frames : 
   begun-passed : (opened : ℕ) → is_followed plan.battle game root left q ≡ false → Begun false old board opened
   unfolding shown_paths
   begun-passed opened passed = begun-none opened (rw passed refl) (λ help.
-      absurd (false≢true (sym passed ∙ follows-help plan game root left q (help-play problem.stipulation.form help))))
+      absurd (false≢true (sym passed ∙ follows-help plan game root left q (no-battle problem.stipulation.form help))))
 
   -- the move is followed
   abbrev entered : List Frame
@@ -143,7 +143,7 @@ module _ (rule : RuleSet) (problem : Posed) (phase : Phase) (n : ℕ) (frames : 
       → IsCounted tried opened (to_open rule p entered)
   unfolding to_open
   opens-entered opened c help =
-      let helps = help-play problem.stipulation.form help in
+      let helps = no-battle problem.stipulation.form help in
       let start : IsCounted tried 0 tried = search rules in
       let idle = idle-open rule plan p old s.idle in
       rw (walk_length-help plan game left q helps, idle, position-more rule p _ old deep, ← s.walking.board_at)

@@ -1,6 +1,6 @@
 -- What a call of `next` returns.
 use Rattle.pop_solve.proofs.Words.{After, Before, Frame, Stage, Total, goes_on, is_none, sym, IsRoomy, IsSound, List, Phase, Play, Posed, Position, RuleSet, Walks, Within, [], append_assoc, arith, cond, drop, eqb, events_from, false, flat_map, half_moves, is_impossible_phase, BareEvent, Event, First, Gives, IsAtPathOf, IsWalking, Move, Whole, begins_solution, event_of, events_after, events_along, path, path_event, phase_count, Walk, walk_of, Bool, ap, ◌<◌, ◌∙◌, beginning_count, is_help, kept_paths, left_of, length, length-reverse, nat_tests, opening, phase_events, phase_half_moves, phase_paths, phase_start, plan_of, refl, reverse, rules, solutions, take, total, true, ℕ, ◌+◌, ◌-◌, ◌||◌, ◌∷◌, ◌≡◌, ◌≤◌, drop-drop}
-use Rattle.pop_solve.proofs.Sound.{helps-form, in_range}
+use Rattle.pop_solve.proofs.Sound.{in_range}
 use Rattle.pop_solve.proofs.Kept.{beginning_count-next, keep-next}
 use Rattle.pop_solve.proofs.Paths.{path-length, path_end-path}
 
@@ -28,7 +28,7 @@ module _ (problem : Posed) (walk : Walk) (is : walk ≡ walk_of problem walk.pha
   pub walks-are : (rule : RuleSet) (p : Position) (limit : ℕ) (old new : List Frame) (board : Position) (given : Bool)
       → Walks rule walk.plan (is_none walk.plan.battle) walk.half_moves p limit old new board given
       → Walks rule (plan_of problem) (is_help problem.stipulation.form) (phase_half_moves problem walk.phase) p limit old new board given
-  walks-are rule p limit old new board given w = search (rules, plan-is, half_moves-are, helps-form)
+  walks-are rule p limit old new board given w = search (rules, plan-is, half_moves-are)
 
 -- none is given: the total is left
 pub left-ended : (rule : RuleSet) (problem : Posed) (walk : Walk) (count : ℕ) (old new : List Frame) (board : Position)

@@ -1,6 +1,6 @@
 -- The paths to come from the root frame of a phase are the phase's solutions.
 use Rattle.pop_solve.proofs.Words.{Battle, Bool, Form, Frame, Game, IsSound, List, None, Option, Phase, Plan, Play, Posed, RuleSet, Set, Some, [], battle_of, continuations, ap, arith, beginning_count, best_moves, cond, false, filter, flat_map, game_of, half_moves_of, help_lines, is_help, is_none, kept_paths, keeps_win, length, list_all, map, moves_after, nat_tests, node, nodes_below, phase_half_moves, phase_paths, phase_start, plan_of, refl, rules, attacker_to_move, is_in_set_play, set_tree, shown_paths, solutions, solutions_by, suc, sym, take, true, value, zero, ℕ, ◌++◌, ◌+◌, ◌-◌, ◌∙◌, ◌∷◌, ◌≡◌, legal_moves, list_all-append}
-use Rattle.pop_solve.proofs.Sound.{helps-form, some_way}
+use Rattle.pop_solve.proofs.Sound.{some_way}
 use Rattle.pop_solve.proofs.Battles.{value-wins, value-self_wins}
 use Rattle.pop_solve.proofs.Trees.{as_nodes, beneath, by_test, flat-filter, halves, halves-seek, keeps-value, nodes_below-key, nodes_below-set, shown_paths-help, shown_paths-zero}
 use Rattle.pop_solve.proofs.Kept.{to_come-root}
@@ -138,4 +138,4 @@ module _ (rule : RuleSet) (problem : Posed) (stated : IsSound problem) where
       → moves_after rule (phase_start problem phase) f.place ≡ legal_moves rule (phase_start problem phase)
       → IsCutInto (is_help problem.stipulation.form) problem.max_solutions (phase_paths rule problem phase (f ∷ [])) (solutions rule problem phase)
   unfolding solutions
-  root-solutions phase f l b = search (rules, to_come-root, helps-form, cut phase _ refl _ refl)
+  root-solutions phase f l b = search (rules, to_come-root, cut phase _ refl _ refl)

@@ -85,7 +85,8 @@ module _ {P M : Type 0} (game : Game P M) where
   -- in battle play
   module _ (plan : Plan) (battle : Battle) (fought : plan.battle ≡ Some battle) where
     -- a move that is tested, and one that isn't
-    pub by_test : (root : Bool) (t : ℕ) (q : P) → (root || attacker_to_move battle (t + 1)) ≡ true → is_followed plan.battle game root t q ≡ value battle game t q
+    pub by_test : (root : Bool) (t : ℕ) (q : P) → (root || attacker_to_move battle (t + 1)) ≡ true
+        → is_followed plan.battle game root t q ≡ value battle game t q
     unfolding is_followed
     by_test root t q s = rw (fought, s) refl
 

@@ -81,8 +81,8 @@ module _ (rule : RuleSet) (plan : Plan) (h : ℕ) (top : Frame) (old new : List 
     -- a step that plays its next move
     pub enter_steps : (root given : Bool) (after : Position) (opened2 : ℕ) → root ≡ eqb depth 0
         → (is_followed plan.battle (chess plan.goal rule) root following arrived ≡ false → (given ≡ false) × (after ≡ now) × (last ≡ mid))
-        → (is_followed plan.battle (chess plan.goal rule) root following arrived ≡ true → (given ≡ is_emitted plan.battle (chess plan.goal rule) following arrived)
-        × (after ≡ arrived)
+        → (is_followed plan.battle (chess plan.goal rule) root following arrived ≡ true
+        → (given ≡ is_emitted plan.battle (chess plan.goal rule) following arrived) × (after ≡ arrived)
         × (last ≡ mid ++ opened_frame m (undo_of rule now m) (walk_length plan.battle plan.variation (chess plan.goal rule) following arrived) ∷ []))
         → Counts rule plan root following arrived between opened2
         → (p : Position) → IsWalking rule h p (reverse old) board → Steps rule plan h p (reverse old) (reverse last) after opened opened2 given

@@ -1,6 +1,7 @@
 -- The events of a problem: its phases, their solutions and their totals. Set play, the limit of solutions
 -- and the order of events are own; half-moves are numbered as in the Popeye manual.
 use Rattle.pop_stipulation.specs.Stipulations.{battle_of, first_half, half_moves, is_help}
+use Rattle.pop_stipulation.specs.declared.stipulation.Battle.{Battle}
 use Rattle.pop_stipulation.specs.declared.stipulation.Goal.{Goal}
 use Rattle.chess_rules.specs.Play.{position_after}
 use Rattle.std.specs.Prelude.{ℕ, ◌+◌, ◌-◌, ◌==◌, Bool, true, false, ◌&&◌, if◌then◌else◌, List, [], ◌∷◌, ◌++◌, map, take, length, None, Option, Some}

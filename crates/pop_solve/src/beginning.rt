@@ -34,8 +34,9 @@ fn may_lead<R: Rules>(plan: Plan, left: usize, by: Move, board: &mut Board) -> b
     ensures unchanged { board.new ≡ board.old }
     ensures mated { result ≡ true → IsMatedAtLast R.rule plan left
         (position_after R.rule board.old by) }
-    ensures fails { result ≡ false → (is_for_mate plan.goal ≡ true) × (seeks_last plan.battle ≡ true)
-        × (left ≡ 0) × (is_mate R.rule (position_after R.rule board.old by) ≡ false) }
+    ensures fails { result ≡ false → (is_for_mate plan.goal ≡ true)
+        × (seeks_last plan.battle ≡ true) × (left ≡ 0)
+        × (is_mate R.rule (position_after R.rule board.old by) ≡ false) }
 {
     if !ends_with_mate(plan, left + 1) {
         return true;

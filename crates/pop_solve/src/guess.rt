@@ -24,8 +24,8 @@ use std::mem;
 /// Returns whether to guess killers for a test with `left` half-moves: in a direct mate with Black to move.
 /// Selfmates keep no killers, and help play has no tests.
 fn wants_guess(battle: Option<Battle>, left: usize) -> bool
-    ensures help { play ≡ None → result ≡ false }
-    ensures selfmate { play ≡ Some Selfmate → result ≡ false }
+    ensures help { battle ≡ None → result ≡ false }
+    ensures selfmate { battle ≡ Some Selfmate → result ≡ false }
 {
     battle == Some(Battle::Direct) && left % 2 == 0
 }

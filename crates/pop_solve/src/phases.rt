@@ -1,5 +1,5 @@
 //! The phases of a search: set play and the play, each walked whole or after a beginning of moves.
-ghost use Rattle.std.specs.Prelude.{◌≡◌, ◌+◌, ◌<◌, ◌≤◌, ℕ, [], ◌∷◌, length, reverse, true, false, if◌then◌else◌, MatchOption, Some, None, not, ◌&&◌, ◌||◌, ◌==◌, ◌-◌};
+ghost use Rattle.std.specs.Prelude.{◌≡◌, ◌+◌, ◌<◌, ◌≤◌, ℕ, [], ◌∷◌, length, reverse, true, false, if◌then◌else◌, MatchOption, Some, None, is_none, not, ◌&&◌, ◌||◌, ◌==◌, ◌-◌};
 ghost use Rattle.arrayvec.specs.ArrayVec.{array_vec_len};
 ghost use Rattle.chess_core.specs.Position.{Position};
 ghost use Rattle.pop_input.specs.Posed.{IsSound};

@@ -3,11 +3,12 @@ ghost use Rattle.std.specs.Prelude.{◌≡◌};
 ghost use Rattle.pop_solve.specs.ties.Plans.{plan_of};
 
 use pop_input::Problem;
-use pop_stipulation::Goal;
+use pop_stipulation::{Battle, Goal};
 
-/// What a search walks: help play or a battle, the goal, and what is shown of a battle.
+/// What a search walks: a battle or help play, the goal, and what is shown of a battle.
 #[derive(Clone, Copy)]
 pub struct Plan {
+    /// `None` in help play.
     pub battle: Option<Battle>,
     pub goal: Goal,
     /// Whether a battle shows the defences and what follows them. Help play ignores it.

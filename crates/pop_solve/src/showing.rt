@@ -39,8 +39,9 @@ fn reached_at<R: Rules>(plan: Plan, frame: &Frame<R>) -> Reached
 {
     match plan.battle {
         None => Reached::Surely,
-        Some(battle) if frame.left == 0 && plan.variation && attacker_to_move(battle, 1) =>
-            { Reached::Surely }
+        Some(battle) if frame.left == 0 && plan.variation && attacker_to_move(battle, 1) => {
+            Reached::Surely
+        }
         _ => Reached::Perhaps,
     }
 }

@@ -1,5 +1,5 @@
 //! The walk over the moves of a phase, with a stack of frames.
-ghost use Rattle.std.specs.Prelude.{◌≡◌, ◌↔◌, ◌+◌, ◌<◌, ◌≤◌, ◌/◌, [], ◌∷◌, ◌++◌, length, reverse, take, List, IsTrue, true, false, is_some, IfSome, MatchOption, None, ◌⊎◌, not, ◌&&◌, ◌||◌, ◌==◌, ◌-◌, ◌^◌, min};
+ghost use Rattle.std.specs.Prelude.{◌≡◌, ◌↔◌, ◌+◌, ◌<◌, ◌≤◌, ◌/◌, [], ◌∷◌, ◌++◌, length, reverse, take, List, IsTrue, true, false, is_some, IfSome, MatchOption, Some, None, ◌⊎◌, not, ◌&&◌, ◌||◌, ◌==◌, ◌-◌, ◌^◌, min};
 ghost use Rattle.arrayvec.specs.ArrayVec.{array_vec_len};
 ghost use Rattle.chess_threats.specs.ties.Threats.{AreThreatsOf};
 ghost use Rattle.chess_rules.specs.Legal.{is_legal, is_mate, moves as legal_moves};
@@ -9,7 +9,7 @@ ghost use Rattle.pop_battle.specs.ties.Calls.{Evaluates, Restores};
 ghost use Rattle.pop_battle.specs.ties.Frames.{CameFrom, CameFromAt, Frame as Level, opened_frame};
 ghost use Rattle.pop_battle.specs.ties.Passing.{IsNextMatable};
 ghost use Rattle.pop_solve.specs.ties.Calls.{Counts};
-ghost use Rattle.pop_solve.specs.ties.Walk.{Battle, IsWellFormed, Mate, None, Position, Some, attacker_to_move, chess, is_for_mate, value, MovesOn, fewest_half_moves, least_length_from, shown_length, is_followed, is_emitted, walk_length, IsMatedAtLast, IsNextOf, IsWalking, seeks_last, Steps};
+ghost use Rattle.pop_solve.specs.ties.Walk.{Battle, IsWellFormed, Mate, Position, attacker_to_move, chess, is_for_mate, value, MovesOn, fewest_half_moves, least_length_from, shown_length, is_followed, is_emitted, walk_length, IsMatedAtLast, IsNextOf, IsWalking, seeks_last, Steps};
 
 use crate::plan::Plan;
 use arrayvec::ArrayVec;
@@ -123,10 +123,10 @@ pub fn walk_length<R: Rules, const N: usize>(
 /// including the move: White's moves and the moves of a phase's first position are tested. `depth` is the
 /// number of frames, 1 at the first position.
 fn tested_in(battle: Option<Battle>, depth: usize, left: usize) -> Option<Battle>
-    ensures { MatchOption result ((battle : Battle) → play ≡ Some battle
-        → ((depth == 1) || attacker_to_move battle left) ≡ false)
-        (λ battle. (play ≡ Some battle)
-        × (((depth == 1) || attacker_to_move battle left) ≡ true)) }
+    ensures { MatchOption result ((fought : Battle) → battle ≡ Some fought
+        → ((depth == 1) || attacker_to_move fought left) ≡ false)
+        (λ fought. (battle ≡ Some fought)
+        × (((depth == 1) || attacker_to_move fought left) ≡ true)) }
 {
     match battle {
         Some(battle) if depth == 1 || attacker_to_move(battle, left) => Some(battle),
@@ -137,7 +137,7 @@ fn tested_in(battle: Option<Battle>, depth: usize, left: usize) -> Option<Battle
 /// Returns whether the side that makes the last half-move wants to reach the goal: either side in help
 /// play, White in a direct mate; in a selfmate Black doesn't.
 fn seeks_last(battle: Option<Battle>) -> bool
-    ensures { result ≡ seeks_last play }
+    ensures { result ≡ seeks_last battle }
 {
     match battle {
         None => true,

@@ -1,21 +1,27 @@
 -- What stipulations say (Codex; Popeye manual; the range of n is own).
-use Rattle.std.specs.Prelude.{ℕ, ◌+◌, ◌-◌, ◌*◌, nat_le, Bool, true, false, ◌&&◌, ◌||◌, List, Option, is_some}
+use Rattle.std.specs.Prelude.{ℕ, ◌+◌, ◌-◌, ◌*◌, nat_le, Bool, true, false, ◌&&◌, ◌||◌, List, Option, Some, None, is_some, is_none}
 use Rattle.chess_core.specs.Position.{king_square}
 use Rattle.chess_core.specs.declared.man.Man.{Man}
 use Rattle.chess_core.specs.declared.man.Colour.{Colour}
 use Rattle.chess_core.specs.declared.man.Colour.TheVariants.{White, Black}
+use Rattle.pop_stipulation.specs.declared.stipulation.Battle.{Battle}
+use Rattle.pop_stipulation.specs.declared.stipulation.Battle.TheVariants.{Direct as DirectBattle, Selfmate as SelfmateBattle}
 use Rattle.pop_stipulation.specs.declared.stipulation.Form.{Form}
 use Rattle.pop_stipulation.specs.declared.stipulation.Form.TheVariants.{Direct, Selfmate, Help, HelpHalf}
 use Rattle.pop_stipulation.specs.declared.stipulation.Goal.{Goal}
 use Rattle.pop_stipulation.specs.declared.stipulation.Goal.TheVariants.{Mate, Stalemate}
 use Rattle.pop_stipulation.specs.declared.stipulation.Stipulation.{Stipulation}
 
--- whether both sides help
+-- the battle of a form, in which White pursues an aim against every defence; in help play both sides help
+abbrev pub battle_of : Form → Option Battle
+battle_of Direct = Some DirectBattle
+battle_of Selfmate = Some SelfmateBattle
+battle_of Help = None
+battle_of HelpHalf = None
+
+-- whether both sides help: the form has no battle
 abbrev pub is_help : Form → Bool
-is_help Direct = false
-is_help Selfmate = false
-is_help Help = true
-is_help HelpHalf = true
+is_help form = is_none (battle_of form)
 
 -- the side that makes the first half-move of the play
 abbrev pub starting_side : Form → Colour

@@ -12,4 +12,4 @@
 
 pub mod stipulation;
 
-pub use stipulation::{Form, Goal, MOST_MOVES, Stipulation};
+pub use stipulation::{Battle, Form, Goal, MOST_MOVES, Stipulation};

@@ -1,6 +1,6 @@
 //! Stipulations.
 ghost use Rattle.std.specs.Prelude.{◌≡◌};
-ghost use Rattle.pop_stipulation.specs.Stipulations.{first_half, goal_side, half_moves, is_for_stalemate, is_help, starting_side};
+ghost use Rattle.pop_stipulation.specs.Stipulations.{battle_of, first_half, goal_side, half_moves, is_for_stalemate, is_help, starting_side};
 
 use chess_core::man::Colour;
 
@@ -16,6 +16,15 @@ pub enum Form {
     Help,
     /// `h#n.5`: White starts with one half-move, and help play of n moves follows.
     HelpHalf,
+}
+
+/// Which side is to reach the goal of a battle (Codex).
+#[derive(Clone, Copy, Debug, PartialEq, Eq)]
+pub enum Battle {
+    /// White reaches the goal against every defence.
+    Direct,
+    /// White forces Black to reach the goal.
+    Selfmate,
 }
 
 /// What the last move must do to the goal side.
@@ -52,14 +61,23 @@ impl Goal {
 }
 
 impl Form {
-    /// Returns whether both sides help.
+    /// Returns the battle of the form, in which White pursues an aim against every defence, or `None` if both
+    /// sides help.
+    pub fn battle(self) -> Option<Battle>
+        ensures { result ≡ battle_of self }
+    {
+        match self {
+            Form::Direct => Some(Battle::Direct),
+            Form::Selfmate => Some(Battle::Selfmate),
+            Form::Help | Form::HelpHalf => None,
+        }
+    }
+
+    /// Returns whether both sides help: the form has no battle.
     pub fn is_help(self) -> bool
         ensures { result ≡ is_help self }
     {
-        match self {
-            Form::Direct | Form::Selfmate => false,
-            Form::Help | Form::HelpHalf => true,
-        }
+        self.battle().is_none()
     }
 
     /// Returns the number of the first half-move: 1, or 2 if White starts help play, so that Black's half of the first

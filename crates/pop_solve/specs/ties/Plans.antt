@@ -1,5 +1,5 @@
 -- What a search walks: help play, or a battle with only its keys or with variations (own).
-use Rattle.std.specs.Prelude.{Bool, true, false, if◌then◌else◌, None, Some, is_none}
+use Rattle.std.specs.Prelude.{Bool, true, false, if◌then◌else◌}
 use Rattle.pop_input.specs.Posed.{Posed}
 use Rattle.pop_stipulation.specs.Stipulations.{battle_of}
 use Rattle.pop_events.specs.declared.event.Phase.{Phase}
@@ -12,7 +12,7 @@ use Rattle.pop_solve.specs.declared.plan.Plan.{Plan}
 -- the plan of a problem
 abbrev pub plan_of : Posed → Plan
 plan_of problem = record {
-  play = battle_of problem.stipulation.form;
+  battle = battle_of problem.stipulation.form;
   goal = problem.stipulation.goal;
   variation = problem.variation;
 }
@@ -34,8 +34,3 @@ is_whole Part = false
 -- the search goes on with the play after this walk
 abbrev pub goes_on : Walk → Bool
 goes_on walk = if is_whole walk.scope then is_set walk.phase else false
-
--- both sides help
-abbrev pub is_none : Play → Bool
-is_none None = true
-is_none (Some battle) = false

@@ -3,7 +3,7 @@ use Rattle.pop_solve.specs.Events.{Path}
 pub use Rattle.pop_stipulation.specs.declared.stipulation.Battle.{Battle}
 use Rattle.pop_stipulation.specs.declared.stipulation.Battle.TheVariants.{Direct, Selfmate}
 pub use Rattle.pop_stipulation.specs.declared.stipulation.Goal.TheVariants.{Mate}
-use Rattle.std.specs.Prelude.{◌≡◌, ℕ, zero, suc, ◌+◌, ◌-◌, ◌/◌, ◌≤◌, ◌<◌, ◌^◌, min, ◌==◌, Bool, true, false, not, ◌&&◌, ◌||◌, if◌then◌else◌, List, [], ◌∷◌, ◌++◌, map, length, filter, Option, IfSome, MatchOption, ◌⊎◌}
+use Rattle.std.specs.Prelude.{◌≡◌, ℕ, zero, suc, ◌+◌, ◌-◌, ◌/◌, ◌≤◌, ◌<◌, ◌^◌, min, ◌==◌, Bool, true, false, not, ◌&&◌, ◌||◌, if◌then◌else◌, List, [], ◌∷◌, ◌++◌, map, length, filter, Option, Some, None, IfSome, MatchOption, ◌⊎◌}
 use Rattle.std.specs.List.{flat_map, list_all, sum_by}
 pub use Rattle.chess_core.specs.Position.{Position}
 use Rattle.chess_core.specs.declared.man.Move.{Move}
@@ -13,7 +13,6 @@ use Rattle.chess_rules.specs.ties.Places.{IsPlaceIn, LegalPlace, moves_after}
 use Rattle.chess_flights.specs.ties.Mates.{is_mating}
 use Rattle.chess_rules.specs.Legal.{is_legal, is_mate}
 use Rattle.chess_attacks.specs.RuleSet.{RuleSet}
-pub use Rattle.std.specs.Prelude.{None, Some}
 use Rattle.pop_battle.specs.Game.{Game}
 use Rattle.pop_battle.specs.ties.Counts.{smallest_tree}
 pub use Rattle.pop_battle.specs.ties.Values.{attacker_to_move, value}

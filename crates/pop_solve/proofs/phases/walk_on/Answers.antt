@@ -1,6 +1,5 @@
 use Rattle.pop_solve.proofs.Words.{arith, inl, inr, length, length-reverse, nat_tests, rules, sym, ◌<◌, ◌∙◌, ◌≡◌}
 use Rattle.pop_solve.proofs.Kept as kept
-use Rattle.pop_solve.proofs.Sound.{plan-helps}
 use Rattle.pop_solve.proofs.phases.walk_on.Goals as goal
 
 pub loop-frames-preserved : goal.loop-frames-preserved
@@ -13,14 +12,14 @@ returns-then-step g c =
     let s = c.step.ensures.steps _ c.loop-frames.invariant.0 in
     let w = kept.walks_given g.R.Rules.rule _ _ _ _ _ c.loop-frames.invariant.1 c.still_to_begin-limit.result _ _ _ _ _ s c.if-step.true
     (omega (arith, l, some))
-    (rw (plan-helps c.args.walk.plan c.args.problem.now c.requires.plan, l, ← c.len.ensures.value)
+    (rw (c.requires.plan, l, ← c.len.ensures.value)
     (sym c.limit_ends_phase.ensures ∙ c.if-not-limit_ends_phase.true)) in
     search (rules, w, s, c.still_to_begin-limit.ensures)
 
 pub returns-else-not-limit_ends_phase : goal.returns-else-not-limit_ends_phase
 returns-else-not-limit_ends_phase g c =
     let w = kept.walks_ended g.R.Rules.rule _ _ _ _ _ c.loop-frames.invariant.1 c.still_to_begin-limit.result _ c.loop-frames.invariant.0
-    (inr (rw (plan-helps c.args.walk.plan c.args.problem.now c.requires.plan, length-reverse c.loop-frames.frames.items, ← c.len.ensures.value)
+    (inr (rw (c.requires.plan, length-reverse c.loop-frames.frames.items, ← c.len.ensures.value)
     (sym c.limit_ends_phase.ensures ∙ c.if-not-limit_ends_phase.false))) in
     search (rules, w, c.still_to_begin-limit.ensures)
 
