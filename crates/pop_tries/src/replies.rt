@@ -105,6 +105,7 @@ fn count_refutations<R: Rules, const N: usize>(
 }
 
 /// Returns whether the first move that led to the board's position is a try with at most `most` refutations.
+/// A refuted move is no key, so the number of refutations decides.
 #[tactic(auto, using(crate::proofs::Contests::trying))]
 pub fn is_try<R: Rules, const N: usize>(
     contest: Contest,
