@@ -1,8 +1,7 @@
 -- What the values of positions mean for a contest.
-use Rattle.pop_tries.proofs.Words.{IsWellFormed, Game, List, Move, [], ◌∷◌, false≢true, legal_moves, Battle, Bool, Direct, Goal, Position, RuleSet, Selfmate, and_parts, arith, chess, false, is_goal_reached, is_in_set_play, is_try, keeps_win, length, list_any, nat_le, nat_tests, not, refl, refutations, rules, suc, sym, true, wins_in, zero, ℕ, ◌&&◌, ◌+◌, ◌-◌, ◌<◌, ◌∙◌, ◌≡◌, ◌≤◌, half_moves}
+use Rattle.pop_tries.proofs.Words.{IsWellFormed, Game, List, Move, [], ◌∷◌, cases_lt, false≢true, inl, inr, legal_moves, Battle, Bool, Direct, Goal, Position, RuleSet, Selfmate, and_parts, arith, chess, false, is_goal_reached, is_in_set_play, is_try, keeps_win, length, list_any, nat_le, nat_tests, not, refl, refutations, rules, suc, sym, true, wins_in, zero, ℕ, ◌&&◌, ◌+◌, ◌-◌, ◌<◌, ◌∙◌, ◌≡◌, ◌≤◌, half_moves}
 unfoldable use Rattle.pop_tries.proofs.Words.{self_wins, wins}
 unfoldable use Rattle.pop_battle.specs.ties.Values.{value}
-unfoldable use Rattle.pop_tries.proofs.Words.{is_lost}
 unfoldable use Rattle.chess_rules.specs.Legal.{is_mate, is_stalemate}
 unfoldable use Rattle.chess_core.specs.WellFormed.{is_en_passant_square_right}
 use Rattle.chess_rules.specs.Legal.{is_nil}
@@ -14,6 +13,7 @@ use Rattle.pop_solve.proofs.Battles.{value-self_wins, value-wins}
 use Rattle.pop_solve.proofs.Solved.{halves-form}
 use Rattle.pop_solve.proofs.Trees.{halves, keeps-value}
 use Rattle.pop_tries.specs.declared.contest.Contest.{Contest}
+use Rattle.pop_tries.proofs.theorems.Refutations.{key_has_no_refutation}
 use Rattle.pop_tries.specs.ties.Contests.{IsContest, IsThreatLength, game_in, moves_of}
 use Rattle.pop_tries.proofs.Words.{chess_passing, filter, has_threat, is_defence, position_after, works}
 use Rattle.chess_core.specs.Position.{other}
@@ -114,10 +114,38 @@ pub passed_well_formed : (q : Position) → IsWellFormed q → IsWellFormed (set
 unfolding is_en_passant_square_right
 passed_well_formed q well = search rules
 
--- a try, by its refutations counted up to one more than are allowed
-pub try_by_count : {P M : Type 0} (battle : Battle) (game : Game P M) (n most : ℕ) (q : P) (count : ℕ) → keeps_win battle game n q ≡ false
-    → count ≡ min (length (refutations battle game n q)) (most + 1) → is_try battle game n most q ≡ (nat_le 1 count && nat_le count most)
-try_by_count battle game n most q count no_key e = rw no_key (grind (arith, nat_tests))
+none_pass : (ms : List Move) → is_nil ms ≡ true → (test : Move → Bool) → filter test ms ≡ []
+none_pass [] e test = refl
+none_pass (m ∷ ms) e test = absurd (false≢true e)
+
+-- a first move of chess leads to q
+module _ (battle : Battle) (goal : Goal) (rule : RuleSet) (n : ℕ) (q : Position) where
+  key_unrefuted : keeps_win battle (chess goal rule) n q ≡ true → refutations battle (chess goal rule) n q ≡ []
+  key_unrefuted key = by (is_goal_reached goal rule q) refl
+    where
+      by : (b : Bool) → is_goal_reached goal rule q ≡ b → refutations battle (chess goal rule) n q ≡ []
+      by false unmet = key_has_no_refutation battle (chess goal rule) n q unmet key
+      by true met = none_pass (legal_moves rule q) (no_moves_at_goal goal rule q met) _
+
+  -- a refuted move is no key
+  pub refuted_is_no_key : 1 ≤ length (refutations battle (chess goal rule) n q) → keeps_win battle (chess goal rule) n q ≡ false
+  refuted_is_no_key some = by (keeps_win battle (chess goal rule) n q) refl
+    where
+      by : (b : Bool) → keeps_win battle (chess goal rule) n q ≡ b → keeps_win battle (chess goal rule) n q ≡ false
+      by false e = e
+      by true e = absurd (omega (arith, some, ap length (key_unrefuted e)))
+
+  -- a try, by its refutations counted up to one more than are allowed
+  pub try_by_count : (most count : ℕ) → count ≡ min (length (refutations battle (chess goal rule) n q)) (most + 1)
+      → is_try battle (chess goal rule) n most q ≡ (nat_le 1 count && nat_le count most)
+  try_by_count most count e = elim (cases_lt 0 (length (refutations battle (chess goal rule) n q))) [
+    | inl some ↦ rw (refuted_is_no_key (omega (arith, some))) (grind (arith, nat_tests))
+    | inr none ↦ grind (arith, nat_tests)
+  ]
+
+  -- without refutations there is no try
+  pub try_by_none : (most : ℕ) → most ≡ 0 → is_try battle (chess goal rule) n most q ≡ false
+  try_by_none most e = grind (arith, nat_tests)
 
 -- the value after a move that begins a win
 pub kept_by_value : (battle : Battle) (game : Game Position Move) (length : ℕ) (q : Position) → attacker_to_move battle length ≡ true → 1 ≤ length
@@ -168,3 +196,6 @@ pub ruleset passing = (passed_by_value, no_win_at_goal, no_win_in_short)
 
 -- for the test of a defence
 pub ruleset defending = (passed_well_formed, defence_by_loop, defence_without_threat, playing)
+
+-- for the test of a try
+pub ruleset trying = (try_by_count, try_by_none)

@@ -1,5 +1,5 @@
 -- What the calls of a search's steps below a first move yield.
-use Rattle.pop_tries.proofs.Words.{Bool, Goal, IsSound, List, Move, Posed, Position, RuleSet, [], and_parts, ap, arith, chess_passing, false, false≢true, filter, first_in, from_filter, half_moves, is_pseudo_legal-from_legal, has_threat, is_in_set_play, length, position_after, refl, reply, sym, threatened, true, ℕ, ◌+◌, ◌-◌, ◌∷◌, ◌≡◌, ◌≤◌}
+use Rattle.pop_tries.proofs.Words.{Bool, Goal, IsSound, List, Move, Posed, Position, RuleSet, [], and_parts, ap, arith, chess_passing, check, cond, false, false≢true, filter, first_in, from_filter, half_moves, is_pseudo_legal-from_legal, has_threat, is_in_set_play, length, position_after, refl, reply, sym, threatened, true, zugzwang, ℕ, ◌+◌, ◌-◌, ◌∷◌, ◌≡◌, ◌≤◌}
 use Rattle.std.specs.Prelude.{None, Option, Some, is_some, reverse}
 use Rattle.std.proofs.lemmas.List.{length-reverse, nil_from_length}
 use Rattle.pop_battle.specs.Chess.{set_start}
@@ -16,6 +16,7 @@ use Rattle.pop_tries.specs.declared.contest.Contest.{Contest}
 use Rattle.pop_events.specs.declared.try_event.TryEvent.TheVariants.{Node}
 use Rattle.pop_tries.specs.ties.Contests.{IsThreat, game_in}
 use Rattle.pop_tries.specs.ties.FirstMoves.{is_shown}
+use Rattle.pop_tries.specs.ties.Searching.{event_of_faced}
 use Rattle.pop_tries.proofs.StepsBelow.{last_below}
 
 -- nothing is reversed only if there is nothing
@@ -63,6 +64,12 @@ pub threat_node : (goal : Goal) (rule : RuleSet) (q : Position) (line : List Mov
     → depth ≡ length line + 1 → half ≡ length line + 2 → shown ≡ last_shown goal rule (set_start q) line
     → Node depth half shown ≡ shown_below_first goal rule q (threatened line)
 threat_node goal rule q line depth half shown e f g = rw (e, f, g) refl
+
+-- what Black faces where White threatens nothing
+pub faced_shown : (goal : Goal) (rule : RuleSet) (q : Position) (checked : Bool)
+    → event_of_faced checked ≡ shown_below_first goal rule q (cond checked check zugzwang)
+faced_shown goal rule q true = refl
+faced_shown goal rule q false = refl
 
 -- a move that led here was played, and taking it back leads to where it was made
 module _ (rule : RuleSet) (m : Move) (undo : Undo) (q p : Position) where

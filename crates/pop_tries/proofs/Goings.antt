@@ -1,23 +1,21 @@
 -- What a step of a search for tries leaves, with an event or without.
-use Rattle.pop_tries.proofs.Words.{BareTryEvent, List, Move, Posed, Position, RuleSet, [], after_well_formed, ap, false, false≢true, is_pseudo_legal-from_legal, play_start, refl, sym, true, ℕ, ◌+◌, ◌<◌, ◌∙◌, ◌∷◌, ◌≡◌}
+use Rattle.pop_tries.proofs.Words.{BareTryEvent, List, Move, Position, RuleSet, [], after_well_formed, ap, false, false≢true, is_pseudo_legal-from_legal, play_start, refl, sym, true, ℕ, ◌+◌, ◌<◌, ◌∙◌, ◌∷◌, ◌≡◌}
 use Rattle.std.specs.Prelude.{None, Option, Some, is_some}
 use Rattle.std.proofs.lemmas.Option.{none-some}
 use Rattle.chess_core.specs.Undo.{Undo}
 use Rattle.chess_rules.specs.Legal.{is_legal}
 use Rattle.chess_rules.specs.Play.{undo_of}
 use Rattle.pop_battle.specs.ties.Frames.{Frame}
-use Rattle.pop_events.specs.Shown.{shown_move}
 use Rattle.pop_tries.specs.Shown.{try_event_of}
 use Rattle.pop_events.specs.declared.try_event.TryEvent.{TryEvent}
 use Rattle.pop_tries.specs.declared.first_moves.Group.{Group}
-use Rattle.pop_tries.specs.declared.first_moves.Group.TheVariants.{Keys, Tries}
 use Rattle.pop_tries.specs.declared.stage.First.{First}
 use Rattle.pop_tries.specs.declared.stage.Firsts.{Firsts}
 use Rattle.pop_tries.specs.declared.stage.Task.{Task}
 use Rattle.pop_tries.specs.declared.stage.TriesStage.{TriesStage}
 use Rattle.pop_tries.specs.declared.stage.TriesStage.TheVariants.{Beginning, Faced, FirstMove}
 use Rattle.pop_tries.specs.ties.Contests.{IsContest}
-use Rattle.pop_tries.specs.ties.Searching.{Emits, Goes, IsPlaced, IsTask, after_first, beginning_of, contest_of, ending_of, event_of_first, first_event, firsts_after, group_left, is_stopped, rank}
+use Rattle.pop_tries.specs.ties.Searching.{Emits, Goes, IsPlaced, IsTask, after_first, beginning_of, contest_of, ending_of, first_event, firsts_after, group_left, is_stopped, rank}
 unfoldable use Rattle.pop_tries.specs.ties.Searching.{HoldsAt, left_of}
 use Rattle.pop_tries.proofs.Steps.{group_begins, next_first, still_few, still_limited}
 
@@ -83,9 +81,3 @@ module _ {A : Type 0} (rule : RuleSet) (task : Task) (fit : IsContest (contest_o
       };
     },
   )
-
--- the event of a first move
-pub first_shown : (rule : RuleSet) (problem : Posed) (group : Group) (m : Move)
-    → event_of_first group (shown_move problem.stipulation.goal rule (play_start problem) m) ≡ try_event_of rule problem (first_event group m)
-first_shown rule problem Keys m = refl
-first_shown rule problem (Tries most) m = refl

@@ -40,7 +40,7 @@ module _ (test : Move → Bool) (old : List Move) (none : old ≡ []) where
 pub ruleset counting = (counted, passed_over, all_counted)
 
 -- for a loop that looks for a move
-pub ruleset looking = (not_there, not_asked, found, nowhere)
+pub ruleset looking = (not_asked, nowhere)
 
 -- the moves that pass, from the next move on
 module _ (test : Move → Bool) (m : Move) (old new : List Move) (next : old ≡ m ∷ new) where

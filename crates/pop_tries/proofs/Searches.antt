@@ -11,14 +11,7 @@ use Rattle.pop_tries.specs.Shown.{try_event_of}
 use Rattle.pop_events.specs.declared.try_event.TryEvent.{TryEvent}
 use Rattle.pop_tries.specs.declared.stage.Task.{Task}
 use Rattle.pop_tries.specs.declared.stage.TriesStage.{TriesStage}
-use Rattle.pop_events.specs.declared.event.Event.TheVariants.{Impossible as ImpossibleEvent}
-use Rattle.pop_solve.specs.Events.{impossible}
-use Rattle.pop_tries.proofs.Words.{no_tries, set_event}
-use Rattle.pop_events.specs.declared.try_event.TryEvent.TheVariants.{NoTries as NoTriesEvent, Set as SetEvent}
-use Rattle.pop_tries.specs.declared.first_moves.Group.TheVariants.{Keys}
-use Rattle.pop_tries.specs.declared.stage.TriesStage.TheVariants.{Beginning, Impossible, NoTries, Over}
-use Rattle.pop_tries.proofs.Goings.{with_event}
-use Rattle.pop_tries.specs.ties.Searching.{Goes, IsOf, first_stage, is_over, stage_by}
+use Rattle.pop_tries.specs.ties.Searching.{IsOf, first_stage, is_over, stage_by}
 unfoldable use Rattle.pop_tries.specs.ties.Searching.{HoldsAt, left_of}
 
 -- a battle has a move
@@ -69,16 +62,3 @@ pub over_empty : {A : Type 0} (rule : RuleSet) (task : Task) (stage : TriesStage
     → left_of rule task stage items ≡ []
 unfolding left_of
 over_empty rule task stage items e = search rules
-
--- steps that only return an event
-module _ {A : Type 0} (rule : RuleSet) (task : Task) (stage : TriesStage A) (items : List Frame) (board : Position) where
-  pub no_tries_step : stage ≡ NoTries → Goes rule task stage items Over items board (Some NoTriesEvent)
-  unfolding HoldsAt left_of
-  no_tries_step e = rw e (with_event rule task NoTries Over items items board tt NoTriesEvent no_tries refl refl)
-
-  pub impossible_step : stage ≡ Impossible → HoldsAt rule task stage items board
-      → Goes rule task stage items (Beginning Keys) items board (Some (SetEvent ImpossibleEvent))
-  unfolding HoldsAt left_of
-  impossible_step e h =
-      let now : HoldsAt rule task {A = A} Impossible items board = rw e at h in
-      rw e (with_event rule task Impossible (Beginning Keys) items items board (now.0, now.1, tt) (SetEvent ImpossibleEvent) (set_event impossible) refl refl)

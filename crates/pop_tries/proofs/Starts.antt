@@ -2,13 +2,13 @@
 use Rattle.pop_tries.proofs.Words.{Battle, Bool, List, Posed, Position, RuleSet, [], arith, below_reply, cases_lt, chess, chess_passing, false, false≢true, filter, flat_map, game_of, half_moves, has_threat, inl, inr, is_in_set_play, length, node, position_after, refl, reply_nodes, rules, sym, threat_nodes, true, ℕ, ◌-◌, ◌<◌, ◌∙◌, ◌∷◌, ◌≡◌, ◌≤◌}
 use Rattle.pop_battle.specs.Chess.{set_start}
 use Rattle.pop_battle.specs.ties.Frames.{Frame}
-unfoldable use Rattle.pop_battle.specs.ties.Frames.{AreKnown, IsLinked, position}
+unfoldable use Rattle.pop_battle.specs.ties.Frames.{position}
 use Rattle.pop_battle.specs.ties.Values.{value}
 use Rattle.pop_battle.proofs.Boards.{after_start}
 use Rattle.pop_solve.specs.declared.plan.Plan.{Plan}
 use Rattle.pop_solve.specs.ties.Plans.{plan_of}
 use Rattle.pop_solve.specs.ties.Walk.{IsWalking, Steps, walk_length}
-unfoldable use Rattle.pop_solve.specs.ties.Walk.{IsRoomy, to_come}
+unfoldable use Rattle.pop_solve.specs.ties.Walk.{to_come}
 use Rattle.pop_solve.proofs.Kept.{to_come-root}
 use Rattle.std.proofs.lemmas.List.{nil_from_length}
 use Rattle.chess_rules.specs.ties.Places.{moves_after}

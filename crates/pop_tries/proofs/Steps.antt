@@ -122,11 +122,6 @@ module _ (rule : RuleSet) (task : Task) where
   still_limited Keys count few e = grind (arith, nat_tests)
   still_limited (Tries most) count few e = tt
 
-  -- there is room to count one more
-  pub room_to_count : (group : Group) (place count : ℕ) (m : Move) (ms : List Move) → firsts_after rule task group place ≡ m ∷ ms
-      → count + length (firsts_after rule task group place) ≤ all_triples → count + 1 ≤ all_triples
-  room_to_count group place count m ms e old = omega (arith, old, ap length e)
-
 -- at first the limit isn't passed
 pub at_first : (problem : Posed) (group : Group) → IsInLimit problem group 0
 at_first problem Keys = omega arith

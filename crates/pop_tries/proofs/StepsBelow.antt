@@ -22,7 +22,7 @@ unfoldable use Rattle.pop_tries.specs.ties.Searching.{left_of}
 use Rattle.pop_tries.specs.ties.Starts.{ShowsBelow}
 use Rattle.pop_solve.specs.ties.Plans.{plan_of}
 use Rattle.pop_tries.proofs.Starts.{replies_come, threats_come}
-use Rattle.pop_tries.proofs.theorems.Threats.{has_threat_is, no_threat_in_check}
+use Rattle.pop_tries.proofs.theorems.Threats.{has_threat_is}
 
 -- the last move of a path that begins with a move is the last one after that move
 pub last_below : (goal : Goal) (rule : RuleSet) (q : Position) (d : Move) (line : List Move) → 1 ≤ length line
@@ -54,20 +54,12 @@ module _ {A : Type 0} (rule : RuleSet) (task : Task) (fit : IsContest (contest_o
   threat_paths = below_reply task.battle (game_of rule task.problem) task.problem.stipulation.n task.problem.variation
       (half_moves task.problem.stipulation - 1 - 1) (set_start q)
 
-  -- Black is in check
-  pub shown_in_check : (game_of rule task.problem).goal q ≡ false → in_check rule q.men q.turn ≡ true
-      → shown_after rule task first.by ≡ check ∷ map reply (replies_after rule task q 0)
-  unfolding below_first
-  shown_in_check e c =
-      let h = no_threat_in_check task.battle (game_of rule task.problem) task.problem.stipulation.n (chess_passing rule) q c in
-      λ i. laid_out (e i) (c i) (h i) threat_paths (all_replies i)
-
-  -- zugzwang
-  pub shown_in_zugzwang : (game_of rule task.problem).goal q ≡ false → in_check rule q.men q.turn ≡ false
+  -- White threatens nothing: Black is in check or in zugzwang
+  pub shown_without_threats : (game_of rule task.problem).goal q ≡ false
       → has_threat task.battle (game_of rule task.problem) task.problem.stipulation.n (chess_passing rule) q ≡ false
-      → shown_after rule task first.by ≡ zugzwang ∷ map reply (replies_after rule task q 0)
+      → shown_after rule task first.by ≡ cond (in_check rule q.men q.turn) check zugzwang ∷ map reply (replies_after rule task q 0)
   unfolding below_first
-  shown_in_zugzwang e c h = λ i. laid_out (e i) (c i) (h i) threat_paths (all_replies i)
+  shown_without_threats e h = λ i. laid_out (e i) (in_check rule q.men q.turn) (h i) threat_paths (all_replies i)
 
   -- White threatens
   pub shown_with_threats : (game_of rule task.problem).goal q ≡ false

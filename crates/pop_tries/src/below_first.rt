@@ -14,7 +14,7 @@ ghost use Rattle.pop_stipulation.specs.Stipulations.{half_moves};
 ghost use Rattle.pop_events.specs.declared.try_event.TryEvent.TheVariants.{Node};
 ghost use Rattle.pop_tries.specs.declared.stage.TriesStage.TheVariants.{Below as BelowReply, But, Faced, FirstMove, Refutation, Reply, Threats};
 ghost use Rattle.pop_tries.specs.ties.Contests.{IsContest, IsThreat};
-ghost use Rattle.pop_tries.specs.ties.Searching.{after_first, below_and_after, contest_of, left_of, Goes, HoldsAt, IsFirst, IsTask, rank};
+ghost use Rattle.pop_tries.specs.ties.Searching.{after_first, below_and_after, contest_of, event_of_faced, left_of, Goes, HoldsAt, IsFirst, MayStep, rank};
 
 use crate::below::{Base, ShownNode, open_walk, shown_node, walk_on};
 use crate::first_moves::{Group, next_refutation, next_reply};
@@ -70,10 +70,8 @@ pub(crate) fn face<R: Rules, const N: usize>(
     frames: &mut ArrayVec<Frame<R>, N>,
     search_state: &mut SearchState<R>,
 ) -> Step<R>
-    requires task { IsTask task.now }
-    requires room { half_moves task.now.problem.stipulation < N }
-    requires holds { HoldsAt R.rule task.now (Faced first) frames.old.items board.old }
-    ensures goes { Goes R.rule task.now (Faced first) frames.old.items result.stage
+    requires { MayStep R.rule task.now (Faced first) frames.old.items board.old N }
+    ensures { Goes R.rule task.now (Faced first) frames.old.items result.stage
         frames.new.items board.new result.event }
 {
     if reaches_goal::<R>(task.problem.stipulation().goal, board) {
@@ -93,11 +91,18 @@ pub(crate) fn face<R: Rules, const N: usize>(
             first,
             place: Moves::start(),
         },
-        event: Some(if checked {
-            TryEvent::Check
-        } else {
-            TryEvent::Zugzwang
-        }),
+        event: Some(faced_event(checked)),
+    }
+}
+
+/// Returns the event of what Black faces, in check or not, where White threatens nothing.
+fn faced_event(checked: bool) -> TryEvent
+    ensures { result ≡ event_of_faced checked }
+{
+    if checked {
+        TryEvent::Check
+    } else {
+        TryEvent::Zugzwang
     }
 }
 
@@ -110,15 +115,13 @@ fn begin_threats<R: Rules, const N: usize>(
     frames: &mut ArrayVec<Frame<R>, N>,
     search_state: &mut SearchState<R>,
 ) -> Step<R>
-    requires task { IsTask task.now }
-    requires room { half_moves task.now.problem.stipulation < N }
-    requires holds { HoldsAt R.rule task.now (Faced first) frames.old.items board.old }
+    requires may_step { MayStep R.rule task.now (Faced first) frames.old.items board.old N }
     requires threat { IsThreat R.rule (contest_of task.now) (after_first R.rule task.now first.by)
         first.threat }
     requires some { is_some first.threat ≡ true }
     requires goal { (game_of R.rule task.now.problem).goal
         (after_first R.rule task.now first.by) ≡ false }
-    ensures goes { Goes R.rule task.now (Faced first) frames.old.items result.stage
+    ensures { Goes R.rule task.now (Faced first) frames.old.items result.stage
         frames.new.items board.new result.event }
 {
     let crossed = pass(board);
@@ -156,10 +159,8 @@ pub(crate) fn walk_threats<R: Rules, const N: usize>(
     frames: &mut ArrayVec<Frame<R>, N>,
     search_state: &mut SearchState<R>,
 ) -> Step<R>
-    requires task { IsTask task.now }
-    requires room { half_moves task.now.problem.stipulation < N }
-    requires holds { HoldsAt R.rule task.now (Threats first crossed) frames.old.items board.old }
-    ensures goes { Goes R.rule task.now (Threats first crossed) frames.old.items result.stage
+    requires { MayStep R.rule task.now (Threats first crossed) frames.old.items board.old N }
+    ensures { Goes R.rule task.now (Threats first crossed) frames.old.items result.stage
         frames.new.items board.new result.event }
 {
     let walk = task.walk_below(first.by, Base::Passed);
@@ -231,10 +232,8 @@ pub(crate) fn find_reply<R: Rules, const N: usize>(
     frames: &mut ArrayVec<Frame<R>, N>,
     search_state: &mut SearchState<R>,
 ) -> Step<R>
-    requires task { IsTask task.now }
-    requires room { half_moves task.now.problem.stipulation < N }
-    requires holds { HoldsAt R.rule task.now (Reply first place) frames.old.items board.old }
-    ensures goes { Goes R.rule task.now (Reply first place) frames.old.items result.stage
+    requires { MayStep R.rule task.now (Reply first place) frames.old.items board.old N }
+    ensures { Goes R.rule task.now (Reply first place) frames.old.items result.stage
         frames.new.items board.new result.event }
 {
     let mut next = place;
@@ -274,10 +273,8 @@ pub(crate) fn walk_reply<R: Rules, const N: usize>(
     frames: &mut ArrayVec<Frame<R>, N>,
     search_state: &mut SearchState<R>,
 ) -> Step<R>
-    requires task { IsTask task.now }
-    requires room { half_moves task.now.problem.stipulation < N }
-    requires holds { HoldsAt R.rule task.now (BelowReply first reply) frames.old.items board.old }
-    ensures goes { Goes R.rule task.now (BelowReply first reply) frames.old.items result.stage
+    requires { MayStep R.rule task.now (BelowReply first reply) frames.old.items board.old N }
+    ensures { Goes R.rule task.now (BelowReply first reply) frames.old.items result.stage
         frames.new.items board.new result.event }
 {
     let walk = task.walk_below(first.by, Base::Reply { by: reply.by });
@@ -300,7 +297,7 @@ pub(crate) fn walk_reply<R: Rules, const N: usize>(
 }
 
 /// Begins the refutations of a try.
-#[tactic(auto, using(crate::proofs::StepsBelow::refutations_begin), unfolding(crate::specs::ties::Searching::HoldsAt, crate::specs::ties::Searching::rank))]
+#[tactic(auto, unfolding(crate::specs::ties::Searching::HoldsAt, crate::specs::ties::Searching::rank))]
 pub(crate) fn begin_refutations<R: Rules, const N: usize>(
     task: &Task,
     first: First<R>,
@@ -308,7 +305,7 @@ pub(crate) fn begin_refutations<R: Rules, const N: usize>(
     frames: &ArrayVec<Frame<R>, N>,
 ) -> Step<R>
     requires holds { HoldsAt R.rule task.now (But first) frames.now.items board.now }
-    ensures goes { Goes R.rule task.now (But first) frames.now.items result.stage
+    ensures { Goes R.rule task.now (But first) frames.now.items result.stage
         frames.now.items board.now result.event }
 {
     Step {
@@ -321,7 +318,7 @@ pub(crate) fn begin_refutations<R: Rules, const N: usize>(
 }
 
 /// Finds the next refutation of a try, or takes the try back.
-#[tactic(auto, using(crate::proofs::StepsBelow::refutations_over, crate::proofs::StepsBelow::refutation_found), unfolding(crate::specs::ties::Searching::HoldsAt, crate::specs::ties::Searching::rank))]
+#[tactic(auto, unfolding(crate::specs::ties::Searching::HoldsAt, crate::specs::ties::Searching::rank))]
 pub(crate) fn find_refutation<R: Rules, const N: usize>(
     task: &Task,
     first: First<R>,
@@ -330,10 +327,8 @@ pub(crate) fn find_refutation<R: Rules, const N: usize>(
     frames: &mut ArrayVec<Frame<R>, N>,
     search_state: &mut SearchState<R>,
 ) -> Step<R>
-    requires task { IsTask task.now }
-    requires room { half_moves task.now.problem.stipulation < N }
-    requires holds { HoldsAt R.rule task.now (Refutation first place) frames.old.items board.old }
-    ensures goes { Goes R.rule task.now (Refutation first place) frames.old.items result.stage
+    requires { MayStep R.rule task.now (Refutation first place) frames.old.items board.old N }
+    ensures { Goes R.rule task.now (Refutation first place) frames.old.items result.stage
         frames.new.items board.new result.event }
 {
     let mut next = place;

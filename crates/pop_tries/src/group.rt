@@ -1,13 +1,12 @@
 //! The steps of a search for tries among the first moves of a group.
-ghost use Rattle.std.specs.Prelude.{◌≡◌, ◌<◌, ◌≤◌, List, None, Some, is_some, true};
+ghost use Rattle.std.specs.Prelude.{◌≡◌, List, None, Some, is_some, true};
 ghost use Rattle.chess_core.specs.Position.{Position};
 ghost use Rattle.pop_battle.specs.ties.Frames.{CameBy, Frame as Level};
 ghost use Rattle.pop_solve.specs.Events.{play_start};
-ghost use Rattle.pop_stipulation.specs.Stipulations.{half_moves};
 ghost use Rattle.pop_tries.specs.Shown.{try_event_of};
 ghost use Rattle.pop_tries.specs.declared.stage.TriesStage.TheVariants.{Beginning, Faced, FirstMove};
 ghost use Rattle.pop_tries.specs.ties.Contests.{IsContest};
-ghost use Rattle.pop_tries.specs.ties.Searching.{contest_of, ending_of, event_of_first, first_event as bare_first, is_stopped, left_of, Emits, Goes, HoldsAt, IsBare, IsTask};
+ghost use Rattle.pop_tries.specs.ties.Searching.{contest_of, ending_of, event_of_first, first_event as bare_first, is_stopped, left_of, Emits, Goes, HoldsAt, IsBare, IsTask, MayStep};
 
 use crate::first_moves::{Group, play_next};
 use crate::shown::shown;
@@ -30,7 +29,7 @@ pub(crate) fn begin_group<R: Rules, const N: usize>(
 ) -> Step<R>
     requires task { IsTask task.now }
     requires holds { HoldsAt R.rule task.now {A = R} (Beginning group) frames.now.items board.now }
-    ensures goes { Goes R.rule task.now (Beginning group) frames.now.items result.stage
+    ensures { Goes R.rule task.now (Beginning group) frames.now.items result.stage
         frames.now.items board.now result.event }
 {
     Step {
@@ -107,10 +106,8 @@ pub(crate) fn find_first<R: Rules, const N: usize>(
     frames: &mut ArrayVec<Frame<R>, N>,
     search_state: &mut SearchState<R>,
 ) -> Step<R>
-    requires task { IsTask task.now }
-    requires room { half_moves task.now.problem.stipulation < N }
-    requires holds { HoldsAt R.rule task.now (FirstMove firsts) frames.old.items board.old }
-    ensures goes { Goes R.rule task.now (FirstMove firsts) frames.old.items result.stage
+    requires { MayStep R.rule task.now (FirstMove firsts) frames.old.items board.old N }
+    ensures { Goes R.rule task.now (FirstMove firsts) frames.old.items result.stage
         frames.new.items board.new result.event }
 {
     let group = firsts.group;
@@ -129,17 +126,7 @@ pub(crate) fn find_first<R: Rules, const N: usize>(
     let Some((by, undo)) = found else {
         return end_group(task, group, firsts.count);
     };
-    begin_first(
-        task,
-        Firsts {
-            place,
-            count: firsts.count + 1,
-            ..firsts
-        },
-        by,
-        undo,
-        board,
-    )
+    begin_first(task, firsts.counted(place), by, undo, board)
 }
 
 /// Shows a first move that has been played.

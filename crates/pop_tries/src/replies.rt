@@ -105,7 +105,8 @@ fn count_refutations<R: Rules, const N: usize>(
 }
 
 /// Returns whether the first move that led to the board's position is a try with at most `most` refutations.
-#[tactic(auto, using(crate::proofs::Contests::try_by_count))]
+/// A refuted move is no key, so the number of refutations decides.
+#[tactic(auto, using(crate::proofs::Contests::trying))]
 pub fn is_try<R: Rules, const N: usize>(
     contest: Contest,
     most: u32,
@@ -119,7 +120,7 @@ pub fn is_try<R: Rules, const N: usize>(
         most board.old }
     ensures rest { Keeps board.old board.new frames.old.items frames.new.items }
 {
-    if is_key::<R, N>(contest, board, frames, search_state) {
+    if most == 0 {
         return false;
     }
     let count = count_refutations::<R, N>(contest, most, board, frames, search_state);

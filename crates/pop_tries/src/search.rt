@@ -1,9 +1,9 @@
 //! The search for keys and tries: an iterator over the events of a problem with its tries.
-ghost use Rattle.std.specs.Prelude.{◌≡◌, ◌<◌, [], ◌∷◌, false, MatchOption};
-ghost use Rattle.pop_stipulation.specs.Stipulations.{battle_of, half_moves};
+ghost use Rattle.std.specs.Prelude.{◌≡◌, [], ◌∷◌, false, MatchOption};
+ghost use Rattle.pop_stipulation.specs.Stipulations.{battle_of};
 ghost use Rattle.pop_tries.specs.Events.{BareTryEvent};
 ghost use Rattle.pop_tries.specs.Shown.{try_event_of};
-ghost use Rattle.pop_tries.specs.ties.Searching.{first_stage, is_over, IsOf, left_of, Goes, HoldsAt, IsTask};
+ghost use Rattle.pop_tries.specs.ties.Searching.{first_stage, is_over, IsOf, left_of, Goes, HoldsAt, MayStep};
 
 use crate::below_first::{
     begin_refutations, face, find_refutation, find_reply, walk_reply, walk_threats,
@@ -37,9 +37,7 @@ pub struct TriesSearch<R: Rules, const N: usize> {
 }
 
 impl<R: Rules, const N: usize> Model for TriesSearch<R, N> {
-    ghost use Rattle.std.specs.Prelude.{◌≡◌, ◌<◌};
-    ghost use Rattle.pop_stipulation.specs.Stipulations.{half_moves};
-    ghost use Rattle.pop_tries.specs.ties.Searching.{left_of, HoldsAt, IsTask, TriesState};
+    ghost use Rattle.pop_tries.specs.ties.Searching.{left_of, MayStep, TriesState};
 
     ghost Value = { TriesState };
 
@@ -49,9 +47,7 @@ impl<R: Rules, const N: usize> Model for TriesSearch<R, N> {
       left = left_of R.rule s.task s.stage s.frames.items;
     } };
 
-    ghost invariant = { λ s. IsTask s.task
-        × (half_moves s.task.problem.stipulation < N)
-        × HoldsAt R.rule s.task s.stage s.frames.items s.board };
+    ghost invariant = { λ s. MayStep R.rule s.task s.stage s.frames.items s.board N };
 }
 
 impl<R: Rules, const N: usize> TriesSearch<R, N> {
@@ -133,11 +129,9 @@ fn take_step<R: Rules, const N: usize>(
     frames: &mut ArrayVec<Frame<R>, N>,
     search_state: &mut SearchState<R>,
 ) -> Step<R>
-    requires task { IsTask task.now }
-    requires room { half_moves task.now.problem.stipulation < N }
-    requires holds { HoldsAt R.rule task.now stage frames.old.items board.old }
+    requires may_step { MayStep R.rule task.now stage frames.old.items board.old N }
     requires open { is_over stage ≡ false }
-    ensures goes { Goes R.rule task.now stage frames.old.items result.stage
+    ensures { Goes R.rule task.now stage frames.old.items result.stage
         frames.new.items board.new result.event }
 {
     match stage {
@@ -179,9 +173,7 @@ fn next_event<R: Rules, const N: usize>(
     frames: &mut ArrayVec<Frame<R>, N>,
     search_state: &mut SearchState<R>,
 ) -> Option<TryEvent>
-    requires task { IsTask task.now }
-    requires room { half_moves task.now.problem.stipulation < N }
-    requires holds { HoldsAt R.rule task.now stage.old frames.old.items board.old }
+    requires { MayStep R.rule task.now stage.old frames.old.items board.old N }
     ensures holds { HoldsAt R.rule task.now stage.new frames.new.items board.new }
     ensures next { MatchOption result
         ((left_of R.rule task.now stage.old frames.old.items ≡ [])

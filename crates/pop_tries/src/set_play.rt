@@ -1,10 +1,9 @@
 //! The steps of a search for tries in set play.
-ghost use Rattle.std.specs.Prelude.{◌≡◌, ◌<◌, [], reverse};
+ghost use Rattle.std.specs.Prelude.{◌≡◌, [], reverse};
 ghost use Rattle.pop_events.specs.declared.event.Phase.TheVariants.{Set};
 ghost use Rattle.pop_solve.specs.ties.Phases.{left_of as set_play_left, HoldsAtStage};
-ghost use Rattle.pop_stipulation.specs.Stipulations.{half_moves};
 ghost use Rattle.pop_tries.specs.declared.stage.TriesStage.TheVariants.{SetPlay, Within};
-ghost use Rattle.pop_tries.specs.ties.Searching.{Goes, HoldsAt, IsTask};
+ghost use Rattle.pop_tries.specs.ties.Searching.{Goes, HoldsAt, MayStep};
 
 use crate::first_moves::Group;
 use crate::stage::{Step, Task, TriesStage};
@@ -24,10 +23,8 @@ pub(crate) fn begin_set_play<R: Rules, const N: usize>(
     board: &mut Board,
     frames: &mut ArrayVec<Frame<R>, N>,
 ) -> Step<R>
-    requires task { IsTask task.now }
-    requires room { half_moves task.now.problem.stipulation < N }
-    requires holds { HoldsAt R.rule task.now {A = R} SetPlay frames.old.items board.old }
-    ensures goes { Goes R.rule task.now SetPlay frames.old.items result.stage
+    requires { MayStep {A = R} R.rule task.now SetPlay frames.old.items board.old N }
+    ensures { Goes R.rule task.now SetPlay frames.old.items result.stage
         frames.new.items board.new result.event }
 {
     let phase = Phase::Set;
@@ -68,10 +65,8 @@ pub(crate) fn walk_set_play<R: Rules, const N: usize>(
     frames: &mut ArrayVec<Frame<R>, N>,
     search_state: &mut SearchState<R>,
 ) -> Step<R>
-    requires task { IsTask task.now }
-    requires room { half_moves task.now.problem.stipulation < N }
-    requires holds { HoldsAt R.rule task.now {A = R} (Within stage) frames.old.items board.old }
-    ensures goes { Goes R.rule task.now (Within stage) frames.old.items result.stage
+    requires { MayStep {A = R} R.rule task.now (Within stage) frames.old.items board.old N }
+    ensures { Goes R.rule task.now (Within stage) frames.old.items result.stage
         frames.new.items board.new result.event }
 {
     let mut stage = stage;

@@ -1,5 +1,6 @@
 //! How far a search for tries has come.
-ghost use Rattle.std.specs.Prelude.{◌≡◌, ◌-◌};
+ghost use Rattle.std.specs.Prelude.{◌≡◌, ◌+◌, ◌-◌, ◌≤◌, ⊤};
+ghost use Rattle.chess_rules.specs.ties.Places.{all_triples};
 ghost use Rattle.pop_stipulation.specs.Stipulations.{half_moves};
 ghost use Rattle.pop_tries.specs.ties.Searching.{contest_of, walk_below};
 
@@ -14,6 +15,7 @@ use pop_input::problem::Problem;
 use pop_solve::phases::Stage;
 use pop_solve::plan::Plan;
 use pop_stipulation::Battle;
+use std::alloc::AllocError;
 
 /// What a search for tries covers: a problem, its battle (any in help play), and the most refutations of a
 /// try, 0 to 200.
@@ -64,6 +66,20 @@ pub struct Firsts<R: Rules> {
     pub count: u32,
 }
 
+impl<R: Rules> Firsts<R> {
+    /// Returns the place after one more first move.
+    pub(crate) fn counted(self, place: Moves<R>) -> Self
+        requires few { self.count ≤ all_triples }
+        ensures { result ≡ record { group = self.group; place = place; count = self.count + 1 } }
+    {
+        Firsts {
+            group: self.group,
+            place,
+            count: self.count + 1,
+        }
+    }
+}
+
 /// A first move that has been shown: its place, the move and what takes it back, and the least number of
 /// half-moves within which White's threats win, if White threatens.
 #[derive(Clone, Copy)]
@@ -83,7 +99,7 @@ pub struct Played<R: Rules> {
 }
 
 /// What a search for tries returns next.
-#[derive(Clone, Copy)]
+#[derive(Copy)]
 pub enum TriesStage<R: Rules> {
     /// The only event of a problem of help play.
     NoTries,
@@ -133,6 +149,16 @@ pub enum TriesStage<R: Rules> {
     },
     /// Nothing.
     Over,
+}
+
+impl<R: Rules> Clone for TriesStage<R> {
+    ghost is_clone = { λ it copy. copy ≡ it };
+
+    ghost is_infallible = { λ _. ⊤ };
+
+    fn clone(&self) -> Result<Self, AllocError> {
+        Ok(*self)
+    }
 }
 
 /// What a step of a search for tries leaves: the next stage, and the event, if there is one.

@@ -31,7 +31,7 @@ use Rattle.pop_tries.specs.declared.contest.Contest.{Contest}
 use Rattle.pop_tries.specs.declared.first_moves.Group.{Group}
 use Rattle.pop_tries.specs.declared.first_moves.Group.TheVariants.{Keys, Tries}
 use Rattle.pop_events.specs.declared.try_event.TryEvent.{TryEvent}
-use Rattle.pop_events.specs.declared.try_event.TryEvent.TheVariants.{Key, Try}
+use Rattle.pop_events.specs.declared.try_event.TryEvent.TheVariants.{Check, Key, Try, Zugzwang}
 use Rattle.pop_tries.specs.declared.stage.First.{First}
 use Rattle.pop_tries.specs.declared.stage.Firsts.{Firsts}
 use Rattle.pop_tries.specs.declared.stage.Task.{Task}
@@ -119,6 +119,11 @@ is_stopped problem (Tries most) count = false
 abbrev pub event_of_first : Group → Shown → TryEvent
 event_of_first Keys shown = Key shown
 event_of_first (Tries most) shown = Try shown
+
+-- the event of what Black faces where White threatens nothing
+abbrev pub event_of_faced : Bool → TryEvent
+event_of_faced true = Check
+event_of_faced false = Zugzwang
 
 -- the board has this position, and no frame is in use
 pub record IsBare (p : Position) (items : List Frame) (board : Position) : Type 0 where
@@ -290,6 +295,13 @@ module _ (rule : RuleSet) (task : Task) where
 pub record IsTask (task : Task) : Type 0 where
   pub sound : IsSound task.problem
   pub few : task.most ≤ 200
+
+-- what a step of a search for tries, or more of them, begins with: `most` frames leave room for the play
+pub record MayStep {A : Type 0} (rule : RuleSet) (task : Task) (stage : TriesStage A) (items : List Frame)
+    (board : Position) (most : ℕ) : Type 0 where
+  pub is_task : IsTask task
+  pub room : half_moves task.problem.stipulation < most
+  pub holds : HoldsAt rule task stage items board
 
 -- how many more steps may return no event
 unfoldable pub rank : {A : Type 0} → TriesStage A → ℕ

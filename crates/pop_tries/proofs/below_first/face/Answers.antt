@@ -1,13 +1,12 @@
-use Rattle.pop_tries.proofs.Words.{arith, rules, sym, ◌∙◌, ◌≡◌, [], false, check, zugzwang}
+use Rattle.pop_tries.proofs.Words.{ap, arith, rules, sym, ◌∙◌, ◌≡◌, [], false}
 unfoldable use Rattle.pop_tries.specs.ties.Searching.{HoldsAt, left_of, rank}
-use Rattle.pop_tries.specs.ties.Searching.{after_first, contest_of}
+use Rattle.pop_tries.specs.ties.Searching.{after_first, contest_of, event_of_faced}
 use Rattle.pop_tries.proofs.Goings.{with_event, without_event}
 use Rattle.pop_tries.proofs.StepsBelow as steps
 use Rattle.pop_tries.proofs.GoesBelow as goes
 use Rattle.std.specs.Prelude.{is_some}
 use Rattle.pop_tries.specs.declared.stage.TriesStage.TheVariants.{Faced, Reply}
 use Rattle.pop_tries.specs.declared.stage.First.{First}
-use Rattle.pop_tries.proofs.below_first.face.Goals.{then-checked, else-checked}
 use Rattle.pop_tries.proofs.below_first.face.Goals as goal
 
 pub returns-then-reaches_goal : goal.returns-then-reaches_goal
@@ -18,17 +17,15 @@ returns-then-reaches_goal g c =
     let task = c.args.task.now in
     let first = c.args.first in
     let met = rw (c.stipulation.ensures.stipulation, h.1.board_at) at (sym c.reaches_goal.ensures.reached ∙ c.if-reaches_goal.true) in
-    record {
-      goes = rw h.1.none (without_event rule task _ _ _ _ _ c.end_replies.ensures.holds
-          (steps.faced_at_goal rule task h.0 first [] (steps.shown_at_goal rule task h.0 first met) ∙ c.end_replies.ensures.left)
-          (omega (arith, c.end_replies.ensures.rank)));
-    }
+    rw h.1.none (without_event rule task _ _ _ _ _ c.end_replies.ensures.holds
+    (steps.faced_at_goal rule task h.0 first [] (steps.shown_at_goal rule task h.0 first met) ∙ c.end_replies.ensures.left)
+    (omega (arith, c.end_replies.ensures.rank)))
 
 pub returns-then-is_some : goal.returns-then-is_some
 unfolding left_of rank
 returns-then-is_some g c =
-    let b = c.begin_threats.ensures.goes in
-    record { goes = record { holds = b.holds; emits = b.emits; falls = b.falls } }
+    let b = c.begin_threats.ensures in
+    record { holds = b.holds; emits = b.emits; falls = b.falls }
 
 pub returns : goal.returns
 unfolding HoldsAt left_of
@@ -57,15 +54,7 @@ returns g c =
         bare = record { board_at = at; none = keeps.frames ∙ h.1.none };
       },
     ) in
-    elim c.if-checked.branch [
-      | then-checked w ↦ record {
-        goes = with_event rule task (Faced c.args.first) _ _ _ _ holds _ _
-            (steps.faced_without rule task h.0 first c.start.result c.args.frames.now.items c.threat_length-threat.new.frames.items check c.start.ensures
-            (steps.shown_in_check rule task h.0 first unmet (sym checked ∙ w.if-checked.true))) w.result-is;
-      }
-      | else-checked w ↦ record {
-        goes = with_event rule task (Faced c.args.first) _ _ _ _ holds _ _
-            (steps.faced_without rule task h.0 first c.start.result c.args.frames.now.items c.threat_length-threat.new.frames.items zugzwang c.start.ensures
-            (steps.shown_in_zugzwang rule task h.0 first unmet (sym checked ∙ w.if-checked.false) no)) w.result-is;
-      }
-    ]
+    with_event rule task (Faced c.args.first) _ _ _ _ holds _ _
+    (steps.faced_without rule task h.0 first c.start.result c.args.frames.now.items c.threat_length-threat.new.frames.items _ c.start.ensures
+    (steps.shown_without_threats rule task h.0 first unmet no))
+    (c.faced_event.ensures ∙ ap event_of_faced checked ∙ goes.faced_shown task.problem.stipulation.goal rule (after_first rule task first.by) _)

@@ -1,5 +1,5 @@
-use Rattle.pop_tries.proofs.Words.{ap, arith, but, below, refl, refutation, reply, rules, sym, threat, threatened, length, ◌∙◌, ◌∷◌, ◌≡◌, ◌≤◌, [], IsSound, half_moves, ◌-◌, ◌+◌, ℕ, true, false, check, zugzwang, position_after}
-unfoldable use Rattle.pop_tries.specs.ties.Searching.{HoldsAt, left_of, rank}
+use Rattle.pop_tries.proofs.Words.{arith, below, refl, reply, rules, ◌∙◌, ◌∷◌, [], position_after}
+unfoldable use Rattle.pop_tries.specs.ties.Searching.{HoldsAt, rank}
 use Rattle.pop_tries.specs.ties.Searching.{after_first, contest_of}
 use Rattle.pop_tries.proofs.Goings.{with_event, without_event}
 use Rattle.pop_tries.proofs.StepsBelow as steps
@@ -18,10 +18,8 @@ returns-in_default g c =
     let keeps = c.next_reply-found.ensures.rest in
     let none = keeps.frames ∙ h.1.bare.none in
     let next = rw (c.contest.ensures, h.1.bare.board_at) at c.in_default.ensures.next in
-    record {
-      goes = rw none (without_event rule task _ _ _ _ _ c.end_replies.ensures.holds
-          (steps.replies_over rule task h.0 c.args.first c.args.place _ next ∙ c.end_replies.ensures.left) (omega (arith, c.end_replies.ensures.rank)));
-    }
+    rw none (without_event rule task _ _ _ _ _ c.end_replies.ensures.holds
+    (steps.replies_over rule task h.0 c.args.first c.args.place _ next ∙ c.end_replies.ensures.left) (omega (arith, c.end_replies.ensures.rank)))
 
 pub returns : goal.returns
 unfolding HoldsAt
@@ -37,12 +35,13 @@ returns g c =
     let next = rw (c.contest.ensures, h.1.bare.board_at) at c.in-Some.ensures.next in
     let played = rw here at c.play_reply-undo.ensures in
     let met = goes.shown_is_met rule (contest_of task) q by (goes.head_passes (is_shown rule (contest_of task) q) (moves_after rule q c.args.place) by _ next.0) in
-    record {
-      goes = with_event rule task _ _ _ _ _ (
-        h.0,
-        record { first_is = h.1.first_is; threat = h.1.threat; walking = played.walking },
-        record { sound = h.1.first_is.sound; legal = next.1; led = refl; undone = played.undo },
-      ) _ _
-          (steps.reply_found rule task h.0 first c.args.place _ by _ _ c.play_reply-undo.result.0 next.0
-          (reply_comes rule task.problem task.battle h.0 (position_after rule q by) _ met played.come)) played.event;
-    }
+    with_event rule task _ _ _ _ _ (
+      h.0,
+      record { first_is = h.1.first_is; threat = h.1.threat; walking = played.walking },
+      record { sound = h.1.first_is.sound; legal = next.1; led = refl; undone = played.undo },
+    ) _ (below first.by (reply (by ∷ [])))
+    (search (
+      rules,
+      steps.reply_found rule task h.0 first c.args.place _ by c.args.frames.now.items c.play_reply-undo.new.frames.items
+          c.play_reply-undo.result.0 next.0 (reply_comes rule task.problem task.battle h.0 (position_after rule q by) _ met played.come),
+    )) played.event

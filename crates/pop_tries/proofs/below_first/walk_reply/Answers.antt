@@ -1,5 +1,5 @@
 use Rattle.pop_tries.proofs.Words.{ap, arith, length, ◌∙◌, ◌≤◌}
-unfoldable use Rattle.pop_tries.specs.ties.Searching.{HoldsAt, left_of, rank}
+unfoldable use Rattle.pop_tries.specs.ties.Searching.{HoldsAt, rank}
 use Rattle.pop_tries.specs.ties.Searching.{after_first}
 use Rattle.pop_tries.proofs.Goings.{with_event, without_event}
 use Rattle.pop_tries.proofs.StepsBelow as steps
@@ -12,7 +12,7 @@ use Rattle.pop_tries.proofs.below_first.walk_reply.Goals as goal
 
 pub shown_node-node-requires-clause-shallow : goal.shown_node-node-requires-clause-shallow
 shown_node-node-requires-clause-shallow g c =
-    goes.shallow c.args.task.now.problem c.requires.task.sound _ _ _ (ap (λ (w : WalkBelow). w.half_moves) c.walk_below-walk.ensures)
+    goes.shallow c.args.task.now.problem c.requires.is_task.sound _ _ _ (ap (λ (w : WalkBelow). w.half_moves) c.walk_below-walk.ensures)
     c.walk_on.ensures.walking.roomy c.as_slice.ensures.value
 
 pub returns-then-walk_on : goal.returns-then-walk_on
@@ -28,12 +28,10 @@ returns-then-walk_on g c =
     let line = path (reverse c.walk_on.new.frames.items) in
     let some : 1 ≤ length line = omega (arith, next.deep c.if-walk_on.true, path-length (reverse c.walk_on.new.frames.items)) in
     let node = rw (c.walk_below-walk-then-walk_on.ensures, c.as_slice.ensures.value) at c.shown_node-node.ensures in
-    record {
-      goes = with_event rule task _ _ _ _ _
-          (h.0, record { first_is = h.1.first_is; threat = h.1.threat; walking = rw node.unchanged walking }, h.2) _ _
-          (steps.reply_goes_on rule task h.0 first played _ _ line (next.next c.if-walk_on.true))
-          (c.node_event.ensures ∙ goes.reply_node task.problem.stipulation.goal rule (after_first rule task first.by) played.by line _ _ _ some node.depth node.half node.shown);
-    }
+    with_event rule task _ _ _ _ _
+    (h.0, record { first_is = h.1.first_is; threat = h.1.threat; walking = rw node.unchanged walking }, h.2) _ _
+    (steps.reply_goes_on rule task h.0 first played _ _ line (next.next c.if-walk_on.true))
+    (c.node_event.ensures ∙ goes.reply_node task.problem.stipulation.goal rule (after_first rule task first.by) played.by line _ _ _ some node.depth node.half node.shown)
 
 pub unplay-requires : goal.unplay-requires
 unfolding HoldsAt
@@ -53,14 +51,12 @@ returns g c =
     let played = c.args.reply in
     let next = rw c.walk_below-walk.ensures at c.walk_on.ensures.next in
     let back = goes.taken_back rule played.by played.undo _ (after_first rule task first.by) _ (rw (next.back c.if-walk_on.false) h.2) c.unplay.ensures.before in
-    record {
-      goes = without_event rule task _ _ _ _ _ (
-        h.0,
-        record {
-          first_is = h.1.first_is;
-          threat = h.1.threat;
-          bare = record { board_at = back; none = goes.none_reversed _ (next.empty c.if-walk_on.false) };
-        },
-      )
-          (steps.reply_over rule task h.0 first played _ _ (next.none c.if-walk_on.false)) (omega arith);
-    }
+    without_event rule task _ _ _ _ _ (
+      h.0,
+      record {
+        first_is = h.1.first_is;
+        threat = h.1.threat;
+        bare = record { board_at = back; none = goes.none_reversed _ (next.empty c.if-walk_on.false) };
+      },
+    )
+    (steps.reply_over rule task h.0 first played _ _ (next.none c.if-walk_on.false)) (omega arith)

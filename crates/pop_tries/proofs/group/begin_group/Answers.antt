@@ -1,5 +1,5 @@
 use Rattle.pop_tries.proofs.Words.{refl, sym, ◌∙◌}
-unfoldable use Rattle.pop_tries.specs.ties.Searching.{HoldsAt, left_of}
+unfoldable use Rattle.pop_tries.specs.ties.Searching.{HoldsAt}
 use Rattle.pop_tries.specs.ties.Searching.{beginning_of}
 use Rattle.pop_tries.specs.declared.stage.TriesStage.TheVariants.{FirstMove}
 use Rattle.pop_tries.proofs.Goings as goes
@@ -24,12 +24,8 @@ returns g c =
       },
     ) in
     elim c.match-group.branch [
-      | in-Keys w ↦ record {
-        goes = goes.with_event rule task _ _ _ _ _ holds _ (beginning_of group)
-            (goes.group_comes g.row.R.Denot rule task group c.start.result c.start.ensures _ _) (w.result-is ∙ sym (rw w.in-Keys.is refl));
-      }
-      | in-Tries w ↦ record {
-        goes = goes.with_event rule task _ _ _ _ _ holds _ (beginning_of group)
-            (goes.group_comes g.row.R.Denot rule task group c.start.result c.start.ensures _ _) (w.result-is ∙ sym (rw w.in-Tries.is refl));
-      }
+      | in-Keys w ↦ goes.with_event rule task _ _ _ _ _ holds _ (beginning_of group)
+          (goes.group_comes g.row.R.Denot rule task group c.start.result c.start.ensures _ _) (w.result-is ∙ sym (rw w.in-Keys.is refl))
+      | in-Tries w ↦ goes.with_event rule task _ _ _ _ _ holds _ (beginning_of group)
+          (goes.group_comes g.row.R.Denot rule task group c.start.result c.start.ensures _ _) (w.result-is ∙ sym (rw w.in-Tries.is refl))
     ]

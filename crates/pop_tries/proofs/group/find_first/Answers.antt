@@ -10,11 +10,9 @@ unfolding HoldsAt
 returns-then-is_stopped g c =
     let h = c.requires.holds in
     let firsts = c.args.firsts in
-    record {
-      goes = goes.group_ended g.R.Rules.rule c.args.task.now firsts _ _ _ _ _ (c.end_group.ensures.goes _ _ h.1) (c.end_group.ensures.emits _)
-          c.end_group.ensures.event
-          (steps.stopped_ends g.R.Rules.rule c.args.task.now firsts.group firsts.place firsts.count (sym c.is_stopped.ensures ∙ c.if-is_stopped.true));
-    }
+    goes.group_ended g.R.Rules.rule c.args.task.now firsts _ _ _ _ _ (c.end_group.ensures.goes _ _ h.1) (c.end_group.ensures.emits _)
+    c.end_group.ensures.event
+    (steps.stopped_ends g.R.Rules.rule c.args.task.now firsts.group firsts.place firsts.count (sym c.is_stopped.ensures ∙ c.if-is_stopped.true))
 
 pub returns-in_default : goal.returns-in_default
 unfolding HoldsAt
@@ -23,11 +21,9 @@ returns-in_default g c =
     let firsts = c.args.firsts in
     let next = rw (c.contest.ensures, h.1.board_at) at c.in_default.ensures.next in
     let bare : IsBare (play_start c.args.task.now.problem) c.play_next-found.new.frames.items c.play_next-found.new.board = record { board_at = next.1; none = c.play_next-found.ensures.frames ∙ h.1.none } in
-    record {
-      goes = goes.group_ended g.R.Rules.rule c.args.task.now firsts _ _ _ _ _ (c.end_group-in_default.ensures.goes _ _ bare)
-          (c.end_group-in_default.ensures.emits _) c.end_group-in_default.ensures.event
-          (steps.emptied_ends g.R.Rules.rule c.args.task.now firsts.group firsts.place firsts.count next.0);
-    }
+    goes.group_ended g.R.Rules.rule c.args.task.now firsts _ _ _ _ _ (c.end_group-in_default.ensures.goes _ _ bare)
+    (c.end_group-in_default.ensures.emits _) c.end_group-in_default.ensures.event
+    (steps.emptied_ends g.R.Rules.rule c.args.task.now firsts.group firsts.place firsts.count next.0)
 
 pub returns : goal.returns
 unfolding HoldsAt
@@ -38,10 +34,8 @@ returns g c =
     let firsts = c.args.firsts in
     let next = rw (c.contest.ensures, h.1.board_at) at c.in-Some.ensures.next in
     let open_yet = sym c.is_stopped.ensures ∙ c.if-is_stopped.false in
-    record {
-      goes = rw (c.begin_first.ensures.stage, c.begin_first.ensures.event)
-          (goes.with_event rule task _ _ _ _ _
-          (goes.first_holds rule task h.0 c.requires.task firsts h.2 _ _ _ next.0 open_yet next.3 next.2 _ _ (c.play_next-found.ensures.frames ∙ h.1.none)
-          (c.begin_first.ensures.unchanged ∙ next.1))
-          _ (first_event firsts.group _) (goes.first_comes rule task h.0 c.requires.task firsts h.2 _ _ _ next.0 open_yet _ _) refl);
-    }
+    rw (c.begin_first.ensures.stage, c.begin_first.ensures.event, c.counted.ensures)
+    (goes.with_event rule task _ _ _ _ _
+    (goes.first_holds rule task h.0 c.requires.is_task firsts h.2 _ _ _ next.0 open_yet next.3 next.2 _ _ (c.play_next-found.ensures.frames ∙ h.1.none)
+    (c.begin_first.ensures.unchanged ∙ next.1))
+    _ (first_event firsts.group _) (goes.first_comes rule task h.0 c.requires.is_task firsts h.2 _ _ _ next.0 open_yet _ _) refl)

@@ -1,4 +1,4 @@
-use Rattle.pop_tries.proofs.Words.{ap, arith, set_event}
+use Rattle.pop_tries.proofs.Words.{ap, arith, rules, set_event}
 use Rattle.pop_events.specs.declared.try_event.TryEvent.TheVariants.{Set}
 unfoldable use Rattle.pop_tries.specs.ties.Searching.{HoldsAt, rank}
 use Rattle.pop_tries.proofs.Goings.{with_event, without_event}
@@ -9,18 +9,14 @@ pub returns-in-Some : goal.returns-in-Some
 unfolding HoldsAt
 returns-in-Some g c =
     let gives = rw c.in-Some.is at c.advance.ensures.gives in
-    record {
-      goes = with_event g.R.Rules.rule c.args.task.now _ _ _ _ _ (c.requires.holds.0, c.advance.ensures.standing) _ (set_event gives.bare)
-          (left_goes_on _ g.R.Rules.rule c.args.task.now _ _ _ _ gives.bare gives.left) (ap Set gives.event_is);
-    }
+    with_event g.R.Rules.rule c.args.task.now _ _ _ _ _ (c.requires.holds.0, c.advance.ensures.standing) _ (set_event gives.bare)
+    (left_goes_on _ g.R.Rules.rule c.args.task.now _ _ _ _ gives.bare gives.left) (ap Set gives.event_is)
 
 pub returns-in-None : goal.returns-in-None
 unfolding HoldsAt rank
 returns-in-None g c =
     let gives = rw c.in-None.is at c.advance.ensures.gives in
     let none = none_after g.R.Rules.rule c.args.task.now.problem _ _ _ c.advance.ensures.standing gives.2 in
-    record {
-      goes = without_event g.R.Rules.rule c.args.task.now _ _ _ _ _
-          (c.requires.holds.0, record { board_at = gives.1; none = none_reversed _ none }, tt)
-          (left_ends _ g.R.Rules.rule c.args.task.now _ _ _ gives.0) (omega arith);
-    }
+    without_event g.R.Rules.rule c.args.task.now _ _ _ _ _
+    (c.requires.holds.0, record { board_at = gives.1; none = none_reversed _ none }, search rules)
+    (search (rules, left_ends g.row.R.Denot g.R.Rules.rule c.args.task.now c.args.stage c.args.frames.now.items c.advance.new.frames.items gives.0)) (omega arith)

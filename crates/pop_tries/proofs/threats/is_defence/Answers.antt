@@ -1,10 +1,9 @@
-use Rattle.pop_tries.proofs.Words.{ap, keeps_win, not, position_after, rules, sym, works, ◌∙◌, ◌≡◌}
+use Rattle.pop_tries.proofs.Words.{ap, is_pseudo_legal-from_legal, keeps_win, not, position_after, rules, sym, works, ◌∙◌, ◌≡◌}
 use Rattle.pop_battle.specs.Chess.{set_start}
-use Rattle.chess_rules.proofs.listing_moves.Calls.{playing}
 use Rattle.pop_tries.specs.Events.{chess_passing}
 use Rattle.pop_tries.specs.ties.Contests.{game_in, moves_of}
-use Rattle.pop_tries.proofs.Contests.{defence_by_loop, passed_well_formed, placed}
-use Rattle.pop_tries.proofs.Loops.{found, not_there}
+use Rattle.pop_tries.proofs.Contests.{defence_by_loop, defence_without_threat, passed_well_formed, placed}
+use Rattle.pop_tries.proofs.Loops.{found, not_asked, not_there}
 use Rattle.pop_tries.proofs.threats.is_defence.Goals as goal
 
 pub works-still-requires : goal.works-still-requires
@@ -14,6 +13,17 @@ works-still-requires g c =
     let on = placed g.R.Rules.rule (set_start c.args.board.now) _ _ (passed_well_formed c.args.board.now c.requires.well_formed) legal
     c.in-Some-next_move.ensures.place in
     (search rules, (search rules, (t.fits, ((on.0, on.1), (c.play-undo.ensures.well_formed, search (rules, t.most))))))
+
+pub unplay-requires : goal.unplay-requires
+unplay-requires g c =
+    let back : c.unpass.new.board ≡ c.args.board.now = c.unpass.ensures.before c.args.board.now (search rules) c.loop-tried.invariant.1 in
+    record {
+      before = c.args.board.now;
+      well_formed = c.requires.well_formed;
+      pseudo = is_pseudo_legal-from_legal _ _ _ c.requires.legal;
+      after = c.works-still.ensures.rest.board ∙ (rw back at c.play-undo.ensures.after);
+      undo = rw back at c.play-undo.ensures.undo;
+    }
 
 pub returns-then-still-clause-defence : goal.returns-then-still-clause-defence
 returns-then-still-clause-defence g c =
@@ -34,9 +44,33 @@ loop-tried-preserved-then-wins_by g c =
     let on = placed g.R.Rules.rule (set_start c.args.board.now) _ _ (passed_well_formed c.args.board.now c.requires.well_formed) next.1
     c.in-Some-next_move.ensures.place in
     let back : c.unpass.new.board ≡ c.args.board.now = c.unpass.ensures.before c.args.board.now (search rules) c.loop-tried.invariant.1 in
-    let home : c.unplay.new.board ≡ c.args.board.now = search (rules, playing, back) in
+    let home : c.unplay.new.board ≡ c.args.board.now = c.unplay.ensures.before c.args.board.now c.requires.well_formed
+    (is_pseudo_legal-from_legal _ _ _ c.requires.legal) (c.works-still.ensures.rest.board ∙ (rw back at c.play-undo.ensures.after))
+    (rw back at c.play-undo.ensures.undo) in
     let none = not_there (λ m. keeps_win c.args.contest.battle (game_in g.R.Rules.rule c.args.contest) (moves_of c.in-Some.length)
     (position_after g.R.Rules.rule (set_start c.args.board.now) m)) c.in-Some-next_move.tried _ _ next.0
     (works c.args.contest.battle (game_in g.R.Rules.rule c.args.contest) c.args.contest.stipulation.n (chess_passing g.R.Rules.rule) (moves_of c.in-Some.length)
     (position_after g.R.Rules.rule c.args.board.now c.args.by)) _ (search rules) (search (rules, back, on.2)) c.loop-tried.invariant.5 in
     (search (rules, home), search (rules, home), search rules, search rules, c.in-Some.is, none)
+
+pub loop-tried-preserved : goal.loop-tried-preserved
+loop-tried-preserved g c =
+    let next = rw c.loop-tried.invariant.0 at c.in-Some-next_move.ensures.next in
+    let none = not_asked (λ m. keeps_win c.args.contest.battle (game_in g.R.Rules.rule c.args.contest) (moves_of c.in-Some.length)
+    (position_after g.R.Rules.rule (set_start c.args.board.now) m)) c.in-Some-next_move.tried _ _ next.0
+    (works c.args.contest.battle (game_in g.R.Rules.rule c.args.contest) c.args.contest.stipulation.n (chess_passing g.R.Rules.rule) (moves_of c.in-Some.length)
+    (position_after g.R.Rules.rule c.args.board.now c.args.by)) _ (search rules) c.loop-tried.invariant.5 in
+    (search rules, search rules, search rules, search rules, c.in-Some.is, none)
+
+pub returns-then-still-clause-rest : goal.returns-then-still-clause-rest
+returns-then-still-clause-rest g c =
+    let back : c.unpass.new.board ≡ c.args.board.now = c.unpass.ensures.before c.args.board.now (search rules) c.loop-tried.invariant.1 in
+    record {
+      board = c.unplay.ensures.before c.args.board.now c.requires.well_formed (is_pseudo_legal-from_legal _ _ _ c.requires.legal)
+          (c.works-still.ensures.rest.board ∙ (rw back at c.play-undo.ensures.after)) (rw back at c.play-undo.ensures.undo);
+      frames = c.works-still.ensures.rest.frames ∙ (c.wins_by.ensures.rest.frames ∙ c.loop-tried.invariant.2);
+    }
+
+pub returns-in_default-clause-defence : goal.returns-in_default-clause-defence
+returns-in_default-clause-defence g c =
+    sym (defence_without_threat g.R.Rules.rule c.args.contest c.args.board.now c.args.by (rw c.in_default.is at c.requires.threat))

@@ -5,12 +5,13 @@ use Rattle.pop_tries.proofs.search.TriesSearch.new.Goals as goal
 
 pub invariant_of-result : goal.invariant_of-result
 invariant_of-result g c =
-    let at : c.of.result ≡ play_start c.args.problem.now = c.of.ensures ∙ ap position_of c.diagram.ensures.diagram in (
-      record { sound = c.diagram.ensures.sound; few = c.requires.few },
-      c.requires.room,
-      holds_first g.R.Rules.rule c.args.problem.now c.first_stage-battle.result.0 c.args.most c.first_stage-battle.ensures.battle _
-          c.first_stage-battle.ensures.stage _ c.new.ensures c.diagram.ensures.sound _ at,
-    )
+    let at : c.of.result ≡ play_start c.args.problem.now = c.of.ensures ∙ ap position_of c.diagram.ensures.diagram in
+    record {
+      is_task = record { sound = c.diagram.ensures.sound; few = c.requires.few };
+      room = c.requires.room;
+      holds = holds_first g.R.Rules.rule c.args.problem.now c.first_stage-battle.result.0 c.args.most c.first_stage-battle.ensures.battle _
+          c.first_stage-battle.ensures.stage _ c.new.ensures c.diagram.ensures.sound _ at;
+    }
 
 pub returns-clause-left : goal.returns-clause-left
 returns-clause-left g c =
