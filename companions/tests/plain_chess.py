@@ -6,7 +6,7 @@ board; an empty square is a point.
 """
 
 from collections.abc import Iterator
-from dataclasses import dataclass, replace
+from dataclasses import dataclass
 from functools import lru_cache
 from typing import NamedTuple, Optional
 
@@ -49,8 +49,7 @@ class Rules:
         return self.condition is Condition.MADRASI
 
 
-@dataclass(frozen=True)
-class Position:
+class Position(NamedTuple):
     """A position: 64 men, who is to move, unmoved castling squares, the en passant square."""
 
     men: str
@@ -61,7 +60,7 @@ class Position:
     @property
     def passed(self) -> "Position":
         """The position with the other side to move and no en passant square."""
-        return replace(self, turn=self.turn.opponent, crossed=None)
+        return self._replace(turn=self.turn.opponent, crossed=None)
 
 
 class Played(NamedTuple):
@@ -165,14 +164,21 @@ def is_paralysed(men: str, place: int) -> bool:
     return like not in "Kk" and any(_attacks(men, it, place) for it in _places(men, like))
 
 
+@lru_cache(maxsize=None)
+def _origins(place: int, colour: Colour) -> tuple[tuple[int, str], ...]:
+    """The squares from which men of a colour could attack this one, each with their letters."""
+    own = "KQRBSPGN" if colour is Colour.WHITE else "kqrbspgn"
+    letters = ("".join(it for it in own if place in _ever_attacked(it, from_)) for from_ in range(64))
+    return tuple((origin, own) for origin, own in enumerate(letters) if own)
+
+
 def is_attacked(rules: Rules, men: str, place: int, colour: Colour) -> bool:
     """Whether a man of this colour that can move attacks the square."""
-    own = "KQRBSPGN" if colour is Colour.WHITE else "kqrbspgn"
-    return any(
-        _attacks(men, origin, place) and not (rules.is_madrasi and is_paralysed(men, origin))
-        for man in own
-        for origin in _places(men, man)
-    )
+    for origin, letters in _origins(place, colour):
+        if men[origin] in letters and place in attacked(men, origin):
+            if not (rules.is_madrasi and is_paralysed(men, origin)):
+                return True
+    return False
 
 
 def in_check(rules: Rules, men: str, colour: Colour) -> bool:
@@ -205,36 +211,36 @@ def rebirth_square(man: str, place: int) -> int:
 
 def play(rules: Rules, position: Position, move: Move) -> Played:
     """Plays a move, and Circe's rebirth after it."""
-    men = position.men
+    men = list(position.men)
     man = men[move.origin]
-    is_pawn = man.upper() == "P"
+    is_pawn = man in "Pp"
     capture_square = move.arrival
     if is_pawn and move.arrival == position.crossed and move.origin % 8 != move.arrival % 8:
         capture_square = move.arrival % 8 + move.origin // 8 * 8
     captured = men[capture_square]
     promoted = move.promoted if man.isupper() else move.promoted.lower()
-    men = put(put(men, capture_square, EMPTY), move.origin, EMPTY)
-    men = put(men, move.arrival, promoted or man)
+    men[capture_square] = men[move.origin] = EMPTY
+    men[move.arrival] = promoted or man
     unmoved = position.unmoved - {move.origin, move.arrival}
     if _is_castling(man, move):
         corner, crossed = _castling_rook(move)
-        men = put(put(men, corner, EMPTY), crossed, "R" if man == "K" else "r")
+        men[corner], men[crossed] = EMPTY, "R" if man == "K" else "r"
         unmoved -= {corner}
     reborn_on = None
     if captured != EMPTY and rules.condition is Condition.CIRCE:
         place = rebirth_square(captured, capture_square)
         if men[place] == EMPTY:
             reborn_on = place
-            men = put(men, place, captured)
+            men[place] = captured
             unmoved |= {place} if captured.upper() == "R" else set()
     is_double = is_pawn and abs(move.arrival - move.origin) == 16
     passed = (move.origin + move.arrival) // 2 if is_double else None
-    after = Position(men, position.turn.opponent, unmoved, passed)
+    after = Position("".join(men), position.turn.opponent, unmoved, passed)
     return Played(after, captured, capture_square, reborn_on)
 
 
 def _is_castling(man: str, move: Move) -> bool:
-    return man.upper() == "K" and abs(move.origin % 8 - move.arrival % 8) == 2
+    return man in "Kk" and abs(move.origin % 8 - move.arrival % 8) == 2
 
 
 def _castling_rook(move: Move) -> tuple[int, int]:

@@ -102,7 +102,7 @@ class Definitions(unittest.TestCase):
 
     def test_what_is_below_a_first_move(self) -> None:
         """Threats, zugzwang or check, as the move says; refutations are defences not shown twice."""
-        for item in items(plain_tries(made_text(8, 20))):
+        for item in items(plain_tries(made_text(12, 20))):
             for one in (*item.keys, *item.tries):
                 self.assertEqual(bool(one.threats), one.menace is Menace.THREAT)
                 is_check = one.move.mark is Mark.CHECK
