@@ -1,9 +1,9 @@
 """Compares pops-tries with published solutions of two-movers, in collections of YACPDB.
 
 `python3 -m tests.published POPS-TRIES FILE..`, called in companions/, prints what agrees, and each
-difference; where the plain solver doesn't agree with pops-tries, a line FAULT. A published try has to
-be one of pops-tries, with just the published refutations. Published texts leave tries out, and show
-replies that meet only some of several threats.
+difference; where the plain solver doesn't agree with pops-tries, a line FAULT. A published try has
+to be one of pops-tries, with just the published refutations. Published texts leave tries out, and
+show replies that meet only some of several threats.
 """
 
 import io
@@ -31,7 +31,7 @@ from tests.published_moves import meant
 from tests.published_text import Published, read_solution
 from tests.published_tries import solution_of
 
-# With this many refutations all first moves are shown.
+# With this many refutations pops-tries shows all first moves.
 _MOST = 200
 _FAIRY = {Kind.GRASSHOPPER, Kind.NIGHTRIDER}
 
@@ -44,7 +44,7 @@ class Difference(NamedTuple):
 
 @dataclass
 class Found:
-    """What was compared and agrees, what was left out, the differences, and faults of pops-tries."""
+    """What agrees, what was left out, the differences, and faults of pops-tries."""
 
     counts: Counter[str] = field(default_factory=Counter)
     left_out: Counter[str] = field(default_factory=Counter)

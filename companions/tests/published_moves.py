@@ -1,4 +1,4 @@
-"""Moves of published solutions, in short or long algebraic notation, among the moves of a position."""
+"""Finds the legal move that a published solution means, in short or long algebraic notation."""
 
 import re
 from collections.abc import Iterable
@@ -44,7 +44,7 @@ def _fits(parts: "re.Match[str]", position: Position, move: Move) -> bool:
 
 
 def _with_step(step: str, position: Position, found: list[Move]) -> list[Move]:
-    """Keeps the moves that capture as the text says, if there are any: texts often leave out the sign."""
+    """Keeps the moves that capture if the text says so; many texts leave out the sign."""
     if len(found) < 2:
         return found
     captures = step not in ("", "-")

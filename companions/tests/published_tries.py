@@ -1,7 +1,8 @@
 """Makes the text of pops-tries of published solutions, which have to be complete.
 
-`python3 -m tests.published_tries FILE [N]`, called in companions/, writes the text of an input whose
-problems have their published solutions in lines `Remark solution:`, as pops-import keeps them.
+`python3 -m tests.published_tries FILE [N]`, called in companions/, writes the text of an input
+whose problems have their published solutions in lines `Remark solution:`, as pops-import writes
+them.
 
 The rules of chess say how a move is written and ordered; all else comes from the published text:
 which moves are keys and tries, threats, refutations, defences and continuations. A published reply

@@ -1,7 +1,7 @@
-"""Published solutions: the stored texts made from them, and collections of YACPDB beside pops-tries.
+"""Published solutions: stored texts made from them, and collections of YACPDB beside pops-tries.
 
-The collections come from Debian's package pychess; $POPS_PUBLISHED names another folder of .olv
-files. Without them, or without pops-tries, a line says that they weren't compared.
+Debian's package pychess has the collections; $POPS_PUBLISHED names another folder of .olv files.
+Without them, or without pops-tries, a line says that nothing was compared.
 """
 
 import os
@@ -16,13 +16,14 @@ from tests.published_text import Menace, read_solution
 from tests.published_tries import VagueError, published_tries, solution_of
 
 COLLECTIONS = Path(os.environ.get("POPS_PUBLISHED", "/usr/share/pychess/learn/puzzles"))
-# The collections that are compared, and the least number of tries in them.
+# The collections that are compared, and the least number of their tries.
 _COMPARED = ("baird.olv", "kubbel.olv")
 _TRIES = 1500
 
 # Four ways of writing the same solution.
 SAME = (
-    "1...Kh7 2.Ra8#\n1.Rb1+? {(a remark)}\n  but\n   1...Kg8 !\n1.Ra2 ! threat:\n 2.Ra8 #\n 1...h5\n  2.Rh2 #",
+    "1...Kh7\n 2.Ra8 #\n1.Rb1+ ? {(a remark)}\n but\n  1...Kg8 !\n"
+    "1.Ra2 ! threat:\n  2.Ra8 #\n 1...h5\n  2.Rh2 #",
     "1...Kh7 2.Ra8#\n\n1.Rb1+??\nbut 1...Kg8!\n\n1.Ra2[A]! (2.Ra8#)\n  1...h5 2.Rh2#",
     "1... Kh7 2. Ra8#\n1. Rb1+? Kg8!\n1. Ra2! [2. Ra8#]\n1... h5 2. Rh2#",
     "1...Kh7 2.Ra8#\n1.Rb1+? 1...Kg8!\n1.Ra2! threat Ra8#\n1....h5 2.Rh2#",
