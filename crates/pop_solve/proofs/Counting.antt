@@ -137,12 +137,14 @@ module _ (rule : RuleSet) (plan : Plan) where
       -- in play with two half-moves left each opens one frame
       each : (k : ℕ) → k ≡ 2 → walk_after rule k P f.place ≡ length g.over + walk_after rule k P g.mid
       unfolding walk_after
-      each k e = rw (e, each_one (legal_moves rule) (position_after rule) P, each_one (legal_moves rule) (position_after rule) P) (simp (g.passed, length-append))
+      each k e =
+          rw (e, each_one (legal_moves rule) (position_after rule) P, each_one (legal_moves rule) (position_after rule) P) (simp (g.passed, length-append))
 
       tries-skip : (battle : Battle) → plan.battle ≡ Some battle → fewest_left rule plan h p (f ∷ below) ≡ fewest_left rule plan h p later
       unfolding fewest_left position
       tries-skip battle fought =
-          search (rules, same-later rule plan h p f below rest before between g (λ n ms. fewest_walked plan (chess plan.goal rule) (eqb (length below) 0) (h - length below) n P ms), fewest-skipped P)
+          let fewest = λ (n : ℕ) (ms : List Move). fewest_walked plan (chess plan.goal rule) (eqb (length below) 0) (h - length below) n P ms in
+          search (rules, same-later rule plan h p f below rest before between g fewest, fewest-skipped P)
 
       -- the skipped moves count one each, if two half-moves are left; otherwise nothing
       pub counts-skip : CountsWalk rule plan h p (f ∷ below) later before between

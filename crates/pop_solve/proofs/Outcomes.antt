@@ -63,8 +63,7 @@ module _ (rule : RuleSet) (plan : Plan) (h : ℕ) (p : Position) (f : Frame) (be
     steps-pass after opened opened2 b at x =
         let walking = walking-moved rule h p f next below board after r at in
         let come = come-pass rule plan h p f next m below _ t fuel left here in
-        let falls = turns-pass rule plan h p f next m below _ t fuel left here in
-        (
+        let falls = turns-pass rule plan h p f next m below _ t fuel left here in (
           search (rules, walking, come, falls, after_here),
           counts-pass rule plan h p f next m below _ t fuel left here opened opened2 (rw after_here at b) (rw after_here at x),
         )
@@ -81,8 +80,7 @@ module _ (rule : RuleSet) (plan : Plan) (h : ℕ) (p : Position) (f : Frame) (be
         let u = undo_of rule board m in
         let tried = walk_length plan.battle plan.variation (chess plan.goal rule) t (position_after rule board m) in
         let less = walk_length-most (chess plan.goal rule) plan.battle plan.variation t (position_after rule board m) in
-        let pseudo = is_pseudo_legal-from_legal rule board m lawful in
-        (
+        let pseudo = is_pseudo_legal-from_legal rule board m lawful in (
           record {
             walking = grind (arith, less, after_well_formed rule board m r.sound pseudo, pseudo);
             come = rw after_here (come-enter rule plan h p f next m below _ t fuel left here u (rw (← after_here) b));
@@ -99,14 +97,16 @@ pub steps-skip : (rule : RuleSet) (plan : Plan) (h : ℕ) (p : Position) (f : Fr
     (g : GoesTo rule plan f.left (position rule p (f ∷ below)) f.place rest before between) (new : List Frame) (board : Position) (after : ℕ) (given : Bool)
     → Taken rule plan h p (moved f g.mid ∷ below) new board between after given → Taken rule plan h p (f ∷ below) new board before after given
 steps-skip rule plan h p f below rest before between g new board after given s =
-    (walk-skip rule plan h p f below rest before between g new board given s.0, counts_then _ _ _ _ _ _ (counts-skip rule plan h p f below rest before between g) s.1)
+    let counts = counts-skip rule plan h p f below rest before between g in
+    (walk-skip rule plan h p f below rest before between g new board given s.0, counts_then _ _ _ _ _ _ counts s.1)
 
 -- a frame is closed once moves that have no paths have been passed over
 pub skips-close : (rule : RuleSet) (plan : Plan) (h : ℕ) (p : Position) (f : Frame) (below : List Frame) (board : Position)
     → IsWalking rule h p (f ∷ below) board → (after : Position) (before count : ℕ)
     → ((f.left ≡ 0) × (count ≡ before)) ⊎ GoesTo rule plan f.left (position rule p (f ∷ below)) f.place [] before count → (length below ≡ 0 → after ≡ board)
     → ((q : Position) → 0 < length below → CameFromAt rule f board q → after ≡ q) → Taken rule plan h p (f ∷ below) below after before count false
-skips-close rule plan h p f below board r after before count (inl e) lowest back = rw e.1 (steps-close rule plan h p f below board r after before (inl e.0) lowest back)
+skips-close rule plan h p f below board r after before count (inl e) lowest back =
+    rw e.1 (steps-close rule plan h p f below board r after before (inl e.0) lowest back)
 skips-close rule plan h p f below board r after before count (inr g) lowest back = steps-skip rule plan h p f below [] before count g below after count false
     (steps-close rule plan h p (moved f g.mid) below board (walking-moved rule h p f g.mid below board board r refl) after count
     (inr (rw r.board_at g.here)) lowest back)

@@ -134,6 +134,7 @@ module _ (rule : RuleSet) (plan : Plan) where
     fewer k = search (rules, sum_by-append)
 
     -- what follows moves that are passed over follows from before them
-    pub walk-skip : (new : List Frame) (board : Position) (given : Bool) → Steps rule plan h p later new board given → Steps rule plan h p (f ∷ below) new board given
+    pub walk-skip : (new : List Frame) (board : Position) (given : Bool) → Steps rule plan h p later new board given
+        → Steps rule plan h p (f ∷ below) new board given
     unfolding position walk_work
     walk-skip new board given s = search (rules, come-skip, fewer)

@@ -207,7 +207,8 @@ pub(crate) fn opened_with(opened: u64, tried: usize) -> u64
 /// Returns the count of tried positions after a move whose frame has `tried` half-moves. A position that
 /// was tested in a battle isn't counted again: its test has counted it.
 fn opened_after(opened: u64, tried: usize, tested: Option<Battle>) -> u64
-    ensures { result ≡ min (opened + (if is_some tested || (tried == 0) then 0 else 1)) (2 ^ 64 - 1) }
+    ensures { result ≡ min (opened + (if is_some tested || (tried == 0) then 0 else 1))
+        (2 ^ 64 - 1) }
 {
     match tested {
         Some(_) => opened,

@@ -30,8 +30,8 @@ returns-in-Some-pop g c =
     let off = walking.taken_off _ _ _ _ _ _ _ _ _ _ on c.in-Some-pop.ensures.items in
     let before = rw off.1 at c.step_back.ensures.before in
     let taken = walking.close_steps g.R.Rules.rule c.args.plan c.args.half_moves _ _ _ off.0 _ _ _ _ _ _
-        c.next_of_top.ensures.unchanged (walking.depth_below _ _ _ _ off.0 c.len-depth.ensures.value)
-        (rw c.in_default.is at on.next) c.step_back.ensures.lowest before in
+    c.next_of_top.ensures.unchanged (walking.depth_below _ _ _ _ off.0 c.len-depth.ensures.value)
+    (rw c.in_default.is at on.next) c.step_back.ensures.lowest before in
     record { steps = λ p r. (taken p r).0; counts = λ p r. (taken p r).1 }
 
 pub returns : goal.returns
@@ -40,9 +40,9 @@ returns g c =
     let left = walking.left_is _ _ _ _ _ _ _ _ _ on _ (rw (← c.top.view_is) at c.top_of-top.ensures) in
     let depth = walking.depth_below _ _ _ _ on.stood c.len-depth.ensures.value in
     let taken = walking.enter_steps g.R.Rules.rule c.args.plan c.args.half_moves _ _ _ on.stood _ _ _ _ _ _ _ _ _ _ c.next_of_top.ensures.unchanged
-        depth (rw c.in-Some.is at on.next) on.within on.stands _ _ _ _
-        (walking.at_root _ _ (omega (arith, c.next_of_top.ensures.len, c.len-depth.ensures.value, c.requires.«open»)))
-        (rw left at c.enter.ensures.passes) (rw left at c.enter.ensures.enters) (rw left at c.enter.ensures.counts) in
+    depth (rw c.in-Some.is at on.next) on.within on.stands _ _ _ _
+    (walking.at_root _ _ (omega (arith, c.next_of_top.ensures.len, c.len-depth.ensures.value, c.requires.«open»)))
+    (rw left at c.enter.ensures.passes) (rw left at c.enter.ensures.enters) (rw left at c.enter.ensures.counts) in
     record { steps = λ p r. (taken p r).0; counts = λ p r. (taken p r).1 }
 
 pub enter-requires : goal.enter-requires
