@@ -66,7 +66,7 @@ module _ {P M : Type 0} (game : Game P M) where
   keeps-value battle k l q e = grind (arith, value-is_lost game (k - 1), value-is_self_lost game (k - 1))
 
   -- the least length by half-moves is that of the least number of moves
-  least_moves-halves : (battle : Battle) (n t : ℕ) (q : P) → attacker_to_move battle t ≡ true → 0 < t → t ≤ 2 * n → game.goal q ≡ false
+  pub least_moves-halves : (battle : Battle) (n t : ℕ) (q : P) → attacker_to_move battle t ≡ true → 0 < t → t ≤ 2 * n → game.goal q ≡ false
       → value battle game t q ≡ true
       → least_length_from battle game q ((t - fewest_half_moves battle) / 2) (fewest_half_moves battle) ≡ halves battle (least_moves battle game n q)
   least_moves-halves battle n t q s some most open_yet v =

@@ -1,44 +1,29 @@
--- The least length of White's threats, in half-moves. That it is the least number of moves is stated in
--- pop_solve for its own walks only.
-use Rattle.pop_tries.proofs.Words.{Battle, Bool, Direct, Game, Position, RuleSet, Selfmate, Some, ap, arith, cases_lt, chess_passing, eqb, false, false≢true, half_moves, has_threat, inl, inr, least_moves, nat_tests, not, refl, rules, sym, true, wins_in, ℕ, ◌+◌, ◌-◌, ◌<◌, ◌∙◌, ◌≡◌, ◌≤◌, suc}
-use Rattle.std.proofs.Common.{◌%◌, ◌*◌, ◌/◌}
+-- The least length of White's threats, in half-moves.
+use Rattle.pop_tries.proofs.Words.{Battle, Bool, Game, Position, RuleSet, Some, ap, arith, cases_lt, chess_passing, eqb, false, false≢true, half_moves, has_threat, inl, inr, least_moves, nat_tests, not, refl, rules, sym, true, wins_in, ℕ, ◌+◌, ◌-◌, ◌<◌, ◌∙◌, ◌≡◌, ◌≤◌}
+use Rattle.std.proofs.Common.{◌*◌, ◌/◌}
 use Rattle.pop_battle.specs.Chess.{set_start}
 use Rattle.pop_battle.specs.ties.Values.{attacker_to_move}
 unfoldable use Rattle.pop_battle.specs.ties.Values.{value}
-use Rattle.pop_solve.specs.ties.Walk.{fewest_half_moves}
 unfoldable use Rattle.pop_solve.specs.ties.Walk.{least_length_from, shown_length, walk_length}
 use Rattle.pop_solve.proofs.GoingOn.{walk_length-most}
-use Rattle.pop_solve.proofs.Least.{least_moves-direct, least_moves-selfmate}
-use Rattle.pop_solve.proofs.Lengths.{length-more}
-use Rattle.pop_solve.proofs.Trees.{attacker_to_move-step, halves}
+use Rattle.pop_solve.proofs.Trees.{attacker_to_move-step, halves, least_moves-halves}
 use Rattle.pop_tries.specs.declared.contest.Contest.{Contest}
 use Rattle.pop_tries.specs.ties.Contests.{IsContest, IsThreatLength, game_in}
 use Rattle.pop_tries.proofs.Contests.{long, no_win_at_goal, no_win_in_short, passed_by_value}
 use Rattle.pop_tries.proofs.theorems.Threats.{at_least_one, has_threat_is, no_threat_after_last_move}
 
-white_halves : (battle : Battle) (t : ℕ) → attacker_to_move battle t ≡ true → 0 < t → (k : ℕ) × (t ≡ halves battle (suc k))
-white_halves Selfmate t s some = let e : t % 2 ≡ 0 = grind (arith, nat_tests) in (t / 2 - 1, omega (arith, e, some))
-white_halves Direct t s some = let e : t % 2 ≡ 1 = grind (arith, nat_tests) in (t / 2, omega (arith, e))
-
 module _ {P M : Type 0} (game : Game P M) where
-  -- the least length found by half-moves is that of the least number of moves
-  least_in_halves : (battle : Battle) (n t : ℕ) (r : P) → attacker_to_move battle t ≡ true → 0 < t → t ≤ 2 * n → game.goal r ≡ false
-      → value battle game t r ≡ true
-      → least_length_from battle game r ((t - fewest_half_moves battle) / 2) (fewest_half_moves battle) ≡ halves battle (least_moves battle game n r)
-  least_in_halves battle n t r s some most open_yet v =
-      grind (arith, white_halves battle t s some, length-more, least_moves-selfmate game r open_yet (n - 1), least_moves-direct game r (n - 1))
-
   -- where White, to move, wins, the walk goes on for the least length
   pub walked_length : (battle : Battle) (variation : Bool) (n t : ℕ) (r : P) → attacker_to_move battle t ≡ true → 0 < t → t ≤ 2 * n → game.goal r ≡ false
       → value battle game t r ≡ true → walk_length (Some battle) variation game t r ≡ halves battle (least_moves battle game n r)
   unfolding walk_length shown_length
   walked_length battle true n t r s some most open_yet v =
       let z : eqb t 0 ≡ false = grind (arith, nat_tests) in
-      rw (z, open_yet, s) (least_in_halves battle n t r s some most open_yet v)
+      rw (z, open_yet, s) (least_moves-halves game battle n t r s some most open_yet v)
   walked_length battle false n t r s some most open_yet v =
       let z : eqb t 0 ≡ false = grind (arith, nat_tests) in
       let black : attacker_to_move battle (t + 1) ≡ false = attacker_to_move-step game battle t ∙ ap not s in
-      rw (black, z, open_yet, s) (least_in_halves battle n t r s some most open_yet v)
+      rw (black, z, open_yet, s) (least_moves-halves game battle n t r s some most open_yet v)
 
 -- half-moves and moves
 two_less : (battle : Battle) (n : ℕ) → 2 ≤ n → halves battle n - 2 ≡ halves battle (n - 1)

@@ -1,4 +1,4 @@
-use Rattle.pop_solve.proofs.Words.{ap, Walk, HoldsAtStage, refl, rules, left_of, phase_events, IsLinked, IsRoomy, AreKnown, position}
+use Rattle.pop_solve.proofs.Words.{ap, Walk, HoldsAtStage, rules, left_of, phase_events, IsLinked, IsRoomy, AreKnown, position}
 use Rattle.pop_solve.proofs.Walking as walking
 use Rattle.pop_solve.proofs.Events as events
 use Rattle.pop_solve.proofs.Opened as opened
