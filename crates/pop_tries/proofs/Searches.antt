@@ -1,7 +1,7 @@
 -- How a search for tries begins, and what a call of `next` returns.
 use Rattle.pop_tries.proofs.Words.{BareTryEvent, Battle, Bool, IsSound, List, None, Option, Posed, Position, RuleSet, Some, [], arith, battle_of, drop, false, nat_tests, play_start, refl, rules, true, ℕ, ◌∷◌, ◌≡◌, ◌≤◌}
 unfoldable use Rattle.pop_tries.proofs.Words.{try_events}
-use Rattle.std.specs.Prelude.{MatchOption, None, Option, Some, slice_get}
+use Rattle.std.specs.Prelude.{MatchOption, slice_get}
 use Rattle.std.specs.Option.{option_map}
 use Rattle.pop_battle.specs.ties.Frames.{Frame}
 use Rattle.pop_stipulation.specs.Stipulations.{may_have}
