@@ -137,6 +137,12 @@ class Published(Case):
         ):
             self.assertIn(mate, mates[defence].split("/"), defence)
 
+    def test_the_try_of_the_organ_pipes(self) -> None:
+        """The version of 1859, with its published try."""
+        told = self.text((support.REPOSITORY / "tests/tries/organ_pipes.pop").read_bytes())
+        attempt = "    1.Qb5? threat: 2.Qc4#\n      1...Be6 2.Qe5#\n      but 1...axb5!\n"
+        self.assertIn(attempt, told.split("\n\n")[0])
+
     def test_several_threats(self) -> None:
         """The key threatens three mates, and only one defence parries them all."""
         told = self.text(SEVERAL_THREATS)
