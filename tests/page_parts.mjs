@@ -15,8 +15,8 @@ import { Solving } from '../web/solving.js';
 import { withField } from '../web/text.js';
 
 const CUT_STATUS = 3;
-const SECONDS_A_TEXT = 60;
-const SECONDS_OF_THE_PROGRAM = 3;
+const SECONDS_A_TEXT = 300;
+const SECONDS_OF_THE_PROGRAM = 120;
 // Turns bytes into letters and back, so that any bytes are a text.
 const CODEC = {
   encode: text => new Uint8Array(Buffer.from(text, 'latin1')),

@@ -3,6 +3,7 @@
 import base64
 import json
 import os
+import re
 import select
 import shutil
 import signal
@@ -139,10 +140,21 @@ class Browser:
     def wait(self, script: str, seconds: float = SECONDS_OF_AN_ANSWER) -> None:
         """Waits until a script's value is true."""
         end = time.monotonic() + seconds
-        while not self.run(script):
+        while not self._holds(script):
             if time.monotonic() > end:
                 raise BrowserError(f"it stays untrue: {script}")
             time.sleep(0.05)
+
+    def _holds(self, script: str) -> bool:
+        """Whether a script's value is true; it isn't while a page gives way to another."""
+        try:
+            return bool(self.run(script))
+        except BrowserGoneError:
+            raise
+        except BrowserError as error:
+            if re.search("context|navigated", str(error)):
+                return False
+            raise
 
     def open(self, address: str, ready: str = "true") -> None:
         """Opens a page in place of the one before."""

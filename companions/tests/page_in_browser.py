@@ -403,8 +403,8 @@ def used(browser: Browser, page: Page, one: Callable[[Page], None]) -> list[str]
     browser.events.clear()
     try:
         one(page)
-    except BrowserGoneError:
-        raise
+    except BrowserGoneError as error:
+        raise BrowserGoneError(f"{one.__name__}: {error}") from None
     except BrowserError as error:
         page.wrong.append(str(error))
     for event in browser.events:
