@@ -17,6 +17,8 @@ import { withField } from '../web/text.js';
 const CUT_STATUS = 3;
 const SECONDS_A_TEXT = 300;
 const SECONDS_OF_THE_PROGRAM = 120;
+// A text that takes longer without its limit of solutions is solved with it.
+const SECONDS_WITHOUT_LIMIT = 3;
 // Turns bytes into letters and back, so that any bytes are a text.
 const CODEC = {
   encode: text => new Uint8Array(Buffer.from(text, 'latin1')),
@@ -66,15 +68,15 @@ class Program {
     Object.assign(this, { path, kept: new Map() });
   }
 
-  run(words, text) {
+  run(words, text, seconds = SECONDS_OF_THE_PROGRAM) {
     const key = JSON.stringify([words, text]);
-    if (!this.kept.has(key)) this.kept.set(key, this.ran(words, text));
+    if (!this.kept.has(key)) this.kept.set(key, this.ran(words, text, seconds));
     return this.kept.get(key);
   }
 
-  ran(words, text) {
+  ran(words, text, seconds) {
     const done = spawnSync(this.path, words, { input: Buffer.from(text, 'latin1'), maxBuffer: 1 << 28,
-      timeout: SECONDS_OF_THE_PROGRAM * 1000 });
+      timeout: seconds * 1000 });
     if (done.error) throw new Error(`${this.path}: ${done.error.message}`);
     return { status: done.status, text: done.stdout.toString('latin1') };
   }
@@ -116,7 +118,7 @@ class MadeEngine {
   // Returns the report of a text without its limit of solutions, unless that takes too long.
   withoutLimit(text) {
     try {
-      return this.program.run(['--no-board'], withField(text, 0, 'MaxSolutions', null));
+      return this.program.run(['--no-board'], withField(text, 0, 'MaxSolutions', null), SECONDS_WITHOUT_LIMIT);
     } catch {
       return this.program.run(['--no-board'], text);
     }
