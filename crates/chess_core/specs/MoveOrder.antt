@@ -1,16 +1,17 @@
 -- The order of moves: by origin, then arrival, then promotion; the move without a promotion comes first
 -- (own).
-use Rattle.std.specs.Prelude.{ℕ, ◌+◌, ◌*◌, Option, Some, None}
+use Rattle.std.specs.Prelude.{◌==◌, nat_lt, Bool, true, false, ◌&&◌, ◌||◌, Option, Some, None}
 use Rattle.chess_core.specs.Position.{kind_number}
 use Rattle.chess_core.specs.Move.{Move}
 use Rattle.chess_core.specs.declared.man.Kind.{Kind}
 
--- the place of a promotion in their order: none first, then the kinds
-abbrev pub promotion_order : Option Kind → ℕ
-promotion_order None = 0
-promotion_order (Some k) = kind_number k + 1
+-- one promotion comes before another: none before all, then in the order of kinds
+abbrev pub promotion_precedes : Option Kind → Option Kind → Bool
+promotion_precedes _ None = false
+promotion_precedes None (Some k) = true
+promotion_precedes (Some j) (Some k) = nat_lt (kind_number j) (kind_number k)
 
--- a number that orders moves: by origin, then arrival, then promotion, with room for 9 promotions for each
--- pair
-abbrev pub order_number : Move → ℕ
-order_number m = (m.from * 64 + m.to) * 9 + promotion_order m.promo
+-- one move comes before another
+abbrev pub precedes : Move → Move → Bool
+precedes m n = nat_lt m.from n.from
+    || m.from == n.from && (nat_lt m.to n.to || m.to == n.to && promotion_precedes m.promo n.promo)

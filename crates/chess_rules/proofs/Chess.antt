@@ -41,4 +41,4 @@ pub use Rattle.chess_rules.specs.ties.Undoing.{CanReturn, leaving_man, return_sq
 unfoldable pub use Rattle.chess_rules.specs.ties.Undoing.{before_by, returned_men, uncastled_men}
 pub use Rattle.chess_rules.specs.ties.Counting.{AreLegal}
 unfoldable pub use Rattle.chess_rules.specs.ties.Counting.{is_untested}
-pub use Rattle.chess_core.specs.MoveOrder.{order_number, promotion_order}
+pub use Rattle.chess_core.specs.MoveOrder.{precedes, promotion_precedes}

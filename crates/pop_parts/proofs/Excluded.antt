@@ -4,7 +4,7 @@
 use Rattle.pop_parts.proofs.Words.{Appends, Bool, Entry, Faulty, Input, List, Lists, Move, None, Option, Phase, Posed, ReadsItems, RuleSet, Shows, Some, Sound, Word, [], ap, arith, begins_path, begins_so, closings, codes, entries_in, entry_numbered, eqb, false, list_any, outcome_at, part_numbered, parts, refl, slice_get, status_of, reports_device_failure, text_at, text_in, true, ℕ, ◌∷◌, ◌≡◌, ◌≢◌, ◌≤◌}
 unfoldable use Rattle.pop_input.specs.Names.{command_of}
 use Rattle.pop_run.specs.declared.status.Status.TheVariants.{OutputFailed as ListCut}
-use Rattle.chess_core.specs.MoveOrder.{order_number}
+use Rattle.chess_core.specs.Move.{same_move}
 use Rattle.pop_parts.specs.declared.request.PartRequest.{PartRequest}
 use Rattle.pop_parts.specs.declared.request.Outcome.{Outcome}
 use Rattle.pop_parts.specs.declared.request.Outcome.TheVariants.{OutputFailed, Shown}
@@ -62,7 +62,7 @@ module _ (rule : RuleSet) (problem : Posed) (phase : Phase) (depth : ℕ) where
   first_part_is_numbered_1 front fronts are = ap (λ all. slice_get all 0) are
 
 -- a solution that begins with another move than the part's first isn't the part's
-pub no_other_first_move : (m n : Move) (front path : List Move) (paths : List (List Move)) → eqb (order_number m) (order_number n) ≡ false
+pub no_other_first_move : (m n : Move) (front path : List Move) (paths : List (List Move)) → same_move m n ≡ false
     → begins_so (m ∷ front) ((n ∷ path) ∷ paths) ≡ false
 unfolding begins_path
 no_other_first_move m n front path paths other = rw other refl

@@ -2,7 +2,7 @@
 use Rattle.pop_parts.proofs.Words.{AllPairs, Bool, Contains, Game, IsPlayable, List, Move, Position, Precedes, StandsBefore, [], ap, append-nil, arith, beginnings, begins_path, begins_so, cond, eqb, false, filter, filter-append, first_in, flat_map, flat_map-append, from_flat_map, from_map, in_cases, in_flat_map, in_map, inr, later_in, length, lines_to_goal, map, map-append, map-id, nat_tests, none_in_nil, pairs_flat_map, pairs_map, pairs_nil, pairs_of, path_end, refl, rules, suc, sym, take, true, zero, ℕ, ◌&&◌, ◌++◌, ◌-◌, ◌<◌, ◌∙◌, ◌∷◌, ◌≡◌, ◌≤◌}
 use Rattle.std.proofs.lemmas.List.Folds.{flat_map-map}
 use Rattle.std.proofs.lemmas.Simd.{map-map}
-use Rattle.chess_core.specs.MoveOrder.{order_number}
+use Rattle.chess_core.specs.Move.{same_move}
 use Rattle.chess_rules.proofs.listing_moves.Members.{pairs_first, pairs_later}
 use Rattle.pop_solve.proofs.Trees.{flat-same}
 
@@ -36,13 +36,25 @@ module _ {A B : Type 0} where
   map-each f g [] same = refl
   map-each f g (x ∷ xs) same = rw (same x, map-each f g xs same) refl
 
+-- which moves are the same
+same_as_itself : (m : Move) → same_move m m ≡ true
+same_as_itself m = search rules
+
+differs_from_later : (m n : Move) → Precedes m n → same_move m n ≡ false
+differs_from_later m n before = search rules
+
+differs_from_earlier : (m n : Move) → Precedes m n → same_move n m ≡ false
+differs_from_earlier m n before = search rules
+
+differs_either_way : (m n : Move) → same_move m n ≡ false → same_move n m ≡ false
+differs_either_way m n differ = search rules
+
 -- a list joined over moves in order is the list of one move, where every other move's is empty
-module _ {B : Type 0} (F : Move → List B) (m : Move) (apart : (x : Move) → eqb (order_number m) (order_number x) ≡ false → F x ≡ []) where
-  following-none : (ms : List Move) → ((x : Move) → Contains ms x → order_number m < order_number x) → flat_map F ms ≡ []
+module _ {B : Type 0} (F : Move → List B) (m : Move) (apart : (x : Move) → same_move m x ≡ false → F x ≡ []) where
+  following-none : (ms : List Move) → ((x : Move) → Contains ms x → Precedes m x) → flat_map F ms ≡ []
   following-none [] less = refl
   following-none (x ∷ ms) less =
-      let l = less x (first_in x ms) in
-      let a : F x ≡ [] = apart x (grind (arith, nat_tests)) in
+      let a : F x ≡ [] = apart x (differs_from_later m x (less x (first_in x ms))) in
       rw (a, following-none ms (λ y c. less y (later_in x ms y c))) refl
 
   one-of : (ms : List Move) → AllPairs Precedes ms → Contains ms m → flat_map F ms ≡ F m
@@ -50,18 +62,15 @@ module _ {B : Type 0} (F : Move → List B) (m : Move) (apart : (x : Move) → e
   one-of (x ∷ ms) order c =
       let first = pairs_first Precedes x ms order in
       let later = pairs_later Precedes x ms order in
-      grind (arith, in_cases, following-none ms, first, later, append-nil, apart x, one-of ms, nat_tests)
+      grind (arith, in_cases, following-none ms, first, later, append-nil, apart x, one-of ms, differs_from_earlier x m)
 
 -- a line after a first move begins as a part does if that move is the part's first and the rest begins as
 -- the part goes on
-fronts-under : (m : Move) (front : List Move) (x : Move) (b : Bool) → eqb (order_number m) (order_number x) ≡ b → (lines : List (List Move))
+fronts-under : (m : Move) (front : List Move) (x : Move) (b : Bool) → same_move m x ≡ b → (lines : List (List Move))
     → filter (begins_path (m ∷ front)) (map (λ line. x ∷ line) lines) ≡ cond b (map (λ line. x ∷ line) (filter (begins_path front) lines)) []
 unfolding begins_path
 fronts-under m front x b e [] = search rules
 fronts-under m front x b e (line ∷ lines) = search (rules, fronts-under m front x b e lines)
-
-same-number : (m : Move) → eqb (order_number m) (order_number m) ≡ true
-same-number m = grind (arith, nat_tests)
 
 front-all : (lines : List (List Move)) → filter (begins_path []) lines ≡ lines
 unfolding begins_path
@@ -128,7 +137,7 @@ module _ (game : Game Position Move) (order : (p : Position) → AllPairs Preced
       rw e (filter-flat (begins_path (m ∷ front)) G (game.moves p)
       ∙ one-of (λ x. filter (begins_path (m ∷ front)) (G x)) m (λ x f. fronts-under m front x false f (lines_to_goal game h (game.after p x))) (game.moves p)
       (order p) are.0
-      ∙ fronts-under m front m true (same-number m) (lines_to_goal game h (game.after p m))
+      ∙ fronts-under m front m true (same_as_itself m) (lines_to_goal game h (game.after p m))
       ∙ ap (map (λ line. m ∷ line)) rest
       ∙ map-map (λ line. m ∷ line) (λ line. front ++ line) (lines_to_goal game (h - length front) (path_end game.after (game.after p m) front)))
 
@@ -155,19 +164,19 @@ module _ (game : Game Position Move) (order : (p : Position) → AllPairs Preced
       let T : List Move → Bool = λ front. begins_path front (x ∷ line) in
       let F : Move → List (List Move) = λ m. map (λ rest. m ∷ rest) (beginnings game d (game.after p m)) in
       filter-flat T F (game.moves p)
-      ∙ one-of (λ m. filter T (F m)) x (λ m e. filter-map T (λ rest. m ∷ rest) (beginnings game d (game.after p m)) ∙ none m (grind (arith, nat_tests))
+      ∙ one-of (λ m. filter T (F m)) x (λ m e. filter-map T (λ rest. m ∷ rest) (beginnings game d (game.after p m)) ∙ none m (differs_either_way x m e)
       (beginnings game d (game.after p m))) (game.moves p) (order p) are.0
       ∙ filter-map T (λ rest. x ∷ rest) (beginnings game d (game.after p x))
       ∙ ap (map (λ rest. x ∷ rest)) (here (beginnings game d (game.after p x)) ∙ beginnings-one d (game.after p x) line are.1 (omega (arith, most)))
     where
-      none : (m : Move) → eqb (order_number m) (order_number x) ≡ false → (rests : List (List Move))
-          → map (λ rest. m ∷ rest) (filter (λ rest. eqb (order_number m) (order_number x) && begins_path rest line) rests) ≡ []
+      none : (m : Move) → same_move m x ≡ false → (rests : List (List Move))
+          → map (λ rest. m ∷ rest) (filter (λ rest. same_move m x && begins_path rest line) rests) ≡ []
       none m e [] = refl
       none m e (r ∷ rests) = search (rules, none m e rests)
 
       here : (rests : List (List Move))
-          → filter (λ rest. eqb (order_number x) (order_number x) && begins_path rest line) rests ≡ filter (λ rest. begins_path rest line) rests
-      here rests = rw (same-number x) refl
+          → filter (λ rest. same_move x x && begins_path rest line) rests ≡ filter (λ rest. begins_path rest line) rests
+      here rests = rw (same_as_itself x) refl
 
 -- solutions of battle play: the solutions that begin with one move of the root
 pub root-part : (other : Move → Bool) (G : Move → List (List Move)) (m : Move) (ms : List Move) → AllPairs Precedes ms → Contains ms m
@@ -184,12 +193,12 @@ root-part other G m ms order c =
     joined [] = refl
     joined (x ∷ xs) = search (rules, joined xs)
 
-    apart : (x : Move) (b : Bool) → eqb (order_number m) (order_number x) ≡ false
+    apart : (x : Move) (b : Bool) → same_move m x ≡ false
         → filter (begins_so (m ∷ [])) (cond b (((x ∷ []) ∷ G x) ∷ []) []) ≡ []
     apart x b e = search rules
 
     alone : (b : Bool) → filter (begins_so (m ∷ [])) (cond b (((m ∷ []) ∷ G m) ∷ []) []) ≡ cond b (((m ∷ []) ∷ G m) ∷ []) []
-    alone b = search (rules, same-number)
+    alone b = search (rules, same_as_itself)
 
 -- the solutions of all moves, one move after another
 pub each-own : {B : Type 0} (other : Move → Bool) (N : Move → B) (ms : List Move)

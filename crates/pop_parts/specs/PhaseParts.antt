@@ -2,7 +2,7 @@
 -- itself, on any machine (own).
 use Rattle.std.specs.Prelude.{ℕ, zero, suc, ◌-◌, ◌==◌, min, Bool, true, false, ◌&&◌, ◌||◌, if◌then◌else◌, List, [], ◌∷◌, ◌++◌, map, take, filter, length, Option, None, slice_get}
 use Rattle.std.specs.List.{flat_map}
-use Rattle.chess_core.specs.MoveOrder.{order_number}
+use Rattle.chess_core.specs.Move.{same_move}
 use Rattle.chess_attacks.specs.RuleSet.{RuleSet}
 use Rattle.pop_input.specs.Posed.{Posed}
 use Rattle.pop_stipulation.specs.Stipulations.{is_help}
@@ -37,11 +37,11 @@ abbrev pub part_numbered : RuleSet → Posed → Phase → ℕ → ℕ → Optio
 part_numbered rule problem phase depth number =
     if number == 0 then None else slice_get (parts rule problem phase depth) (number - 1)
 
--- the path begins with these moves; moves are compared by their order numbers
+-- the path begins with these moves
 unfoldable pub begins_path : Path → Path → Bool
 begins_path [] path = true
 begins_path (m ∷ front) [] = false
-begins_path (m ∷ front) (n ∷ path) = order_number m == order_number n && begins_path front path
+begins_path (m ∷ front) (n ∷ path) = same_move m n && begins_path front path
 
 -- the solution's first path begins with these moves
 abbrev pub begins_so : Path → Solution → Bool

@@ -1,16 +1,11 @@
 -- The paths of a phase's solutions.
 use Rattle.pop_solve.proofs.Words.{AllPairs, List, Move, None, Phase, Posed, RuleSet, [], arith, battle_of, drop, flat_map, flat_map-append, game_of, help_lines, pairs_front, phase_half_moves, phase_start, solutions, take, take-append-drop, ℕ, ◌<◌, ◌∷◌, ◌≡◌, flat_map_single, ◌∙◌, map-id, flat_map-map}
-use Rattle.chess_core.specs.MoveOrder.{order_number}
 
 -- the first of joined lists
 pub first_joined : {X : Type 0} (R : X → X → Type 0) (n : ℕ) (xss : List (List X)) → AllPairs R (flat_map (λ s. s) xss)
     → AllPairs R (flat_map (λ s. s) (take n xss))
 first_joined R n xss pairs = pairs_front R (flat_map (λ s. s) (take n xss)) (flat_map (λ s. s) (drop n xss))
     (rw (← flat_map-append (λ s. s) (take n xss) (drop n xss), take-append-drop n xss) pairs)
-
--- no move comes before itself
-pub never_itself : (m : Move) → order_number m < order_number m → ⊥
-never_itself m less = omega (arith, less)
 
 -- the paths of help play are its lines
 pub help_paths : (rule : RuleSet) (problem : Posed) (phase : Phase) → battle_of problem.stipulation.form ≡ None

@@ -1,5 +1,6 @@
 -- The triples: what they are, their order, and that each legal move is one of them.
-use Rattle.chess_rules.proofs.Chess.{AllPairs, Bishop, Bool, Colour, Contains, Gait, Grasshopper, Hopper, Kind, King, Knight, Leaper, List, Man, Move, Nightrider, Option, Pawn, Position, Queen, Rider, Rook, RuleSet, Some, Step, [], all_triples, along, along-is, and_parts, ap, arith, can_castle, false≢true, flat_map, gait_of, get_or-range_with_len, goes_by, hops, is_nil, is_promotion_right, is_pseudo_legal, is_square, kind_steps, leaps, length, length-range_with_len, list_any, man_on, map, may_castle, may_promote, or_cases, order_number, promotion_order, promotions, range_with_len, reaches, reaches_as, reaches_of, refl, rides, rules, squares, suc, triple_at, triples, true, zero, ℕ, ◌+◌, ◌-◌, ◌<◌, ◌↔◌, ◌∷◌, ◌≡◌, ◌⊎◌}
+use Rattle.chess_rules.proofs.Chess.{AllPairs, Bishop, Bool, Colour, Contains, Gait, Grasshopper, Hopper, Kind, King, Knight, Leaper, List, Man, Move, Nightrider, Option, Pawn, Position, Queen, Rider, Rook, RuleSet, Some, Step, [], all_triples, along, along-is, and_parts, ap, arith, can_castle, false≢true, flat_map, gait_of, get_or-range_with_len, goes_by, hops, is_nil, is_promotion_right, is_pseudo_legal, is_square, kind_steps, leaps, length, length-range_with_len, list_any, man_on, map, may_castle, may_promote, nat_lt, or_cases, per_arrival, per_origin, precedes, promotion_at, promotion_precedes, promotions, range_with_len, reaches, reaches_as, reaches_of, refl, rides, rules, squares, triple_at, triples, true, ℕ, ◌%◌, ◌&&◌, ◌*◌, ◌+◌, ◌/◌, ◌<◌, ◌==◌, ◌||◌, ◌∷◌, ◌≡◌}
+use Rattle.std.proofs.lemmas.Bool.Decides.{nat_tests}
 use Rattle.chess_rules.proofs.listing_moves.Members.{first_in, none_in_nil, from_flat_map, from_map, from_range, in_flat_map, in_map, in_range, pairs_map}
 use Rattle.chess_rules.proofs.listing_moves.Places.{triples_numbered}
 use Rattle.chess_rules.proofs.making_moves.Pseudo.{IsMade, made, pawn_steps_to, ways}
@@ -26,24 +27,45 @@ from_triples m c =
     let promotion : r.0 ≡ m.promo = ap (λ (n : Move). n.promo) r.2 in
     (grind (arith, from_range 0 64 a.0 a.1, r.2), grind (arith, from_range 0 64 b.0 b.1, r.2), rw promotion at r.1)
 
--- the numbers of the triples rise
-next_rises : (n : ℕ) → n < 28671 → order_number (triple_at n) < order_number (triple_at (n + 1))
-unfolding triple_at
-next_rises n less = search rules
+-- each triple has a number
+pub numbered : (m : Move) → Contains triples m → (n : ℕ) × (n < all_triples) × (triple_at n ≡ m)
+numbered m c =
+    let w = from_map triple_at (range_with_len 0 all_triples) m (rw triples_numbered at c) in
+    (w.0, grind (arith, from_range 0 all_triples w.0 w.1), w.2)
 
-later_rises : (d n : ℕ) → n + suc d < all_triples → order_number (triple_at n) < order_number (triple_at (n + suc d))
-later_rises zero n less = let e : n + 1 ≡ n + suc zero = omega arith in rw (← e) (next_rises n (omega (arith, less)))
-later_rises (suc d) n less = grind (arith, next_rises, later_rises d n (omega (arith, less)))
+-- A triple's number has its origin, arrival and promotion as digits, so that numbers are in the order of
+-- moves.
+
+by_digits : (a b c x y z : ℕ) → b < 64 → y < 64 → c < per_arrival → z < per_arrival
+    → (nat_lt a x || a == x && (nat_lt b y || b == y && nat_lt c z))
+    ≡ nat_lt (a * per_origin + b * per_arrival + c) (x * per_origin + y * per_arrival + z)
+by_digits a b c x y z b_low y_low c_low z_low = grind (arith, nat_tests)
+
+in_digits : (n : ℕ) → n ≡ n / per_origin * per_origin + n / per_arrival % 64 * per_arrival + n % per_arrival
+in_digits n = omega arith
+
+-- the promotions of triples are in the order of their numbers
+promotions_rise : (a b : ℕ) → a < per_arrival → b < per_arrival → promotion_precedes (promotion_at a) (promotion_at b) ≡ nat_lt a b
+promotions_rise a b low high = search rules
+
+-- one triple precedes another if its number is lower
+pub triples_by_number : (j k : ℕ) → j < all_triples → k < all_triples → precedes (triple_at j) (triple_at k) ≡ nat_lt j k
+unfolding triple_at
+triples_by_number j k low high =
+    rw (promotions_rise (j % per_arrival) (k % per_arrival) (omega arith) (omega arith),
+    by_digits (j / per_origin) (j / per_arrival % 64) (j % per_arrival) (k / per_origin) (k / per_arrival % 64) (k % per_arrival)
+    (omega arith) (omega arith) (omega arith) (omega arith),
+    ← in_digits j, ← in_digits k) refl
 
 -- the numbers of a range rise
 range_rises : (a n : ℕ) → AllPairs (λ j k. (j < k) × (k < a + n)) (range_with_len a n)
 range_rises a n i j d low high = search (rules, length-range_with_len, get_or-range_with_len)
 
--- the triples stand in the order of their numbers
-pub triples_rise : AllPairs (λ m n. order_number m < order_number n) triples
+-- the triples stand in order
+pub triples_rise : AllPairs (λ m n. precedes m n ≡ true) triples
 triples_rise =
-    rw triples_numbered (pairs_map (λ j k. (j < k) × (k < 0 + all_triples)) (λ m n. order_number m < order_number n) triple_at (range_with_len 0 all_triples)
-    (λ j k w. let e : j + suc (k - j - 1) ≡ k = omega (arith, w) in rw e at (later_rises (k - j - 1) j (omega (arith, w)))) (range_rises 0 all_triples))
+    rw triples_numbered (pairs_map (λ j k. (j < k) × (k < 0 + all_triples)) (λ m n. precedes m n ≡ true) triple_at (range_with_len 0 all_triples)
+    (λ j k w. search (rules, triples_by_number j k)) (range_rises 0 all_triples))
 
 -- Each move that may be made goes from a square to a square, with one of the promotions or none.
 
@@ -99,14 +121,6 @@ made_is_triple rule p m size h =
     let by = made rule p m x.0 h x.1 in
     let from = on_board p.men m.from x.0 size x.1 in
     (from, arrival_on_board rule p x.0 m from by, promotion_is_one p x.0 m m.promo by.promotion)
-
--- The order by parts: arrivals below 64 and promotions below 9.
-
--- by number is by origin, then by arrival, then by promotion
-pub by_parts : (m n : Move) → m.to < 64 → n.to < 64
-    → (order_number m < order_number n) ↔ ((m.from < n.from)
-    ⊎ ((m.from ≡ n.from) × ((m.to < n.to) ⊎ ((m.to ≡ n.to) × (promotion_order m.promo < promotion_order n.promo)))))
-by_parts m n a b = search rules
 
 -- a list without elements
 pub nothing_in : (ms : List Move) → is_nil ms ≡ true → (m : Move) → Contains ms m → ⊥

@@ -1,23 +1,40 @@
 -- The moves of a position are exactly its legal moves, each once, in order; mate and stalemate in terms of
 -- them.
-use Rattle.chess_rules.proofs.Chess.{AllPairs, AllPairs-filter, Contains, IsWellFormed, Move, Position, RuleSet, and_from, and_parts, ap, arith, false, false_from_ne_true, in_check, is_legal, is_mate, is_nil, is_stalemate, moves, not-true, not_from_false, order_number, promotion_order, promotions, sym, triples, true, true≢false, ◌<◌, ◌↔◌, ◌∙◌, ◌≡◌, ◌≢◌, ◌⊎◌}
+use Rattle.chess_rules.proofs.Chess.{AllPairs, AllPairs-filter, Bool, Contains, IsWellFormed, Move, Position, RuleSet, Some, and_from, and_parts, arith, false, false_from_ne_true, in_check, is_legal, is_mate, is_nil, is_stalemate, moves, nat_lt, not-true, not_from_false, place_of, precedes, promotion_precedes, promotions, rules, sym, triples, true, true≢false, ℕ, ◌&&◌, ◌<◌, ◌==◌, ◌||◌, ◌↔◌, ◌∙◌, ◌≡◌, ◌≢◌, ◌⊎◌}
+use Rattle.std.proofs.lemmas.Bool.Decides.{nat_tests}
 use Rattle.chess_rules.proofs.listing_moves.Calls.{is_pseudo_legal-from_legal}
+use Rattle.chess_rules.proofs.listing_moves.Places.{place_of_triple}
 use Rattle.chess_rules.proofs.listing_moves.Members.{from_filter, in_filter, pairs_weaker}
-use Rattle.chess_rules.proofs.listing_moves.TripleNumbers.{from_triples, in_triples, made_is_triple, triples_rise, by_parts, nil_where_nothing, nothing_in}
+use Rattle.chess_rules.proofs.listing_moves.TripleNumbers.{from_triples, in_triples, made_is_triple, numbered, triples_by_number, triples_rise, nil_where_nothing, nothing_in}
 
 -- The move's origin and arrival are squares of the board, and its promotion is one of `promotions`.
 abbrev pub IsTriple : Move → Type 0
 IsTriple m = (m.from < 64) × (m.to < 64) × Contains promotions m.promo
 
--- m precedes n: its number among all triples is lower, as `Move::precedes` says.
+-- m precedes n in the order of moves.
 abbrev pub Precedes : Move → Move → Type 0
-Precedes m n = order_number m < order_number n
+Precedes m n = precedes m n ≡ true
 
 -- m precedes n exactly if its origin is lower; or the origins are equal and its arrival is lower; or both
--- are equal and its promotion comes first in `promotions`.
-pub precedes_by_parts : (m n : Move) → IsTriple m → IsTriple n
-    → Precedes m n ↔ ((m.from < n.from) ⊎ ((m.from ≡ n.from) × ((m.to < n.to) ⊎ ((m.to ≡ n.to) × (promotion_order m.promo < promotion_order n.promo)))))
-precedes_by_parts m n a b = by_parts m n a.1 b.1
+-- are equal and its promotion comes first.
+pub precedes_by_parts : (m n : Move)
+    → Precedes m n ↔ ((m.from < n.from) ⊎ ((m.from ≡ n.from) × ((m.to < n.to) ⊎ ((m.to ≡ n.to) × (promotion_precedes m.promo n.promo ≡ true)))))
+precedes_by_parts m n = by_parts m.from n.from m.to n.to (promotion_precedes m.promo n.promo)
+  where
+    by_parts : (a x b y : ℕ) (last : Bool) → ((nat_lt a x || a == x && (nat_lt b y || b == y && last)) ≡ true)
+        ↔ ((a < x) ⊎ ((a ≡ x) × ((b < y) ⊎ ((b ≡ y) × (last ≡ true)))))
+    by_parts a x b y last = search (rules, nat_tests)
+
+-- Of two triples the one with the lower number precedes the other.
+pub precedes_by_number : (m n : Move) → IsTriple m → IsTriple n → Precedes m n ↔ (place_of (Some m) < place_of (Some n))
+precedes_by_number m n a b =
+    let j = numbered m (in_triples m a.0 a.1 a.2) in
+    let k = numbered n (in_triples n b.0 b.1 b.2) in
+    rw (← j.2, ← k.2, place_of_triple j.0 j.1, place_of_triple k.0 k.1, triples_by_number j.0 k.0 j.1 k.1) (search (rules, nat_tests))
+
+-- No move precedes itself.
+pub never_precedes_itself : (m : Move) → Precedes m m → ⊥
+never_precedes_itself m before = search (rules, nat_tests)
 
 module _ (rule : RuleSet) (p : Position) where
   -- Each legal move of a well-formed position is a triple.
@@ -43,10 +60,7 @@ module _ (rule : RuleSet) (p : Position) where
 
   -- No two elements of `moves` are equal.
   pub moves_differ : AllPairs (λ m n. m ≢ n) (moves rule p)
-  moves_differ = pairs_weaker Precedes (λ m n. m ≢ n) (moves rule p) (λ m n less same. apart m n less same) moves_in_order
-    where
-      apart : (m n : Move) → Precedes m n → m ≡ n → ⊥
-      apart m n less same = let e : order_number m ≡ order_number n = ap order_number same in omega (arith, less, e)
+  moves_differ = pairs_weaker Precedes (λ m n. m ≢ n) (moves rule p) (λ m n before same. never_precedes_itself n (rw same at before)) moves_in_order
 
   -- `moves` is empty exactly if no move is legal.
   pub no_moves_is : IsWellFormed p → (is_nil (moves rule p) ≡ true) ↔ ((m : Move) → is_legal rule p m ≡ false)

@@ -5,7 +5,7 @@ use Rattle.std.proofs.lemmas.List.Concat.{length-flat_map}
 use Rattle.std.proofs.lemmas.List.Sums.{length-filter}
 use Rattle.pop_parts.proofs.PartLists.{first-of-firsts}
 use Rattle.pop_parts.proofs.PartsJoined.{joined, once, parts-are, parts-stand}
-use Rattle.pop_solve.proofs.PhasePaths.{never_itself}
+use Rattle.chess_rules.proofs.theorems.Moves.{never_precedes_itself}
 use Rattle.pop_solve.proofs.theorems.HelpLines.{IsLegalLine, playable_is_legal}
 
 module _ (rule : RuleSet) (problem : Posed) (phase : Phase) (depth : ℕ) where
@@ -16,7 +16,7 @@ module _ (rule : RuleSet) (problem : Posed) (phase : Phase) (depth : ℕ) where
   -- No two parts are equal.
   pub parts_differ : AllPairs (λ a b. a ≢ b) (parts rule problem phase depth)
   parts_differ = pairs_weaker (StandsBefore Precedes) (λ a b. a ≢ b) (parts rule problem phase depth)
-      (never_before_itself Precedes never_itself) parts_in_order
+      (never_before_itself Precedes never_precedes_itself) parts_in_order
 
 -- A sound problem, one of its possible phases, and any number of moves that distinguish its parts.
 module _ (rule : RuleSet) (problem : Posed) (phase : Phase) (depth : ℕ) (free : is_impossible_phase rule problem phase ≡ false) (sound : IsSound problem) where

@@ -1,7 +1,7 @@
 -- The solutions of a chess problem: which lines and keys they are, that no path of a phase comes twice, and
 -- in which order the paths come.
-use Rattle.pop_solve.proofs.Words.{AllPairs, Battle, Contains, IsSound, List, Move, None, Option, Phase, Play, Posed, Precedes, RuleSet, Set, Some, [], battle_of, game_of, is_goal_reached, is_legal, keeps_win, length, moves_are_the_legal_moves, moves_in_order, pairs_weaker, path_end, phase_half_moves, phase_start, play_start, refl, rules, is_in_set_play, solutions, take, true, ◌↔◌, ◌∷◌, ◌≡◌, ◌≢◌, ◌≤◌, position_after}
-use Rattle.pop_solve.proofs.PhasePaths.{first_joined, help_paths, never_itself}
+use Rattle.pop_solve.proofs.Words.{AllPairs, Battle, Contains, IsSound, List, Move, None, Option, Phase, Play, Posed, Precedes, RuleSet, Set, Some, [], battle_of, game_of, is_goal_reached, is_legal, keeps_win, length, moves_are_the_legal_moves, moves_in_order, never_precedes_itself, pairs_weaker, path_end, phase_half_moves, phase_start, play_start, refl, rules, is_in_set_play, solutions, take, true, ◌↔◌, ◌∷◌, ◌≡◌, ◌≢◌, ◌≤◌, position_after}
+use Rattle.pop_solve.proofs.PhasePaths.{first_joined, help_paths}
 use Rattle.pop_solve.proofs.Sound.{start_sound}
 use Rattle.pop_solve.proofs.theorems.HelpLines.{IsLegalLine, help_lines_of_chess_are, help_lines_of_chess_in_order}
 use Rattle.pop_solve.proofs.theorems.Lists.{HasBeginnings, StandsBefore, never_before_itself, paths}
@@ -57,7 +57,7 @@ module _ (rule : RuleSet) (problem : Posed) where
 
   -- No two paths of a phase are equal.
   pub paths_differ : (phase : Phase) → AllPairs (λ a b. a ≢ b) (paths (solutions rule problem phase))
-  paths_differ phase = search (rules, pairs_weaker, never_before_itself Precedes never_itself, never_itself, paths_in_order phase)
+  paths_differ phase = search (rules, pairs_weaker, never_before_itself Precedes never_precedes_itself, never_precedes_itself, paths_in_order phase)
 
   -- The shown paths, of the first solutions up to the limit, come in this order too.
   pub shown_paths_in_order : (phase : Phase) → AllPairs (StandsBefore Precedes) (paths (take problem.max_solutions (solutions rule problem phase)))
