@@ -13,15 +13,7 @@ from pops_companions.sheet.boards import after
 from pops_companions.sheet.languages import LANGUAGES, marked_as
 from pops_companions.sheet.short import short
 from tests.made_battles import made_text
-from tests.plain_chess import (
-    EMPTY,
-    Position,
-    Rules,
-    in_check,
-    legal_moves,
-    move_text,
-    play,
-)
+from tests.plain_chess import EMPTY, Position, Rules, in_check, legal_moves, move_text, play
 from tests.plain_tries import Writer
 
 

@@ -25,6 +25,7 @@ from pops_companions.report.tries import TriesItem
 from pops_companions.review.posing import posed_problems
 from pops_companions.review.reading import tries_of_file
 
+
 @dataclass(frozen=True)
 class Runs:
     """How problems are solved: by which program, in how many processes, for how many seconds each.
