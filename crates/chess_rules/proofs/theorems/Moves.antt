@@ -25,7 +25,7 @@ precedes_by_parts m n = by_parts m.from n.from m.to n.to (promotion_precedes m.p
         ↔ ((a < x) ⊎ ((a ≡ x) × ((b < y) ⊎ ((b ≡ y) × (last ≡ true)))))
     by_parts a x b y last = search (rules, nat_tests)
 
--- Of two triples the one with the lower number precedes the other.
+-- One triple precedes another exactly if its number is lower.
 pub precedes_by_number : (m n : Move) → IsTriple m → IsTriple n → Precedes m n ↔ (place_of (Some m) < place_of (Some n))
 precedes_by_number m n a b =
     let j = numbered m (in_triples m a.0 a.1 a.2) in
