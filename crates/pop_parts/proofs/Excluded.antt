@@ -1,7 +1,7 @@
 -- What the clauses of lists and parts exclude: text of parts that don't exist; a failed sink reported as
 -- another end, or another end as a failed sink; words used after the requested item; parts numbered from
 -- 0; and solutions that don't begin with the part's moves.
-use Rattle.pop_parts.proofs.Words.{Appends, Bool, Entry, Faulty, Input, List, Lists, Move, None, Option, Phase, Posed, ReadsItems, RuleSet, Shows, Some, Sound, Word, [], ap, arith, begins_path, begins_so, closings, codes, entries_in, entry_numbered, eqb, false, list_any, outcome_at, part_numbered, parts, refl, slice_get, status_of, reports_device_failure, text_at, text_in, true, ℕ, ◌∷◌, ◌≡◌, ◌≢◌, ◌≤◌}
+use Rattle.pop_parts.proofs.Words.{Appends, Bool, Entry, Faulty, Input, List, Lists, Move, None, Option, Phase, Posed, ReadsItems, RuleSet, Shows, Some, Sound, Word, [], ap, arith, begins_path, begins_so, closings, codes, entries_in, entry_numbered, false, list_any, outcome_at, part_numbered, parts, refl, slice_get, status_of, reports_device_failure, text_at, text_in, true, ℕ, ◌∷◌, ◌≡◌, ◌≢◌, ◌≤◌}
 unfoldable use Rattle.pop_input.specs.Names.{command_of}
 use Rattle.pop_run.specs.declared.status.Status.TheVariants.{OutputFailed as ListCut}
 use Rattle.chess_core.specs.Move.{same_move}

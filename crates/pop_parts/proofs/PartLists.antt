@@ -1,5 +1,5 @@
 -- Lists of moves that begin as a part does: each is in one part, and the parts joined are all of them.
-use Rattle.pop_parts.proofs.Words.{AllPairs, Bool, Contains, Game, IsPlayable, List, Move, Position, Precedes, StandsBefore, [], ap, append-nil, arith, beginnings, begins_path, begins_so, cond, eqb, false, filter, filter-append, first_in, flat_map, flat_map-append, from_flat_map, from_map, in_cases, in_flat_map, in_map, inr, later_in, length, lines_to_goal, map, map-append, map-id, nat_tests, none_in_nil, pairs_flat_map, pairs_map, pairs_nil, pairs_of, path_end, refl, rules, suc, sym, take, true, zero, ℕ, ◌&&◌, ◌++◌, ◌-◌, ◌<◌, ◌∙◌, ◌∷◌, ◌≡◌, ◌≤◌}
+use Rattle.pop_parts.proofs.Words.{AllPairs, Bool, Contains, Game, IsPlayable, List, Move, Position, Precedes, StandsBefore, [], ap, append-nil, arith, beginnings, begins_path, begins_so, cond, false, filter, filter-append, first_in, flat_map, flat_map-append, from_flat_map, from_map, in_cases, in_flat_map, in_map, inr, later_in, length, lines_to_goal, map, map-append, map-id, nat_tests, none_in_nil, pairs_flat_map, pairs_map, pairs_nil, pairs_of, path_end, refl, rules, suc, sym, take, true, zero, ℕ, ◌&&◌, ◌++◌, ◌-◌, ◌∙◌, ◌∷◌, ◌≡◌, ◌≤◌}
 use Rattle.std.proofs.lemmas.List.Folds.{flat_map-map}
 use Rattle.std.proofs.lemmas.Simd.{map-map}
 use Rattle.chess_core.specs.Move.{same_move}
@@ -36,33 +36,37 @@ module _ {A B : Type 0} where
   map-each f g [] same = refl
   map-each f g (x ∷ xs) same = rw (same x, map-each f g xs same) refl
 
+-- a list joined over a sorted list is the list of one element, where the lists of those before and after it
+-- are empty
+module _ {A B : Type 0} (Before : A → A → Type 0) (F : A → List B) (a : A) (later : (x : A) → Before a x → F x ≡ [])
+    (earlier : (x : A) → Before x a → F x ≡ []) where
+  following-none : (xs : List A) → ((x : A) → Contains xs x → Before a x) → flat_map F xs ≡ []
+  following-none [] after = refl
+  following-none (x ∷ xs) after = rw (later x (after x (first_in x xs)), following-none xs (λ y c. after y (later_in x xs y c))) refl
+
+  one-of : (xs : List A) → AllPairs Before xs → Contains xs a → flat_map F xs ≡ F a
+  one-of [] order c = absurd (none_in_nil a c)
+  one-of (x ∷ xs) order c =
+      let first = pairs_first Before x xs order in
+      let rest = pairs_later Before x xs order in
+      grind (arith, in_cases, following-none xs, first, rest, append-nil, earlier x, one-of xs)
+
 -- which moves are the same
 same_as_itself : (m : Move) → same_move m m ≡ true
-same_as_itself m = search rules
-
-differs_from_later : (m n : Move) → Precedes m n → same_move m n ≡ false
-differs_from_later m n before = search rules
-
-differs_from_earlier : (m n : Move) → Precedes m n → same_move n m ≡ false
-differs_from_earlier m n before = search rules
+same_as_itself m = search (rules, nat_tests)
 
 differs_either_way : (m n : Move) → same_move m n ≡ false → same_move n m ≡ false
-differs_either_way m n differ = search rules
+differs_either_way m n differ = search (rules, nat_tests)
+
+differs_from_later : (m n : Move) → Precedes m n → same_move m n ≡ false
+differs_from_later m n before = search (rules, nat_tests)
 
 -- a list joined over moves in order is the list of one move, where every other move's is empty
-module _ {B : Type 0} (F : Move → List B) (m : Move) (apart : (x : Move) → same_move m x ≡ false → F x ≡ []) where
-  following-none : (ms : List Move) → ((x : Move) → Contains ms x → Precedes m x) → flat_map F ms ≡ []
-  following-none [] less = refl
-  following-none (x ∷ ms) less =
-      let a : F x ≡ [] = apart x (differs_from_later m x (less x (first_in x ms))) in
-      rw (a, following-none ms (λ y c. less y (later_in x ms y c))) refl
-
-  one-of : (ms : List Move) → AllPairs Precedes ms → Contains ms m → flat_map F ms ≡ F m
-  one-of [] order c = absurd (none_in_nil m c)
-  one-of (x ∷ ms) order c =
-      let first = pairs_first Precedes x ms order in
-      let later = pairs_later Precedes x ms order in
-      grind (arith, in_cases, following-none ms, first, later, append-nil, apart x, one-of ms, differs_from_earlier x m)
+one-move : {B : Type 0} (F : Move → List B) (m : Move) → ((x : Move) → same_move m x ≡ false → F x ≡ [])
+    → (ms : List Move) → AllPairs Precedes ms → Contains ms m → flat_map F ms ≡ F m
+one-move F m apart =
+    one-of Precedes F m (λ x before. apart x (differs_from_later m x before))
+    (λ x before. apart x (differs_either_way x m (differs_from_later x m before)))
 
 -- a line after a first move begins as a part does if that move is the part's first and the rest begins as
 -- the part goes on
@@ -135,7 +139,7 @@ module _ (game : Game Position Move) (order : (p : Position) → AllPairs Preced
       let e : suc h - length (m ∷ front) ≡ h - length front = omega arith in
       let rest = front-lines h (game.after p m) front are.1 (omega (arith, most)) in
       rw e (filter-flat (begins_path (m ∷ front)) G (game.moves p)
-      ∙ one-of (λ x. filter (begins_path (m ∷ front)) (G x)) m (λ x f. fronts-under m front x false f (lines_to_goal game h (game.after p x))) (game.moves p)
+      ∙ one-move (λ x. filter (begins_path (m ∷ front)) (G x)) m (λ x f. fronts-under m front x false f (lines_to_goal game h (game.after p x))) (game.moves p)
       (order p) are.0
       ∙ fronts-under m front m true (same_as_itself m) (lines_to_goal game h (game.after p m))
       ∙ ap (map (λ line. m ∷ line)) rest
@@ -164,7 +168,7 @@ module _ (game : Game Position Move) (order : (p : Position) → AllPairs Preced
       let T : List Move → Bool = λ front. begins_path front (x ∷ line) in
       let F : Move → List (List Move) = λ m. map (λ rest. m ∷ rest) (beginnings game d (game.after p m)) in
       filter-flat T F (game.moves p)
-      ∙ one-of (λ m. filter T (F m)) x (λ m e. filter-map T (λ rest. m ∷ rest) (beginnings game d (game.after p m)) ∙ none m (differs_either_way x m e)
+      ∙ one-move (λ m. filter T (F m)) x (λ m e. filter-map T (λ rest. m ∷ rest) (beginnings game d (game.after p m)) ∙ none m (differs_either_way x m e)
       (beginnings game d (game.after p m))) (game.moves p) (order p) are.0
       ∙ filter-map T (λ rest. x ∷ rest) (beginnings game d (game.after p x))
       ∙ ap (map (λ rest. x ∷ rest)) (here (beginnings game d (game.after p x)) ∙ beginnings-one d (game.after p x) line are.1 (omega (arith, most)))
@@ -186,7 +190,7 @@ root-part other G m ms order c =
     let N : Move → List (List (List Move)) = λ x. cond (other x) (((x ∷ []) ∷ G x) ∷ []) [] in
     let T : List (List Move) → Bool = begins_so (m ∷ []) in
     ap (filter T) (joined ms) ∙ filter-flat T N ms
-    ∙ one-of (λ x. filter T (N x)) m (λ x e. apart x (other x) e) ms order c ∙ alone (other m)
+    ∙ one-move (λ x. filter T (N x)) m (λ x e. apart x (other x) e) ms order c ∙ alone (other m)
     ∙ sym (append-nil (N m)) ∙ sym (joined (m ∷ []))
   where
     joined : (xs : List Move) → map (λ x. (x ∷ []) ∷ G x) (filter other xs) ≡ flat_map (λ x. cond (other x) (((x ∷ []) ∷ G x) ∷ []) []) xs

@@ -1,5 +1,5 @@
 -- The paths of a phase's solutions.
-use Rattle.pop_solve.proofs.Words.{AllPairs, List, Move, None, Phase, Posed, RuleSet, [], arith, battle_of, drop, flat_map, flat_map-append, game_of, help_lines, pairs_front, phase_half_moves, phase_start, solutions, take, take-append-drop, ℕ, ◌<◌, ◌∷◌, ◌≡◌, flat_map_single, ◌∙◌, map-id, flat_map-map}
+use Rattle.pop_solve.proofs.Words.{AllPairs, List, None, Phase, Posed, RuleSet, [], battle_of, drop, flat_map, flat_map-append, game_of, help_lines, pairs_front, phase_half_moves, phase_start, solutions, take, take-append-drop, ℕ, ◌∷◌, ◌≡◌, flat_map_single, ◌∙◌, map-id, flat_map-map}
 
 -- the first of joined lists
 pub first_joined : {X : Type 0} (R : X → X → Type 0) (n : ℕ) (xss : List (List X)) → AllPairs R (flat_map (λ s. s) xss)
