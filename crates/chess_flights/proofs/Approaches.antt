@@ -1,5 +1,5 @@
 -- The squares from which a man comes to a square; for pawns by the difference of square numbers.
-use Rattle.chess_flights.proofs.Chess.{AreApproaches, AreCapturers, Black, Bool, Colour, None, Pawn, Position, White, agree_below, agree_below_at, along, and_parts, ap, arith, bit_at, bit_at_cat_high, bit_at_cat_low, bit_or, eqb-true, false, false≢true, forward, if◌then◌else◌, implied, is_advance, is_square, leaps, list_any, man_on, may_arrive, not, not-true, on_left, on_right, or_cases, or_left, or_right, other, pawn_capture_steps, pawn_steps_to, queen_steps, rank_of, reaches_as, refl, rules, same_colour, second_rank, true, ℕ, List, Option, Some, Step, [], list_all, false_by, square_is, sym, ◌%◌, ◌&&◌, ◌*◌, ◌+◌, ◌-◌, ◌/◌, ◌<◌, ◌==◌, ◌^◌, ◌||◌, ◌≡◌, ◌≤◌, ◌∷◌, ◌∙◌, AreApproached, Grasshopper, Man, Queen, men_on, reaches_back, same_kind, same_kind-true, ◌≢◌}
+use Rattle.chess_flights.proofs.Chess.{AreApproaches, AreCapturers, Black, Bool, Colour, None, Pawn, Position, White, agree_below, agree_below_at, along, and_parts, ap, arith, bit_at, bit_at_cat_high, bit_at_cat_low, bit_or, eqb-true, false, false≢true, forward, if◌then◌else◌, implied, is_advance, is_square, leaps, list_any, man_on, may_arrive, not, not-true, on_left, on_right, or_cases, or_left, or_right, other, pawn_capture_steps, pawn_steps_to, queen_steps, rank_of, reaches_as, refl, rules, same_colour, second_rank, true, ℕ, List, Option, Some, Step, [], list_all, false_by, square_is, sym, ◌%◌, ◌&&◌, ◌*◌, ◌+◌, ◌-◌, ◌/◌, ◌<◌, ◌==◌, ◌^◌, ◌||◌, ◌≡◌, ◌≤◌, ◌∷◌, ◌∙◌, AreApproached, Grasshopper, Man, Queen, men_on, reaches_back, same_kind, same_kind-true}
 use Rattle.std.proofs.Math.Nat.{div-add-mod}
 use Rattle.std.proofs.lemmas.Nat.{pow_pos, shr-shr}
 use Rattle.chess_attacks.specs.ties.Lines.{AreReached}

@@ -1,5 +1,5 @@
 -- Lemmas on the squares of bitboards.
-use Rattle.chess_flights.proofs.Chess.{Colour, Kind, Man, Some, arith, bit_and, bit_at, bit_at-lt, bit_at_and, bit_at_not, bit_not, eq-eqb, eqb-true, false, false_by, false≢true, man_on, off_zero, rules, same_colour-true, same_kind-true, squares_of, sym, true, w64, word_has, ℕ, ◌<◌, ◌==◌, ◌^◌, ◌∙◌, ◌≡◌, ◌≢◌, IsNear, ap}
+use Rattle.chess_flights.proofs.Chess.{Colour, Kind, Man, Some, arith, bit_and, bit_at, bit_at-lt, bit_at_and, bit_at_not, bit_not, eq-eqb, eqb-true, false, false_by, false≢true, man_on, off_zero, rules, same_colour-true, same_kind-true, squares_of, sym, true, w64, word_has, ℕ, ◌<◌, ◌==◌, ◌^◌, ◌∙◌, ◌≡◌, IsNear, ap}
 use Rattle.chess_attacks.specs.ties.Lines.{AreReached}
 
 -- a square in the bitboard of a kind holds a man of the kind

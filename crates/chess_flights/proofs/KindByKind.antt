@@ -1,5 +1,5 @@
 -- A property of the attackers of each kind is a property of all attackers.
-use Rattle.chess_flights.proofs.Chess.{Attackers, Bishop, Colour, Grasshopper, IsAttacker, Kind, King, Knight, Man, Nightrider, Pawn, Queen, Rook, ap, bit_at, refl, squares_for, subst, sym, true, ℕ, ◌<◌, ◌==◌, ◌∙◌, ◌≡◌, AreAttackers, List, Option, Some, arith, eq-eqb, is_man, man_on, squares_of, word_has, ◌-◌}
+use Rattle.chess_flights.proofs.Chess.{Attackers, Bishop, Colour, Grasshopper, IsAttacker, Kind, King, Knight, Man, Nightrider, Pawn, Queen, Rook, ap, bit_at, refl, squares_for, subst, sym, true, ℕ, ◌<◌, ◌==◌, ◌∙◌, ◌≡◌, AreAttackers, List, Option, Some, arith, eq-eqb, is_man, man_on, squares_of, word_has}
 use Rattle.chess_flights.proofs.Bitboards.{man_of_word}
 
 -- the man on a square is of its colour and kind

@@ -1,5 +1,5 @@
 -- The men on the squares after a move.
-use Rattle.chess_flights.proofs.Chess.{Colour, Grasshopper, IsMade, IsWellFormed, Kind, King, List, Man, Move, None, Option, Pawn, Position, RuleSet, Some, and_from, and_left, and_parts, and_right, arith, arrived, arrived_other, arriving_man, can_castle, capture_square, captures_are_reborn, cases_Bool, cases_eq, cond-false, cond-true, corner, eq-eqb, false, false_by, false≢true, gait_of, has_flight, has_unmoved, inl, inr, is_arrival_free, is_attacked, is_attacker, is_castling, is_flight, is_hopper, is_man, is_of_colour, is_open, is_promoting, is_promotion_right, is_some, is_square, kept_now, king_is_no_pawn, king_no_step, king_square, leaps, left_now, length, list_any, made, man_on, man_on-with_cases, may_castle, not-true, or_cases, or_parts, other, other_differs, position_after, position_after_by, put_at, queen_steps, reaches, reaches_as, reborn_square, refl, rules, same_colour, same_colour-true, same_kind, some_square_false, some_square_true, there_now, triple_at, true, unmoved_after, ℕ, ◌&&◌, ◌<◌, ◌||◌, ◌∙◌, ◌≡◌, ◌≢◌, ◌⊎◌, man_on_at, moved_men, ◌-◌}
+use Rattle.chess_flights.proofs.Chess.{Colour, Grasshopper, IsMade, IsWellFormed, Kind, King, List, Man, Move, None, Option, Pawn, Position, RuleSet, Some, and_from, and_left, and_parts, and_right, arith, arrived, arrived_other, arriving_man, can_castle, capture_square, captures_are_reborn, cases_Bool, cases_eq, cond-false, cond-true, corner, eq-eqb, false, false_by, false≢true, gait_of, has_flight, has_unmoved, inl, inr, is_arrival_free, is_attacked, is_attacker, is_castling, is_flight, is_hopper, is_man, is_of_colour, is_open, is_promoting, is_promotion_right, is_some, is_square, kept_now, king_is_no_pawn, king_no_step, king_square, leaps, left_now, length, list_any, made, man_on, man_on-with_cases, may_castle, not-true, or_cases, or_parts, other, other_differs, position_after, position_after_by, put_at, queen_steps, reaches, reaches_as, reborn_square, refl, rules, same_colour, same_colour-true, same_kind, some_square_false, some_square_true, there_now, triple_at, true, unmoved_after, ℕ, ◌&&◌, ◌<◌, ◌||◌, ◌∙◌, ◌≡◌, ◌≢◌, ◌⊎◌, man_on_at, moved_men}
 use Rattle.chess_core.proofs.Castlings.{has_unmoved-parts}
 -- where a side stands somebody stands
 pub use Rattle.chess_flights.proofs.Fleeing.{some_of_colour as some_side}

@@ -1,6 +1,6 @@
 -- The fault of a word or of the end of a block is never that the device failed.
 use Rattle.pop_input.proofs.Items.{BlockSoFar, word_read}
-use Rattle.pop_input.proofs.Words.{Block, Bool, Colour, Command, CutsOff, Fault, FaultKind, HasFailed, Kind, List, Man, None, Option, ReadFault, Reading, Some, Draft, Stipulation, TextLine, Token, Word, [], arith, block_fault, condition_fault, control_fault, ended_item, false, fault_of, first_fault, if◌then◌else◌, item_of, judged_entry, letter_fault, man_fault, men_fault, empty_draft, is_device_failure, or_else, subst, sym, entry_now, ReadsWord, TakesPart, ◌++◌, ◌≡◌, pieces_fault, posed_entry, put_fault, role_fault, draft_after, stipulation_fault, item_of_cut, true, with_man, ℕ, ◌∷◌, ◌≤◌}
+use Rattle.pop_input.proofs.Words.{Block, Bool, Colour, Command, CutsOff, Fault, FaultKind, HasFailed, Kind, List, Man, None, Option, ReadFault, Reading, Some, Draft, Stipulation, TextLine, Token, Word, [], arith, block_fault, condition_fault, control_fault, ended_item, false, fault_of, first_fault, if◌then◌else◌, item_of, judged_entry, letter_fault, man_fault, men_fault, empty_draft, is_device_failure, or_else, subst, sym, entry_now, ReadsWord, TakesPart, ◌++◌, ◌≡◌, pieces_fault, posed_entry, put_fault, role_fault, draft_after, stipulation_fault, item_of_cut, true, with_man, ℕ, ◌∷◌}
 use Rattle.pop_input.specs.declared.condition.Condition.{Condition}
 use Rattle.pop_input.specs.declared.item.Item.TheVariants.{Faulty}
 use Rattle.pop_input.specs.declared.item.Last.{Last}

@@ -1,5 +1,5 @@
 -- The state of a reader, and which items a call reads (own).
-use Rattle.std.specs.Prelude.{◌≡◌, ◌≤◌, ℕ, List, [], ◌∷◌, ◌++◌, Option, None, Bool, true, false, ◌+◌, ◌-◌, length}
+use Rattle.std.specs.Prelude.{◌≡◌, ℕ, List, [], ◌∷◌, ◌++◌, Option, None, Bool, true, false, ◌+◌, ◌-◌, length}
 use Rattle.pop_text.specs.Bytes.{Consumes}
 use Rattle.pop_text.specs.Words.{Input, limit}
 use Rattle.pop_text.specs.ties.Reading.{Reading, first_reading}

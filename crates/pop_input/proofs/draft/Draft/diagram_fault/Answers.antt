@@ -1,5 +1,5 @@
 use Rattle.std.proofs.Common.{ap₂}
-use Rattle.pop_input.proofs.Words.{ArePut, ap, has_king_to_mate, in_check, other, rule_of, starting_side, sym, ◌∙◌, ◌≡◌}
+use Rattle.pop_input.proofs.Words.{ArePut, ap, has_king_to_mate, in_check, other, rule_of, starting_side, sym, ◌∙◌}
 use Rattle.pop_input.proofs.Posing.{ill_fault, position_reported, shown_men}
 use Rattle.pop_input.proofs.draft.Draft.diagram_fault.Goals as goal
 
