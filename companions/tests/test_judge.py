@@ -86,6 +86,14 @@ class Judging(unittest.TestCase):
         self.assertEqual(again.output.decode().splitlines()[0], "problem 1: sound: #1, A mate")
         self.assertEqual(self.files(), ["sheet.html", "slow", "some.pop"])
 
+    def test_no_problem_is_finished_in_its_time(self) -> None:
+        self.text.write_bytes(ONE + b"EndProblem\n")
+        slow = self.script("slow", "cat > /dev/null\nprintf 'problem 1\\n#1\\nplay\\n'\nexec sleep 60\n")
+        outcome = self.judged("--seconds", "0.5", pops=slow)
+        self.assertEqual(outcome.status, 1)
+        self.assertIn("undecided", outcome.output.decode().splitlines()[0])
+        self.assertIn("some problems took longer: --resume", outcome.error)
+
     def test_another_text_isnt_taken_up(self) -> None:
         work = self.room / "sheet.html.work"
         work.mkdir()

@@ -577,6 +577,10 @@ class Unfinished(unittest.TestCase):
             other = rest.rename(Path(room) / "rest")
             words = [str(report), "--unfinished", str(other)]
             self.assertEqual(self.found("", *words)[:3], wanted)
+            report.write_text("")
+            self.assertEqual(self.found("", *words)[0], "problem 1: undecided")
+            self.assertIn(wanted[2], self.found("", *words))
+            report.write_text(self.ONE + two)
             other.write_text(three.replace("problem 3", "problem 2"))
             outcome = run_here.companion("pops-test", *words)
         self.assertEqual((outcome.status, outcome.output), (3, b""))

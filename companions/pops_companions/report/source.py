@@ -37,14 +37,16 @@ def opened_unfinished_report(
     """As `opened_report`; the report may hold unfinished problems or end inside a problem.
 
     The problems of `unfinished`, by default of a file next to the report with its name and
-    UNFINISHED, are added at the places of their numbers.
+    UNFINISHED, are added at the places of their numbers. If no problem was finished, the report is
+    empty.
     """
     named = unfinished is not None
     if unfinished is None and file is not None and os.path.isfile(file + UNFINISHED):
         unfinished = file + UNFINISHED
     with command.opened(file) as source:
         name = file or "standard input"
-        items = _items(companion, name, source, encoding, read_unfinished_report)
+        may_be_empty = unfinished is not None
+        items = _items(companion, name, source, encoding, read_unfinished_report, may_be_empty)
         if unfinished is None:
             yield items
             return
@@ -99,6 +101,7 @@ def _items(
     source: BinaryIO,
     encoding: str,
     read: Callable[[Iterable[bytes]], Iterator[Read]],
+    may_be_empty: bool = False,
 ) -> Iterator[Read]:
     is_empty = True
     undecodable: list[int] = []
@@ -113,7 +116,7 @@ def _items(
             yield item
     except ReportError as error:
         raise CommandError(Status.FAULTY, _refusal(name, lines.line, error)) from None
-    if is_empty:
+    if is_empty and not may_be_empty:
         raise CommandError(Status.FAULTY, f"{name} is empty: no report of pops")
     if undecodable:
         _warn_of_names(companion, name, undecodable, encoding)
