@@ -88,7 +88,8 @@ class Judging(unittest.TestCase):
 
     def test_no_problem_is_finished_in_its_time(self) -> None:
         self.text.write_bytes(ONE + b"EndProblem\n")
-        slow = self.script("slow", "cat > /dev/null\nprintf 'problem 1\\n#1\\nplay\\n'\nexec sleep 60\n")
+        head = "problem 1\\n#1\\nplay\\n"
+        slow = self.script("slow", f"cat > /dev/null\nprintf '{head}'\nexec sleep 60\n")
         outcome = self.judged("--seconds", "0.5", pops=slow)
         self.assertEqual(outcome.status, 1)
         self.assertIn("undecided", outcome.output.decode().splitlines()[0])
