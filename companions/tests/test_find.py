@@ -327,7 +327,9 @@ class Command(unittest.TestCase):
                 self.assertEqual(self.run_on(*words).status, status)
 
     def test_files_that_are_no_collection(self) -> None:
-        self.assertEqual(self.run_on("--author", "x").status, 3)
+        outcome = self.run_on("--author", "x")
+        self.assertEqual(outcome.status, 3)
+        self.assertIn("mine.db: --add makes a collection", outcome.error)
         Path(self.path).write_bytes(b"not a database, but a text of some length\n" * 100)
         outcome = self.run_on("--author", "x")
         self.assertEqual(outcome.status, 3)

@@ -277,6 +277,8 @@ class Forms(Case):
         for language, wanted in (
             ("de", "1.Df1! droht: 2.Dg1#/Dh3#/Th3#"),
             ("fr", "1.Df1! menace : 2.Dg1#/Dh3#/Th3#"),
+            ("de", "Weiß Ke3 Db5 Tg3 Td6 Le4 Lf5 Se6, Schwarz Kh2 "),
+            ("fr", "Blancs Re3 Db5 Tg3 Td6 Fe4 Ff5 Ce6, Noirs Rh2 "),
         ):
             self.assertIn(wanted, self.text(SEVERAL_THREATS, "--language", language))
         outcome = self.sheet(SEVERAL_THREATS, "--figures")
