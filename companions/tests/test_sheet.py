@@ -287,6 +287,16 @@ class Forms(Case):
         self.assertIn('<span class="turned">', told)
         self.assertIn('<p class="fairy">Grashüpfer d5</p>', told)
 
+    def test_names_in_another_encoding_and_lost_text(self) -> None:
+        problem = b"Pieces White Kg6 Ra1 Black Kg8\nStipulation #1\nEndProblem\n"
+        text = b"BeginProblem\nAuthor R\xe9ti\n" + problem + b"BeginProblem\n" + problem
+        outcome = self.sheet(text, "--to", "text")
+        self.assertEqual(outcome.status, 0)
+        self.assertIn("Réti", outcome.output.decode())
+        lost, other = outcome.error.splitlines()
+        self.assertIn("given.pop: nothing after the first EndProblem is read", lost)
+        self.assertIn("given.pop: title or author of problem 1 isn't utf-8", other)
+
     def test_a_page(self) -> None:
         outcome = self.sheet(TWINS, "--heading", "Ours & yours \ue000")
         self.assertEqual((outcome.status, outcome.error), (0, ""))
