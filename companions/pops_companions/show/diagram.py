@@ -25,6 +25,7 @@ WIDTH = HEIGHT = MARGIN + 8 * SIDE + 1
 
 # The fairy kinds, each with the kind that is turned upside down for it.
 UPSIDE_DOWN = {Kind.GRASSHOPPER: Kind.QUEEN, Kind.NIGHTRIDER: Kind.KNIGHT}
+_LETTERS = "".join(kind.value for kind in Kind)
 _FILLS = {
     Colour.WHITE: 'fill="#fff" color="#000"',
     Colour.BLACK: 'fill="#000" color="#fff"',
@@ -134,7 +135,7 @@ def _drawing(board: Board) -> str:
 
 def position_in_words(
     board: Board,
-    letters: str = "".join(kind.value for kind in Kind),
+    letters: str = _LETTERS,
     sides: tuple[str, str] = ("White", "Black"),
     no_men: str = "none",
 ) -> str:
