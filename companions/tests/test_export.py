@@ -189,6 +189,13 @@ class Command(unittest.TestCase):
         wanted = ["SetPlay", "MaxSolutions 5", "EnPassant d6", "NoCastling a1h8", "NoBoard"]
         self.assertEqual(list(options_of(text)), wanted)
 
+    def test_names_in_another_encoding(self) -> None:
+        text = b"BeginProblem\nAuthor R\xe9ti\nPieces White Kg6 Ra1 Black Kg8\nStipulation #1\nEndProblem\n"
+        outcome = run_here.companion("pops-export", "--to", "popeye", text=text)
+        self.assertEqual(outcome.status, 0)
+        self.assertIn("Author Réti\n", outcome.output.decode())
+        self.assertIn("standard input, line 2: not in utf-8, read as latin-1", outcome.error)
+
     def test_problems_that_pops_cant_read_are_left_out(self) -> None:
         text = b"BeginProblem\nPieces White Kg6\nNextProblem\n" + TWINS.split(b"\n", 1)[1]
         outcome = run_here.companion("pops-export", "--to", "popeye", text=text)

@@ -198,6 +198,9 @@ class Sources(unittest.TestCase):
         self.assertEqual(lacking.status, 1)
         self.assertEqual(lacking.error, "fen2pop: position 1: no stipulation: give --stipulation\n")
         self.assertEqual(support.companion("fen2pop", "-s", "r#2", "x").status, 2)
+        outcome = support.companion("fen2pop", "-s", "#2", __file__)
+        self.assertEqual(outcome.status, 2)
+        self.assertIn("is a file: name it after --file", outcome.error)
         for number in ("0", "-3", "many"):
             few = support.companion("fen2pop", "-s", "#2", "--max-solutions", number, "k7/8 w")
             self.assertEqual((few.status, few.output), (2, b""))

@@ -266,6 +266,15 @@ class Command(unittest.TestCase):
             with self.subTest(words):
                 self.assertEqual(self.numbers(*words), number)
 
+    def test_lines_in_two_encodings(self) -> None:
+        text = b"BeginProblem\nTitle R\xe9ti\nAuthor \xc3\x89mile\nPieces White Kg6 Ra1 Black Kg8\n"
+        file = self.room / "mixed.pop"
+        file.write_bytes(text + b"Stipulation #1\nEndProblem\n")
+        outcome = self.run_on("--add", str(file))
+        self.assertEqual(outcome.status, 0)
+        self.assertIn("mixed.pop, line 2: not in utf-8, read as latin-1", outcome.error)
+        self.assertEqual(self.numbers("--title", "Réti", "--author", "Émile"), 1)
+
     @support.needs_module("yaml")
     def test_reports_and_yaml(self) -> None:
         yaml = Path(__file__).resolve().parent / "data" / "import" / "yacpdb.yaml"
@@ -327,7 +336,9 @@ class Command(unittest.TestCase):
                 self.assertEqual(self.run_on(*words).status, status)
 
     def test_files_that_are_no_collection(self) -> None:
-        self.assertEqual(self.run_on("--author", "x").status, 3)
+        outcome = self.run_on("--author", "x")
+        self.assertEqual(outcome.status, 3)
+        self.assertIn("mine.db: --add makes a collection", outcome.error)
         Path(self.path).write_bytes(b"not a database, but a text of some length\n" * 100)
         outcome = self.run_on("--author", "x")
         self.assertEqual(outcome.status, 3)

@@ -1,11 +1,15 @@
 """pops-judge: one sheet of a collection; runs that are stopped, and a program of tries."""
 
+import os
+import signal
+import subprocess
 import sys
 import tempfile
 import unittest
 from pathlib import Path
 
 from tests import support, test_pages, test_sheet, test_soundness
+from tests.six_problems import wait_for
 
 ONE = b"BeginProblem\nTitle A mate\nOrigin A & B 1900\nPieces White Kg6 Ra1 Black Kg8\nStipulation #1\n"
 TWO = b"NextProblem\nTitle A help\nPieces White Kg6 Ra1 Black Kh8\nStipulation h#1\nEndProblem\n"
@@ -85,6 +89,28 @@ class Judging(unittest.TestCase):
         self.assertEqual((again.status, again.error), (0, ""))
         self.assertEqual(again.output.decode().splitlines()[0], "problem 1: sound: #1, A mate")
         self.assertEqual(self.files(), ["sheet.html", "slow", "some.pop"])
+
+    def test_no_problem_is_finished_in_its_time(self) -> None:
+        self.text.write_bytes(ONE + b"EndProblem\n")
+        head = "problem 1\\n#1\\nplay\\n"
+        slow = self.script("slow", f"cat > /dev/null\nprintf '{head}'\nexec sleep 60\n")
+        outcome = self.judged("--seconds", "0.5", pops=slow)
+        self.assertEqual(outcome.status, 1)
+        self.assertIn("undecided", outcome.output.decode().splitlines()[0])
+        self.assertIn("some problems took longer: --resume", outcome.error)
+
+    def test_a_run_that_is_stopped(self) -> None:
+        program = support.COMPANIONS / "pops-judge"
+        slow = self.script("slow", "cat > /dev/null\nexec sleep 60\n")
+        words = [sys.executable, str(program), "--pops", slow, str(self.text), "-o", str(self.sheet)]
+        with subprocess.Popen(words, stderr=subprocess.PIPE, start_new_session=True) as run:
+            work = Path(f"{self.sheet}.work")
+            wait_for((work / "solutions.report.journal").is_file)
+            os.killpg(run.pid, signal.SIGINT)
+            error = run.communicate(timeout=30)[1].decode()
+        self.assertEqual(run.returncode, 6)
+        kept = f"stopped; what is done is kept in {work}: go on with --resume"
+        self.assertEqual(error, f"pops-judge: {kept}\n")
 
     def test_another_text_isnt_taken_up(self) -> None:
         work = self.room / "sheet.html.work"

@@ -116,6 +116,24 @@ class Further(unittest.TestCase):
     def test_a_problem_with_one_fault_has_no_other(self) -> None:
         self.assertEqual(self.found(PIECES, "Stipulation 2#"), [])
 
+    def test_an_option_without_its_value_is_passed_over_too(self) -> None:
+        options = ("MaxSolutions", "MaxSolutions five", "EnPassant", "EnPassant d9", "NoCastling")
+        for option in options:
+            with self.subTest(option):
+                found = self.found(PIECES, f"Option {option}", "Stipulation 2#")
+                self.assertEqual(found, ["4: 8: 2#"])
+        found = self.found(PIECES, "Stipulation #1", "Option NoCastling a2", "Option Nothing")
+        self.assertEqual(found, ["5: 2: Nothing"])
+
+    def test_men_of_another_language(self) -> None:
+        found = self.found("Steine Weiss Kg6 Ta1 Schwarz Kg8", "Forderung 2#")
+        wanted = ["2: 2: Weiss", "2: 2: Ta1", "2: 2: Schwarz", "3: 2: Forderung", "3: 8: 2#"]
+        self.assertEqual(found, wanted)
+
+    def test_a_text_without_a_problem_has_one_fault(self) -> None:
+        text = b"8 ......k.\n7 ........\n"
+        self.assertEqual(list(further_faults(text, 1)), [])
+
 
 class Notices(unittest.TestCase):
     def test_names_nightriders_and_lost_text(self) -> None:

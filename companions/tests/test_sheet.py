@@ -277,6 +277,8 @@ class Forms(Case):
         for language, wanted in (
             ("de", "1.Df1! droht: 2.Dg1#/Dh3#/Th3#"),
             ("fr", "1.Df1! menace : 2.Dg1#/Dh3#/Th3#"),
+            ("de", "Weiß Ke3 Db5 Tg3 Td6 Le4 Lf5 Se6, Schwarz Kh2 "),
+            ("fr", "Blancs Re3 Db5 Tg3 Td6 Fe4 Ff5 Ce6, Noirs Rh2 "),
         ):
             self.assertIn(wanted, self.text(SEVERAL_THREATS, "--language", language))
         outcome = self.sheet(SEVERAL_THREATS, "--figures")
@@ -284,6 +286,16 @@ class Forms(Case):
         told = self.sheet(WITH_FAIRY_MEN, "--figures", "--language", "de").output.decode()
         self.assertIn('<span class="turned">', told)
         self.assertIn('<p class="fairy">Grashüpfer d5</p>', told)
+
+    def test_names_in_another_encoding_and_lost_text(self) -> None:
+        problem = b"Pieces White Kg6 Ra1 Black Kg8\nStipulation #1\nEndProblem\n"
+        text = b"BeginProblem\nAuthor R\xe9ti\n" + problem + b"BeginProblem\n" + problem
+        outcome = self.sheet(text, "--to", "text")
+        self.assertEqual(outcome.status, 0)
+        self.assertIn("Réti", outcome.output.decode())
+        lost, other = outcome.error.splitlines()
+        self.assertIn("given.pop: nothing after the first EndProblem is read", lost)
+        self.assertIn("given.pop: title or author of problem 1 isn't utf-8", other)
 
     def test_a_page(self) -> None:
         outcome = self.sheet(TWINS, "--heading", "Ours & yours \ue000")

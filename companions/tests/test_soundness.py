@@ -577,6 +577,10 @@ class Unfinished(unittest.TestCase):
             other = rest.rename(Path(room) / "rest")
             words = [str(report), "--unfinished", str(other)]
             self.assertEqual(self.found("", *words)[:3], wanted)
+            report.write_text("")
+            self.assertEqual(self.found("", *words)[0], "problem 1: undecided")
+            self.assertIn(wanted[2], self.found("", *words))
+            report.write_text(self.ONE + two)
             other.write_text(three.replace("problem 3", "problem 2"))
             outcome = run_here.companion("pops-test", *words)
         self.assertEqual((outcome.status, outcome.output), (3, b""))
@@ -750,9 +754,14 @@ class Command(unittest.TestCase):
         self.assertIn("doesn't answer what --pose asked: problem 1 has no title", outcome.error)
 
     def test_nothing_to_pose(self) -> None:
-        outcome = run_here.companion("pops-test", "--pose", text=b"BeginProblem\nEndProblem\n")
-        self.assertEqual((outcome.status, outcome.output), (3, b""))
-        self.assertIn("has no problem with a shorter stipulation", outcome.error)
+        in_one = b"BeginProblem\nPieces White Kg6 Ra1 Black Kg8\nStipulation #1\nEndProblem\n"
+        for text, said in (
+            (in_one, "has no problem with a shorter stipulation"),
+            (b"BeginProblem\nEndProblem\n", "has no problem without a fault: see pops-explain"),
+        ):
+            outcome = run_here.companion("pops-test", "--pose", text=text)
+            self.assertEqual((outcome.status, outcome.output), (3, b""))
+            self.assertIn(said, outcome.error)
 
     def test_mistakes_in_the_command_line(self) -> None:
         for words in (

@@ -12,7 +12,7 @@ from pops_companions.import_.words import Unreadable
 from pops_companions.input.writing import text_of_problems
 from pops_companions.report.items import SoundItem
 from pops_companions.report.source import opened_report
-from pops_companions.show.titles import is_text, shown
+from pops_companions.show.titles import other_lines, text_of
 
 NAME = "pops-export"
 
@@ -54,12 +54,13 @@ def arguments(words: list[str]) -> Settings:
 
 
 def read(file: Optional[str], encoding: str) -> str:
-    """Returns a text; lines that aren't in the encoding are read as Latin-1."""
+    """Returns a text; lines that aren't in the encoding are read as Latin-1, and reported."""
     with command.opened(file) as source:
         data = source.read()
-    if is_text(data, encoding):
-        return data.decode(encoding)
-    return "".join(shown(line, encoding) for line in data.splitlines(keepends=True))
+    other = other_lines(file or "standard input", data, encoding)
+    if other:
+        print(f"{NAME}: {other}", file=sys.stderr)
+    return text_of(data, encoding)
 
 
 def items_of(settings: Settings) -> dict[int, SoundItem]:

@@ -1,6 +1,7 @@
 """Turns positions in FEN or EPD into input of pops."""
 
 import argparse
+import os
 import re
 import sys
 from collections.abc import Iterator
@@ -175,6 +176,8 @@ def arguments(words: list[str]) -> Settings:
     """Reads the words of the command line."""
     parser = command_line()
     settings = parser.parse_args(words, Settings())
+    if settings.position and os.path.isfile(settings.position[0]):
+        parser.error(f"{settings.position[0]} is a file: name it after --file")
     if settings.max_solutions is not None:
         settings.options.append(f"MaxSolutions {settings.max_solutions}")
     return settings

@@ -12,6 +12,7 @@ from pops_companions.find.collection import Collection, CollectionError, Found, 
 from pops_companions.find.entries import EntriesError, Entry, entries_of, men_in, plays_of
 from pops_companions.find.showing import Answer, as_page, as_text
 from pops_companions.review.naming import counted
+from pops_companions.show.titles import other_lines
 
 NAME = "pops-find"
 MOST = 50
@@ -126,8 +127,12 @@ def read(file: str) -> bytes:
 
 def entries_in(file: str, encoding: str) -> tuple[list[Entry], bool]:
     """Returns the problems of a file, and whether all of them could be taken."""
+    data = read(file)
+    other = other_lines(file, data, encoding)
+    if other:
+        print(f"{NAME}: {other}", file=sys.stderr)
     try:
-        entries, left_out = entries_of(file, read(file), encoding)
+        entries, left_out = entries_of(file, data, encoding)
     except EntriesError as error:
         raise CommandError(Status.DEVICE, f"{file}: {error}") from None
     for text in left_out:

@@ -12,7 +12,7 @@ from pops_companions.import_.posing import posed
 from pops_companions.import_.sources import read_drafts
 from pops_companions.import_.words import Told, Unreadable
 from pops_companions.input.writing import text_of_problems
-from pops_companions.show.titles import is_text, shown
+from pops_companions.show.titles import other_lines, text_of
 
 NAME = "pops-import"
 
@@ -83,13 +83,8 @@ def decoded(name: str, data: bytes, encoding: str) -> str:
     except UnicodeDecodeError:
         if b"\0" in data:
             raise
-    lines = data.splitlines(keepends=True)
-    other = [number for number, line in enumerate(lines, 1) if not is_text(line, encoding)]
-    more = f" and {len(other) - 1} more" if len(other) > 1 else ""
-    say(
-        f"{name}, line {other[0]}{more}: not in {encoding}, read as latin-1; --encoding names another"
-    )
-    return "".join(shown(line, encoding) for line in lines)
+    say(other_lines(name, data, encoding))
+    return text_of(data, encoding)
 
 
 def say(text: str) -> None:

@@ -109,11 +109,16 @@ def read_collection(name: str) -> bytes:
     return text
 
 
+def folder_of(settings: Settings) -> Path:
+    """Returns the folder that keeps what is done until all is."""
+    return Path(settings.output + ".work")
+
+
 def judge(settings: Settings) -> Status:
     """Runs what is needed, writes the sheet and prints the verdicts."""
     text = read_collection(settings.collection)
     given = given_problems(text)
-    work = Work(Path(settings.output + ".work"), runs_of(settings))
+    work = Work(folder_of(settings), runs_of(settings))
     work.begin(text, settings.resume)
     work.solve()
     short: Optional[str] = str(work.short) if work.solve_shorter(given) else None
@@ -143,7 +148,15 @@ def judge(settings: Settings) -> Status:
 
 
 def main(words: list[str]) -> Status:
-    return judge(arguments(words))
+    settings = arguments(words)
+    try:
+        return judge(settings)
+    except KeyboardInterrupt:
+        kept = folder_of(settings)
+        if not kept.is_dir():
+            raise
+        message = f"stopped; what is done is kept in {kept}: go on with --resume"
+        raise CommandError(Status.UNFINISHED, message) from None
 
 
 def run() -> NoReturn:

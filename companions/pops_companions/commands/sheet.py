@@ -13,13 +13,14 @@ from pops_companions import command
 from pops_companions.chess.stipulation import Play
 from pops_companions.command import CommandError, Status
 from pops_companions.input.given import GivenProblem, given_problems
+from pops_companions.input.given_source import warn_of_rest
 from pops_companions.input.pieces import cut
 from pops_companions.input.reading import read_piece
 from pops_companions.many.program import LOOKED_FOR, MissingError, find
 from pops_companions.many.tries_program import TRIES_LOOKED_FOR, find_tries, output_of
 from pops_companions.report.items import AnyItem, Board, HeadlessItem, SoundItem
 from pops_companions.report.reader import ReportError, read_report
-from pops_companions.report.source import is_input
+from pops_companions.report.source import is_input, warn_of_names
 from pops_companions.report.tries import TriesItem, read_tries
 from pops_companions.sheet.as_html import as_html
 from pops_companions.sheet.as_latex import as_latex
@@ -231,6 +232,8 @@ def sheet(settings: Settings) -> Status:
     texts = Texts(settings)
     given, boards = given_problems(texts.input), texts.boards()
     items = texts.items()
+    warn_of_rest(NAME, settings.input, texts.input)
+    warn_of_names(NAME, settings.report or settings.input, items, settings.encoding)
     tries = texts.tries() if any(map(is_battle, items)) else {}
     refuse_other_texts(items, tries, given, boards)
     items = with_missing(items, given)

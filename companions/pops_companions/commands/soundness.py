@@ -132,12 +132,12 @@ def arguments(words: list[str]) -> Settings:
 
 def pose(file: Optional[str], output: Optional[str]) -> None:
     """Writes the input that asks for the short solutions of an input's problems."""
-    posed = list(posed_problems(read_given(NAME, file)))
+    given = read_given(NAME, file)
+    posed = list(posed_problems(given))
     if not posed:
-        raise CommandError(
-            Status.DEVICE,
-            f"{file or 'standard input'} has no problem with a shorter stipulation",
-        )
+        has_any = any(problem.stipulation is not None for problem in given)
+        reason = "with a shorter stipulation" if has_any else "without a fault: see pops-explain"
+        raise CommandError(Status.DEVICE, f"{file or 'standard input'} has no problem {reason}")
     with command.written(output) as target:
         target.write(text_of_problems(posed).encode("utf-8", "surrogateescape"))
 

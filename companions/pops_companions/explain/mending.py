@@ -13,8 +13,16 @@ from pops_companions.explain.case import Explanation
 from pops_companions.explain.explaining import ExplainedFault, explanation
 from pops_companions.explain.fault_texts import FAULT_TEXTS
 from pops_companions.input.pieces import cut, rest_of
-from pops_companions.input.reading import FaultKind, Reading, read_piece, squares_of
-from pops_companions.input.words import Span, short_forms
+from pops_companions.input.reading import (
+    CASTLING_SQUARES,
+    COMMANDS,
+    OPTIONS,
+    FaultKind,
+    Reading,
+    read_piece,
+    squares_of,
+)
+from pops_companions.input.words import Span, named, short_forms
 from pops_companions.report.items import Fault
 
 _QUOTED = "`([^`]+)`"
@@ -124,10 +132,15 @@ def read_number(text: bytes, number: int) -> Optional[Reading]:
     return read_piece(text, pieces[number - 1])
 
 
-def edit_for(text: bytes, number: int, reading: Reading) -> Optional[Edit]:
-    """Returns the edit that mends a problem's fault; None where the explanation names none."""
+def edit_for(
+    text: bytes, number: int, reading: Reading, in_any_language: bool = False
+) -> Optional[Edit]:
+    """Returns the edit that mends a problem's fault; None where the explanation names none.
+
+    `in_any_language` mends also where the men may have the letters of another language.
+    """
     said = explanation(text, reading)
-    if _IN_ANOTHER_LANGUAGE.search(said.text):
+    if _IN_ANOTHER_LANGUAGE.search(said.text) and not in_any_language:
         return None
     left = 0 if reading.at is None else len(text) - reading.word.span.stop
     for edit in _proposed(text, reading, said):
@@ -224,7 +237,7 @@ def further_faults(text: bytes, number: int) -> Iterator[FurtherFault]:
     over.
 
     A word that can't be mended is passed over; what is missing at the end of the problem may be
-    missing for that alone, and isn't reported then.
+    missing for that alone, and isn't reported then, nor is each word before `BeginProblem`.
     """
     changed = text
     back = _Places()
@@ -235,22 +248,39 @@ def further_faults(text: bytes, number: int) -> Iterator[FurtherFault]:
             return
         if is_passed_over and reading.number in _AT_THE_END:
             return
-        if fault > 0:
+        if fault > 0 and not (is_passed_over and reading.number is FaultKind.BEGIN_MISSING):
             said = explanation(changed, reading)
             marks = tuple(back.span(mark, len(text)) for mark in said.marks)
             at = len(changed) if reading.at is None else reading.word.start
             line = changed.count(b"\n", 0, at) + 1
             yield FurtherFault(number, reading.number, line, Explanation(said.text, marks))
-        edit = edit_for(changed, number, reading)
+        edit = edit_for(changed, number, reading, in_any_language=True)
         if edit is None:
             if reading.at is None or reading.number in _AT_THE_END:
                 return
-            edit = Edit(reading.word.span, b"")
+            edits = _passing_over(reading)
             is_passed_over = True
-        if edit.text.count(b"\n") != changed[edit.span.start : edit.span.stop].count(b"\n"):
-            return
-        back.note(edit)
-        changed = edit.of(changed)
+        else:
+            edits = [edit]
+        for one in edits:
+            if one.text.count(b"\n") != changed[one.span.start : one.span.stop].count(b"\n"):
+                return
+            back.note(one)
+            changed = one.of(changed)
+
+
+def _passing_over(reading: Reading) -> list[Edit]:
+    """Returns the edits that pass over a faulty word, the last place of the text first.
+
+    An option that awaits its value goes with the word, and alone where the word can't be its value.
+    """
+    word, option = reading.word, reading.option
+    if reading.number is FaultKind.NO_CASTLING_SQUARE:
+        return [Edit(word.span, CASTLING_SQUARES[0].encode("ascii"))]
+    if option is None or reading.awaited is None:
+        return [Edit(word.span, b"")]
+    is_next = named(word.bytes, (*COMMANDS, *OPTIONS)) is not None
+    return [*([] if is_next else [Edit(word.span, b"")]), Edit(option.span, b"")]
 
 
 class _Places:

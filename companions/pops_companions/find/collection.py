@@ -4,6 +4,7 @@ A position one man apart is found by hashes: the file has a hash of each positio
 without each of its men; a search looks up the hashes of all variants of a position.
 """
 
+import os
 import sqlite3
 from collections.abc import Iterable, Iterator, Sequence
 from contextlib import closing
@@ -70,6 +71,8 @@ class Collection:
 
     def __init__(self, path: str, new: bool):
         """Opens a file; `new` makes it where it isn't there. CollectionError for other files."""
+        if not new and not os.path.exists(path):
+            raise CollectionError(f"there is no {path}: --add makes a collection")
         try:
             mode = "rwc" if new else "ro"
             self._data = sqlite3.connect(f"{_uri(path)}?mode={mode}", uri=True)

@@ -13,7 +13,7 @@ from pops_companions.import_.words import Unreadable
 from pops_companions.report.items import HelpLine, Node, PhaseKind, SoundItem
 from pops_companions.report.moves import Mark
 from pops_companions.report.reader import ReportError, read_report
-from pops_companions.show.titles import is_text, shown
+from pops_companions.show.titles import shown, text_of
 
 _REPORT = re.compile(rb"problem [1-9][0-9]*\r?\n")
 _MAN = re.compile("([KQRBSPGNkqrbspgn])((?:[a-h][1-8])+)")
@@ -61,7 +61,7 @@ def entries_of(source: str, data: bytes, encoding: str) -> tuple[list[Entry], li
     """
     if _REPORT.match(data):
         return _of_report(source, data, encoding)
-    text = data.decode(encoding) if is_text(data, encoding) else shown(data, encoding)
+    text = text_of(data, encoding)
     try:
         reading = read_problems(text)
     except Unreadable as error:

@@ -13,7 +13,12 @@ def read_given(companion: str, file: Optional[str]) -> list[GivenProblem]:
     """
     with command.opened(file) as source:
         text = source.read()
+    warn_of_rest(companion, file or "standard input", text)
+    return given_problems(text)
+
+
+def warn_of_rest(companion: str, name: str, text: bytes) -> None:
+    """Says on standard error what follows the EndProblem of an input."""
     rest = rest_of(text)
     if rest is not None:
-        print(f"{companion}: {file or 'standard input'}: {rest.text}", file=sys.stderr)
-    return given_problems(text)
+        print(f"{companion}: {name}: {rest.text}", file=sys.stderr)

@@ -37,14 +37,16 @@ def opened_unfinished_report(
     """As `opened_report`; the report may hold unfinished problems or end inside a problem.
 
     The problems of `unfinished`, by default of a file next to the report with its name and
-    UNFINISHED, are added at the places of their numbers.
+    UNFINISHED, are added at the places of their numbers. If no problem was finished, the report is
+    empty.
     """
     named = unfinished is not None
     if unfinished is None and file is not None and os.path.isfile(file + UNFINISHED):
         unfinished = file + UNFINISHED
     with command.opened(file) as source:
         name = file or "standard input"
-        items = _items(companion, name, source, encoding, read_unfinished_report)
+        may_be_empty = unfinished is not None
+        items = _items(companion, name, source, encoding, read_unfinished_report, may_be_empty)
         if unfinished is None:
             yield items
             return
@@ -99,6 +101,7 @@ def _items(
     source: BinaryIO,
     encoding: str,
     read: Callable[[Iterable[bytes]], Iterator[Read]],
+    may_be_empty: bool = False,
 ) -> Iterator[Read]:
     is_empty = True
     undecodable: list[int] = []
@@ -106,17 +109,25 @@ def _items(
     try:
         for item in read(lines):
             is_empty = False
-            if isinstance(item, SoundItem):
-                texts = filter(None, (item.title, item.author))
-                if not all(is_text(text, encoding) for text in texts):
-                    undecodable.append(item.number)
+            if not _has_names_in(encoding, item):
+                undecodable.append(item.number)
             yield item
     except ReportError as error:
         raise CommandError(Status.FAULTY, _refusal(name, lines.line, error)) from None
-    if is_empty:
+    if is_empty and not may_be_empty:
         raise CommandError(Status.FAULTY, f"{name} is empty: no report of pops")
-    if undecodable:
-        _warn_of_names(companion, name, undecodable, encoding)
+    _warn_of_names(companion, name, undecodable, encoding)
+
+
+def warn_of_names(companion: str, name: str, items: Iterable[AnyItem], encoding: str) -> None:
+    """Says on standard error which titles and authors of these items aren't in the encoding."""
+    undecodable = [item.number for item in items if not _has_names_in(encoding, item)]
+    _warn_of_names(companion, name, undecodable, encoding)
+
+
+def _has_names_in(encoding: str, item: AnyItem) -> bool:
+    texts = filter(None, (item.title, item.author)) if isinstance(item, SoundItem) else ()
+    return all(is_text(text, encoding) for text in texts)
 
 
 def _refusal(name: str, first_line: bytes, error: ReportError) -> str:
@@ -130,6 +141,8 @@ def _refusal(name: str, first_line: bytes, error: ReportError) -> str:
 
 
 def _warn_of_names(companion: str, name: str, undecodable: list[int], encoding: str) -> None:
+    if not undecodable:
+        return
     more = f", and of {len(undecodable) - 1} more," if len(undecodable) > 1 else ""
     print(
         f"{companion}: {name}: title or author of problem {undecodable[0]}{more} isn't {encoding}"

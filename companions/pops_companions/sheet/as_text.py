@@ -27,7 +27,8 @@ def _entry(entry: Entry, language: Language) -> Iterator[str]:
     if entry.origin:
         yield _INDENT + entry.origin
     if entry.board is not None:
-        yield _INDENT + position_in_words(entry.board)
+        men = position_in_words(entry.board, language.letters, language.sides, language.no_men)
+        yield _INDENT + men
         yield f"{_INDENT}{entry.asked} ({entry.count})"
     for part in entry.parts:
         yield from _part(part, language)

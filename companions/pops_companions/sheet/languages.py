@@ -13,11 +13,16 @@ FIGURES: Mapping[Kind, str] = dict(zip(Kind, "♔♕♖♗♘♙"))
 
 
 class Language(NamedTuple):
-    """A language: its code, letters in the order of Kind, letters of the colours, and words."""
+    """A language: its code, letters in the order of Kind, letters of the colours, and words.
+
+    `sides` are White and Black in a list of men, `no_men` says that a side has none.
+    """
 
     code: str
     letters: str
     colours: str
+    sides: tuple[str, str]
+    no_men: str
     threat: str
     zugzwang: str
     but: str
@@ -45,6 +50,8 @@ _ALL = (
         code="en",
         letters="KQRBSPGN",
         colours="wb",
+        sides=("White", "Black"),
+        no_men="none",
         threat="threat:",
         zugzwang="zugzwang",
         but="but",
@@ -62,6 +69,8 @@ _ALL = (
         code="de",
         letters="KDTLSBGN",
         colours="ws",
+        sides=("Weiß", "Schwarz"),
+        no_men="keine",
         threat="droht:",
         zugzwang="Zugzwang",
         but="aber",
@@ -79,6 +88,8 @@ _ALL = (
         code="fr",
         letters="RDTFCPSN",
         colours="bn",
+        sides=("Blancs", "Noirs"),
+        no_men="aucune",
         threat="menace :",
         zugzwang="blocus",
         but="mais",

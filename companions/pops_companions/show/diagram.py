@@ -25,6 +25,7 @@ WIDTH = HEIGHT = MARGIN + 8 * SIDE + 1
 
 # The fairy kinds, each with the kind that is turned upside down for it.
 UPSIDE_DOWN = {Kind.GRASSHOPPER: Kind.QUEEN, Kind.NIGHTRIDER: Kind.KNIGHT}
+_LETTERS = "".join(kind.value for kind in Kind)
 _FILLS = {
     Colour.WHITE: 'fill="#fff" color="#000"',
     Colour.BLACK: 'fill="#000" color="#fff"',
@@ -132,22 +133,29 @@ def _drawing(board: Board) -> str:
     return "".join(parts)
 
 
-def position_in_words(board: Board) -> str:
-    """Returns the men by colour, kind and square: `White Kg6 Ra1, Black Kg8`."""
-    sides = []
-    for colour in Colour:
-        men = _men_of(board, colour)
-        sides.append(f"{colour.name.title()} {' '.join(men) if men else 'none'}")
-    return ", ".join(sides)
+def position_in_words(
+    board: Board,
+    letters: str = _LETTERS,
+    sides: tuple[str, str] = ("White", "Black"),
+    no_men: str = "none",
+) -> str:
+    """Returns the men by colour, kind and square: `White Kg6 Ra1, Black Kg8`.
+
+    The letters are in the order of Kind; `no_men` stands for the men of a side without any.
+    """
+    by_kind = list(zip(Kind, letters))
+    told = []
+    for colour, side in zip(Colour, sides):
+        men = [(letter, _squares_of(board, colour, kind)) for kind, letter in by_kind]
+        words = [letter + square.name for letter, squares in men for square in squares]
+        told.append(f"{side} {' '.join(words) or no_men}")
+    return ", ".join(told)
 
 
-def _men_of(board: Board, colour: Colour) -> list[str]:
-    kinds = list(Kind)
-    men = [
-        (kinds.index(man.kind), square) for square, man in board.men.items() if man.colour is colour
-    ]
-    men.sort(key=lambda placed: (placed[0], placed[1].rank, placed[1].file))
-    return [kinds[kind].value + square.name for kind, square in men]
+def _squares_of(board: Board, colour: Colour, kind: Kind) -> list[Square]:
+    """Returns the squares of a side's men of a kind, by rank and file."""
+    squares = [it for it, man in board.men.items() if (man.colour, man.kind) == (colour, kind)]
+    return sorted(squares, key=lambda square: (square.rank, square.file))
 
 
 def numbers_of_men(board: Board) -> tuple[int, int]:

@@ -20,6 +20,24 @@ def is_text(text: bytes, encoding: str) -> bool:
     return True
 
 
+def text_of(data: bytes, encoding: str) -> str:
+    """Returns a file as text; its lines that aren't in the encoding are read as Latin-1."""
+    if is_text(data, encoding):
+        return data.decode(encoding)
+    return "".join(shown(line, encoding) for line in data.splitlines(keepends=True))
+
+
+def other_lines(name: str, data: bytes, encoding: str) -> str:
+    """Says which lines of a file aren't in the encoding; an empty text if all are."""
+    lines = enumerate([] if is_text(data, encoding) else data.splitlines(), 1)
+    other = [number for number, line in lines if not is_text(line, encoding)]
+    if not other:
+        return ""
+    more = f" and {len(other) - 1} more" if len(other) > 1 else ""
+    how = f"not in {encoding}, read as latin-1; --encoding names another"
+    return f"{name}, line {other[0]}{more}: {how}"
+
+
 def printable(text: str) -> str:
     """Returns a text with U+FFFD for each character that pages and drawings may not hold."""
     return _NO_CHARACTER.sub("\ufffd", text)
