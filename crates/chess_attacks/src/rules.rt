@@ -76,7 +76,7 @@ pub struct Orthodox;
 #[derive(Clone, Copy)]
 pub struct Circe;
 
-/// Madrasi: enemy men of the same kind that attack each other are paralysed (Popeye manual, Madrasi).
+/// Madrasi: a man is paralysed while an enemy man of its kind attacks it (Popeye manual, Madrasi).
 #[derive(Clone, Copy)]
 pub struct Madrasi;
 
