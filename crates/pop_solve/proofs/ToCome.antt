@@ -1,5 +1,5 @@
 -- What the moves still to come in a position mean for paths and steps.
-use Rattle.pop_solve.proofs.Words.{Bool, List, Mate, Move, None, Plan, Position, RuleSet, [], append_assoc, append-nil, allows_mate, chess, cond, false, filter, is_followed, is_emitted, walk_length, is_mating, map, map-append, mates_after, moves_after, refl, rules, seeks_last, shown_paths, work_from, work_after, suc, sum_by-cons, true, value, ℕ, ◌++◌, ◌+◌, ◌∙◌, ◌∷◌, ◌≡◌, position_after, legal_moves}
+use Rattle.pop_solve.proofs.Words.{Bool, List, Mate, Move, None, Plan, Position, RuleSet, [], append_assoc, append-nil, allows_mate, chess, cond, false, filter, is_followed, is_emitted, is_mating, map, map-append, mates_after, moves_after, refl, rules, seeks_last, shown_paths, work_from, work_after, suc, sum_by-cons, true, value, ℕ, ◌++◌, ◌+◌, ◌∙◌, ◌∷◌, ◌≡◌, position_after, legal_moves}
 use Rattle.pop_battle.proofs.Boards.{after_start}
 use Rattle.pop_solve.proofs.GoingOn.{cases, ways, walk_length-help, follows-help}
 
