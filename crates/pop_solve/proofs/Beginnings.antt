@@ -5,7 +5,8 @@ use Rattle.pop_solve.proofs.GoingOn.{cases, ended-reached, follows-help, walk_le
 use Rattle.pop_solve.proofs.Counting.{at_most_one, counts-help, open-close, walk_count-start}
 use Rattle.pop_solve.proofs.Paths.{path-more, position-more}
 use Rattle.pop_solve.proofs.Sound.{no-battle}
-use Rattle.pop_solve.proofs.ToCome.{come-close, given_path, skipped, turn}
+use Rattle.pop_solve.proofs.ToCome.{given_path, skipped, turn}
+use Rattle.pop_solve.proofs.TopFrame.{come-close}
 use Rattle.pop_solve.proofs.Walking.{popped}
 use Rattle.pop_solve.specs.ties.Beginnings.{IsBeginning, are_idle, paths_by}
 use Rattle.pop_solve.specs.ties.Counts.{Counts, CountsMove, exactly, is_walked_once_by, untried, untried_at}
@@ -24,7 +25,7 @@ module _ (rule : RuleSet) (plan : Plan) (p : Position) where
   idle-open : (frames : List Frame) → are_idle frames ≡ true → to_open rule p frames ≡ 0
   unfolding to_open
   idle-open [] e = refl
-  idle-open (f ∷ below) e = let i = idle-parts f below e in open-close rule plan p f below (inl i.0) ∙ idle-open below i.1
+  idle-open (f ∷ below) e = let i = idle-parts f below e in open-close rule p f below (inl i.0) ∙ idle-open below i.1
 
 -- a walk with one more move
 walking-opened : (rule : RuleSet) (h : ℕ) (p : Position) (frames : List Frame) (board : Position) (m : Move) (tried : ℕ) → 0 < length frames

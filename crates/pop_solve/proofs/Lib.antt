@@ -5,6 +5,7 @@ pub mod Least
 pub mod GoingOn
 pub mod ToCome
 pub mod Counting
+pub mod TopFrame
 pub mod Outcomes
 pub mod Walking
 pub mod Paths

@@ -3,8 +3,8 @@ use Rattle.pop_solve.proofs.Words.{AreKnown, Bool, CameFrom, CameFromAt, Frame, 
 use Rattle.pop_battle.specs.ties.Frames.{learned, moved}
 use Rattle.pop_battle.proofs.Tests.{came_from}
 use Rattle.pop_solve.proofs.GoingOn.{ended-reached, walk_length-most, ways}
-use Rattle.pop_solve.proofs.ToCome.{come-pass, come-enter, turns-pass, turns-enter, walk-skip}
-use Rattle.pop_solve.proofs.Counting.{counts-close, counts-enter, counts-pass, counts-skip, counts_then}
+use Rattle.pop_solve.proofs.Counting.{counts_then}
+use Rattle.pop_solve.proofs.TopFrame.{come-enter, come-pass, counts-close, counts-enter, counts-pass, counts-skip, turns-enter, turns-pass, walk-skip}
 use Rattle.pop_solve.specs.ties.Counts.{CountsMove, CountsWalk, are_whites, fewest_left, is_walked_once_by, untried}
 
 -- a step, and what it counts
@@ -42,7 +42,7 @@ module _ (rule : RuleSet) (plan : Plan) (h : ℕ) (p : Position) (f : Frame) (be
       → ((q : Position) → 0 < length below → CameFromAt rule f board q → after ≡ q) → Taken rule plan h p (f ∷ below) below after count count false
   unfolding to_come shown_paths walk_work
   steps-close after count e lowest before =
-      (search (rules, walking-close rule h p f below board after r lowest before), counts-close rule plan h p f below count (rw r.board_at at e))
+      (search (rules, walking-close rule h p f below board after r lowest before), counts-close rule plan h p f below (rw r.board_at at e) count)
 
   module _ (next : ℕ) (m : Move) (t : ℕ) (left : f.left ≡ suc t) (e : moves_after rule board f.place ≡ m ∷ moves_after rule board next) where
     here : moves_after rule (position rule p (f ∷ below)) f.place ≡ m ∷ moves_after rule (position rule p (f ∷ below)) next
@@ -62,10 +62,10 @@ module _ (rule : RuleSet) (plan : Plan) (h : ℕ) (p : Position) (f : Frame) (be
         → Taken rule plan h p (f ∷ below) (moved f next ∷ below) after opened opened2 false
     steps-pass after opened opened2 b at x =
         let walking = walking-moved rule h p f next below board after r at in
-        let come = come-pass rule plan h p f next m below _ t fuel left here in
-        let falls = turns-pass rule plan h p f next m below _ t fuel left here in (
+        let come = come-pass rule plan h p f below next m _ t fuel left here in
+        let falls = turns-pass rule plan h p f below next m _ t fuel left here in (
           search (rules, walking, come, falls, after_here),
-          counts-pass rule plan h p f next m below _ t fuel left here opened opened2 (rw after_here at b) (rw after_here at x),
+          counts-pass rule plan h p f below next m _ t fuel left here opened opened2 (rw after_here at b) (rw after_here at x),
         )
 
     -- the top frame's next move is followed
@@ -83,13 +83,13 @@ module _ (rule : RuleSet) (plan : Plan) (h : ℕ) (p : Position) (f : Frame) (be
         let pseudo = is_pseudo_legal-from_legal rule board m lawful in (
           record {
             walking = grind (arith, less, after_well_formed rule board m r.sound pseudo, pseudo);
-            come = rw after_here (come-enter rule plan h p f next m below _ t fuel left here u (rw (← after_here) b));
+            come = rw after_here (come-enter rule plan h p f below next m _ t fuel left here u (rw (← after_here) b));
             deep = λ g. omega arith;
             ended = λ g e. rw at
                 (ended-reached (chess plan.goal rule) plan.battle plan.variation (eqb (length below) 0) t (position_after rule board m) b g e);
-            falls = turns-enter rule plan h p f next m below _ t fuel left here u tried;
+            falls = turns-enter rule plan h p f below next m _ t fuel left here u tried;
           },
-          rw after_here (counts-enter rule plan h p f next m below _ t fuel left here u opened opened2 (rw after_here at b) (rw after_here at x)),
+          rw after_here (counts-enter rule plan h p f below next m _ t fuel left here u opened opened2 (rw after_here at b) (rw after_here at x)),
         )
 
 -- what follows moves that are passed over follows from before them

@@ -19,15 +19,13 @@ phase_walk rule problem phase =
     else walk_count (legal_moves rule) (position_after rule) (phase_half_moves problem phase)
     (phase_start problem phase)
 
--- the walk count of all phases from one on
-abbrev pub walk_from : RuleSet → Posed → Phase → ℕ
-walk_from rule problem phase =
-    if is_set phase then phase_walk rule problem Set + phase_walk rule problem Play
-    else phase_walk rule problem Play
+-- the sum of an amount over the phases from one on
+abbrev pub sum_from : (Phase → ℕ) → Phase → ℕ
+sum_from amount phase = if is_set phase then amount Set + amount Play else amount Play
 
 -- the walk count of a problem
 abbrev pub whole_walk : RuleSet → Posed → ℕ
-whole_walk rule problem = walk_from rule problem (first_phase problem)
+whole_walk rule problem = sum_from (phase_walk rule problem) (first_phase problem)
 
 -- the search of the problem walks no list of moves twice: help play, and battle play without set play
 -- that shows only keys

@@ -17,9 +17,9 @@ use Rattle.pop_battle.specs.ties.Values.{attacker_to_move}
 use Rattle.pop_stipulation.specs.Stipulations.{is_help}
 use Rattle.pop_stipulation.specs.declared.stipulation.Battle.{Battle}
 use Rattle.pop_events.specs.declared.event.Phase.{Phase}
-use Rattle.pop_events.specs.declared.event.Phase.TheVariants.{Set, Play}
+use Rattle.pop_events.specs.declared.event.Phase.TheVariants.{Play}
 use Rattle.pop_solve.specs.Events.{first_phase, is_impossible_phase, is_set, phase_half_moves, phase_start}
-use Rattle.pop_solve.specs.Walks.{is_never_stopped, is_unstopped, walk_from}
+use Rattle.pop_solve.specs.Walks.{is_never_stopped, is_unstopped, phase_walk, sum_from}
 use Rattle.pop_solve.specs.declared.phases.Stage.{Stage}
 use Rattle.pop_solve.specs.declared.phases.Stage.TheVariants.{Before, NotPossible, First, Within, After}
 use Rattle.pop_solve.specs.declared.phases.Walk.{Walk}
@@ -132,23 +132,17 @@ phase_fewest rule problem phase =
     (phase_half_moves problem phase) (phase_half_moves problem phase)
     (phase_start problem phase) (legal_moves rule (phase_start problem phase))
 
--- the fewest positions that have to be tried for all phases from one on
-abbrev pub fewest_from : RuleSet → Posed → Phase → ℕ
-fewest_from rule problem phase =
-    if is_set phase then phase_fewest rule problem Set + phase_fewest rule problem Play
-    else phase_fewest rule problem Play
-
 -- the fewest positions that have to be tried for a problem
 abbrev pub fewest_tried : RuleSet → Posed → ℕ
-fewest_tried rule problem = fewest_from rule problem (first_phase problem)
+fewest_tried rule problem = sum_from (phase_fewest rule problem) (first_phase problem)
 
 -- what is still to be tried for all phases from one on
 abbrev pub untried_from : RuleSet → Posed → Phase → Untried
 untried_from rule problem phase = record {
   once = is_help problem.stipulation.form || (not problem.variation && not (is_set phase));
-  most = walk_from rule problem phase;
-  least = if is_help problem.stipulation.form then walk_from rule problem phase
-      else fewest_from rule problem phase;
+  most = sum_from (phase_walk rule problem) phase;
+  least = sum_from (if is_help problem.stipulation.form then phase_walk rule problem
+      else phase_fewest rule problem) phase;
 }
 
 -- what is still to be tried from the frames of a walk on
