@@ -12,7 +12,7 @@ ghost use Rattle.pop_battle.specs.ties.Frames.{CameBy};
 ghost use Rattle.pop_solve.specs.Events.{game_of};
 ghost use Rattle.pop_stipulation.specs.Stipulations.{half_moves};
 ghost use Rattle.pop_events.specs.declared.try_event.TryEvent.TheVariants.{Node};
-ghost use Rattle.pop_tries.specs.declared.stage.TriesStage.TheVariants.{Below as BelowReply, But, Faced, FirstMove, Refutation, Reply, Threats};
+ghost use Rattle.pop_tries.specs.declared.stage.TriesStage.TheVariants.{BelowReply, But, Faced, FirstMove, Refutation, Reply, Threats};
 ghost use Rattle.pop_tries.specs.ties.Contests.{IsContest, IsThreat};
 ghost use Rattle.pop_tries.specs.ties.Searching.{after_first, below_and_after, contest_of, event_of_faced, left_of, Goes, HoldsAt, IsFirst, MayStep, rank};
 
@@ -258,7 +258,7 @@ pub(crate) fn find_reply<R: Rules, const N: usize>(
         undo,
     };
     Step {
-        stage: TriesStage::Below { first, reply },
+        stage: TriesStage::BelowReply { first, reply },
         event: Some(event),
     }
 }
@@ -282,7 +282,7 @@ pub(crate) fn walk_reply<R: Rules, const N: usize>(
         let walk = task.walk_below(first.by, Base::Reply { by: reply.by });
         let node = shown_node::<R>(&task.problem, walk, frames.as_slice(), board);
         return Step {
-            stage: TriesStage::Below { first, reply },
+            stage: TriesStage::BelowReply { first, reply },
             event: Some(node_event(node)),
         };
     }

@@ -36,7 +36,7 @@ use Rattle.pop_tries.specs.declared.stage.First.{First}
 use Rattle.pop_tries.specs.declared.stage.Firsts.{Firsts}
 use Rattle.pop_tries.specs.declared.stage.Task.{Task}
 use Rattle.pop_tries.specs.declared.stage.TriesStage.{TriesStage}
-use Rattle.pop_tries.specs.declared.stage.TriesStage.TheVariants.{NoTries, SetPlay, Impossible, Within, Beginning, FirstMove, Faced, Threats, Reply, Below as BelowReply, But, Refutation, Over}
+use Rattle.pop_tries.specs.declared.stage.TriesStage.TheVariants.{NoTries, SetPlay, Impossible, Within, Beginning, FirstMove, Faced, Threats, Reply, BelowReply, But, Refutation, Over}
 
 -- what contracts see of a search for tries: the problem, the most refutations of a try, and the events
 -- still to come
