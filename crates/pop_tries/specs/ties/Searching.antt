@@ -25,6 +25,7 @@ use Rattle.pop_tries.specs.Events.{BareTryEvent, attempt, below, events_of_tries
 use Rattle.pop_tries.specs.Shown.{try_event_of}
 use Rattle.pop_tries.specs.ties.Contests.{IsContest, IsThreat}
 use Rattle.pop_tries.specs.ties.FirstMoves.{belongs, is_shown, IsFew}
+use Rattle.pop_tries.specs.ties.Starts.{base_position, shown_line}
 use Rattle.pop_tries.specs.declared.below.Base.{Base}
 use Rattle.pop_tries.specs.declared.below.WalkBelow.{WalkBelow}
 use Rattle.pop_tries.specs.declared.contest.Contest.{Contest}
@@ -194,6 +195,15 @@ module _ (rule : RuleSet) (task : Task) where
   abbrev pub walk_left : Position → List Frame → List (List Move)
   walk_left p items = to_come rule (plan_of task.problem)
       (half_moves task.problem.stipulation - 2) p (reverse items)
+
+  -- a walk below a first move shows its next node; after the last one the board has the position where the
+  -- walk started, and no frame is left
+  abbrev pub ShowsNode : Move → Base → (old new : List Frame) → Position → Option TryEvent → Type 0
+  ShowsNode first base old new board event =
+      let p = base_position rule task.problem first base in
+      MatchOption event ((walk_left p old ≡ []) × (board ≡ p) × (new ≡ []))
+      (λ shown. (line : List Move) × (walk_left p old ≡ line ∷ walk_left p new)
+      × (shown ≡ try_event_of rule task.problem (below first (shown_line base line))))
 
   -- the refutations after a place
   abbrev pub refutations_after : Position → ℕ → List Move
