@@ -1,8 +1,7 @@
 -- What the calls of a search's steps below a first move yield.
-use Rattle.pop_tries.proofs.Words.{Bool, Goal, IsSound, List, Move, Posed, Position, RuleSet, [], and_parts, ap, arith, chess_passing, check, cond, false, false≢true, filter, first_in, from_filter, half_moves, is_pseudo_legal-from_legal, has_threat, is_in_set_play, length, position_after, refl, reply, sym, threatened, true, zugzwang, ℕ, ◌+◌, ◌-◌, ◌∷◌, ◌≡◌, ◌≤◌}
+use Rattle.pop_tries.proofs.Words.{Bool, Goal, IsSound, List, Move, Posed, Position, RuleSet, [], and_parts, ap, arith, chess_passing, check, cond, false, false≢true, filter, first_in, from_filter, half_moves, is_pseudo_legal-from_legal, has_threat, is_in_set_play, length, play_start, position_after, refl, sym, true, zugzwang, ℕ, ◌+◌, ◌-◌, ◌∙◌, ◌∷◌, ◌≡◌, ◌≤◌}
 use Rattle.std.specs.Prelude.{None, Option, Some, is_some, reverse}
 use Rattle.std.proofs.lemmas.List.{length-reverse, nil_from_length}
-use Rattle.pop_battle.specs.Chess.{set_start}
 use Rattle.chess_core.specs.Undo.{Undo}
 use Rattle.chess_rules.specs.ties.Games.{RestoresPosition, WasPlayed}
 use Rattle.pop_battle.specs.ties.Frames.{CameBy, Frame}
@@ -14,9 +13,14 @@ use Rattle.pop_solve.specs.ties.Walk.{IsRoomy}
 use Rattle.pop_tries.specs.Shown.{shown_below_first}
 use Rattle.pop_tries.specs.declared.contest.Contest.{Contest}
 use Rattle.pop_events.specs.declared.try_event.TryEvent.TheVariants.{Node}
-use Rattle.pop_tries.specs.ties.Contests.{IsThreat, game_in}
+use Rattle.pop_tries.specs.declared.below.Base.{Base}
+use Rattle.pop_tries.specs.declared.below.Base.TheVariants.{Passed, Reply}
+use Rattle.pop_tries.specs.declared.stage.First.{First}
+use Rattle.pop_tries.specs.declared.stage.Task.{Task}
+use Rattle.pop_tries.specs.ties.Contests.{IsThreat, Keeps, game_in}
 use Rattle.pop_tries.specs.ties.FirstMoves.{is_shown}
-use Rattle.pop_tries.specs.ties.Searching.{event_of_faced}
+use Rattle.pop_tries.specs.ties.Searching.{IsAnswered, IsBare, IsWalkedBelow, after_first, event_of_faced}
+use Rattle.pop_tries.specs.ties.Starts.{base_position, shown_line}
 use Rattle.pop_tries.proofs.StepsBelow.{last_below}
 
 -- nothing is reversed only if there is nothing
@@ -28,6 +32,16 @@ pub shallow : (problem : Posed) → IsSound problem → (h : ℕ) (items slice :
     → IsRoomy h (reverse items) → slice ≡ items → length slice ≤ 33
 shallow problem s h items slice e r same =
     omega (arith, e, in_range problem s, room-length h (reverse items) r, length-reverse items, ap length same)
+
+-- a test that keeps board and frames leaves the board's position, and no frame in use
+pub still_bare : {q p now : Position} {old new : List Frame} → Keeps p now old new → IsBare q old p → IsBare q new now
+still_bare keeps bare = record { board_at = keeps.board ∙ bare.board_at; none = keeps.frames ∙ bare.none }
+
+-- after a walk below a first move, with the board back where that move led and no frame left, the replies follow
+pub replies_follow : {A : Type 0} (rule : RuleSet) (task : Task) (first : First A) (p before board : Position) (was items : List Frame)
+    → IsWalkedBelow rule task first p was before → board ≡ after_first rule task first.by → items ≡ [] → IsAnswered rule task first items board
+replies_follow rule task first p before board was items walked back none =
+    record { first_is = walked.first_is; threat = walked.threat; bare = record { board_at = back; none = none } }
 
 -- the first of the moves that pass a test passes it
 pub head_passes : (test : Move → Bool) (ms : List Move) (m : Move) (rest : List Move) → filter test ms ≡ m ∷ rest → test m ≡ true
@@ -50,20 +64,16 @@ module _ (rule : RuleSet) (contest : Contest) (q : Position) where
       → is_in_set_play contest.battle (game_in rule contest) contest.stipulation.n (position_after rule q d) ≡ true
   shown_is_met d e = (and_parts _ _ e).0
 
--- a node below a reply, as it is shown
-pub reply_node : (goal : Goal) (rule : RuleSet) (q : Position) (d : Move) (line : List Move) (depth half : ℕ) (shown : Shown) → 1 ≤ length line
-    → depth ≡ length line + 1 → half ≡ length line + 2 → shown ≡ last_shown goal rule (position_after rule q d) line
-    → Node depth half shown ≡ shown_below_first goal rule q (reply (d ∷ line))
-reply_node goal rule q d line depth half shown some e f g =
-    let e2 : depth ≡ length (d ∷ line) = omega (arith, e) in
-    let f2 : half ≡ length (d ∷ line) + 1 = omega (arith, f) in
-    rw (e2, f2, g, last_below goal rule q d line some) refl
-
--- a node below the threats
-pub threat_node : (goal : Goal) (rule : RuleSet) (q : Position) (line : List Move) (depth half : ℕ) (shown : Shown)
-    → depth ≡ length line + 1 → half ≡ length line + 2 → shown ≡ last_shown goal rule (set_start q) line
-    → Node depth half shown ≡ shown_below_first goal rule q (threatened line)
-threat_node goal rule q line depth half shown e f g = rw (e, f, g) refl
+-- a node of a walk below a first move, as it is shown
+module _ (goal : Goal) (rule : RuleSet) (problem : Posed) (first : Move) (line : List Move) (depth half : ℕ) (shown : Shown) where
+  pub node_shown : (base : Base) → 1 ≤ length line → depth ≡ length line + 1 → half ≡ length line + 2
+      → shown ≡ last_shown goal rule (base_position rule problem first base) line
+      → Node depth half shown ≡ shown_below_first goal rule (position_after rule (play_start problem) first) (shown_line base line)
+  node_shown Passed some e f g = rw (e, f, g) refl
+  node_shown (Reply by) some e f g =
+      let e2 : depth ≡ length (by ∷ line) = omega (arith, e) in
+      let f2 : half ≡ length (by ∷ line) + 1 = omega (arith, f) in
+      rw (e2, f2, g, last_below goal rule (position_after rule (play_start problem) first) by line some) refl
 
 -- what Black faces where White threatens nothing
 pub faced_shown : (goal : Goal) (rule : RuleSet) (q : Position) (checked : Bool)

@@ -1,7 +1,7 @@
 -- How a search for tries begins, and what a call of `next` returns.
-use Rattle.pop_tries.proofs.Words.{BareTryEvent, Battle, Bool, IsSound, List, None, Option, Posed, Position, RuleSet, Some, [], arith, battle_of, drop, false, nat_tests, play_start, refl, rules, true, ℕ, ◌∷◌, ◌≡◌, ◌≤◌}
+use Rattle.pop_tries.proofs.Words.{BareTryEvent, Battle, Bool, IsSound, List, None, Option, Posed, Position, RuleSet, Some, [], arith, battle_of, drop, false, false≢true, nat_tests, play_start, refl, rules, true, ℕ, ◌∙◌, ◌∷◌, ◌≡◌, ◌≤◌}
 unfoldable use Rattle.pop_tries.proofs.Words.{try_events}
-use Rattle.std.specs.Prelude.{MatchOption, slice_get}
+use Rattle.std.specs.Prelude.{MatchOption, is_some, slice_get}
 use Rattle.std.specs.Option.{option_map}
 use Rattle.pop_battle.specs.ties.Frames.{Frame}
 use Rattle.pop_stipulation.specs.Stipulations.{may_have}
@@ -11,7 +11,7 @@ use Rattle.pop_tries.specs.Shown.{try_event_of}
 use Rattle.pop_events.specs.declared.try_event.TryEvent.{TryEvent}
 use Rattle.pop_tries.specs.declared.stage.Task.{Task}
 use Rattle.pop_tries.specs.declared.stage.TriesStage.{TriesStage}
-use Rattle.pop_tries.specs.ties.Searching.{IsOf, first_stage, is_over, stage_by}
+use Rattle.pop_tries.specs.ties.Searching.{Emits, IsOf, first_stage, is_over, stage_by}
 unfoldable use Rattle.pop_tries.specs.ties.Searching.{HoldsAt, left_of}
 
 -- a battle has a move
@@ -56,6 +56,13 @@ module _ (rule : RuleSet) (problem : Posed) where
       → (result ≡ option_map (try_event_of rule problem) (slice_get old 0)) × (new ≡ drop 1 old)
   next_shown old new None m = (rw m.0 refl, rw (m.0, m.1) refl)
   next_shown old new (Some shown) m = (rw (m.1, m.2) refl, rw m.1 refl)
+
+-- after a step with an event, that event was the next one to come
+pub emitted : (rule : RuleSet) (task : Task) (start old new : List BareTryEvent) (event : Option TryEvent) → start ≡ old → Emits rule task old new event
+    → is_some event ≡ true
+    → MatchOption event ((start ≡ []) × (new ≡ [])) (λ shown. (bare : BareTryEvent) × (start ≡ bare ∷ new) × (shown ≡ try_event_of rule task.problem bare))
+emitted rule _ start old new None same e s = absurd (false≢true s)
+emitted rule _ start old new (Some shown) same e s = (e.0, same ∙ e.1, e.2)
 
 -- nothing is left to come
 pub over_empty : {A : Type 0} (rule : RuleSet) (task : Task) (stage : TriesStage A) (items : List Frame) → is_over stage ≡ true

@@ -69,7 +69,8 @@ module _ (rule : RuleSet) (problem : Posed) (s : IsSound problem) (was items : L
   pub walk_begins : (board : Position) → board ≡ phase_start problem Set → f.known ≡ None
       → IsWalking rule (phase_half_moves problem Set) (phase_start problem Set) (reverse items) board
   walk_begins board at none =
-      rw (one, empty) (walks_from rule (phase_half_moves problem Set) (phase_start problem Set) board f (start_sound problem s Set) at (omega (arith, left)) none)
+      rw (one, empty) (walks_from rule (phase_half_moves problem Set) (phase_start problem Set) board f (start_sound problem s Set) at
+      (omega (arith, left)) none)
 
   pub paths_begin : f.place ≡ 0 → IsCutInto (is_help problem.stipulation.form) problem.max_solutions (phase_paths rule problem Set (reverse items))
       (solutions rule problem Set)

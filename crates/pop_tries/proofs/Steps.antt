@@ -62,8 +62,12 @@ module _ (rule : RuleSet) (task : Task) where
       let all : task.problem.max_solutions - 0 ≡ task.problem.max_solutions = omega arith in
       let shown : List Move = take task.problem.max_solutions (key_moves task.battle rule task.problem) in
       let same : 0 + length shown ≡ length shown = omega arith in
-      rw (all, after_start rule (play_start task.problem), flat-same (events_of_first rule task Keys) (key_events task.battle rule task.problem) shown key_closed, same)
-      refl
+      rw (
+        all,
+        after_start rule (play_start task.problem),
+        flat-same (events_of_first rule task Keys) (key_events task.battle rule task.problem) shown key_closed,
+        same,
+      ) refl
   group_begins (Tries most) =
       let same : 0 + length (try_moves task.battle rule task.problem most) ≡ length (try_moves task.battle rule task.problem most) = omega arith in
       rw (after_start rule (play_start task.problem), same) refl

@@ -14,7 +14,7 @@ use Rattle.pop_tries.specs.Tries.{reply_nodes}
 use Rattle.pop_tries.specs.declared.stage.First.{First}
 use Rattle.pop_tries.specs.declared.stage.Played.{Played}
 use Rattle.pop_tries.specs.declared.stage.Task.{Task}
-use Rattle.pop_tries.specs.declared.stage.TriesStage.TheVariants.{But, Faced, FirstMove, Refutation, Reply, Threats, Below as BelowReply}
+use Rattle.pop_tries.specs.declared.stage.TriesStage.TheVariants.{But, Faced, FirstMove, Refutation, Reply, Threats, BelowReply}
 use Rattle.pop_tries.specs.ties.Contests.{IsContest}
 use Rattle.pop_tries.specs.ties.FirstMoves.{is_shown}
 use Rattle.pop_tries.specs.ties.Searching.{after_first, below_and_after, contest_of, refutations_after, replies_after, shown_after, walk_left}
@@ -138,7 +138,8 @@ module _ {A : Type 0} (rule : RuleSet) (task : Task) (fit : IsContest (contest_o
   refutations_over place items frames e = rw e refl
 
   -- what Black faces, where White threatens nothing
-  pub faced_without : (place : ℕ) (items frames : List Frame) (f : Below Move) → place ≡ 0 → shown_after rule task first.by ≡ f ∷ map reply (replies_after rule task q 0)
+  pub faced_without : (place : ℕ) (items frames : List Frame) (f : Below Move) → place ≡ 0
+      → shown_after rule task first.by ≡ f ∷ map reply (replies_after rule task q 0)
       → left_of rule task (Faced first) items ≡ below first.by f ∷ left_of rule task (Reply first place) frames
   unfolding left_of
   faced_without place items frames f z e = rw (e, z) refl

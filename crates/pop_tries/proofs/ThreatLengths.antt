@@ -4,7 +4,7 @@ use Rattle.std.proofs.Common.{◌*◌, ◌/◌}
 use Rattle.pop_battle.specs.Chess.{set_start}
 use Rattle.pop_battle.specs.ties.Values.{attacker_to_move}
 unfoldable use Rattle.pop_battle.specs.ties.Values.{value}
-unfoldable use Rattle.pop_solve.specs.ties.Walk.{least_length_from, shown_length, walk_length}
+unfoldable use Rattle.pop_solve.specs.ties.Walk.{shown_length, walk_length}
 use Rattle.pop_solve.proofs.GoingOn.{walk_length-most}
 use Rattle.pop_solve.proofs.Trees.{attacker_to_move-step, halves, least_moves-halves}
 use Rattle.pop_tries.specs.declared.contest.Contest.{Contest}

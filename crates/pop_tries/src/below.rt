@@ -26,12 +26,13 @@ pub enum Base {
     Reply { by: Move },
 }
 
-/// A walk below a first move: what it walks, the number of half-moves left where it starts, the first move, and
-/// where it starts.
+/// A walk below a first move.
 #[derive(Clone, Copy)]
 pub struct WalkBelow {
     pub plan: Plan,
+    /// The number of half-moves left where the walk starts.
     pub half_moves: usize,
+    /// The first move. With `base` it says in contracts where the walk starts; the code doesn't read them.
     pub first: Move,
     pub base: Base,
 }
@@ -61,7 +62,7 @@ pub fn open_walk<R: Rules, const N: usize>(
 }
 
 /// Walks to the next node below a reply or below the threats. Returns whether there is one; if not, no frame
-/// is left, and the board has the position where the walk started.
+/// is left, and the board has the position where the walk started. Only the contract reads `problem`.
 pub fn walk_on<R: Rules, const N: usize>(
     problem: &Problem,
     walk: WalkBelow,
@@ -88,17 +89,19 @@ pub fn walk_on<R: Rules, const N: usize>(
     false
 }
 
-/// A node below a first move, as it is shown: the number of moves above it, where 1 is the depth of a reply, the
-/// number of its half-move, counted from 1, and its move.
+/// A node below a first move, as it is shown.
 #[derive(Clone, Copy)]
 pub struct ShownNode {
+    /// The number of moves above it; a reply has depth 1.
     pub depth: u32,
+    /// The number of its half-move, counted from 1.
     pub half: u32,
+    /// Its move.
     pub shown: Shown,
 }
 
 /// Returns the node at the top frame, whose position the board has. Where Black has passed, the missing reply
-/// counts as a move.
+/// counts as a move. Only the contract reads `problem`.
 pub fn shown_node<R: Rules>(
     problem: &Problem,
     walk: WalkBelow,

@@ -4,19 +4,20 @@ ghost use Rattle.chess_core.specs.WellFormed.{IsWellFormed};
 ghost use Rattle.chess_rules.specs.Legal.{is_legal};
 ghost use Rattle.chess_rules.specs.Play.{position_after, undo_of};
 ghost use Rattle.pop_events.specs.Shown.{shown_move};
+ghost use Rattle.pop_input.specs.Posed.{IsSound};
 ghost use Rattle.pop_solve.specs.ties.Plans.{plan_of};
 ghost use Rattle.pop_solve.specs.ties.Walk.{IsWalking};
-ghost use Rattle.pop_tries.specs.ties.Starts.{ShowsBelow};
+ghost use Rattle.pop_tries.specs.ties.Starts.{base_position, ShowsBelow};
 ghost use Rattle.chess_core.specs.Position.{Position};
 ghost use Rattle.pop_battle.specs.ties.Frames.{CameBy};
 ghost use Rattle.pop_solve.specs.Events.{game_of};
 ghost use Rattle.pop_stipulation.specs.Stipulations.{half_moves};
 ghost use Rattle.pop_events.specs.declared.try_event.TryEvent.TheVariants.{Node};
-ghost use Rattle.pop_tries.specs.declared.stage.TriesStage.TheVariants.{Below as BelowReply, But, Faced, FirstMove, Refutation, Reply, Threats};
+ghost use Rattle.pop_tries.specs.declared.stage.TriesStage.TheVariants.{BelowReply, But, Faced, FirstMove, Refutation, Reply, Threats};
 ghost use Rattle.pop_tries.specs.ties.Contests.{IsContest, IsThreat};
-ghost use Rattle.pop_tries.specs.ties.Searching.{after_first, below_and_after, contest_of, event_of_faced, left_of, Goes, HoldsAt, IsFirst, MayStep, rank};
+ghost use Rattle.pop_tries.specs.ties.Searching.{after_first, below_and_after, contest_of, event_of_faced, left_of, Goes, HoldsAt, IsFirst, MayStep, rank, ShowsNode, walk_below};
 
-use crate::below::{Base, ShownNode, open_walk, shown_node, walk_on};
+use crate::below::{Base, WalkBelow, open_walk, shown_node, walk_on};
 use crate::first_moves::{Group, next_refutation, next_reply};
 use crate::shown::shown;
 use crate::stage::{First, Played, Step, Task, TriesStage};
@@ -138,15 +139,36 @@ fn begin_threats<R: Rules, const N: usize>(
     }
 }
 
-/// Returns the event of a node.
-fn node_event(node: ShownNode) -> TryEvent
-    ensures { result ≡ Node node.depth node.half node.shown }
+/// Walks to the next node below a first move, and returns its event. After the last node returns `None`: then
+/// no frame is left, and the board has the position where the walk started.
+fn next_node<R: Rules, const N: usize>(
+    task: &Task,
+    walk: &WalkBelow,
+    board: &mut Board,
+    frames: &mut ArrayVec<Frame<R>, N>,
+    search_state: &mut SearchState<R>,
+) -> Option<TryEvent>
+    requires walk { walk.now ≡ walk_below task.now walk.now.first walk.now.base }
+    requires sound { IsSound task.now.problem }
+    requires room { half_moves task.now.problem.stipulation < N }
+    requires walking { IsWalking R.rule (half_moves task.now.problem.stipulation - 2)
+        (base_position R.rule task.now.problem walk.now.first walk.now.base)
+        (reverse frames.old.items) board.old }
+    ensures walking { IsWalking R.rule (half_moves task.now.problem.stipulation - 2)
+        (base_position R.rule task.now.problem walk.now.first walk.now.base)
+        (reverse frames.new.items) board.new }
+    ensures next { ShowsNode R.rule task.now walk.now.first walk.now.base frames.old.items
+        frames.new.items board.new result }
 {
-    TryEvent::Node {
+    if !walk_on::<R, N>(&task.problem, *walk, board, frames, search_state) {
+        return None;
+    }
+    let node = shown_node::<R>(&task.problem, *walk, frames.as_slice(), board);
+    Some(TryEvent::Node {
         depth: node.depth,
         half: node.half,
         shown: node.shown,
-    }
+    })
 }
 
 /// Shows the next node below the threats; after the last one Black's replies follow.
@@ -164,12 +186,11 @@ pub(crate) fn walk_threats<R: Rules, const N: usize>(
         frames.new.items board.new result.event }
 {
     let walk = task.walk_below(first.by, Base::Passed);
-    if walk_on::<R, N>(&task.problem, walk, board, frames, search_state) {
-        let walk = task.walk_below(first.by, Base::Passed);
-        let node = shown_node::<R>(&task.problem, walk, frames.as_slice(), board);
+    let next = next_node::<R, N>(task, &walk, board, frames, search_state);
+    if let Some(event) = next {
         return Step {
             stage: TriesStage::Threats { first, crossed },
-            event: Some(node_event(node)),
+            event: Some(event),
         };
     }
     unpass(board, crossed);
@@ -258,7 +279,7 @@ pub(crate) fn find_reply<R: Rules, const N: usize>(
         undo,
     };
     Step {
-        stage: TriesStage::Below { first, reply },
+        stage: TriesStage::BelowReply { first, reply },
         event: Some(event),
     }
 }
@@ -278,12 +299,11 @@ pub(crate) fn walk_reply<R: Rules, const N: usize>(
         frames.new.items board.new result.event }
 {
     let walk = task.walk_below(first.by, Base::Reply { by: reply.by });
-    if walk_on::<R, N>(&task.problem, walk, board, frames, search_state) {
-        let walk = task.walk_below(first.by, Base::Reply { by: reply.by });
-        let node = shown_node::<R>(&task.problem, walk, frames.as_slice(), board);
+    let next = next_node::<R, N>(task, &walk, board, frames, search_state);
+    if let Some(event) = next {
         return Step {
-            stage: TriesStage::Below { first, reply },
-            event: Some(node_event(node)),
+            stage: TriesStage::BelowReply { first, reply },
+            event: Some(event),
         };
     }
     unplay::<R>(board, reply.by, reply.undo);

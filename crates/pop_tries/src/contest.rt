@@ -5,7 +5,7 @@ use pop_battle::aim::Aim;
 use pop_stipulation::Battle;
 use pop_stipulation::stipulation::Stipulation;
 
-/// A battle: its kind, and the stipulation of which it is the form, which says how many half-moves it has.
+/// A battle with its stipulation, which says how many half-moves it has.
 #[derive(Clone, Copy, Debug)]
 pub struct Contest {
     pub battle: Battle,

@@ -129,7 +129,8 @@ pub(crate) fn find_first<R: Rules, const N: usize>(
     begin_first(task, firsts.counted(place), by, undo, board)
 }
 
-/// Shows a first move that has been played.
+/// Shows a first move that has been played: takes it back, since it is shown from the position before it, and
+/// plays it again.
 #[tactic(auto, using(chess_rules::proofs::listing_moves::Calls::playing))]
 fn begin_first<R: Rules>(
     task: &Task,

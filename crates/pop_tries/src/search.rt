@@ -114,10 +114,7 @@ fn first_stage<R: Rules>(problem: &Problem) -> (Battle, TriesStage<R>)
 fn is_over<R: Rules>(stage: TriesStage<R>) -> bool
     ensures { result ≡ is_over stage }
 {
-    match stage {
-        TriesStage::Over => true,
-        _ => false,
-    }
+    matches!(stage, TriesStage::Over)
 }
 
 /// Takes one step of a search.
@@ -154,7 +151,7 @@ fn take_step<R: Rules, const N: usize>(
         TriesStage::Reply { first, place } => {
             find_reply(task, first, place, board, frames, search_state)
         }
-        TriesStage::Below { first, reply } => {
+        TriesStage::BelowReply { first, reply } => {
             walk_reply(task, first, reply, board, frames, search_state)
         }
         TriesStage::But { first } => begin_refutations(task, first, board, frames),

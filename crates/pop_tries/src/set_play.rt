@@ -1,7 +1,5 @@
 //! The steps of a search for tries in set play.
-ghost use Rattle.std.specs.Prelude.{◌≡◌, [], reverse};
 ghost use Rattle.pop_events.specs.declared.event.Phase.TheVariants.{Set};
-ghost use Rattle.pop_solve.specs.ties.Phases.{left_of as set_play_left, HoldsAtStage};
 ghost use Rattle.pop_tries.specs.declared.stage.TriesStage.TheVariants.{SetPlay, Within};
 ghost use Rattle.pop_tries.specs.ties.Searching.{Goes, HoldsAt, MayStep};
 

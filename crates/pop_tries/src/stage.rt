@@ -17,12 +17,13 @@ use pop_solve::plan::Plan;
 use pop_stipulation::Battle;
 use std::alloc::AllocError;
 
-/// What a search for tries covers: a problem, its battle (any in help play), and the most refutations of a
-/// try, 0 to 200.
+/// What a search for tries covers.
 #[derive(Clone, Copy)]
 pub struct Task {
     pub problem: Problem,
+    /// The problem's battle; any in help play, which has no tries.
     pub battle: Battle,
+    /// The greatest number of refutations of a try, 0 to 200.
     pub most: u32,
 }
 
@@ -57,12 +58,13 @@ impl Task {
     }
 }
 
-/// A place among the first moves of a group: the place in the order of moves, and how many first moves of the
-/// group have been shown.
+/// A place among the first moves of a group.
 #[derive(Clone, Copy)]
 pub struct Firsts<R: Rules> {
     pub group: Group,
+    /// The place in the order of moves.
     pub place: Moves<R>,
+    /// How many first moves of the group have been shown.
     pub count: u32,
 }
 
@@ -80,19 +82,22 @@ impl<R: Rules> Firsts<R> {
     }
 }
 
-/// A first move that has been shown: its place, the move and what takes it back, and the least number of
-/// half-moves within which White's threats win, if White threatens.
+/// A first move that has been shown.
 #[derive(Clone, Copy)]
 pub struct First<R: Rules> {
+    /// The place after the move.
     pub firsts: Firsts<R>,
     pub by: Move,
     pub undo: Undo,
+    /// The length of White's threats: the least number of half-moves within which they win. `None` if White
+    /// threatens nothing, or before stage `Faced` has looked for threats.
     pub threat: Option<usize>,
 }
 
-/// A reply that has been played: its place in the order of moves, the move and what takes it back.
+/// A reply that has been played.
 #[derive(Clone, Copy)]
 pub struct Played<R: Rules> {
+    /// The place after the reply in the order of moves.
     pub place: Moves<R>,
     pub by: Move,
     pub undo: Undo,
@@ -134,7 +139,7 @@ pub enum TriesStage<R: Rules> {
         place: Moves<R>,
     },
     /// What stands below a reply.
-    Below {
+    BelowReply {
         first: First<R>,
         reply: Played<R>,
     },
@@ -161,9 +166,11 @@ impl<R: Rules> Clone for TriesStage<R> {
     }
 }
 
-/// What a step of a search for tries leaves: the next stage, and the event, if there is one.
+/// What a step of a search for tries leaves.
 #[derive(Drop)]
 pub struct Step<R: Rules> {
+    /// The next stage.
     pub stage: TriesStage<R>,
+    /// The event that the step emits, if there is one.
     pub event: Option<TryEvent>,
 }

@@ -135,7 +135,8 @@ module _ (battle : Battle) (rule : RuleSet) (problem : Posed) where
       λ m. pairs_front (λ x y. x ≢ y) (shown_below battle rule problem m) _ (whole_differs m) in
       let keys_apart = pairs_front (λ m n. m ≢ n) shown (drop problem.max_solutions (key_moves battle rule problem))
       (subst (AllPairs (λ m n. m ≢ n)) (sym (take-append-drop problem.max_solutions (key_moves battle rule problem))) (moves_apart _)) in
-      let won : (m : Move) → Contains shown m → keeps_win battle (game_of rule problem) problem.stipulation.n (position_after rule (play_start problem) m) ≡ true =
+      let won : (m : Move) → Contains shown m → keeps_win battle (game_of rule problem) problem.stipulation.n
+      (position_after rule (play_start problem) m) ≡ true =
       λ m c. (from_filter _ (legal_moves rule (play_start problem)) m (from_take problem.max_solutions (key_moves battle rule problem) m c)).1 in
       let lost : (m : Move) → Contains attempts m
       → keeps_win battle (game_of rule problem) problem.stipulation.n (position_after rule (play_start problem) m) ≡ false =

@@ -1,6 +1,6 @@
 -- How far a search for tries has come: what it has still to return, and what holds of its board and frames
 -- (own).
-use Rattle.std.specs.Prelude.{◌≡◌, ◌≤◌, ◌<◌, ℕ, ◌+◌, ◌-◌, ◌==◌, Bool, true, false, if◌then◌else◌, not, List, [], ◌∷◌, ◌++◌, map, take, filter, length, reverse, Option, None, Some, MatchOption}
+use Rattle.std.specs.Prelude.{◌≡◌, ◌≤◌, ◌<◌, ℕ, ◌+◌, ◌-◌, ◌==◌, Bool, true, false, if◌then◌else◌, List, [], ◌∷◌, ◌++◌, map, take, filter, length, reverse, Option, None, Some, MatchOption}
 use Rattle.std.specs.List.{flat_map}
 use Rattle.chess_core.specs.WellFormed.{IsWellFormed}
 use Rattle.chess_core.specs.Position.{Position}
@@ -16,7 +16,7 @@ use Rattle.pop_events.specs.Shown.{Shown}
 use Rattle.pop_events.specs.declared.event.Phase.TheVariants.{Set}
 use Rattle.pop_input.specs.Posed.{IsSound, Posed}
 use Rattle.pop_solve.specs.Events.{game_of, impossible, phase_events, play_start}
-use Rattle.pop_solve.specs.Tree.{is_in_set_play, node}
+use Rattle.pop_solve.specs.Tree.{node}
 use Rattle.pop_solve.specs.ties.Phases.{HoldsAtStage, left_of as set_play_left}
 use Rattle.pop_solve.specs.ties.Plans.{plan_of}
 use Rattle.pop_solve.specs.ties.Walk.{IsWalking, to_come}
@@ -24,7 +24,8 @@ use Rattle.pop_tries.specs.Tries.{Below, below_reply, refutation, reply, shown_r
 use Rattle.pop_tries.specs.Events.{BareTryEvent, attempt, below, events_of_tries, key, key_total, keys, no_tries, play_events, set_event, shown_below, tries, try_total}
 use Rattle.pop_tries.specs.Shown.{try_event_of}
 use Rattle.pop_tries.specs.ties.Contests.{IsContest, IsThreat}
-use Rattle.pop_tries.specs.ties.FirstMoves.{belongs, is_shown, IsFew}
+use Rattle.pop_tries.specs.ties.FirstMoves.{firsts_after as firsts_of, is_shown, refutes, IsFew}
+use Rattle.pop_tries.specs.ties.Starts.{base_position, shown_line}
 use Rattle.pop_tries.specs.declared.below.Base.{Base}
 use Rattle.pop_tries.specs.declared.below.WalkBelow.{WalkBelow}
 use Rattle.pop_tries.specs.declared.contest.Contest.{Contest}
@@ -36,7 +37,7 @@ use Rattle.pop_tries.specs.declared.stage.First.{First}
 use Rattle.pop_tries.specs.declared.stage.Firsts.{Firsts}
 use Rattle.pop_tries.specs.declared.stage.Task.{Task}
 use Rattle.pop_tries.specs.declared.stage.TriesStage.{TriesStage}
-use Rattle.pop_tries.specs.declared.stage.TriesStage.TheVariants.{NoTries, SetPlay, Impossible, Within, Beginning, FirstMove, Faced, Threats, Reply, Below as BelowReply, But, Refutation, Over}
+use Rattle.pop_tries.specs.declared.stage.TriesStage.TheVariants.{NoTries, SetPlay, Impossible, Within, Beginning, FirstMove, Faced, Threats, Reply, BelowReply, But, Refutation, Over}
 
 -- what contracts see of a search for tries: the problem, the most refutations of a try, and the events
 -- still to come
@@ -137,8 +138,8 @@ module _ (rule : RuleSet) (task : Task) where
 
   -- the first moves of a group after a place
   abbrev pub firsts_after : Group → ℕ → List Move
-  firsts_after group place = filter (λ m. belongs rule (contest_of task) group (after_first m))
-      (moves_after rule (play_start task.problem) place)
+  firsts_after group place =
+      firsts_of rule (contest_of task) group (play_start task.problem) place
 
   -- the first moves still to be shown after the place, when `count` have been shown
   abbrev pub firsts_left : {A : Type 0} → Firsts A → List Move
@@ -195,12 +196,18 @@ module _ (rule : RuleSet) (task : Task) where
   walk_left p items = to_come rule (plan_of task.problem)
       (half_moves task.problem.stipulation - 2) p (reverse items)
 
+  -- a walk below a first move shows its next node; after the last one the board has the position where the
+  -- walk started, and no frame is left
+  abbrev pub ShowsNode : Move → Base → (old new : List Frame) → Position → Option TryEvent → Type 0
+  ShowsNode first base old new board event =
+      let p = base_position rule task.problem first base in
+      MatchOption event ((walk_left p old ≡ []) × (board ≡ p) × (new ≡ []))
+      (λ shown. (line : List Move) × (walk_left p old ≡ line ∷ walk_left p new)
+      × (shown ≡ try_event_of rule task.problem (below first (shown_line base line))))
+
   -- the refutations after a place
   abbrev pub refutations_after : Position → ℕ → List Move
-  refutations_after q place =
-      filter (λ d. not (is_in_set_play task.battle (game_of rule task.problem)
-      task.problem.stipulation.n (position_after rule q d)))
-      (moves_after rule q place)
+  refutations_after q place = filter (refutes rule (contest_of task) q) (moves_after rule q place)
 
   -- the events still to come
   unfoldable pub left_of : {A : Type 0} → TriesStage A → List Frame → List BareTryEvent

@@ -12,7 +12,7 @@ use Rattle.pop_input.specs.Posed.{Posed}
 use Rattle.pop_solve.specs.Events.{play_start}
 use Rattle.pop_solve.specs.declared.plan.Plan.{Plan}
 use Rattle.pop_solve.specs.ties.Walk.{IsEnded, path, to_come}
-use Rattle.pop_tries.specs.Tries.{below_reply}
+use Rattle.pop_tries.specs.Tries.{Below, below_reply, reply, threatened}
 use Rattle.pop_tries.specs.declared.below.Base.{Base}
 use Rattle.pop_tries.specs.declared.below.Base.TheVariants.{Passed, Reply}
 
@@ -21,6 +21,11 @@ abbrev pub base_position : RuleSet → Posed → Move → Base → Position
 base_position rule problem first Passed = set_start (position_after rule (play_start problem) first)
 base_position rule problem first (Reply by) =
     position_after rule (position_after rule (play_start problem) first) by
+
+-- what is shown for a line of moves of a walk
+abbrev pub shown_line : Base → List Move → Below Move
+shown_line Passed line = threatened line
+shown_line (Reply by) line = reply (by ∷ line)
 
 -- a walk from p with h half-moves left shows what stands below a reply, if White, to move, wins there
 abbrev pub ShowsBelow : RuleSet → Plan → ℕ → Position → List Frame → Type 0

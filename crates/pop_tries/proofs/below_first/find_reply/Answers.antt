@@ -15,10 +15,9 @@ returns-in_default g c =
     let h = c.requires.holds in
     let rule = g.R.Rules.rule in
     let task = c.args.task.now in
-    let keeps = c.next_reply-found.ensures.rest in
-    let none = keeps.frames ∙ h.1.bare.none in
+    let bare = goes.still_bare c.next_reply-found.ensures.rest h.1.bare in
     let next = rw (c.contest.ensures, h.1.bare.board_at) at c.in_default.ensures.next in
-    rw none (without_event rule task _ _ _ _ _ c.end_replies.ensures.holds
+    rw bare.none (without_event rule task _ _ _ _ _ c.end_replies.ensures.holds
     (steps.replies_over rule task h.0 c.args.first c.args.place _ next ∙ c.end_replies.ensures.left) (omega (arith, c.end_replies.ensures.rank)))
 
 pub returns : goal.returns
@@ -30,11 +29,11 @@ returns g c =
     let first = c.args.first in
     let q = after_first rule task first.by in
     let by = c.in-Some.by in
-    let keeps = c.next_reply-found.ensures.rest in
-    let here = keeps.board ∙ h.1.bare.board_at in
+    let bare = goes.still_bare c.next_reply-found.ensures.rest h.1.bare in
     let next = rw (c.contest.ensures, h.1.bare.board_at) at c.in-Some.ensures.next in
-    let played = rw here at c.play_reply-undo.ensures in
-    let met = goes.shown_is_met rule (contest_of task) q by (goes.head_passes (is_shown rule (contest_of task) q) (moves_after rule q c.args.place) by _ next.0) in
+    let played = rw bare.board_at at c.play_reply-undo.ensures in
+    let met = goes.shown_is_met rule (contest_of task) q by
+    (goes.head_passes (is_shown rule (contest_of task) q) (moves_after rule q c.args.place) by _ next.0) in
     with_event rule task _ _ _ _ _ (
       h.0,
       record { first_is = h.1.first_is; threat = h.1.threat; walking = played.walking },

@@ -1,6 +1,7 @@
 use Rattle.pop_tries.proofs.Words.{refl, sym, ◌∙◌}
 unfoldable use Rattle.pop_tries.specs.ties.Searching.{HoldsAt}
 use Rattle.pop_tries.specs.ties.Searching.{beginning_of}
+use Rattle.pop_tries.specs.declared.stage.Firsts.{Firsts}
 use Rattle.pop_tries.specs.declared.stage.TriesStage.TheVariants.{FirstMove}
 use Rattle.pop_tries.proofs.Goings as goes
 use Rattle.pop_tries.proofs.Steps as steps
@@ -14,7 +15,8 @@ returns g c =
     let rule = g.R.Rules.rule in
     let task = c.args.task.now in
     let group = c.args.group in
-    let holds : HoldsAt rule task {A = g.row.R.Denot} (FirstMove (record { group = group; place = c.start.result; count = 0 })) c.args.frames.now.items c.args.board.now = (
+    let firsts : Firsts g.row.R.Denot = record { group = group; place = c.start.result; count = 0 } in
+    let holds : HoldsAt rule task (FirstMove firsts) c.args.frames.now.items c.args.board.now = (
       h.0,
       h.1,
       record {
@@ -23,9 +25,8 @@ returns g c =
         limited = steps.at_first task.problem group;
       },
     ) in
-    elim c.match-group.branch [
-      | in-Keys w ↦ goes.with_event rule task _ _ _ _ _ holds _ (beginning_of group)
-          (goes.group_comes g.row.R.Denot rule task group c.start.result c.start.ensures _ _) (w.result-is ∙ sym (rw w.in-Keys.is refl))
-      | in-Tries w ↦ goes.with_event rule task _ _ _ _ _ holds _ (beginning_of group)
-          (goes.group_comes g.row.R.Denot rule task group c.start.result c.start.ensures _ _) (w.result-is ∙ sym (rw w.in-Tries.is refl))
-    ]
+    goes.with_event rule task _ _ _ _ _ holds _ (beginning_of group) (goes.group_comes g.row.R.Denot rule task group c.start.result c.start.ensures _ _)
+    (elim c.match-group.branch [
+      | in-Keys w ↦ w.result-is ∙ sym (rw w.in-Keys.is refl)
+      | in-Tries w ↦ w.result-is ∙ sym (rw w.in-Tries.is refl)
+    ])

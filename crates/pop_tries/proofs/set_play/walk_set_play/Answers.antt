@@ -19,4 +19,5 @@ returns-in-None g c =
     let none = none_after g.R.Rules.rule c.args.task.now.problem _ _ _ c.advance.ensures.standing gives.2 in
     without_event g.R.Rules.rule c.args.task.now _ _ _ _ _
     (c.requires.holds.0, record { board_at = gives.1; none = none_reversed _ none }, search rules)
-    (search (rules, left_ends g.row.R.Denot g.R.Rules.rule c.args.task.now c.args.stage c.args.frames.now.items c.advance.new.frames.items gives.0)) (omega arith)
+    (search (rules, left_ends g.row.R.Denot g.R.Rules.rule c.args.task.now c.args.stage c.args.frames.now.items c.advance.new.frames.items gives.0))
+    (omega arith)
