@@ -15,9 +15,9 @@ ghost use Rattle.pop_stipulation.specs.Stipulations.{half_moves};
 ghost use Rattle.pop_events.specs.declared.try_event.TryEvent.TheVariants.{Node};
 ghost use Rattle.pop_tries.specs.declared.stage.TriesStage.TheVariants.{BelowReply, But, Faced, FirstMove, Refutation, Reply, Threats};
 ghost use Rattle.pop_tries.specs.ties.Contests.{IsContest, IsThreat};
-ghost use Rattle.pop_tries.specs.ties.Searching.{after_first, below_and_after, contest_of, event_of_faced, left_of, Goes, HoldsAt, IsFirst, MayStep, rank, ShowsNode, walk_below};
+ghost use Rattle.pop_tries.specs.ties.Searching.{after_first, below_and_after, contest_of, event_of_faced, left_of, Goes, HoldsAt, IsFirst, IsWalkedBelow, MayStep, rank, ShowsNode};
 
-use crate::below::{Base, WalkBelow, open_walk, shown_node, walk_on};
+use crate::below::{Base, open_walk, shown_node, walk_on};
 use crate::first_moves::{Group, next_refutation, next_reply};
 use crate::shown::shown;
 use crate::stage::{First, Played, Step, Task, TriesStage};
@@ -143,23 +143,22 @@ fn begin_threats<R: Rules, const N: usize>(
 /// no frame is left, and the board has the position where the walk started.
 fn next_node<R: Rules, const N: usize>(
     task: &Task,
-    walk: &WalkBelow,
+    first: &First<R>,
+    base: Base,
     board: &mut Board,
     frames: &mut ArrayVec<Frame<R>, N>,
     search_state: &mut SearchState<R>,
 ) -> Option<TryEvent>
-    requires walk { walk.now ≡ walk_below task.now walk.now.first walk.now.base }
     requires sound { IsSound task.now.problem }
     requires room { half_moves task.now.problem.stipulation < N }
-    requires walking { IsWalking R.rule (half_moves task.now.problem.stipulation - 2)
-        (base_position R.rule task.now.problem walk.now.first walk.now.base)
-        (reverse frames.old.items) board.old }
-    ensures walking { IsWalking R.rule (half_moves task.now.problem.stipulation - 2)
-        (base_position R.rule task.now.problem walk.now.first walk.now.base)
-        (reverse frames.new.items) board.new }
-    ensures next { ShowsNode R.rule task.now walk.now.first walk.now.base frames.old.items
-        frames.new.items board.new result }
+    requires walked { IsWalkedBelow R.rule task.now first.now
+        (base_position R.rule task.now.problem first.now.by base) frames.old.items board.old }
+    ensures walked { IsWalkedBelow R.rule task.now first.now
+        (base_position R.rule task.now.problem first.now.by base) frames.new.items board.new }
+    ensures next { ShowsNode R.rule task.now first.now.by base frames.old.items frames.new.items
+        board.new result }
 {
+    let walk = &task.walk_below(first.by, base);
     if !walk_on::<R, N>(&task.problem, *walk, board, frames, search_state) {
         return None;
     }
@@ -185,8 +184,7 @@ pub(crate) fn walk_threats<R: Rules, const N: usize>(
     ensures { Goes R.rule task.now (Threats first crossed) frames.old.items result.stage
         frames.new.items board.new result.event }
 {
-    let walk = task.walk_below(first.by, Base::Passed);
-    let next = next_node::<R, N>(task, &walk, board, frames, search_state);
+    let next = next_node::<R, N>(task, &first, Base::Passed, board, frames, search_state);
     if let Some(event) = next {
         return Step {
             stage: TriesStage::Threats { first, crossed },
@@ -298,8 +296,8 @@ pub(crate) fn walk_reply<R: Rules, const N: usize>(
     ensures { Goes R.rule task.now (BelowReply first reply) frames.old.items result.stage
         frames.new.items board.new result.event }
 {
-    let walk = task.walk_below(first.by, Base::Reply { by: reply.by });
-    let next = next_node::<R, N>(task, &walk, board, frames, search_state);
+    let base = Base::Reply { by: reply.by };
+    let next = next_node::<R, N>(task, &first, base, board, frames, search_state);
     if let Some(event) = next {
         return Step {
             stage: TriesStage::BelowReply { first, reply },

@@ -141,7 +141,8 @@ fn begin_first<R: Rules>(
 ) -> Step<R>
     requires came { CameBy R.rule by undo board.old (play_start task.now.problem) }
     ensures unchanged { board.new ≡ board.old }
-    ensures stage { result.stage ≡ Faced (record { firsts = firsts; by = by; undo = undo; threat = None }) }
+    ensures stage { result.stage ≡ Faced
+        (record { firsts = firsts; by = by; undo = undo; threat = None }) }
     ensures event { result.event ≡ Some (try_event_of R.rule task.now.problem
         (bare_first firsts.group by)) }
 {

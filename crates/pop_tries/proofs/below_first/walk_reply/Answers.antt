@@ -10,17 +10,15 @@ pub returns-in-Some : goal.returns-in-Some
 unfolding HoldsAt
 returns-in-Some g c =
     let h = c.requires.holds in
-    let next = rw c.walk_below-walk.ensures at c.in-Some.ensures.next in
-    let walking = rw c.walk_below-walk.ensures at c.next_node-next.ensures.walking in
-    with_event g.R.Rules.rule c.args.task.now _ _ _ _ _
-    (h.0, record { first_is = h.1.first_is; threat = h.1.threat; walking = walking }, h.2) _ _
+    let next = c.in-Some.ensures.next in
+    with_event g.R.Rules.rule c.args.task.now _ _ _ _ _ (h.0, c.next_node-next.ensures.walked, h.2) _ _
     (steps.reply_goes_on g.R.Rules.rule c.args.task.now h.0 c.args.first c.args.reply _ _ next.0 next.1) next.2
 
 pub unplay-requires : goal.unplay-requires
 unfolding HoldsAt
 unplay-requires g c =
     let reply = c.args.reply in
-    let none = rw c.walk_below-walk.ensures at c.in_default.ensures.next in
+    let none = c.in_default.ensures.next in
     let q = after_first g.R.Rules.rule c.args.task.now c.args.first.by in
     search (played_from g.R.Rules.rule reply.by reply.undo c.next_node-next.new.board q (rw none.1 c.requires.holds.2))
 
@@ -31,7 +29,7 @@ returns g c =
     let rule = g.R.Rules.rule in
     let task = c.args.task.now in
     let reply = c.args.reply in
-    let none = rw c.walk_below-walk.ensures at c.in_default.ensures.next in
+    let none = c.in_default.ensures.next in
     let back = taken_back rule reply.by reply.undo _ (after_first rule task c.args.first.by) _ (rw none.1 h.2) c.unplay.ensures.before in
     without_event rule task _ _ _ _ _ (h.0, replies_follow rule task c.args.first _ _ _ _ _ h.1 back none.2)
     (steps.reply_over rule task h.0 c.args.first reply _ _ none.0) (omega arith)

@@ -10,10 +10,8 @@ pub returns-in-Some : goal.returns-in-Some
 unfolding HoldsAt
 returns-in-Some g c =
     let h = c.requires.holds in
-    let next = rw c.walk_below-walk.ensures at c.in-Some.ensures.next in
-    let walking = rw c.walk_below-walk.ensures at c.next_node-next.ensures.walking in
-    with_event g.R.Rules.rule c.args.task.now _ _ _ _ _
-    (h.0, record { first_is = h.1.first_is; threat = h.1.threat; walking = walking }, h.2) _ _
+    let next = c.in-Some.ensures.next in
+    with_event g.R.Rules.rule c.args.task.now _ _ _ _ _ (h.0, c.next_node-next.ensures.walked, h.2) _ _
     (steps.threats_go_on g.R.Rules.rule c.args.task.now h.0 c.args.first c.args.crossed _ _ next.0 next.1) next.2
 
 pub returns : goal.returns
@@ -22,7 +20,7 @@ returns g c =
     let h = c.requires.holds in
     let rule = g.R.Rules.rule in
     let task = c.args.task.now in
-    let none = rw c.walk_below-walk.ensures at c.in_default.ensures.next in
+    let none = c.in_default.ensures.next in
     let back = c.unpass.ensures.before (after_first rule task c.args.first.by) none.1 (search (rules, h.2)) in
     without_event rule task _ _ _ _ _ (h.0, replies_follow rule task c.args.first _ _ _ _ _ h.1 back none.2)
     (steps.threats_over rule task h.0 c.args.first c.start.result c.args.crossed _ _ c.start.ensures none.0) (omega arith)
