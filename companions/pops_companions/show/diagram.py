@@ -144,12 +144,12 @@ def position_in_words(
     The letters are in the order of Kind; `no_men` stands for the men of a side without any.
     """
     by_kind = list(zip(Kind, letters))
-    told = []
+    texts = []
     for colour, side in zip(Colour, sides):
         men = [(letter, _squares_of(board, colour, kind)) for kind, letter in by_kind]
         words = [letter + square.name for letter, squares in men for square in squares]
-        told.append(f"{side} {' '.join(words) or no_men}")
-    return ", ".join(told)
+        texts.append(f"{side} {' '.join(words) or no_men}")
+    return ", ".join(texts)
 
 
 def _squares_of(board: Board, colour: Colour, kind: Kind) -> list[Square]:
