@@ -150,8 +150,8 @@ def main(words: list[str]) -> Status:
         with command.written(settings.output) as target:
             status = write(name, text, io.BytesIO(report), target, settings.all)
     except (ReportError, OtherText) as error:
-        told = "what pops said" if settings.report is None else name_of(settings.report)
-        raise CommandError(Status.FAULTY, f"{told} is no report of {name}: {error}") from None
+        source = "what pops said" if settings.report is None else name_of(settings.report)
+        raise CommandError(Status.FAULTY, f"{source} is no report of {name}: {error}") from None
     if settings.fix:
         sys.stderr.write(fix(settings.input, text))
     return status

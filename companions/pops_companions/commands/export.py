@@ -92,7 +92,7 @@ def main(words: list[str]) -> Status:
     try:
         reading = read_problems(read(settings.file, settings.encoding))
     except Unreadable as error:
-        message = f"{name}, line {error.told.line}: {error}"
+        message = f"{name}, line {error.message.line}: {error}"
         raise CommandError(Status.FAULTY, message) from None
     for text in reading.left_out:
         print(f"{NAME}: {name}, {text}", file=sys.stderr)

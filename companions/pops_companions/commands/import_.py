@@ -10,7 +10,7 @@ from pops_companions.command import Status
 from pops_companions.import_.draft import Draft
 from pops_companions.import_.posing import posed
 from pops_companions.import_.sources import read_drafts
-from pops_companions.import_.words import Told, Unreadable
+from pops_companions.import_.words import Message, Unreadable
 from pops_companions.input.writing import text_of_problems
 from pops_companions.show.titles import other_lines, text_of
 
@@ -50,7 +50,7 @@ class Import:
             self._leave_out(f"{name}, line {line}: not in {encoding}: give --encoding, as utf-16")
             return
         except Unreadable as error:
-            self._leave_out(f"{name}, line {error.told.line}: {error}")
+            self._leave_out(f"{name}, line {error.message.line}: {error}")
             return
         for draft in drafts:
             self._make(name, draft)
@@ -91,7 +91,7 @@ def say(text: str) -> None:
     print(f"{NAME}: {text}", file=sys.stderr)
 
 
-def tell(name: str, problem: str, notes: Iterable[Told]) -> None:
+def tell(name: str, problem: str, notes: Iterable[Message]) -> None:
     for line, text in notes:
         say(f"{name}, line {line}, {problem}: {text}")
 

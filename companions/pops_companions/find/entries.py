@@ -65,7 +65,7 @@ def entries_of(source: str, data: bytes, encoding: str) -> tuple[list[Entry], li
     try:
         reading = read_problems(text)
     except Unreadable as error:
-        raise EntriesError(f"line {error.told.line}: {error}") from None
+        raise EntriesError(f"line {error.message.line}: {error}") from None
     return [_of_problem(source, problem) for problem in reading.problems], reading.left_out
 
 

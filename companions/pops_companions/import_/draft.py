@@ -7,7 +7,7 @@ from typing import NamedTuple, Optional, Union
 
 from pops_companions.chess.men import Man, Square
 from pops_companions.import_.language import Command
-from pops_companions.import_.words import TextLine, Told, Words
+from pops_companions.import_.words import Message, TextLine, Words
 
 # A man, or the name of one that pops doesn't know.
 Placed = Union[Man, str]
@@ -46,7 +46,7 @@ class Twin:
     line: int
     continued: bool = False
     changes: list[Change] = field(default_factory=list)
-    faults: list[Told] = field(default_factory=list)
+    faults: list[Message] = field(default_factory=list)
 
 
 @dataclass
@@ -78,8 +78,8 @@ class Draft:
     wanted: Optional[int] = None
     options: Options = field(default_factory=Options)
     twins: list[Twin] = field(default_factory=list)
-    notes: list[Told] = field(default_factory=list)
-    faults: list[Told] = field(default_factory=list)
+    notes: list[Message] = field(default_factory=list)
+    faults: list[Message] = field(default_factory=list)
 
     def want(self, number: int, text: str) -> None:
         """Takes a number of solutions; a text that says more than it becomes a Remark."""
@@ -91,7 +91,7 @@ class Draft:
         """Notes what was skipped among words. With a square in it, it may have been meant."""
         for line, text in words.skipped:
             if _SQUARE.search(text):
-                self.faults.append(Told(line, f"Popeye skips {text}, with a square in it"))
+                self.faults.append(Message(line, f"Popeye skips {text}, with a square in it"))
             else:
-                self.notes.append(Told(line, f"skipped, as by Popeye: {text}"))
+                self.notes.append(Message(line, f"skipped, as by Popeye: {text}"))
         words.skipped = []

@@ -5,7 +5,7 @@ from typing import Optional
 from pops_companions.import_.draft import Draft
 from pops_companions.import_.language import OWN_OPTIONS, Option, meaning
 from pops_companions.import_.men import is_of_squares, squares_of, take_squares
-from pops_companions.import_.words import Told, Unreadable, Words
+from pops_companions.import_.words import Message, Unreadable, Words
 
 MOST_SOLUTIONS = 4_000_000_000
 _CASTLING_SQUARES = ("a1", "e1", "h1", "a8", "e8", "h8")
@@ -74,9 +74,9 @@ def _read_option(words: Words, option: Option, draft: Draft) -> None:
     elif option in _LEFT_OUT:
         value = _number(words)
         text = option.value if value is None else f"{option.value} {value}"
-        draft.notes.append(Told(line, f"{text} left out: {_LEFT_OUT[option]}"))
+        draft.notes.append(Message(line, f"{text} left out: {_LEFT_OUT[option]}"))
     else:
-        draft.faults.append(Told(line, f"pops knows no option {option.value}"))
+        draft.faults.append(Message(line, f"pops knows no option {option.value}"))
 
 
 def _number(words: Words) -> Optional[str]:
@@ -102,6 +102,6 @@ def _read_no_castling(words: Words, draft: Draft) -> None:
     for square in squares:
         if square.name not in _CASTLING_SQUARES:
             text = f"NoCastling {square.name} left out: no man on {square.name} can castle"
-            draft.notes.append(Told(words.line, text))
+            draft.notes.append(Message(words.line, text))
         elif square not in draft.options.may_not_castle:
             draft.options.may_not_castle.append(square)

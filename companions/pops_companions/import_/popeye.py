@@ -19,7 +19,7 @@ from pops_companions.import_.men import PlacedMan, read_forsyth, read_men
 from pops_companions.import_.options import read_options
 from pops_companions.import_.sections import take_conditions, take_stipulation, take_wanted
 from pops_companions.import_.twins import read_twin
-from pops_companions.import_.words import Told, Unreadable, Word, Words
+from pops_companions.import_.words import Message, Unreadable, Word, Words
 
 _FIRST_WORD = re.compile(r"^[^\w\n]*([^\W\d_]+)", re.MULTILINE)
 _LEAST_LETTERS = 3
@@ -49,7 +49,7 @@ def read_popeye(text: str) -> list[Draft]:
     before = []
     for number, line in enumerate(text[:start].split("\n")[:-1], start=1):
         if line.strip():
-            before.append(Told(number, f"skipped before the first problem: {line.strip()}"))
+            before.append(Message(number, f"skipped before the first problem: {line.strip()}"))
     drafts[0].notes[:0] = before
     return drafts
 
@@ -101,11 +101,11 @@ class _Reader:
             return
         another = _beginning(rest)
         if another is None:
-            drafts[-1].notes.append(Told(line, "nothing after EndProblem is read"))
+            drafts[-1].notes.append(Message(line, "nothing after EndProblem is read"))
             return
         line += rest.count("\n", 0, another[1])
         lost = Draft(len(drafts) + 1, line)
-        lost.faults.append(Told(line, _SECOND_BLOCK))
+        lost.faults.append(Message(line, _SECOND_BLOCK))
         drafts.append(lost)
 
     def _problem(self, draft: Draft) -> Optional[Command]:
@@ -113,7 +113,7 @@ class _Reader:
         try:
             return self._sections(draft)
         except Unreadable as error:
-            draft.faults.append(error.told)
+            draft.faults.append(error.message)
         self._skip_to((Command.NEXT, Command.END))
         return None if self._words.peek() is None else self._command(self._words.take())
 
@@ -158,7 +158,7 @@ class _Reader:
         elif command in _OUTPUTS:
             text = f"{command.value} {words.take_rest()}".strip()
             why = "pops writes only to standard output"
-            draft.notes.append(Told(words.line, f"{text} left out: {why}"))
+            draft.notes.append(Message(words.line, f"{text} left out: {why}"))
         elif command is Command.TWIN or (command is Command.ZERO_POSITION and not draft.twins):
             draft.first = draft.first and command is Command.TWIN
             self._twin(command, draft)
@@ -204,7 +204,7 @@ class _Reader:
             raise Unreadable(word.line, "Forsyth is followed by the fields of a FEN: see fen2pop")
         if any(isinstance(man, Man) and man.kind is Kind.NIGHTRIDER for man in men.values()):
             text = "N is a nightrider in Forsyth, as in Popeye"
-            draft.notes.append(Told(word.line, text))
+            draft.notes.append(Message(word.line, text))
         return [PlacedMan(square, man, word.line) for square, man in men.items()]
 
     def _twin(self, command: Command, draft: Draft) -> None:
@@ -217,7 +217,7 @@ class _Reader:
             if word is not None and self._command(word) is None:
                 raise Unreadable(word.line, self._unknown(word))
         except Unreadable as error:
-            twin.faults.append(error.told)
+            twin.faults.append(error.message)
             self._skip_to((Command.TWIN, Command.NEXT, Command.END))
         if command is Command.TWIN or twin.changes or twin.faults:
             draft.twins.append(twin)
@@ -232,5 +232,5 @@ def place(draft: Draft, men: list[PlacedMan]) -> None:
     """Adds men to the setting; two on a square are a fault."""
     for square, man, line in men:
         if square in draft.setting.men:
-            draft.faults.append(Told(line, f"two men on {square.name}"))
+            draft.faults.append(Message(line, f"two men on {square.name}"))
         draft.setting.men[square] = man

@@ -10,7 +10,7 @@ from pops_companions.chess.stipulation import Condition, Goal, Play, Stipulation
 from pops_companions.import_.draft import Draft, Impossible, Options, Setting
 from pops_companions.import_.language import Command
 from pops_companions.import_.twins import with_other_colour
-from pops_companions.import_.words import Told
+from pops_companions.import_.words import Message
 from pops_companions.input.writing import pieces_line
 
 LONGEST_TEXT = 200
@@ -23,8 +23,8 @@ class Posed(NamedTuple):
     label: str
     line: int
     lines: list[str]
-    notes: list[Told]
-    faults: list[Told]
+    notes: list[Message]
+    faults: list[Message]
 
 
 @dataclass
@@ -36,15 +36,15 @@ class _Version:
     setting: Setting
     options: Options
     remarks: list[str] = field(default_factory=list)
-    notes: list[Told] = field(default_factory=list)
-    faults: list[Told] = field(default_factory=list)
+    notes: list[Message] = field(default_factory=list)
+    faults: list[Message] = field(default_factory=list)
 
 
 def posed(draft: Draft) -> list[Posed]:
     """Returns all problems that a draft holds, as far as pops can read them."""
     faults = list(draft.faults)
     if not draft.first and not draft.twins and not faults:
-        faults.append(Told(draft.line, "ZeroPosition without a twin"))
+        faults.append(Message(draft.line, "ZeroPosition without a twin"))
     if faults:
         return [Posed("", draft.line, [], [], faults)]
     made: list[Posed] = []
@@ -64,11 +64,11 @@ def _versions(draft: Draft) -> Iterator[_Version]:
         version = _Version(twin.label, twin.line, draft.setting, draft.options)
         version.faults.extend(twin.faults)
         if not twin.changes and not twin.faults:
-            version.faults.append(Told(twin.line, "a twin without a change"))
+            version.faults.append(Message(twin.line, "a twin without a change"))
         if not twin.continued:
             setting = draft.setting
         elif setting is None:
-            version.faults.append(Told(twin.line, "it continues a twin that can't be made"))
+            version.faults.append(Message(twin.line, "it continues a twin that can't be made"))
         texts = ["continued"] * twin.continued + [change.text for change in twin.changes]
         version.remarks.append(f"{twin.label} {', '.join(texts)}")
         if setting is not None and not version.faults:
@@ -77,9 +77,9 @@ def _versions(draft: Draft) -> Iterator[_Version]:
                 try:
                     setting = change.made(setting, said)
                 except Impossible as error:
-                    version.faults.append(Told(change.line, str(error)))
+                    version.faults.append(Message(change.line, str(error)))
                     break
-                version.notes.extend(Told(change.line, text) for text in said)
+                version.notes.extend(Message(change.line, text) for text in said)
         if version.faults:
             setting = None
         else:
@@ -118,7 +118,7 @@ def _posed(draft: Draft, version: _Version, is_first: bool) -> Posed:
     lines: list[str] = []
     if not faults:
         checked = _Checked(version, notes)
-        faults.extend(Told(version.line, text) for text in checked.faults)
+        faults.extend(Message(version.line, text) for text in checked.faults)
         if not faults:
             lines = _texts(draft, version, notes, is_first) + checked.lines()
     return Posed(version.label, version.line, lines, notes, faults)
@@ -127,7 +127,7 @@ def _posed(draft: Draft, version: _Version, is_first: bool) -> Posed:
 class _Checked:
     """A version, asked whether pops can read it."""
 
-    def __init__(self, version: _Version, notes: list[Told]):
+    def __init__(self, version: _Version, notes: list[Message]):
         self.faults: list[str] = []
         self._version = version
         self._notes = notes
@@ -169,11 +169,11 @@ class _Checked:
     def _with_white_to_play(self, stipulation: Stipulation) -> Stipulation:
         line = self._version.line
         if stipulation.starter is Colour.WHITE:
-            self._notes.append(Told(line, "WhiteToPlay left out: White starts anyway"))
+            self._notes.append(Message(line, "WhiteToPlay left out: White starts anyway"))
             return stipulation
         changed = Stipulation(stipulation.play, stipulation.goal, stipulation.moves - 1, True)
         text = f"WhiteToPlay: {stipulation.text} is written {changed.text}"
-        self._notes.append(Told(line, text))
+        self._notes.append(Message(line, text))
         return changed
 
     def _own_condition(self) -> Optional[Condition]:
@@ -215,7 +215,7 @@ class _Checked:
         duplex = options.plain and options.turned
         if duplex and self._was_crossed(options.crossed, starter.opponent):
             text = f"EnPassant {name} left out: it is for the other side's first move"
-            self._notes.append(Told(self._version.line, text))
+            self._notes.append(Message(self._version.line, text))
             self._crossed = None
         else:
             self.faults.append(f"no pawn can just have crossed {name}")
@@ -249,7 +249,7 @@ class _Checked:
         return lines
 
 
-def _texts(draft: Draft, version: _Version, notes: list[Told], is_first: bool) -> list[str]:
+def _texts(draft: Draft, version: _Version, notes: list[Message], is_first: bool) -> list[str]:
     """Returns the lines of text: what pops prints, and Remarks for all else.
 
     The draft's own Remarks stand with the first of its problems alone.
@@ -261,9 +261,8 @@ def _texts(draft: Draft, version: _Version, notes: list[Told], is_first: bool) -
         text = _shortened(whole, LONGEST_TEXT - len(f" {label}".rstrip()))
         if text != whole:
             remarks.append(f"{command.value} {whole}")
-            notes.append(
-                Told(version.line, f"{command.value} shortened to {LONGEST_TEXT} bytes: see Remark")
-            )
+            shortened = f"{command.value} shortened to {LONGEST_TEXT} bytes: see Remark"
+            notes.append(Message(version.line, shortened))
         if text or label:
             lines.append(" ".join(filter(None, (command.value, text, label))))
     for command, text in draft.texts:

@@ -16,8 +16,8 @@ _ENDS = " \t\v\f\r"
 _LEAST_TEXT_WORD = 3
 
 
-class Told(NamedTuple):
-    """What is said of a line of the text."""
+class Message(NamedTuple):
+    """A message about a line of the text."""
 
     line: int
     text: str
@@ -28,7 +28,7 @@ class Unreadable(Exception):
 
     def __init__(self, line: int, text: str):
         super().__init__(text)
-        self.told = Told(line, text)
+        self.message = Message(line, text)
 
 
 class Word(NamedTuple):
@@ -53,7 +53,7 @@ class Words:
     def __init__(self, text: str, language: Language, start: int = 0, line: int = 1):
         self.language = language
         self.texts: list[TextLine] = []
-        self.skipped: list[Told] = []
+        self.skipped: list[Message] = []
         # Among the words of a twin, Rem is short for Remove.
         self.of_twin = False
         self._text = text
@@ -128,4 +128,4 @@ class Words:
             at = other.end()
             self._at, self._line = at, line
             if any(letter.isalnum() for letter in other[0]):
-                self.skipped.append(Told(line, other[0]))
+                self.skipped.append(Message(line, other[0]))

@@ -10,7 +10,7 @@ from pops_companions.import_.origins import origin_of
 from pops_companions.import_.popeye import place
 from pops_companions.import_.sections import take_conditions, wanted_of
 from pops_companions.import_.twins import read_twin
-from pops_companions.import_.words import TextLine, Told, Unreadable, Words
+from pops_companions.import_.words import Message, TextLine, Unreadable, Words
 from pops_companions.import_.yaml_text import Node, Scalar, YamlError, documents, line_of
 
 _COLOURS = ("white", "black", "neutral")
@@ -27,7 +27,7 @@ def read_yaml(text: str) -> list[Draft]:
             node = document.node()
         except YamlError as error:
             drafts.append(Draft(len(drafts) + 1, document.line))
-            drafts[-1].faults.append(Told(error.line, f"this isn't read as YAML: {error}"))
+            drafts[-1].faults.append(Message(error.line, f"this isn't read as YAML: {error}"))
             continue
         for problem in node if isinstance(node, list) else [node]:
             draft = Draft(len(drafts) + 1, document.line)
@@ -39,7 +39,7 @@ def read_yaml(text: str) -> list[Draft]:
                 _read_origin(problem, draft)
             else:
                 line = problem.line if isinstance(problem, Scalar) else draft.line
-                draft.faults.append(Told(line, "there are no keys of a problem"))
+                draft.faults.append(Message(line, "there are no keys of a problem"))
     return drafts
 
 
@@ -62,7 +62,7 @@ def _read_key(key: str, value: Node, draft: Draft) -> None:
     try:
         reader(key, value, draft)
     except Unreadable as error:
-        draft.faults.append(error.told)
+        draft.faults.append(error.message)
 
 
 def _read_later(_: str, __: Node, ___: Draft) -> None:
@@ -218,4 +218,4 @@ def _read_twins(key: str, value: Node, draft: Draft) -> None:
             for text in _texts(node):
                 _words_of(text, lambda words: read_twin(words, twin), draft)
         except Unreadable as error:
-            twin.faults.append(error.told)
+            twin.faults.append(error.message)

@@ -94,10 +94,10 @@ class _Round:
 
     def take(self, line: bytes) -> None:
         """Takes a line that came back."""
-        told = _decoded(line)
-        if told is None or told[0] not in self._open:
+        decoded = _decoded(line)
+        if decoded is None or decoded[0] not in self._open:
             return
-        number, text = told
+        number, text = decoded
         ended = _ENDED.fullmatch(text)
         if ended is None:
             self._written.setdefault(number, []).append(text)
@@ -231,8 +231,8 @@ class RemoteParts:
                 for part in parts:
                     failed_on.setdefault(part.key, set()).add(machine)
                 others = f" and {len(parts) - 1} more" if len(parts) > 1 else ""
-                told = f"{parts[0].shown}{others} failed on machine {machine}"
-                self._say(f"{told}: tried elsewhere: {reason}")
+                message = f"{parts[0].shown}{others} failed on machine {machine}"
+                self._say(f"{message}: tried elsewhere: {reason}")
 
             self._hand_out(group, machines, Handling(keep, fail, is_needless))
             if any(map(is_needless, group)):

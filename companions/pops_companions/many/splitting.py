@@ -93,8 +93,8 @@ class Splitting:
     def _fail(self, parts: Sequence[Part], reason: str) -> None:
         for part in parts:
             if not self._is_needless(part):
-                told = f"part {part.number} of the {part.phase}: {reason}"
-                self._failed.setdefault(part.task.place, (part.task, told))
+                message = f"part {part.number} of the {part.phase}: {reason}"
+                self._failed.setdefault(part.task.place, (part.task, message))
 
     def _left(self) -> Iterator[Part]:
         for _, problem in sorted(self._problems.items()):

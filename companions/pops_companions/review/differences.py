@@ -80,15 +80,15 @@ def heading(pair: Pair, encoding: str) -> str:
     """Returns the line above a problem's differences."""
     item = pair.new or pair.old
     assert item is not None
-    told = [f"problem {item.number}", described(item, encoding)]
+    parts = [f"problem {item.number}", described(item, encoding)]
     if pair.old is None:
-        told.insert(0, "+")
+        parts.insert(0, "+")
     elif pair.new is None:
-        told.insert(0, "-")
+        parts.insert(0, "-")
     elif pair.old.number != pair.new.number:
-        told[0] = f"problem {pair.old.number}, now {pair.new.number}"
-    sign = told.pop(0) + " " if told[0] in "+-" else ""
-    return sign + ": ".join(filter(None, told))
+        parts[0] = f"problem {pair.old.number}, now {pair.new.number}"
+    sign = parts.pop(0) + " " if parts[0] in "+-" else ""
+    return sign + ": ".join(filter(None, parts))
 
 
 def differences_of(pair: Pair, encoding: str) -> Differences:

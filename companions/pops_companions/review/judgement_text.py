@@ -47,8 +47,8 @@ def as_text(judged: JudgedGroup, encoding: str, most: Optional[int]) -> str:
     """Returns the lines of a problem: its verdict, below it what was found, for each twin by
     itself.
     """
-    told = (judged.group.numbers, judged.verdict.value, name_of(judged, encoding))
-    parts = [": ".join(filter(None, told))]
+    head = (judged.group.numbers, judged.verdict.value, name_of(judged, encoding))
+    parts = [": ".join(filter(None, head))]
     if judged.group.is_alone:
         parts.extend(_findings(judged.judgements[0], "  ", most))
     else:

@@ -128,16 +128,16 @@ class _Matching:
     @property
     def pairs(self) -> list[Pair]:
         pairs: list[Pair] = []
-        told = 0
+        next_old = 0
         for place, item in enumerate(self._new):
             old = self._to_old.get(place)
             if old is not None:
-                while told < old:
-                    self._add_lost(pairs, told)
-                    told += 1
-                told = max(told, old + 1)
+                while next_old < old:
+                    self._add_lost(pairs, next_old)
+                    next_old += 1
+                next_old = max(next_old, old + 1)
             pairs.append(Pair(None if old is None else self._old[old], item))
-        for place in range(told, len(self._old)):
+        for place in range(next_old, len(self._old)):
             self._add_lost(pairs, place)
         return pairs
 

@@ -25,9 +25,9 @@ def item_object(item: Item, encoding: str, given: Optional[GivenProblem] = None)
     """
     if isinstance(item, FaultyItem):
         fault = item.fault
-        told = {"line": fault.line, "number": fault.number, "text": fault.text}
+        fields = {"line": fault.line, "number": fault.number, "text": fault.text}
         names = {} if given is None else _names(given, given, encoding)
-        return {"number": item.number, "sound": False, **names, "fault": told}
+        return {"number": item.number, "sound": False, **names, "fault": fields}
     return {
         "number": item.number,
         "sound": True,
