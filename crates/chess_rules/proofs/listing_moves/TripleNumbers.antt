@@ -52,10 +52,13 @@ promotions_rise a b low high = search rules
 pub triples_by_number : (j k : ℕ) → j < all_triples → k < all_triples → precedes (triple_at j) (triple_at k) ≡ nat_lt j k
 unfolding triple_at
 triples_by_number j k low high =
-    rw (promotions_rise (j % per_arrival) (k % per_arrival) (omega arith) (omega arith),
-    by_digits (j / per_origin) (j / per_arrival % 64) (j % per_arrival) (k / per_origin) (k / per_arrival % 64) (k % per_arrival)
-    (omega arith) (omega arith) (omega arith) (omega arith),
-    ← in_digits j, ← in_digits k) refl
+    rw (
+      promotions_rise (j % per_arrival) (k % per_arrival) (omega arith) (omega arith),
+      by_digits (j / per_origin) (j / per_arrival % 64) (j % per_arrival) (k / per_origin) (k / per_arrival % 64) (k % per_arrival)
+          (omega arith) (omega arith) (omega arith) (omega arith),
+      ← in_digits j,
+      ← in_digits k,
+    ) refl
 
 -- the numbers of a range rise
 range_rises : (a n : ℕ) → AllPairs (λ j k. (j < k) × (k < a + n)) (range_with_len a n)
