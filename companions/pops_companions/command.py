@@ -3,14 +3,22 @@
 import argparse
 import io
 import os
+import signal
 import sys
-import tempfile
+import threading
 from collections.abc import Callable, Iterator
 from contextlib import contextmanager
 from enum import IntEnum
 from typing import BinaryIO, NoReturn, Optional
 
-from pops_companions import places
+from pops_companions import files, places
+
+# The signals that end a companion in order, but for one that is ignored, as by nohup.
+_SIGNALS = (signal.SIGINT, signal.SIGTERM, signal.SIGHUP)
+_LONGEST_NUMBER = 18
+# Longer waits are no waits: without a limit a run takes as long as it likes.
+MOST_SECONDS = 2_000_000
+MOST_JOBS = 1000
 
 
 class Status(IntEnum):
@@ -20,6 +28,7 @@ class Status(IntEnum):
     FAULTY = 1
     USAGE = 2
     DEVICE = 3
+    FAILED = 4
     UNFINISHED = 6
 
 
@@ -45,25 +54,69 @@ def parser(name: str, description: str, **more: object) -> argparse.ArgumentPars
 
 def run(name: str, command: Callable[[list[str]], int]) -> NoReturn:
     """Runs a companion on the program's arguments and ends with its status."""
+    with _signals_as_interrupts():
+        status = _ended(name, command)
+    _close_output()
+    sys.exit(status)
+
+
+def _ended(name: str, command: Callable[[list[str]], int]) -> int:
+    """Returns how a command ends. Whatever it leaves uncaught is said in one line."""
     try:
         _buffer_output()
         status = _status_of(command)
         sys.stdout.flush()
+        return status
     except CommandError as error:
-        print(f"{name}: {error}", file=sys.stderr)
-        status = error.status
+        message, status = str(error), int(error.status)
     except BrokenPipeError:
-        status = Status.DEVICE
+        return Status.DEVICE
     except OSError as error:
-        print(
-            f"{name}: {': '.join(filter(None, (error.filename, error.strerror)))}", file=sys.stderr
-        )
-        status = Status.DEVICE
+        parts = map(str, filter(None, (error.filename, error.strerror or error)))
+        message, status = ": ".join(parts), Status.DEVICE
     except KeyboardInterrupt:
-        print(f"{name}: stopped", file=sys.stderr)
-        status = Status.UNFINISHED
-    _close_output()
-    sys.exit(status)
+        message, status = "stopped", Status.UNFINISHED
+    except MemoryError:
+        message, status = "out of memory", Status.FAILED
+    except Exception as error:
+        if sys.flags.dev_mode:
+            raise
+        message, status = f"failed: {type(error).__name__}: {error}", Status.FAILED
+        message = " ".join(message.split())
+    _say(f"{name}: {message}\n")
+    return status
+
+
+@contextmanager
+def _signals_as_interrupts() -> Iterator[None]:
+    """Lets each signal that ends a program raise KeyboardInterrupt, the first one only."""
+    before = {sign: signal.getsignal(sign) for sign in _SIGNALS}
+    heeded = [sign for sign in _SIGNALS if before[sign] not in (signal.SIG_IGN, None)]
+    if threading.current_thread() is not threading.main_thread():
+        heeded = []
+
+    def stop(*_: object) -> NoReturn:
+        for sign in _SIGNALS:
+            signal.signal(sign, signal.SIG_IGN)
+        raise KeyboardInterrupt
+
+    for sign in heeded:
+        signal.signal(sign, stop)
+    try:
+        yield
+    finally:
+        for sign in heeded:
+            signal.signal(sign, before[sign])
+
+
+def _say(text: str) -> None:
+    """Writes on standard error. If nobody reads it, nothing fails."""
+    try:
+        if sys.stderr is not None:
+            sys.stderr.write(text)
+            sys.stderr.flush()
+    except OSError:
+        pass
 
 
 def _status_of(command: Callable[[list[str]], int]) -> int:
@@ -79,6 +132,8 @@ def _buffer_output() -> None:
 
     An unbuffered write may take only some of its bytes without an error.
     """
+    if sys.stderr is None:
+        sys.stderr = open(os.devnull, "w")
     if sys.stdout is None:
         raise CommandError(Status.DEVICE, "standard output is closed")
     if not isinstance(sys.stdout.buffer, io.BufferedIOBase):
@@ -102,19 +157,48 @@ def _close_output() -> None:
 
 def number_from_one(text: str) -> int:
     """Reads the number of an option."""
-    if not text.isascii() or not text.isdigit() or int(text) == 0:
+    is_number = text.isascii() and text.isdigit() and len(text) <= _LONGEST_NUMBER
+    if not is_number or int(text) == 0:
         raise argparse.ArgumentTypeError(f"{text!r} is no number from 1")
     return int(text)
+
+
+def seconds(text: str) -> float:
+    """Reads an option's seconds."""
+    try:
+        number = float(text)
+    except ValueError:
+        number = -1.0
+    if not 0 <= number <= MOST_SECONDS:
+        raise argparse.ArgumentTypeError(f"{text!r} is no number from 0 to {MOST_SECONDS}")
+    return number
+
+
+def jobs(text: str) -> int:
+    """Reads how many programs may run at a time."""
+    number = number_from_one(text)
+    if number > MOST_JOBS:
+        raise argparse.ArgumentTypeError(f"{text!r} is more than {MOST_JOBS}")
+    return number
+
+
+def _is_of_lines(encoding: str) -> bool:
+    """Returns whether every byte has a meaning or a substitute in an encoding, and ASCII its own."""
+    ascii_bytes = bytes(range(128))
+    try:
+        is_ascii = ascii_bytes.decode(encoding) == ascii_bytes.decode("ascii")
+        bytes(range(128, 256)).decode(encoding, "replace").encode(encoding, "replace")
+    except (LookupError, ValueError, TypeError, OSError):
+        return False
+    return is_ascii
 
 
 def add_encoding(parser: argparse.ArgumentParser) -> None:
     """Adds the option for the encoding of titles and authors."""
 
     def encoding(name: str) -> str:
-        try:
-            "a".encode(name)
-        except LookupError:
-            raise argparse.ArgumentTypeError(f"no encoding is called {name}") from None
+        if not _is_of_lines(name):
+            raise argparse.ArgumentTypeError(f"no encoding of lines of text is called {name}")
         return name
 
     parser.add_argument(
@@ -153,36 +237,12 @@ def written(file: Optional[str]) -> Iterator[BinaryIO]:
         yield sys.stdout.buffer
         sys.stdout.buffer.flush()
         return
-    file = os.path.realpath(file)
-    if os.path.exists(file) and not os.path.isfile(file):
-        with _created(file) as device:
-            yield device
-        return
+    begun = False
     try:
-        unfinished = tempfile.NamedTemporaryFile(
-            dir=os.path.dirname(file) or ".", prefix=os.path.basename(file) + ".", delete=False
-        )
+        with files.written_whole(file) as target:
+            begun = True
+            yield target
     except OSError as error:
+        if begun:
+            raise
         raise CommandError(Status.DEVICE, f"cannot write {file}: {error.strerror}") from None
-    try:
-        with unfinished:
-            yield unfinished  # type: ignore[misc]
-        os.chmod(unfinished.name, 0o666 & ~_mask())
-        os.replace(unfinished.name, file)
-    except BaseException:
-        os.unlink(unfinished.name)
-        raise
-
-
-def _created(file: str) -> BinaryIO:
-    try:
-        return open(file, "wb")
-    except OSError as error:
-        raise CommandError(Status.DEVICE, f"cannot write {file}: {error.strerror}") from None
-
-
-def _mask() -> int:
-    """Returns the permissions that new files of this process don't get."""
-    mask = os.umask(0)
-    os.umask(mask)
-    return mask

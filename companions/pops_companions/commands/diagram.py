@@ -3,7 +3,6 @@
 import argparse
 import os
 import shutil
-import subprocess
 import sys
 from collections import deque
 from collections.abc import Callable, Iterator
@@ -14,6 +13,7 @@ from typing import NoReturn, Optional
 from pops_companions import command
 from pops_companions.command import CommandError, Status
 from pops_companions.input.given_source import read_given
+from pops_companions.many.child_process import outcome_of
 from pops_companions.report.items import Board, Item, SoundItem, named_items
 from pops_companions.report.source import opened_report
 from pops_companions.show.diagram import diagram_file
@@ -52,17 +52,13 @@ def png_of(converter: str, width: int, drawing: bytes) -> bytes:
     """Returns the SVG drawing as PNG."""
     words = [converter, "--format", "png", "--background-color", "white"]
     try:
-        done = subprocess.run(
-            [*words, "--keep-aspect-ratio", "--width", str(width)],
-            input=drawing,
-            capture_output=True,
-        )
+        done = outcome_of([*words, "--keep-aspect-ratio", "--width", str(width)], drawing)
     except OSError as error:
         raise CommandError(Status.DEVICE, f"cannot run {converter}: {error.strerror}") from None
-    if done.returncode != 0:
-        said = done.stderr.decode("utf-8", "replace").strip()
-        raise CommandError(Status.DEVICE, f"{converter} ended with {done.returncode}: {said}")
-    return done.stdout
+    if done.status != 0:
+        said = done.errors.decode("utf-8", "replace").strip()
+        raise CommandError(Status.DEVICE, f"{converter} ended with {done.status}: {said}")
+    return done.output
 
 
 def drawing_of(settings: Settings) -> Drawing:

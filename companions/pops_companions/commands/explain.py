@@ -2,7 +2,6 @@
 
 import argparse
 import io
-import subprocess
 import sys
 from collections.abc import Iterator
 from pathlib import Path
@@ -14,6 +13,7 @@ from pops_companions.explain.explaining import ExplainedFault, OtherText, explai
 from pops_companions.explain.mending import further_faults, mend
 from pops_companions.explain.notices import notices
 from pops_companions.explain.showing import Shower
+from pops_companions.many.child_process import outcome_of
 from pops_companions.many.program import LOOKED_FOR, MissingError, find
 from pops_companions.report.items import Item
 from pops_companions.report.reader import ReportError, read_report
@@ -85,11 +85,11 @@ def checked(text: bytes, named: Optional[str]) -> bytes:
         program = find(named)
     except MissingError as error:
         raise CommandError(Status.DEVICE, f"{error}; or give REPORT") from None
-    run = subprocess.run([program, "--check", "--no-board"], input=text, capture_output=True)
-    if run.returncode not in (Status.GOOD, Status.FAULTY, Status.DEVICE):
-        said = run.stderr.decode("utf-8", "replace").strip()
-        raise CommandError(Status.DEVICE, f"pops ended with status {run.returncode}: {said}")
-    return run.stdout
+    run = outcome_of([program, "--check", "--no-board"], text)
+    if run.status not in (Status.GOOD, Status.FAULTY, Status.DEVICE):
+        said = run.errors.decode("utf-8", "replace").strip()
+        raise CommandError(Status.DEVICE, f"pops ended with status {run.status}: {said}")
+    return run.output
 
 
 def write(name: str, text: bytes, report: BinaryIO, target: BinaryIO, every: bool) -> Status:

@@ -1,7 +1,6 @@
 """Solves many problems on all processors, and on other machines, as one run of pops would."""
 
 import os
-import signal
 import sys
 import tempfile
 from collections.abc import Sequence
@@ -128,23 +127,6 @@ def refuse_shared(read: Sequence[str], written: Sequence[str]) -> None:
             raise CommandError(Status.USAGE, f"{path} is named twice")
         if os.path.isfile(real) or not os.path.exists(real):
             taken.add(real)
-
-
-_SIGNALS = (signal.SIGINT, signal.SIGTERM, signal.SIGHUP)
-
-
-def stopped(*_: object) -> NoReturn:
-    """Ends the run in order; later signals don't disturb that."""
-    for sign in _SIGNALS:
-        signal.signal(sign, signal.SIG_IGN)
-    raise KeyboardInterrupt
-
-
-def watch_signals() -> None:
-    """Stops the run at these signals, but at one that was to be ignored, as by nohup."""
-    for sign in _SIGNALS:
-        if signal.getsignal(sign) is not signal.SIG_IGN:
-            signal.signal(sign, stopped)
 
 
 def programs_of(settings: Settings, options: list[str]) -> Programs:
@@ -297,7 +279,6 @@ def solve(settings: Settings, output: BinaryIO) -> int:
 
 def main(words: list[str]) -> int:
     settings = arguments(words)
-    watch_signals()
     status = solve(settings, sys.stdout.buffer)
     sys.stdout.buffer.flush()
     return status

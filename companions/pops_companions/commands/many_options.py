@@ -1,7 +1,6 @@
 """The command line of pops-many."""
 
 import argparse
-import math
 from collections.abc import Sequence
 from typing import Optional
 
@@ -69,7 +68,7 @@ def _add_reports(parser: argparse.ArgumentParser) -> None:
     add(
         "-j",
         "--jobs",
-        type=int,
+        type=command.jobs,
         metavar="N",
         help="runs at a time on each machine (default: one per processor)",
     )
@@ -82,7 +81,7 @@ def _add_limits(parser: argparse.ArgumentParser) -> None:
     add = parser.add_argument
     add(
         "--seconds",
-        type=float,
+        type=command.seconds,
         metavar="N",
         help="stop a problem after N seconds, and go on with the others",
     )
@@ -103,7 +102,7 @@ def _add_split(parser: argparse.ArgumentParser) -> None:
     )
     add(
         "--split-after",
-        type=float,
+        type=command.seconds,
         metavar="N",
         help=f"how many seconds a problem has before it is cut ({SPLIT_AFTER:g}, or"
         f" {SPLIT_SOON_AFTER:g} if there are fewer problems than processors)",
@@ -170,9 +169,7 @@ def arguments(words: list[str]) -> Settings:
     """Reads the words of the command line."""
     parser = command_line()
     settings = parser.parse_args(words, Settings())
-    if settings.jobs is not None and settings.jobs < 1:
-        parser.error("--jobs needs a number from 1")
-    if settings.seconds is not None and not 0 < settings.seconds < math.inf:
+    if settings.seconds == 0:
         parser.error("--seconds needs a number above 0")
     if settings.resume and not (settings.output or settings.journal):
         parser.error("--resume needs --output or --journal: the journal of the run that stopped")
@@ -201,7 +198,7 @@ def refuse_split(
         parser.error("--check solves nothing: there is nothing to --split")
     if settings.seconds is not None:
         parser.error("--seconds and --split can't be combined: a problem in parts has no limit")
-    if settings.split_after is not None and not 0 < settings.split_after < math.inf:
+    if settings.split_after == 0:
         parser.error("--split-after needs a number above 0")
 
 

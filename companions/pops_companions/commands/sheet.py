@@ -3,7 +3,6 @@
 import argparse
 import io
 import shutil
-import subprocess
 import sys
 import tempfile
 from pathlib import Path
@@ -16,6 +15,7 @@ from pops_companions.input.given import GivenProblem, given_problems
 from pops_companions.input.given_source import warn_of_rest
 from pops_companions.input.pieces import cut
 from pops_companions.input.reading import read_piece
+from pops_companions.many.child_process import outcome_of
 from pops_companions.many.program import LOOKED_FOR, MissingError, find
 from pops_companions.many.tries_program import TRIES_LOOKED_FOR, find_tries, output_of
 from pops_companions.report.items import AnyItem, Board, HeadlessItem, SoundItem
@@ -221,9 +221,9 @@ def pdf_of(page: str) -> bytes:
         source.write_text(page, "utf-8", "replace")
         words = ["--headless", "--no-sandbox", "--disable-gpu", "--no-pdf-header-footer"]
         words += [f"--user-data-dir={room}/profile", f"--print-to-pdf={target}", source.as_uri()]
-        done = subprocess.run([browser, *words], stdin=subprocess.DEVNULL, capture_output=True)
-        if done.returncode != 0 or not target.is_file():
-            raise CommandError(Status.DEVICE, f"{browser} ended with {done.returncode}")
+        done = outcome_of([browser, *words])
+        if done.status != 0 or not target.is_file():
+            raise CommandError(Status.DEVICE, f"{browser} ended with {done.status}")
         return target.read_bytes()
 
 

@@ -8,13 +8,27 @@ owner: without its input it ends by itself.
 """
 
 import fcntl
+import math
 import os
+import resource
 import signal
 import subprocess
 from collections.abc import Sequence
-from typing import IO, Optional, Union
+from typing import IO, NamedTuple, Optional, Union
 
 Stream = Union[None, int, IO[bytes]]
+
+# A program that outlives its seconds ends after so many more of processor time.
+_SECONDS_MORE = 2
+
+
+class Outcome(NamedTuple):
+    """How a program ended, what it wrote and what it said; whether it ended in its time."""
+
+    status: int
+    output: bytes
+    errors: bytes
+    in_time: bool
 
 
 class ChildProcess:
@@ -48,6 +62,37 @@ class ChildProcess:
         finally:
             os.close(watched)
 
+    def outcome(self, text: Optional[bytes], seconds: Optional[float] = None) -> Outcome:
+        """Feeds the program and waits for its end. After `seconds`, or if the wait is broken off, it
+        is ended.
+        """
+        try:
+            if seconds is not None:
+                self._limit(seconds)
+            try:
+                output, errors = self.run.communicate(text, seconds)
+                in_time = True
+            except subprocess.TimeoutExpired:
+                self.send(signal.SIGKILL)
+                output, errors = self.run.communicate()
+                in_time = False
+            return Outcome(self.run.returncode, output, errors or b"", in_time)
+        except BaseException:
+            self.send(signal.SIGKILL)
+            self.run.wait()
+            raise
+        finally:
+            self.release()
+
+    def _limit(self, seconds: float) -> None:
+        """Limits the processor time, so that the program ends even if nobody can end it."""
+        most = math.ceil(seconds) + _SECONDS_MORE
+        try:
+            resource.prlimit(self.run.pid, resource.RLIMIT_CPU, (most, most))
+        except (OSError, ValueError, OverflowError):
+            # It has ended, or has less already.
+            pass
+
     def send(self, sign: int) -> None:
         """Sends a signal to the program's process group, unless the program has ended."""
         if self.run.returncode is None:
@@ -59,3 +104,10 @@ class ChildProcess:
     def release(self) -> None:
         """Closes the pipe, once the program has ended."""
         os.close(self._held)
+
+
+def outcome_of(
+    words: Sequence[str], text: bytes = b"", errors: Stream = subprocess.PIPE
+) -> Outcome:
+    """Runs a program on a text. OSError where it can't be started."""
+    return ChildProcess(words, subprocess.PIPE, errors).outcome(text)

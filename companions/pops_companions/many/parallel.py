@@ -16,7 +16,7 @@ from pathlib import Path
 from typing import NamedTuple, Optional
 
 from pops_companions.many import sessions
-from pops_companions.many.child_process import ChildProcess
+from pops_companions.many.child_process import ChildProcess, outcome_of
 
 _SECONDS_BETWEEN_LOOKS = 0.3
 _SECONDS_TO_END = 3.0
@@ -159,8 +159,7 @@ class Parallel:
 
 
 def _is_gnu(parallel: str) -> bool:
-    said = subprocess.run([parallel, "--version"], stdin=subprocess.DEVNULL, capture_output=True)
-    return said.stdout.startswith(b"GNU parallel")
+    return outcome_of([parallel, "--version"]).output.startswith(b"GNU parallel")
 
 
 def _write_logins(room: Path, logins: Sequence[str]) -> None:

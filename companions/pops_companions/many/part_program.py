@@ -65,16 +65,10 @@ class PartProgram(Runs):
         """Returns the phases of the one problem of an input. PartsError where pops-part doesn't
         list them.
         """
-        status, listed, error = self._answer(["--list", "--depth", str(self.depth)], text)
-        if status != SOUND:
-            raise PartsError(self._reason(status, error))
-        return phases_listed(listed)
-
-    def _answer(self, words: Sequence[str], text: bytes) -> tuple[int, bytes, bytes]:
-        """Status, output and message of a run."""
-        child = self._started(words, subprocess.PIPE, subprocess.PIPE)
-        _, output, error = self._ended(child, text, None)
-        return child.run.returncode, output, error
+        run = self.outcome(["--list", "--depth", str(self.depth)], text)
+        if run.status != SOUND:
+            raise PartsError(self._reason(run.status, run.errors))
+        return phases_listed(run.output)
 
     def report(self, part: Part) -> bytes:
         """Returns the report of a part. RunError where the run failed."""

@@ -10,7 +10,7 @@ from collections.abc import Callable, Generator, Sequence
 from pathlib import Path
 from typing import Optional
 
-from pops_companions.many.child_process import ChildProcess, Stream
+from pops_companions.many.child_process import ChildProcess, Outcome, Stream, outcome_of
 from pops_companions.many.tasks import UNFINISHED, Result, Task, is_whole, whole_lines
 from pops_companions.places import COMPANIONS
 
@@ -91,8 +91,8 @@ def _of_sources(repository: Path, name: str) -> Optional[str]:
     script = repository / "find-program"
     if not _is_repository(repository) or not script.is_file():
         return None
-    found = subprocess.run([str(script), name], stdin=subprocess.DEVNULL, stdout=subprocess.PIPE)
-    return os.fsdecode(found.stdout).rstrip("\n") or None
+    found = outcome_of([str(script), name], errors=None)
+    return os.fsdecode(found.output).removesuffix("\n") or None
 
 
 def _without_script(found: str, name: str = "pops") -> str:
@@ -142,21 +142,19 @@ class Runs:
 
     def _ended(
         self, child: ChildProcess, text: Optional[bytes], seconds: Optional[float]
-    ) -> tuple[bool, bytes, bytes]:
-        """Returns whether a run ended in its time, what it wrote and what it said."""
+    ) -> Outcome:
+        """Returns how a run ended, at the latest after `seconds`."""
         try:
-            in_time = True
-            try:
-                report, error = child.run.communicate(text, seconds)
-            except subprocess.TimeoutExpired:
-                in_time = False
-                child.send(signal.SIGKILL)
-                report, error = child.run.communicate()
-            return in_time, report, error or b""
+            return child.outcome(text, seconds)
         finally:
             with self._lock:
                 self._running.discard(child)
-            child.release()
+
+    def outcome(
+        self, words: Sequence[str], text: bytes, seconds: Optional[float] = None
+    ) -> Outcome:
+        """Runs it with more words on a text, at most for `seconds`. RunError where it can't be run."""
+        return self._ended(self._started(words, subprocess.PIPE, subprocess.PIPE), text, seconds)
 
     def _written(
         self, child: ChildProcess, text: bytes, pause: Callable[[], int]
@@ -238,14 +236,12 @@ class Program(Runs):
 
     def _one(self, text: bytes) -> tuple[int, bytes]:
         """Status and report of a run on one problem; UNFINISHED where its time was over."""
-        child = self._started([], subprocess.PIPE, subprocess.PIPE)
-        in_time, report, error = self._ended(child, text, self.seconds)
-        status = child.run.returncode
-        if status in (SOUND, FAULTY) and is_whole(report):
-            return status, report
-        if not in_time:
-            return UNFINISHED, report
-        raise RunError(self._reason(status, error))
+        run = self.outcome([], text, self.seconds)
+        if run.status in (SOUND, FAULTY) and is_whole(run.output):
+            return run.status, run.output
+        if not run.in_time:
+            return UNFINISHED, run.output
+        raise RunError(self._reason(run.status, run.errors))
 
     def _whole(self, task: Task) -> Result:
         """Returns a source that is left to pops: it reads it by itself.
@@ -256,7 +252,7 @@ class Program(Runs):
         source = subprocess.PIPE if name is None else None
         errors = subprocess.DEVNULL if text is None else None
         child = self._started([] if name is None else [name], source, errors)
-        _, report, _ = self._ended(child, text if name is None else None, None)
-        if child.run.returncode < 0:
-            raise RunError(self._reason(child.run.returncode, b""))
-        return Result(task, child.run.returncode, report)
+        run = self._ended(child, text if name is None else None, None)
+        if run.status < 0:
+            raise RunError(self._reason(run.status, b""))
+        return Result(task, run.status, run.output)

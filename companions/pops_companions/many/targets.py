@@ -5,6 +5,8 @@ from collections.abc import Iterator
 from contextlib import contextmanager
 from typing import BinaryIO
 
+from pops_companions import files
+
 
 class Target:
     """A file to be written by a run.
@@ -18,31 +20,19 @@ class Target:
         self.path = path
         self._real = os.path.realpath(path)
         self._temporary = f"{self._real}.{run.decode('ascii')[:12]}"
-        self._direct = os.path.exists(path) and not os.path.isfile(path)
 
     def try_out(self) -> None:
         """Removes what the run left. OSError where the file couldn't be written."""
         if os.path.isdir(self.path):
             raise IsADirectoryError(None, "Is a directory")
-        if not self._direct:
-            open(self._temporary, "wb").close()
-            os.unlink(self._temporary)
+        if not files.is_device(self.path):
+            files.try_out(self._temporary)
 
     @contextmanager
     def opened(self) -> Iterator[BinaryIO]:
         """The file, open for writing; one that fails leaves what stood there before."""
-        if self._direct:
-            with open(self.path, "wb") as device:
-                yield device
-            return
-        file = open(self._temporary, "wb")
-        try:
-            with file:
-                yield file
-        except BaseException:
-            os.unlink(self._temporary)
-            raise
-        os.replace(self._temporary, self._real)
+        with files.written_whole(self.path, self._temporary) as file:
+            yield file
 
     def remove(self) -> None:
         """Removes the file where there is one."""

@@ -2,11 +2,11 @@
 
 import os
 import shutil
-import subprocess
 from pathlib import Path
 from typing import Optional
 
 from pops_companions.command import CommandError, Status
+from pops_companions.many.child_process import outcome_of
 from pops_companions.many.program import FAULTY, SOUND
 
 TRIES_LOOKED_FOR = (
@@ -37,10 +37,10 @@ def output_of(program: str, *words: str, text: bytes) -> bytes:
     CommandError where it can't be run, or ends as it does where its output isn't whole.
     """
     try:
-        run = subprocess.run([program, *words], input=text, capture_output=True)
+        run = outcome_of([program, *words], text)
     except OSError as error:
         message = f"{program} can't be run: {error.strerror}"
         raise CommandError(Status.DEVICE, message) from None
-    if run.returncode not in (SOUND, FAULTY):
-        raise CommandError(Status.DEVICE, f"{program} ended with {run.returncode}")
-    return run.stdout
+    if run.status not in (SOUND, FAULTY):
+        raise CommandError(Status.DEVICE, f"{program} ended with {run.status}")
+    return run.output
