@@ -65,7 +65,7 @@ const WORDS = {
     kept: 'kept problems', keptWhere: 'The last {most} texts that were solved are kept in this browser’s own storage '
       + '(localStorage, under “pops.kept” and “pops”), only on this machine. Nothing is sent.',
     keptNone: 'none yet', forget: 'forget', forgetAll: 'forget all', keptNot: 'this browser keeps nothing for the page',
-    sheet: 'Problems',
+    sheet: 'Problems', licence: 'licence:',
     help: 'keys', keys: 'On the board: arrows go from square to square; K Q R B S P G N set a white man, small letters a black '
       + 'one; Delete removes; Enter picks up a man and puts it down, or places the chosen man. In the solutions: → and ← go a '
       + 'move on and back, ↑ and ↓ to the row above and below, + and − unfold and fold, Escape shows the diagram again. '

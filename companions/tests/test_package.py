@@ -19,7 +19,8 @@ import pip, venv
 if int(setuptools.__version__.split(".")[0]) < 71:
     import wheel
 """
-SOURCES = ("pyproject.toml", "VERSION", "build", "companions/pops_companions")
+LICENCES = ("LICENSE-MIT", "LICENSE-APACHE", "THIRD-PARTY")
+SOURCES = ("pyproject.toml", "VERSION", "build", *LICENCES, "companions/pops_companions")
 MATE = support.REPOSITORY / "examples" / "mate_in_one.pop"
 
 
@@ -76,6 +77,11 @@ class Package(unittest.TestCase):
         )
         self.assertEqual(done.stderr, b"", name)
         return done.stdout
+
+    def test_it_contains_the_licences(self) -> None:
+        for name in LICENCES:
+            [found] = self.commands.parent.glob(f"lib/python3*/site-packages/pops*.dist-info/**/{name}")
+            self.assertEqual(found.read_bytes(), (support.REPOSITORY / name).read_bytes())
 
     def test_each_command_helps(self) -> None:
         shown = {path.name for path in support.COMPANIONS.iterdir() if os.access(path, os.X_OK)}
