@@ -72,8 +72,7 @@ def _ended(name: str, command: Callable[[list[str]], int]) -> int:
     except BrokenPipeError:
         return Status.DEVICE
     except OSError as error:
-        parts = map(str, filter(None, (error.filename, error.strerror or error)))
-        message, status = ": ".join(parts), Status.DEVICE
+        message, status = said_of(error), Status.DEVICE
     except KeyboardInterrupt:
         message, status = "stopped", Status.UNFINISHED
     except MemoryError:
@@ -85,6 +84,11 @@ def _ended(name: str, command: Callable[[list[str]], int]) -> int:
         message = " ".join(message.split())
     _say(f"{name}: {message}\n")
     return status
+
+
+def said_of(error: OSError) -> str:
+    """Returns what is said of a call that failed: the file, if one is known, and why."""
+    return ": ".join(map(str, filter(None, (error.filename, error.strerror or error))))
 
 
 @contextmanager

@@ -8,11 +8,15 @@ import tempfile
 import unittest
 from pathlib import Path
 
+from pops_companions.review.work_folder import WorkFolder
 from tests import support, test_pages, test_sheet, test_soundness
 from tests.six_problems import wait_for
 
 ONE = b"BeginProblem\nTitle A mate\nOrigin A & B 1900\nPieces White Kg6 Ra1 Black Kg8\nStipulation #1\n"
 TWO = b"NextProblem\nTitle A help\nPieces White Kg6 Ra1 Black Kh8\nStipulation h#1\nEndProblem\n"
+TRIES_OF_ONE = (
+    "problem 1\\ntitle: A mate\\n#1\\nplay\\n1.Ra1-a8#!\\nsolutions: 1\\ntries\\ntries: 0\\n\\n"
+)
 
 
 class Judging(unittest.TestCase):
@@ -112,20 +116,96 @@ class Judging(unittest.TestCase):
         kept = f"stopped; what is done is kept in {work}: go on with --resume"
         self.assertEqual(error, f"pops-judge: {kept}\n")
 
+    def slow(self, text: str) -> str:
+        """A program that shows this and finds nothing else."""
+        return self.script("slow", f"cat > /dev/null\nprintf '{text}'\nexec sleep 600\n")
+
+    def unfinished(self, *words: str) -> Path:
+        """The folder of a run on a problem that took longer."""
+        self.text.write_bytes(ONE + b"EndProblem\n")
+        slow = self.slow("problem 1\\n#1\\nplay\\n")
+        self.assertEqual(self.judged("--seconds", "0.5", *words, pops=slow).status, 1)
+        return self.room / "sheet.html.work"
+
     def test_another_text_isnt_taken_up(self) -> None:
-        work = self.room / "sheet.html.work"
-        work.mkdir()
-        (work / "input.pop").write_bytes(ONE + b"EndProblem\n")
+        work = self.unfinished()
+        self.text.write_bytes(ONE + TWO)
         outcome = self.judged("--resume")
         self.assertEqual(outcome.status, 2)
         self.assertIn("sheet.html.work is of another text: remove it", outcome.error)
+        self.assertTrue(work.is_dir())
+
+    def test_a_folder_of_others_is_neither_read_nor_removed(self) -> None:
+        work, other = self.room / "sheet.html.work", self.room / "other"
+        unsound = b"problem 1\n#1\nplay\n1.Ra1-a8#\n1.Ra1-b8#\nsolutions: 2\n\n"
+        files = {"input.pop": self.text.read_bytes(), "solutions.report": unsound, "notes": b"ours"}
+        other.mkdir()
+        for name, text in files.items():
+            (other / name).write_bytes(text)
+        for is_link in (False, True):
+            if is_link:
+                work.symlink_to(other)
+            else:
+                other.rename(work)
+            for word in ("--all", "--resume"):
+                outcome = self.judged(word)
+                self.assertEqual(outcome.status, 2)
+                self.assertIn("sheet.html.work isn't a folder of pops-judge", outcome.error)
+                self.assertEqual({it.name: it.read_bytes() for it in work.iterdir()}, files)
+            if not is_link:
+                work.rename(other)
+        self.assertFalse(self.sheet.exists())
+
+    def test_what_others_put_into_its_folder(self) -> None:
+        work, foreign = self.unfinished(), self.room / "foreign"
+        (work / "notes").write_bytes(b"ours")
+        foreign.write_bytes(b"ours")
+        (work / "tries-1.txt").unlink(missing_ok=True)
+        (work / "tries-1.txt").symlink_to(foreign)
+        self.assertEqual(self.judged("--resume").status, 2)
+        (work / "tries-1.txt").unlink()
+        outcome = self.judged("--resume")
+        self.assertEqual(outcome.status, 0)
+        self.assertIn("sheet.html.work has files of others, which stay", outcome.error)
+        self.assertEqual([it.name for it in work.iterdir()], ["notes"])
+        self.assertEqual(foreign.read_bytes(), b"ours")
+
+    def test_reports_and_tries_that_are_cut_are_made_again(self) -> None:
+        tries = self.script("tries", f"cat > /dev/null\nprintf '{TRIES_OF_ONE}'\n")
+        words = ("--pops-tries", tries)
+        work = self.unfinished(*words)
+        for name in ("tries-1.txt", "solutions.report"):
+            (work / name).write_bytes((work / name).read_bytes()[:100])
+        self.assertEqual(self.judged("--resume", *words).status, 0)
+        (article,) = self.articles()
+        self.assertIn("play\n1.Ra1-a8#\nsolutions: 1", article.words)
+        self.assertIn("tries and threats", article.words)
+
+    def test_a_kept_text_is_whole(self) -> None:
+        folder, path = WorkFolder(self.room), self.room / "tries-1.txt"
+        self.assertIsNone(folder.kept(path))
+        folder.keep(path, b"a text\n" * 3)
+        self.assertEqual(folder.kept(path), b"a text\n" * 3)
+        whole = path.read_bytes()
+        for text in (whole[:cut] for cut in range(len(whole))):
+            path.write_bytes(text)
+            self.assertIsNone(folder.kept(path))
+
+    def test_a_program_of_tries_that_fails_is_told(self) -> None:
+        dies = self.script("dies", "cat > /dev/null\nkill -9 $$\n")
+        outcome = self.judged("--pops-tries", dies)
+        self.assertEqual(outcome.status, 6)
+        self.assertEqual(
+            outcome.error,
+            "pops-judge: problem 1: pops-tries was ended by signal 9: its tries and threats are"
+            " missing\npops-judge: --resume tries them again\n",
+        )
+        tries = self.script("tries", f"cat > /dev/null\nprintf '{TRIES_OF_ONE}'\n")
+        self.assertEqual(self.judged("--resume", "--pops-tries", tries), (0, outcome.output, ""))
+        self.assertIn("tries and threats", self.articles()[0].words)
 
     def test_tries_where_the_program_is(self) -> None:
-        tries = self.script(
-            "tries",
-            "cat > /dev/null\nprintf 'problem 1\\ntitle: A mate\\n#1\\nplay\\n1.Ra1-a8#!\\n"
-            "solutions: 1\\ntries\\ntries: 0\\n\\n'\n",
-        )
+        tries = self.script("tries", f"cat > /dev/null\nprintf '{TRIES_OF_ONE}'\n")
         outcome = self.judged("--pops-tries", tries)
         self.assertEqual((outcome.status, outcome.error), (0, ""))
         one, two = self.articles()

@@ -49,8 +49,8 @@ def command_line() -> argparse.ArgumentParser:
         epilog="example: pops-judge tourney.pop -o sheet.html\n"
         "exit status: 0 if all problems are sound, 1 if one isn't or is undecided, 2 for a\n"
         "mistake in the command line, 3 if a text can't be read or written, 6 if the run was\n"
-        "stopped. What is done is then kept in SHEET.work, as it is while problems need more than\n"
-        "--seconds; --resume goes on from there.",
+        "stopped or pops-tries failed. What is done is then kept in SHEET.work, as it is while\n"
+        "problems need more than --seconds; --resume goes on from there.",
     )
     add = parser.add_argument
     add("collection", metavar="COLLECTION", help="an input of pops")
@@ -58,12 +58,12 @@ def command_line() -> argparse.ArgumentParser:
     add("--heading", metavar="TEXT", help="the sheet's heading (the name of the collection)")
     add(
         "--seconds",
-        type=float,
+        type=command.seconds,
         default=SECONDS,
         metavar="N",
         help=f"stop a problem after N seconds ({SECONDS:g}); 0 is no limit",
     )
-    add("-j", "--jobs", type=command.number_from_one, metavar="N", help="runs at a time")
+    add("-j", "--jobs", type=command.jobs, metavar="N", help="runs at a time")
     add(
         "--solutions",
         type=command.number_from_one,
@@ -83,10 +83,7 @@ def command_line() -> argparse.ArgumentParser:
 def arguments(words: list[str]) -> Settings:
     """Reads the words of the command line."""
     parser = command_line()
-    settings = parser.parse_args(words, Settings())
-    if not 0 <= settings.seconds < float("inf"):
-        parser.error("--seconds needs a number from 0")
-    return settings
+    return parser.parse_args(words, Settings())
 
 
 def runs_of(settings: Settings) -> Runs:
@@ -119,7 +116,7 @@ def judge(settings: Settings) -> Status:
     text = read_collection(settings.collection)
     given = given_problems(text)
     work = Work(folder_of(settings), runs_of(settings))
-    work.begin(text, settings.resume)
+    work.folder.begin(text, settings.resume)
     work.solve()
     short: Optional[str] = str(work.short) if work.solve_shorter(given) else None
     tries = work.tries(text, given)
@@ -140,23 +137,41 @@ def judge(settings: Settings) -> Status:
     for one in judged:
         print(as_text(one, settings.encoding, 0).split("\n")[0])
     print(tally.text)
-    work.end()
-    if not work.is_finished:
-        message = "some problems took longer: --resume with more --seconds goes on with them"
-        print(f"{NAME}: {message}", file=sys.stderr)
+    if work.end():
+        say(f"{work.folder.path} has files of others, which stay")
+    say_unfinished(work)
+    if work.failed:
+        return Status.UNFINISHED
     return Status.GOOD if tally.all_sound else Status.FAULTY
+
+
+def say(message: str) -> None:
+    print(f"{NAME}: {message}", file=sys.stderr)
+
+
+def say_unfinished(work: Work) -> None:
+    """Says why a problem lacks solutions or tries."""
+    for number, reason in sorted(work.failed.items()):
+        say(f"problem {number}: {reason}: its tries and threats are missing")
+    if work.failed:
+        say("--resume tries them again")
+    elif not work.is_finished:
+        say("some problems took longer: --resume with more --seconds goes on with them")
 
 
 def main(words: list[str]) -> Status:
     settings = arguments(words)
     try:
         return judge(settings)
-    except KeyboardInterrupt:
+    except (KeyboardInterrupt, OSError) as error:
         kept = folder_of(settings)
         if not kept.is_dir():
             raise
-        message = f"stopped; what is done is kept in {kept}: go on with --resume"
-        raise CommandError(Status.UNFINISHED, message) from None
+        why, status = "stopped", Status.UNFINISHED
+        if isinstance(error, OSError):
+            why, status = command.said_of(error), Status.DEVICE
+        message = f"{why}; what is done is kept in {kept}: go on with --resume"
+        raise CommandError(status, message) from None
 
 
 def run() -> NoReturn:

@@ -107,6 +107,10 @@ def open_journal(
         raise CommandError(Status.DEVICE, f"cannot write {path}: {error.strerror}") from None
 
 
+class StoppedError(CommandError):
+    """Ends a run that a signal stopped."""
+
+
 def try_out(targets: Sequence[Target]) -> None:
     """Refuses a file that can't be written before anything is solved."""
     for target in targets:
@@ -222,7 +226,7 @@ class Solving:
     ) -> int:
         """Runs the tasks and writes the index; ends the command where not all is done."""
         kept_in: list[str] = []
-        complete = False
+        complete, error = False, CommandError
         try:
             try:
                 run = Run(self._tasks, self._programs, journal, joined, self._progress)
@@ -233,13 +237,14 @@ class Solving:
                 write_index(index, self._tasks, journal)
             complete = joined.complete
         except KeyboardInterrupt:
+            error = StoppedError
             self._progress.say("stopped")
         except BrokenPipeError:
             settings = self._settings
             journal.close(kept=settings.output is not None or settings.journal is not None)
             raise
-        except OSError as error:
-            self._progress.say(f"cannot write: {error.strerror}")
+        except OSError as fault:
+            self._progress.say(f"cannot write: {fault.strerror}")
         self._progress.end()
         if complete and self._done(journal) == len(self._tasks):
             worst = max(journal.statuses())
@@ -248,7 +253,7 @@ class Solving:
         if kept_in:
             self._say_unfinished(joined, kept_in)
         journal.close(kept=True)
-        raise self._end(journal, complete)
+        raise error(Status.UNFINISHED, self._what_is_kept(journal, complete))
 
     def _done(self, journal: Journal) -> int:
         return sum(journal.is_finished(task.place) for task in self._tasks)
@@ -263,12 +268,12 @@ class Solving:
             f" what was found of them is in {', '.join(kept_in[:_FILES_TOLD])}{more}"
         )
 
-    def _end(self, journal: Journal, complete: bool) -> CommandError:
+    def _what_is_kept(self, journal: Journal, complete: bool) -> str:
+        """Returns how much is done, and how to go on."""
         more = ", and more --seconds or none" if complete else ""
-        return CommandError(
-            Status.UNFINISHED,
+        return (
             f"{self._done(journal)} of {len(self._tasks)} problems are done and kept in"
-            f" {journal.path}: go on with --resume --journal {journal.path}{more}",
+            f" {journal.path}: go on with --resume --journal {journal.path}{more}"
         )
 
 

@@ -46,6 +46,15 @@ def fingerprint(sources: Sequence[Source], options: Sequence[str]) -> bytes:
     return total.hexdigest().encode("ascii")
 
 
+def is_begun(path: str) -> bool:
+    """Returns whether a journal is there and its first line is whole: otherwise it keeps nothing."""
+    try:
+        with open(path, "rb") as file:
+            return file.readline(_LONGEST_HEAD).endswith(b"\n")
+    except FileNotFoundError:
+        return False
+
+
 class Journal:
     """An open journal, new or of a run that goes on. `seconds` is the time limit of each problem."""
 
@@ -80,12 +89,13 @@ class Journal:
             raise JournalError(f"{self.path} is in use by another run") from None
         if resume:
             self._read_all()
-        elif os.fstat(self._file.fileno()).st_size > 0:
+        elif not self._head.startswith(self._file.read()):
             raise JournalError(
                 f"{self.path} is the journal of a run that stopped: go on with --resume,"
                 " or remove it"
             )
         else:
+            self._file.seek(0)
             self._file.write(self._head)
             self._file.flush()
 

@@ -7,7 +7,7 @@ from typing import Optional
 
 from pops_companions.command import CommandError, Status
 from pops_companions.many.child_process import outcome_of
-from pops_companions.many.program import FAULTY, SOUND
+from pops_companions.many.program import FAULTY, SOUND, RunError, Runs
 
 TRIES_LOOKED_FOR = (
     "the program pops-tries (default: $POPS_TRIES, the one next to pops, the one on the PATH)"
@@ -44,3 +44,21 @@ def output_of(program: str, *words: str, text: bytes) -> bytes:
     if run.status not in (SOUND, FAULTY):
         raise CommandError(Status.DEVICE, f"{program} ended with {run.status}")
     return run.output
+
+
+class TriesProgram(Runs):
+    """pops-tries, with the seconds that each of its runs has."""
+
+    def __init__(self, path: str, seconds: Optional[float]):
+        super().__init__("pops-tries", [path])
+        self._seconds = seconds
+
+    def text_of(self, problem: bytes) -> Optional[bytes]:
+        """Returns what it writes of a problem; None where its time was over. RunError where it failed.
+        """
+        run = self.outcome([], problem, self._seconds)
+        if run.status in (SOUND, FAULTY):
+            return run.output
+        if not run.in_time:
+            return None
+        raise RunError(self._reason(run.status, run.errors))

@@ -3,27 +3,32 @@
 They are kept in a folder until all of them are done, so that a run that was stopped can go on.
 """
 
+import io
 import os
-import shutil
-import subprocess
 import sys
 from collections.abc import Sequence
 from concurrent.futures import ThreadPoolExecutor
+from contextlib import nullcontext, redirect_stderr
 from dataclasses import dataclass, replace
 from functools import partial
 from pathlib import Path
-from typing import NoReturn, Optional
+from typing import Optional
 
-from pops_companions import places
+from pops_companions import files
 from pops_companions.chess.stipulation import Play
 from pops_companions.command import CommandError, Status
+from pops_companions.commands import many, many_options
 from pops_companions.input.given import GivenProblem
 from pops_companions.input.pieces import cut
 from pops_companions.input.writing import text_of_problems
+from pops_companions.many.journal import is_begun
+from pops_companions.many.program import RunError
+from pops_companions.many.tries_program import TriesProgram
 from pops_companions.report.source import UNFINISHED
 from pops_companions.report.tries import TriesItem
 from pops_companions.review.posing import posed_problems
-from pops_companions.review.reading import tries_of_file
+from pops_companions.review.reading import tries_of_text
+from pops_companions.review.work_folder import WorkFolder
 
 
 @dataclass(frozen=True)
@@ -40,69 +45,61 @@ class Runs:
 
 
 class Work:
-    """The folder of a sheet's runs."""
+    """A sheet's runs and the folder that keeps them."""
 
     def __init__(self, folder: Path, runs: Runs):
-        self._folder = folder
+        self.folder = WorkFolder(folder)
         self._runs = runs
         self.report = folder / "solutions.report"
         self.short = folder / "short.report"
         self.is_finished = True
-
-    def begin(self, text: bytes, resume: bool) -> None:
-        """Makes the folder for an input, or takes up that of a run that was stopped."""
-        kept = self._folder / "input.pop"
-        if kept.is_file():
-            if not resume:
-                self._refuse("keeps a run that was stopped: go on with --resume, or remove it")
-            if kept.read_bytes() != text:
-                self._refuse("is of another text: remove it")
-            return
-        self._folder.mkdir(parents=True, exist_ok=True)
-        kept.write_bytes(text)
-
-    def _refuse(self, reason: str) -> NoReturn:
-        raise CommandError(Status.USAGE, f"{self._folder} {reason}")
+        # The problems without tries, because pops-tries failed, with the reasons.
+        self.failed: dict[int, str] = {}
 
     def solve(self) -> None:
         """Solves the problems."""
-        self._many(self._folder / "input.pop", self.report)
+        self._many(self.folder.path / "input.pop", self.report)
 
     def solve_shorter(self, given: Sequence[GivenProblem]) -> bool:
         """Looks for short solutions; returns whether any problem can have one."""
         posed = list(posed_problems(given))
         if not posed:
             return False
-        source = self._folder / "short.pop"
-        source.write_bytes(text_of_problems(posed).encode("utf-8", "surrogateescape"))
+        source = self.folder.path / "short.pop"
+        self.folder.write(source, text_of_problems(posed).encode("utf-8", "surrogateescape"))
         self._many(source, self.short)
         return True
 
     def _many(self, source: Path, report: Path) -> None:
-        """Runs pops-many, which goes on where it was stopped."""
+        """Runs what pops-many runs, which goes on where it was stopped."""
         journal = Path(f"{report}.journal")
-        if report.is_file() and not journal.is_file():
+        if not journal.is_file() and self.folder.is_sealed(report):
             return
-        words = [sys.executable, places.command("pops-many"), "--pops", self._runs.pops]
+        files.remove(str(report))
+        words = ["--pops", self._runs.pops]
         if self._runs.jobs is not None:
             words += ["--jobs", str(self._runs.jobs)]
         if self._runs.seconds is not None:
-            words += ["--seconds", f"{self._runs.seconds:g}"]
-        words += ["--resume"] * journal.is_file() + ["-o", str(report), str(source)]
-        before = report.stat().st_mtime_ns if report.is_file() else None
-        status = subprocess.run(words, stderr=None if sys.stderr.isatty() else subprocess.PIPE)
-        if status.returncode in (Status.GOOD, Status.FAULTY):
-            return
-        is_written = report.is_file() and report.stat().st_mtime_ns != before
-        if status.returncode == Status.UNFINISHED and is_written:
-            self.is_finished = False
-            return
-        said = (status.stderr or b"").decode("utf-8", "replace").strip()
-        raise CommandError(
-            Status.UNFINISHED if status.returncode == Status.UNFINISHED else Status.DEVICE,
-            f"not all is solved; what is done is kept in {self._folder}: go on with --resume"
-            + (f" ({said.splitlines()[-1]})" if said else ""),
-        )
+            words += ["--seconds", repr(self._runs.seconds)]
+        words += ["--resume"] * is_begun(str(journal)) + ["-o", str(report), "--", str(source)]
+        said = io.StringIO()
+        try:
+            # (on a terminal it shows how far it is)
+            with nullcontext() if sys.stderr.isatty() else redirect_stderr(said):
+                many.solve(many_options.arguments(words), io.BytesIO())
+            self.folder.seal(report)
+        except many.StoppedError:
+            raise KeyboardInterrupt from None
+        except CommandError as error:
+            if error.status == Status.UNFINISHED and report.is_file():
+                self.is_finished = False
+                return
+            lines = said.getvalue().strip().splitlines() or [str(error)]
+            raise CommandError(
+                Status.UNFINISHED if error.status == Status.UNFINISHED else Status.DEVICE,
+                f"not all is solved; what is done is kept in {self.folder.path}:"
+                f" go on with --resume ({lines[-1]})",
+            ) from None
 
     @property
     def unfinished_problems(self) -> Optional[str]:
@@ -112,9 +109,9 @@ class Work:
 
     def tries(self, text: bytes, given: Sequence[GivenProblem]) -> dict[int, TriesItem]:
         """Returns tries and threats of each problem of battle play, by its number."""
-        program = self._runs.tries
-        if program is None:
+        if self._runs.tries is None:
             return {}
+        program = TriesProgram(self._runs.tries, self._runs.seconds)
         wanted = [
             (problem.number, piece.alone(text, False))
             for problem, piece in zip(given, cut(text))
@@ -122,34 +119,36 @@ class Work:
         ]
         jobs = self._runs.jobs or len(os.sched_getaffinity(0))
         with ThreadPoolExecutor(jobs) as pool:
-            found = pool.map(partial(self._tries_of, program), wanted)
-            return {item.number: item for item in found if item is not None}
+            try:
+                found = list(pool.map(partial(self._tries_of, program), wanted))
+            except BaseException:
+                program.stop()
+                raise
+        return {item.number: item for item in found if item is not None}
 
-    def _tries_of(self, program: str, wanted: tuple[int, bytes]) -> Optional[TriesItem]:
+    def _tries_of(self, program: TriesProgram, wanted: tuple[int, bytes]) -> Optional[TriesItem]:
         """Returns what pops-tries shows of a problem; its text is kept for a run that goes on.
 
-        `wanted` is its number and its text. None where it is faulty or takes too long.
+        `wanted` is its number and its text. None where it is faulty, takes too long or fails.
         """
-        number, text = wanted
-        kept = self._folder / f"tries-{number}.txt"
-        if not kept.is_file():
+        number, problem = wanted
+        path = self.folder.path / f"tries-{number}.txt"
+        text = self.folder.kept(path)
+        if text is None:
             try:
-                run = subprocess.run(
-                    [program], input=text, capture_output=True, timeout=self._runs.seconds
-                )
-            except subprocess.TimeoutExpired:
+                text = program.text_of(problem)
+            except RunError as error:
+                self.failed[number] = str(error)
                 self.is_finished = False
                 return None
-            except OSError as error:
-                message = f"{program} can't be run: {error.strerror}"
-                raise CommandError(Status.DEVICE, message) from None
-            if run.returncode != Status.GOOD:
+            if text is None:
+                self.is_finished = False
                 return None
-            kept.write_bytes(run.stdout)
-        item = next(iter(tries_of_file(str(kept)).values()), None)
+            self.folder.keep(path, text)
+        item = next(iter(tries_of_text(str(path), text).values()), None)
         return None if item is None else replace(item, number=number)
 
-    def end(self) -> None:
-        """Removes the folder, unless a problem isn't finished."""
-        if self.is_finished:
-            shutil.rmtree(self._folder, ignore_errors=True)
+    def end(self) -> bool:
+        """Removes the folder, unless a problem isn't finished; returns whether it left other files.
+        """
+        return self.is_finished and not self.folder.remove()

@@ -1,6 +1,7 @@
 """Reports as these commands take them in: their status 1 is for what they find in a report."""
 
-from collections.abc import Iterator
+import io
+from collections.abc import Iterable, Iterator
 from contextlib import contextmanager
 from typing import Optional
 
@@ -35,11 +36,20 @@ def tries_of_file(file: Optional[str]) -> dict[int, TriesItem]:
     if file is None:
         return {}
     with command.opened(file) as source:
-        try:
-            items = list(read_tries(source))
-        except ReportError as error:
-            message = f"{file} is no text of pops-tries: {error}"
-            raise CommandError(Status.DEVICE, message) from None
+        return _tries_of_lines(file, source)
+
+
+def tries_of_text(name: str, text: bytes) -> dict[int, TriesItem]:
+    """As `tries_of_file`, for a text that messages name so."""
+    return _tries_of_lines(name, io.BytesIO(text))
+
+
+def _tries_of_lines(name: str, source: Iterable[bytes]) -> dict[int, TriesItem]:
+    try:
+        items = list(read_tries(source))
+    except ReportError as error:
+        message = f"{name} is no text of pops-tries: {error}"
+        raise CommandError(Status.DEVICE, message) from None
     return {item.number: item for item in items if isinstance(item, TriesItem)}
 
 

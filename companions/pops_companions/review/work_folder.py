@@ -1,0 +1,119 @@
+"""The folder that keeps what is done of a sheet until all of it is.
+
+It has a file that marks it as this program's own, with a checksum of the input. Nothing of a folder
+without that mark is read, and only files with names of its own are removed.
+"""
+
+import hashlib
+import os
+import re
+import stat
+from contextlib import suppress
+from pathlib import Path
+from typing import NoReturn, Optional
+
+from pops_companions import files
+from pops_companions.command import CommandError, Status
+
+_MARK = "pops-judge.mark"
+_HEAD = b"pops-judge work 1 "
+_OWN = re.compile(
+    r"(?:pops-judge\.mark|input\.pop|short\.pop|tries-[0-9]+\.txt"
+    r"|(?:solutions|short)\.report(?:\.journal|\.unfinished|\.sum)?)(?:\.[0-9a-f]{12})?"
+)
+_FOLDER = os.O_RDONLY | os.O_DIRECTORY | os.O_NOFOLLOW
+_SUM = ".sum"
+
+
+def _sum_of(text: bytes) -> bytes:
+    return hashlib.sha256(text).hexdigest().encode("ascii") + b"\n"
+
+
+class WorkFolder:
+    """The folder, by its path."""
+
+    def __init__(self, path: Path):
+        self.path = path
+
+    def begin(self, text: bytes, resume: bool) -> None:
+        """Makes the folder for an input, or takes up that of a run that was stopped.
+
+        CommandError where the folder isn't this program's, or isn't of this input.
+        """
+        with suppress(FileExistsError):
+            self.path.mkdir(0o700, parents=True)
+        self._refuse_foreign()
+        mark = self.path / _MARK
+        if mark.exists():
+            if not resume:
+                self._refuse("keeps a run that was stopped: go on with --resume, or remove it")
+            if mark.read_bytes() != _HEAD + _sum_of(text):
+                self._refuse("is of another text: remove it")
+        else:
+            self.write(mark, _HEAD + _sum_of(text))
+        self.write(self.path / "input.pop", text)
+
+    def _refuse_foreign(self) -> None:
+        """Refuses a folder that this program didn't make, and links in one that it made."""
+        foreign = "isn't a folder of pops-judge: remove it, or name another sheet"
+        try:
+            handle = os.open(self.path, _FOLDER)
+        except OSError:
+            self._refuse(foreign)
+        try:
+            names = os.listdir(handle)
+            is_own = os.fstat(handle).st_uid == os.geteuid()
+            kinds = [os.stat(it, dir_fd=handle, follow_symlinks=False).st_mode for it in names]
+        finally:
+            os.close(handle)
+        # (killed right after it made the folder, a run left no mark)
+        is_empty = all(_OWN.fullmatch(it) and it.startswith(f"{_MARK}.") for it in names)
+        if not is_own or not all(map(stat.S_ISREG, kinds)) or not (_MARK in names or is_empty):
+            self._refuse(foreign)
+
+    def _refuse(self, reason: str) -> NoReturn:
+        raise CommandError(Status.USAGE, f"{self.path} {reason}")
+
+    @staticmethod
+    def write(path: Path, text: bytes) -> None:
+        """Writes a file of the folder, completely or not at all."""
+        with files.written_whole(str(path)) as file:
+            file.write(text)
+
+    def keep(self, path: Path, text: bytes) -> None:
+        """Writes a text with its checksum in front, for `kept`."""
+        self.write(path, _sum_of(text) + text)
+
+    @staticmethod
+    def kept(path: Path) -> Optional[bytes]:
+        """Returns a text that `keep` wrote; None if there is none, or another."""
+        try:
+            head, _, text = path.read_bytes().partition(b"\n")
+        except FileNotFoundError:
+            return None
+        return text if head + b"\n" == _sum_of(text) else None
+
+    def seal(self, report: Path) -> None:
+        """Notes that a report is whole, for `is_sealed`."""
+        self.write(Path(f"{report}{_SUM}"), _sum_of(report.read_bytes()))
+
+    @staticmethod
+    def is_sealed(report: Path) -> bool:
+        """Returns whether a report is the one that was noted as whole."""
+        try:
+            return Path(f"{report}{_SUM}").read_bytes() == _sum_of(report.read_bytes())
+        except FileNotFoundError:
+            return False
+
+    def remove(self) -> bool:
+        """Removes what is the program's own; returns whether nothing else was in the folder."""
+        handle = os.open(self.path, _FOLDER)
+        try:
+            for name in sorted(os.listdir(handle), key=lambda it: it == _MARK):
+                if _OWN.fullmatch(name):
+                    os.unlink(name, dir_fd=handle)
+        finally:
+            os.close(handle)
+        with suppress(OSError):
+            os.rmdir(self.path)
+        return not self.path.exists()
