@@ -8,11 +8,16 @@ from pathlib import Path
 ROOT = Path(__file__).resolve().parent.parent
 
 
+def said_by(*words: str) -> str:
+    """Returns what a command of the repository prints, which may be nothing."""
+    return subprocess.run(words, cwd=ROOT, stdout=subprocess.PIPE, text=True, check=False).stdout.strip()
+
+
 def argument_or_said(place: int, *words: str) -> str:
     """Returns the script's argument at this place, or else what a command of the repository prints, which may be nothing."""
     if len(sys.argv) > place:
         return sys.argv[place]
-    return subprocess.run(words, cwd=ROOT, stdout=subprocess.PIPE, text=True, check=False).stdout.strip()
+    return said_by(*words)
 
 
 def program(place: int, name: str) -> str:

@@ -49,7 +49,7 @@ const WORDS = {
     foundTry: '1 try', foundTries: '{count} tries', foundLeast: '{found} at least', foundNone: 'no faults', failed: 'the engine failed: {fault}',
     status0: 'no faults in the text', status1: 'a problem is faulty', status2: 'the input failed',
     status3: 'the report is cut: it is longer than the page has room for', status4: 'there is too little room for a report',
-    noMemory: 'This browser can’t solve here: it has no 64-bit WebAssembly memory. Use Chrome or Edge 133, Firefox 134 or '
+    noEngine: 'This browser can’t solve here: it is too old for the engine. Use Chrome or Edge 97, Firefox 104, Safari 16 or '
       + 'later, or the program pops. All else works. ({fault})',
     first: 'diagram', before: 'back', after: 'on', fold: 'fold all', unfold: 'unfold all', walk: 'walk through the solutions', folds: 'how much is shown',
     openRow: 'unfold', closeRow: 'fold', more: '{count} more', set: 'set play', play: 'play', sound: 'no faults in the text',

@@ -16,16 +16,16 @@ const CALLS = {
 let engine = null;
 
 /**
- * Grows the engine's memory. Browsers take the pages of a 64-bit memory as a BigInt, older browsers as a number.
+ * Grows the engine's memory: a 32-bit memory takes its pages as a number, a 64-bit memory as a BigInt.
  * @param {any} memory
  * @param {number} pages
  */
 function grow(memory, pages) {
   try {
-    memory.grow(BigInt(pages));
+    memory.grow(pages);
   } catch (fault) {
     if (!(fault instanceof TypeError)) throw fault;
-    memory.grow(pages);
+    memory.grow(BigInt(pages));
   }
 }
 

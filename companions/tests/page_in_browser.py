@@ -330,13 +330,13 @@ def composed(page: Page) -> None:
     page.holds(browser.run("document.getElementById('problems').value") == "2", "the position is a problem of its own")
 
 
-def without_memory(page: Page) -> None:
-    """A browser without 64-bit memory, or one that says so."""
+def without_engine(page: Page) -> None:
+    """A browser that refuses the engine, as one would that is too old."""
     browser = page.browser
-    refuses = "WebAssembly.compile = () => Promise.reject(new WebAssembly.CompileError('memory64'))"
+    refuses = "WebAssembly.compile = () => Promise.reject(new WebAssembly.CompileError('refused'))"
     script = browser.call("Page.addScriptToEvaluateOnNewDocument", source=refuses)["identifier"]
-    browser.open(page.address, "document.getElementById('state').textContent.includes('64-bit')")
-    page.holds("Firefox 134" in page.told("state"), f"what to do is told: {page.told('state')}")
+    browser.open(page.address, "document.getElementById('state').textContent.includes('refused')")
+    page.holds("Firefox 104" in page.told("state"), f"what to do is told: {page.told('state')}")
     page.holds(browser.run("document.getElementById('solve').disabled"), "nothing is solved")
     browser.click("#men [data-tool=wQ]")
     browser.click("#b4")
@@ -387,7 +387,7 @@ LOOKS: list[Callable[[Page], None]] = [
     faulty,
     given,
     composed,
-    without_memory,
+    without_engine,
     hostile,
     narrow,
 ]

@@ -120,7 +120,7 @@ export const misplacedCauses = (() => {
 
   /** @param {FaultCase} it */
   function letterForDigit(it) {
-    const mended = it.plain.replace(/(?<=[a-hA-H])[lI|]/g, '1');
+    const mended = it.plain.replace(/([a-hA-H])[lI|]/g, (_, file) => `${file}1`);
     return mended === it.plain || !it.fits(mended) ? null : it.says(sentence('letter_for_digit', { word: it.quoted, mended }));
   }
 

@@ -107,6 +107,6 @@ export async function loadEngine() {
     run.engine = await WebAssembly.compile(bytes);
     endSolving(say('ready'));
   } catch (fault) {
-    endSolving(say('noMemory', { fault }));
+    endSolving(say('noEngine', { fault }));
   }
 }
