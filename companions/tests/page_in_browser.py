@@ -11,7 +11,11 @@ from tests.browser_pipe import Browser, BrowserError, BrowserGoneError
 READY = "document.getElementById('solve') && !document.getElementById('solve').disabled"
 IDLE = "document.getElementById('stop').disabled"
 SOLVED = f"{IDLE} && document.getElementById('report').textContent.endsWith('\\n\\n')"
+# A telephone: its width, the height that the browser leaves to a page, the least square, the least of the solutions in sight.
 NARROW = 360
+LEAST_HEIGHT = 660
+LEAST_SQUARE = 41
+LEAST_OF_SOLUTIONS = 120
 # The least width and height of what is pressed.
 LEAST_SIZE = 18
 # The manual's problem: the key is 1.Qh8-b2, and 1.Qh8-h2 fails to 1...Ke1-d1.
@@ -357,7 +361,11 @@ def narrow(page: Page) -> None:
     )
     page.holds(not nameless, f"without a name: {nameless}")
     browser.run("scrollTo(0, 0)")
-    page.holds(browser.run("document.getElementById('solve').getBoundingClientRect().bottom") < 200, "Solve is next to the board")
+    edges = "['squares', 'solve', 'solutions', 'position', 'problem'].map(it => document.getElementById(it).getBoundingClientRect().top)"
+    tops = browser.run(edges)
+    page.holds(tops == sorted(tops) and tops[2] < LEAST_HEIGHT - LEAST_OF_SOLUTIONS, f"solutions come right below Solve: {tops}")
+    width = browser.run("document.querySelector('#squares button').getBoundingClientRect().width")
+    page.holds(width >= LEAST_SQUARE, f"squares of {width} pixels")
     page.picture("narrow.png")
     browser.click("#tree .move")
     top, bottom = browser.run("(it => [it.top, it.bottom])(document.getElementById('squares').getBoundingClientRect())")
