@@ -15,8 +15,8 @@ import { Solving } from '../web/solving.js';
 import { withField } from '../web/text.js';
 
 const CUT_STATUS = 3;
-const SECONDS_A_TEXT = 300;
-const SECONDS_OF_THE_PROGRAM = 120;
+const SECONDS_A_TEXT = 1800;
+const SECONDS_OF_THE_PROGRAM = 1800;
 // A text that takes longer without its limit of solutions is solved with it.
 const SECONDS_WITHOUT_LIMIT = 3;
 // Turns bytes into letters and back, so that any bytes are a text.
@@ -216,14 +216,22 @@ async function solved(make, given) {
   const crew = new Crew(given.workers ?? 4, make, CODEC);
   let report = '';
   let pieces = 0;
+  let isLate;
+  const late = new Promise(end => { isLate = () => end({ failed: 'no end in time' }); });
+  let limit = setTimeout(isLate, SECONDS_A_TEXT * 1000);
   const solving = new Solving(CODEC.decode(Buffer.from(given.text, 'base64')), given, crew, text => {
+    // (counted from the last piece: on a busy machine the first one may take long)
+    if (given.seconds) {
+      clearTimeout(limit);
+      limit = setTimeout(isLate, given.seconds * 1000);
+    }
     report = text === null ? '' : report + text;
     pieces += 1;
     if (pieces === given.stopAfter) solving.stop();
   });
-  const late = new Promise(end => { setTimeout(() => end({ failed: 'no end in time' }), (given.seconds ?? SECONDS_A_TEXT) * 1000); });
   const ended = await Promise.race([solving.solve(), late]);
   crew.stop();
+  clearTimeout(limit);
   return { ...ended, pieces, progress: solving.progress, report: Buffer.from(report, 'latin1').toString('base64') };
 }
 

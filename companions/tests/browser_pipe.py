@@ -14,7 +14,7 @@ from pathlib import Path
 from typing import Any, Optional
 
 # Generous: a machine may have much else to do.
-SECONDS_OF_AN_ANSWER = 240
+SECONDS_OF_AN_ANSWER = 1800
 SECONDS_OF_AN_END = 20
 # (the superuser's browser has no sandbox; no host is found, so nothing goes into a network)
 _FLAGS = (

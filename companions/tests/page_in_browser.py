@@ -21,7 +21,7 @@ LEAST_SIZE = 18
 # The manual's problem: the key is 1.Qh8-b2, and 1.Qh8-h2 fails to 1...Ke1-d1.
 MATE_IN_TWO = "BeginProblem\nPieces White Kd6 Qh8 Rc7 Black Ke1 Pa6\nStipulation #2\nOption Variation\nEndProblem\n"
 # A page that reads a long text again for each of its words takes hours.
-SECONDS_OF_A_LONG_TEXT = 60
+SECONDS_OF_A_LONG_TEXT = 600
 HOSTILE = "<img src=x onerror='window.ran = 1'><script>window.ran = 1</script>\"'&"
 CONTROL = 2
 

@@ -31,12 +31,11 @@ case $text in
 esac
 printf '%s' "$text" | "{pops}" "$@"
 """
-_SECONDS_OF_PATIENCE = 30
 
 
 def wait_for(seen: Callable[[], object]) -> None:
     """Waits until something is seen."""
-    until = time.monotonic() + _SECONDS_OF_PATIENCE
+    until = time.monotonic() + support.PATIENCE
     while not seen():
         assert time.monotonic() < until, "it never came"
         time.sleep(0.02)

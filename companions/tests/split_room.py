@@ -18,7 +18,7 @@ EndProblem
 _POPS = """#!/bin/sh
 case "$*" in *--check*) exec {pops} "$@" ;; esac
 text=$(cat)
-case $text in *Pa7*) printf %s "$text" | {pops} | head -n 34; exec sleep 60 ;; esac
+case $text in *Pa7*) printf %s "$text" | {pops} | head -n 34; exec sleep 6000 ;; esac
 printf %s "$text" | exec {pops} "$@"
 """
 # In the place of pops-part: it notes each part that it is asked for, and on some does otherwise.

@@ -18,6 +18,8 @@ from typing import Any, NamedTuple, TypeVar
 COMPANIONS = Path(__file__).resolve().parent.parent
 REPOSITORY = COMPANIONS.parent
 PACKAGE = COMPANIONS / "pops_companions"
+# The seconds after which a test gives up waiting: no busy machine takes so long.
+PATIENCE = 1800
 # Commands whose module has another name.
 _OTHER_NAMES = {"pops-import": "import_", "pops-test": "soundness"}
 Test = TypeVar("Test", bound=Callable[..., Any])
@@ -67,7 +69,7 @@ def pops() -> str:
 
 def run(words: Sequence[str], text: bytes = b"") -> Outcome:
     """Runs a program on a standard input."""
-    done = subprocess.run(list(words), input=text, capture_output=True, timeout=120)
+    done = subprocess.run(list(words), input=text, capture_output=True, timeout=PATIENCE)
     return Outcome(done.returncode, done.stdout, done.stderr.decode("utf-8", "replace"))
 
 

@@ -41,7 +41,7 @@ class Streams(unittest.TestCase):
             assert run.stdout is not None
             self.assertEqual(len(os.read(run.stdout.fileno(), 10)), 10)
             run.stdout.close()
-            status = run.wait(60)
+            status = run.wait(support.PATIENCE)
             errors.seek(0)
             return status, errors.read()
 
@@ -59,7 +59,7 @@ class Streams(unittest.TestCase):
                     [sys.executable, str(support.COMPANIONS / "pops-page"), word],
                     stdout=full,
                     stderr=subprocess.PIPE,
-                    timeout=60,
+                    timeout=support.PATIENCE,
                 )
                 self.assertEqual(run.returncode, 3)
                 self.assertEqual(run.stderr, b"pops-page: No space left on device\n")

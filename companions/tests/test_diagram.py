@@ -206,7 +206,7 @@ class Drawings(unittest.TestCase):
                 f"{inputs}\n\\putsol\n\\end{{document}}\n"
             )
             words = ["latex", "-interaction=nonstopmode", "-halt-on-error", "all.tex"]
-            done = subprocess.run(words, cwd=room, capture_output=True, timeout=120)
+            done = subprocess.run(words, cwd=room, capture_output=True, timeout=support.PATIENCE)
         self.assertEqual(done.returncode, 0, done.stdout[-2000:])
 
 

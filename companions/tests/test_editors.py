@@ -133,7 +133,7 @@ class Vim(unittest.TestCase):
                 f"call writefile(g:said, '{target}')\nquitall!\n"
             )
             words = ["vim", "-es", "-N", "-u", "NONE", "-i", "NONE", "-S", str(commands)]
-            done = subprocess.run(words, stdin=subprocess.DEVNULL, capture_output=True, timeout=60)
+            done = subprocess.run(words, stdin=subprocess.DEVNULL, capture_output=True, timeout=support.PATIENCE)
             self.assertTrue(target.is_file(), done)
             return target.read_text("utf-8").splitlines()
 

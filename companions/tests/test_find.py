@@ -184,10 +184,10 @@ class Near(unittest.TestCase):
             text = "".join(letters)
             made.append(Entry("made", number, "", "", "", "#2", "", text, None))
         self.collection.add("made", made)
-        began = time.monotonic()
+        began = time.process_time()
         for one in made[:20]:
             self.assertIn(one, [hit.entry for hit in self.collection.near(one.board)])
-        self.assertLess(time.monotonic() - began, 20 * 0.5)
+        self.assertLess(time.process_time() - began, 20 * 0.5)
 
     def test_problems_of_a_file_take_the_place_of_its_older_ones(self) -> None:
         self.assertEqual(len(self.found(MORPHY, MORPHY)), 2)

@@ -622,7 +622,7 @@ class NewUser(unittest.TestCase):
             self.assertIn(b"replaced", run.stderr.readline())
             run.send_signal(signal.SIGINT)
             # (it also ends the input: a signal just before the run begins to wait for it ends no wait)
-            error = run.communicate(timeout=30)[1]
+            error = run.communicate(timeout=support.PATIENCE)[1]
             self.assertEqual((run.returncode, error), (6, b"pops-import: stopped\n"))
             self.assertEqual(list(Path(room).iterdir()), [target])
             self.assertEqual(target.read_text(), "what stood there")

@@ -9,7 +9,8 @@ import unittest
 from pathlib import Path
 
 from pops_companions.review.work_folder import WorkFolder
-from tests import support, test_pages, test_sheet, test_soundness
+from tests import run_here, support, test_pages, test_sheet, test_soundness
+from tests.shown_limit import limit_when_shown, shown
 from tests.six_problems import wait_for
 
 ONE = b"BeginProblem\nTitle A mate\nOrigin A & B 1900\nPieces White Kg6 Ra1 Black Kg8\nStipulation #1\n"
@@ -36,7 +37,8 @@ class Judging(unittest.TestCase):
 
     def judged(self, *words: str, pops: str = "", text: str = "") -> support.Outcome:
         words = ("--pops", pops or support.pops(), "-o", str(self.sheet), *words)
-        return support.companion("pops-judge", text or str(self.text), *words)
+        with limit_when_shown(self.room):
+            return run_here.companion("pops-judge", text or str(self.text), *words)
 
     def articles(self) -> list[test_pages.SeenArticle]:
         return test_pages.SeenPage(self.sheet.read_text("utf-8")).articles
@@ -75,7 +77,8 @@ class Judging(unittest.TestCase):
         head = "problem 1\\n#1\\nplay\\n1.Ra1-a8#\\n1.Rb1-b8#\\n"
         slow = self.script(
             "slow",
-            f"text=$(cat)\ncase $text in *'A mate'*) printf '{head}'; exec sleep 60 ;; esac\n"
+            f"text=$(cat)\ncase $text in *'A mate'*)"
+            f" printf '{head}'; {shown(self.room)}; exec sleep 6000 ;; esac\n"
             f"printf '%s' \"$text\" | '{support.pops()}' \"$@\"\n",
         )
         outcome = self.judged("--seconds", "3", pops=slow)
@@ -97,28 +100,28 @@ class Judging(unittest.TestCase):
     def test_no_problem_is_finished_in_its_time(self) -> None:
         self.text.write_bytes(ONE + b"EndProblem\n")
         head = "problem 1\\n#1\\nplay\\n"
-        slow = self.script("slow", f"cat > /dev/null\nprintf '{head}'\nexec sleep 60\n")
-        outcome = self.judged("--seconds", "0.5", pops=slow)
+        outcome = self.judged("--seconds", "0.5", pops=self.slow(head))
         self.assertEqual(outcome.status, 1)
         self.assertIn("undecided", outcome.output.decode().splitlines()[0])
         self.assertIn("some problems took longer: --resume", outcome.error)
 
     def test_a_run_that_is_stopped(self) -> None:
         program = support.COMPANIONS / "pops-judge"
-        slow = self.script("slow", "cat > /dev/null\nexec sleep 60\n")
+        slow = self.script("slow", "cat > /dev/null\nexec sleep 6000\n")
         words = [sys.executable, str(program), "--pops", slow, str(self.text), "-o", str(self.sheet)]
         with subprocess.Popen(words, stderr=subprocess.PIPE, start_new_session=True) as run:
             work = Path(f"{self.sheet}.work")
             wait_for((work / "solutions.report.journal").is_file)
             os.killpg(run.pid, signal.SIGINT)
-            error = run.communicate(timeout=30)[1].decode()
+            error = run.communicate(timeout=support.PATIENCE)[1].decode()
         self.assertEqual(run.returncode, 6)
         kept = f"stopped; what is done is kept in {work}: go on with --resume"
         self.assertEqual(error, f"pops-judge: {kept}\n")
 
     def slow(self, text: str) -> str:
         """A program that shows this and finds nothing else."""
-        return self.script("slow", f"cat > /dev/null\nprintf '{text}'\nexec sleep 600\n")
+        shows = f"printf '{text}'\n{shown(self.room)}"
+        return self.script("slow", f"cat > /dev/null\n{shows}\nexec sleep 6000\n")
 
     def unfinished(self, *words: str) -> Path:
         """The folder of a run on a problem that took longer."""

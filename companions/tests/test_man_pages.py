@@ -4,7 +4,7 @@ import shutil
 import subprocess
 import unittest
 
-from tests import man_pages
+from tests import man_pages, support
 
 
 class ManPages(unittest.TestCase):
@@ -26,7 +26,7 @@ class ManPages(unittest.TestCase):
         for path in sorted(man_pages.FOLDER.iterdir()):
             with self.subTest(path.name):
                 words = ["man", "--warnings", "-l", "-P", "cat", str(path)]
-                done = subprocess.run(words, capture_output=True, text=True, timeout=60)
+                done = subprocess.run(words, capture_output=True, text=True, timeout=support.PATIENCE)
                 self.assertEqual((done.returncode, done.stderr), (0, ""))
                 self.assertIn("EXAMPLES", done.stdout)
 

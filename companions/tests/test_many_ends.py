@@ -13,7 +13,7 @@ from pops_companions.many import sessions
 from tests import support
 from tests.six_problems import SixProblems, has_worked, wait_for
 
-WAITS = "sleep 60 & sleep 61"
+WAITS = "sleep 6000 & sleep 6001"
 
 # No run on it ends while a test waits, and none writes a line: a lone knight never mates.
 LONG = b"""BeginProblem
@@ -41,7 +41,7 @@ class Signals(SixProblems):
                 run = self.waiting()
                 (child,) = self.programs(run, 1)
                 run.send_signal(sign)
-                error = run.communicate(timeout=30)[1].decode()
+                error = run.communicate(timeout=support.PATIENCE)[1].decode()
                 self.assertEqual(run.returncode, 6)
                 self.assertEqual(
                     error,
@@ -65,7 +65,7 @@ class Signals(SixProblems):
                 (child,) = self.programs(run, 1)
                 wait_for(lambda: len(sessions.members(child)) >= 3)
                 run.send_signal(sign)
-                run.communicate(timeout=30)
+                run.communicate(timeout=support.PATIENCE)
                 self.assertEqual(run.returncode, -sign)
                 self.wait_for_end(child)
                 self.assertEqual(self.files(), ["six.report.journal"])
@@ -82,7 +82,7 @@ class Signals(SixProblems):
         searches = self.programs(run, 2)
         wait_for(lambda: all(map(has_worked, searches)))
         run.kill()
-        run.communicate(timeout=30)
+        run.communicate(timeout=support.PATIENCE)
         for search in searches:
             self.wait_for_end(search)
 
@@ -92,7 +92,7 @@ class Signals(SixProblems):
         with self.assertRaises(subprocess.TimeoutExpired):
             run.wait(0.3)
         run.send_signal(signal.SIGTERM)
-        run.communicate(timeout=30)
+        run.communicate(timeout=support.PATIENCE)
         self.assertEqual(run.returncode, 6)
 
     def test_a_terminal_that_was_closed_takes_no_message_and_harms_nothing(self) -> None:
@@ -101,7 +101,7 @@ class Signals(SixProblems):
         os.close(other_side)
         os.close(terminal)
         run.send_signal(signal.SIGHUP)
-        run.communicate(timeout=30)
+        run.communicate(timeout=support.PATIENCE)
         self.assertEqual(run.returncode, 6)
         self.assertEqual(self.kept(), 3)
         self.assertEqual(self.files(), ["six.report.journal"])
@@ -136,14 +136,14 @@ class Journals(SixProblems):
         self.assertEqual(self.files(), ["six.report.journal", "six.report.original"])
 
     def test_two_runs_never_share_a_journal(self) -> None:
-        first = self.started(*self.words(self.stand_in("exec sleep 60")))
+        first = self.started(*self.words(self.stand_in("exec sleep 6000")))
         wait_for(lambda: self.kept() == 3)
         outcome = self.many(support.pops(), "--resume")
         self.assertEqual(
             outcome, (2, b"", f"pops-many: {self.journal} is in use by another run\n")
         )
         first.send_signal(signal.SIGTERM)
-        first.communicate(timeout=30)
+        first.communicate(timeout=support.PATIENCE)
         self.assertEqual(self.many(support.pops(), "--resume"), (0, b"", ""))
 
 
@@ -151,8 +151,8 @@ class Journals(SixProblems):
 WATCHED = """
 import os, subprocess, sys, time
 from pops_companions.many import sessions
-code = "import os, subprocess; " + "subprocess.Popen(['sleep', '60'], preexec_fn=os.setpgrp); " * 2
-run = subprocess.Popen([sys.executable, "-c", code + "import time; time.sleep(60)"],
+code = "import os, subprocess; " + "subprocess.Popen(['sleep', '6000'], preexec_fn=os.setpgrp); " * 2
+run = subprocess.Popen([sys.executable, "-c", code + "import time; time.sleep(6000)"],
     start_new_session=True)
 with sessions.watched(run.pid, {folder!r}):
     print(run.pid, flush=True)
@@ -179,7 +179,7 @@ class Sessions(unittest.TestCase):
             folder = Path(room) / "left"
             folder.mkdir()
             (folder / "file").write_bytes(b"")
-            run = self.watching(str(folder), "time.sleep(60)")
+            run = self.watching(str(folder), "time.sleep(6000)")
             session = self.session(run)
             run.kill()
             run.communicate()
@@ -190,7 +190,7 @@ class Sessions(unittest.TestCase):
         with tempfile.TemporaryDirectory() as room:
             run = self.watching(room, "pass")
             session = self.session(run)
-            self.assertEqual(run.wait(30), 0)
+            self.assertEqual(run.wait(support.PATIENCE), 0)
             self.assertEqual(len(sessions.members(session)), 3)
             self.assertTrue(os.path.exists(room))
             sessions.end(session)

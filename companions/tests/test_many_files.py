@@ -166,7 +166,7 @@ class Several(SixProblems):
     def test_a_pipe_as_the_report(self) -> None:
         words = [sys.executable, str(support.COMPANIONS / "pops-many"), "--pops", support.pops()]
         words += ["-o", "/dev/stdout", "--journal", str(self.journal), str(self.input)]
-        done = subprocess.run(words, capture_output=True, timeout=60)
+        done = subprocess.run(words, capture_output=True, timeout=support.PATIENCE)
         self.assertEqual((done.returncode, done.stdout), (0, self.wanted))
 
 

@@ -73,7 +73,7 @@ class Package(unittest.TestCase):
             cwd=self.room.name,
             input=text,
             capture_output=True,
-            timeout=60,
+            timeout=support.PATIENCE,
         )
         self.assertEqual(done.stderr, b"", name)
         return done.stdout

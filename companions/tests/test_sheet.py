@@ -342,7 +342,7 @@ class Forms(Case):
                 source = self.room / f"sheet-{place}.tex"
                 source.write_bytes(self.sheet(text, "--to", "latex", option).output)
                 words = ["latex", "-interaction=nonstopmode", "-halt-on-error", source.name]
-                done = subprocess.run(words, cwd=self.room, capture_output=True, timeout=120)
+                done = subprocess.run(words, cwd=self.room, capture_output=True, timeout=support.PATIENCE)
                 self.assertEqual(done.returncode, 0, done.stdout[-2000:])
                 if text is not strange:
                     self.assertNotIn(b"Overfull", done.stdout)

@@ -23,6 +23,7 @@ from pops_companions.many.parts import (
     solutions_in,
     up_to_totals,
 )
+from pops_companions.many.child_process import Outcome
 from pops_companions.many.program import PAUSE, Program
 from pops_companions.many.progress import Progress
 from pops_companions.many.split_problem import Reader, SplitProblem
@@ -51,8 +52,10 @@ class Slow(Program):
 class Told(PartProgram):
     """pops-part, asked for all parts of a phase at once."""
 
-    def _answer(self, words: Sequence[str], text: bytes) -> tuple[int, bytes, bytes]:
-        return 0, parts_told.answer(words, text), b""
+    def outcome(
+        self, words: Sequence[str], text: bytes, seconds: Optional[float] = None
+    ) -> Outcome:
+        return Outcome(0, parts_told.answer(words, text), b"", True)
 
     def _pieces(
         self, words: Sequence[str], first: Part, pause: Callable[[], int]

@@ -119,7 +119,8 @@ class Limits(Machines):
     def test_no_more_parts_are_begun(self) -> None:
         for logins in ("one", ":"):
             with self.subTest(logins):
-                program = self.pops_part("problem-play-*", "sleep 0.5")
+                then = "[ $part = play-1 ] || exec sleep 6000"
+                program = self.pops_part("problem-play-*", then)
                 self.is_solved(self.there(program, "--jobs", "1", logins=logins))
                 played = [part for part in self.parts() if "play" in part]
                 # (the next one is begun while the first one's report is on its way)
@@ -132,7 +133,7 @@ class Limits(Machines):
         third = f"until grep -q play-3 {self.room}/parts; do sleep 0.1; done"
         then = (
             f"case $part in play-1) sleep 3 ;; play-2) {third} ;;"
-            " *) echo 1.x; exec sleep 615 ;; esac"
+            " *) echo 1.x; exec sleep 6150 ;; esac"
         )
         for logins in ("one,two", ":"):
             with self.subTest(logins):
@@ -140,7 +141,7 @@ class Limits(Machines):
                 self.is_solved(self.there(program, "--jobs", "8", logins=logins))
                 self.assertEqual(self.parts().count("play-1"), 1)
                 self.assertIn("play-3", self.parts())
-                self.assertEqual(self.left_running(b"615"), [])
+                self.assertEqual(self.left_running(b"6150"), [])
                 self.forget()
 
     @staticmethod
@@ -157,18 +158,25 @@ class Limits(Machines):
 
 
 class Ends(Machines):
-    def test_what_was_found_there_is_kept(self) -> None:
-        then = "echo 1.Kh8-g8; echo 1.Kh8-h7; printf 1.Kh; exec sleep 60"
-        program = self.pops_part("problem-play-5", then)
-        run = self.started(*self.words_there(program))
+    def lines_found(self, seconds: int) -> bytes:
+        """What is kept of a run that is stopped some seconds after its last part wrote two lines."""
+        then = "echo 1.Kh8-g8; echo 1.Kh8-h7; printf 1.Kh; exec sleep 6000"
+        run = self.started(*self.words_there(self.pops_part("problem-play-5", then)))
         wait_for(lambda: "play-5" in self.parts())
-        wait_for(lambda: self.journal.read_bytes().count(b"\npart 0 play") >= 6)
-        # (GNU parallel looks for lines now and then)
-        time.sleep(3)
+        wait_for(lambda: self.journal.read_bytes().count(b"\npart 0 ") == 25)
+        time.sleep(seconds)
         run.send_signal(signal.SIGTERM)
-        run.communicate(timeout=60)
+        run.communicate(timeout=support.PATIENCE)
         self.assertEqual(run.returncode, 6)
-        lines = self.rest.read_bytes()
+        return self.rest.read_bytes()
+
+    def test_what_was_found_there_is_kept(self) -> None:
+        # (GNU parallel looks for lines now and then, on a busy machine seldom)
+        for seconds in (3, 30, 300):
+            lines = self.lines_found(seconds)
+            if b"\n1.Kh8-h7\n" in lines:
+                break
+            self.forget()
         self.assertIn(b"\n1.Kh8-g8\n1.Kh8-h7\n1.c7-c6 ", lines)
         self.assertIn(b"\nunfinished: stopped with 25 of 26 parts done (", lines)
         before = self.parts()

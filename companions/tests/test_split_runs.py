@@ -146,7 +146,7 @@ class Limits(SplitRoom):
 
     def test_parts_that_cannot_matter_are_stopped(self) -> None:
         third = f"until grep -q play-3 {self.room}/parts; do sleep 0.1; done"
-        then = f"case $part in play-1) {third} ;; *) echo 1.x; sleep 600 & sleep 600 ;; esac"
+        then = f"case $part in play-1) {third} ;; *) echo 1.x; sleep 6000 & sleep 6000 ;; esac"
         program = self.pops_part("problem-play-*", then)
         self.assertEqual(self.split(program, "--jobs", "30"), (0, b"", ""))
         self.assertEqual(self.report.read_bytes(), self.wanted)
@@ -160,15 +160,24 @@ class Limits(SplitRoom):
 
 
 class Ends(SplitRoom):
+    def stops_at_the_fifth(self) -> str:
+        """A program of parts that shows a line of the fifth part of the play, and no end."""
+        then = f"echo 1.Kh8-g8; : > '{self.room}/shown'; exec sleep 6000"
+        return self.pops_part("problem-play-5", then)
+
+    def wait_for_the_fifth(self) -> None:
+        """Waits until the parts before it are kept, and its line is written."""
+        shown = self.room / "shown"
+        wait_for(shown.exists)
+        wait_for(lambda: b"\npart 0 play 4 " in self.journal.read_bytes())
+        shown.unlink()
+
     def interrupted(self, sign: int, *more: str) -> tuple[int, str]:
         """A run that waits at the fifth part of the play and gets a signal there."""
-        program = self.pops_part("problem-play-5", "echo 1.Kh8-g8; exec sleep 60")
-        run = self.started(*self.words_of_split(program, "--jobs", "1", *more))
-        wait_for(lambda: "play-5" in self.parts())
-        # What the parts before it wrote is read after a pause.
-        time.sleep(0.3)
+        run = self.started(*self.words_of_split(self.stops_at_the_fifth(), "--jobs", "1", *more))
+        self.wait_for_the_fifth()
         run.send_signal(sign)
-        error = run.communicate(timeout=30)[1].decode()
+        error = run.communicate(timeout=support.PATIENCE)[1].decode()
         return run.returncode, error
 
     def is_what_was_found(self, lines: bytes) -> None:
@@ -203,16 +212,14 @@ class Ends(SplitRoom):
                 self.forget()
 
     def test_without_a_report_it_is_kept_beside_the_journal(self) -> None:
-        program = self.pops_part("problem-play-5", "echo 1.Kh8-g8; exec sleep 60")
+        program = self.stops_at_the_fifth()
         words = self.words_of_split(program, "--jobs", "1")
         place = words.index("-o")
         words[place : place + 2] = ["--journal", str(self.journal)]
         run = self.started(*words)
-        wait_for(lambda: "play-5" in self.parts())
-        # What the parts before it wrote is read after a pause.
-        time.sleep(0.3)
+        self.wait_for_the_fifth()
         run.send_signal(signal.SIGTERM)
-        error = run.communicate(timeout=30)[1].decode()
+        error = run.communicate(timeout=support.PATIENCE)[1].decode()
         rest = self.room / "six.report.journal.unfinished"
         self.assertIn(f"what was found of them is in {rest}\n", error)
         self.is_what_was_found(rest.read_bytes())
@@ -245,7 +252,7 @@ class Ends(SplitRoom):
                 self.assertRegex(said, rf"\rpops-many: {name}: 0 of 26 parts, 0 solutions")
                 self.assertRegex(
                     said,
-                    rf"\rpops-many: {name}: \d+ of 26 parts, \d+ solutions?, about \d:\d\d left",
+                    rf"\rpops-many: {name}: \d+ of 26 parts, \d+ solutions?, about \d+:\d\d left",
                 )
                 self.assertTrue(said.rstrip().endswith("\rpops-many: 1 of 1 problems"), said)
                 self.forget()

@@ -18,7 +18,7 @@ from typing import IO, NamedTuple, Optional, Union
 
 Stream = Union[None, int, IO[bytes]]
 
-# A program that outlives its seconds ends after so many more of processor time.
+# The processor time after which a program ends that outlives its seconds, in seconds beyond them.
 _SECONDS_MORE = 2
 
 
@@ -70,7 +70,7 @@ class ChildProcess:
             if seconds is not None:
                 self._limit(seconds)
             try:
-                output, errors = self.run.communicate(text, seconds)
+                output, errors = self._ended(text, seconds)
                 in_time = True
             except subprocess.TimeoutExpired:
                 self.send(signal.SIGKILL)
@@ -83,6 +83,12 @@ class ChildProcess:
             raise
         finally:
             self.release()
+
+    def _ended(
+        self, text: Optional[bytes], seconds: Optional[float]
+    ) -> tuple[bytes, Optional[bytes]]:
+        """Returns what the program wrote and said at its end. TimeoutExpired after `seconds`."""
+        return self.run.communicate(text, seconds)
 
     def _limit(self, seconds: float) -> None:
         """Limits the processor time, so that the program ends even if nobody can end it."""

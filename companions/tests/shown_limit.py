@@ -1,0 +1,40 @@
+"""A limit of time that comes when a program has shown what it has, however busy the machine is."""
+
+import subprocess
+from collections.abc import Iterator
+from contextlib import contextmanager
+from pathlib import Path
+from typing import Optional
+from unittest import mock
+
+from pops_companions.many.child_process import ChildProcess
+
+_SECONDS_BETWEEN_LOOKS = 0.05
+
+
+def shown(room: Path) -> str:
+    """The words by which a program in the place of pops says that its time is over."""
+    return f": > '{room}/shown-'$$"
+
+
+@contextmanager
+def limit_when_shown(room: Path) -> Iterator[None]:
+    """Lets the limit of a run of this process come once its program has said so."""
+
+    def ended(
+        child: ChildProcess, text: Optional[bytes], seconds: Optional[float]
+    ) -> tuple[bytes, Optional[bytes]]:
+        if seconds is None:
+            return child.run.communicate(text)
+        mark = room / f"shown-{child.run.pid}"
+        while True:
+            try:
+                return child.run.communicate(text, _SECONDS_BETWEEN_LOOKS)
+            except subprocess.TimeoutExpired:
+                text = None
+                if mark.exists():
+                    mark.unlink()
+                    raise
+
+    with mock.patch.object(ChildProcess, "_ended", ended):
+        yield
