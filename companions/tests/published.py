@@ -14,16 +14,17 @@ from dataclasses import dataclass, field
 from pathlib import Path
 from typing import NamedTuple
 
+import pops
 from pops_companions.chess.men import Kind, Man
 from pops_companions.import_.draft import Draft
 from pops_companions.import_.posing import posed
 from pops_companions.import_.sources import read_drafts
 from pops_companions.input.given import given_problems
 from pops_companions.input.writing import text_of_problems
-from pops_companions.many.tries_program import output_of
+from pops_companions.report.events import Menace
 from pops_companions.report.items import Node
 from pops_companions.report.moves import PlayedMove
-from pops_companions.report.tries import FirstMove, Menace, TriesItem, read_tries
+from pops_companions.report.tries import FirstMove, TriesItem, read_tries
 from tests.plain_battle import FirstMove as PlainFirstMove
 from tests.plain_chess import PROMOTIONS, Move, Position, square
 from tests.plain_tries import Asked, Writer
@@ -247,7 +248,7 @@ def _refuted(own: FirstMove) -> str:
 def compare(program: str, problems: Sequence[Problem], found: Found) -> None:
     """Runs the program on the problems and compares."""
     text = text_of_problems([it.lines for it in problems]).encode()
-    output = output_of(program, "--refutations", str(_MOST), text=text)
+    output = pops.Engine(program, True, _MOST).solve(text).result.text
     asked = Writer(text).problems()
     items = read_tries(io.BytesIO(output))
     for problem, given, item in zip(problems, given_problems(text), items):

@@ -20,7 +20,8 @@ if int(setuptools.__version__.split(".")[0]) < 71:
     import wheel
 """
 LICENCES = ("LICENSE-MIT", "LICENSE-APACHE", "THIRD-PARTY")
-SOURCES = ("pyproject.toml", "VERSION", "build", *LICENCES, "companions/pops_companions")
+PACKAGES = ("companions/pops", "companions/pops_companions")
+SOURCES = ("pyproject.toml", "VERSION", "build", *LICENCES, *PACKAGES)
 MATE = support.REPOSITORY / "examples" / "mate_in_one.pop"
 
 
@@ -94,6 +95,18 @@ class Package(unittest.TestCase):
     def test_the_version(self) -> None:
         number = (support.REPOSITORY / "VERSION").read_text("ascii").split()[0]
         self.assertEqual(self.said("pops-explain", "--version"), f"pops-explain {number}\n".encode())
+
+    def test_the_module(self) -> None:
+        """It is imported, has its types, and names its version."""
+        number = (support.REPOSITORY / "VERSION").read_text("ascii").split()[0]
+        said = self.said(
+            "python",
+            "-I",
+            "-c",
+            "import os, pops; folder = os.path.dirname(pops.__file__);"
+            " print(pops.__version__, os.path.isfile(os.path.join(folder, 'py.typed')))",
+        )
+        self.assertEqual(said, f"{number} True\n".encode())
 
     def test_a_fault_explained(self) -> None:
         text = MATE.read_bytes().replace(b"Ra1", b"Ra1,")

@@ -7,8 +7,9 @@ from pops_companions.chess.stipulation import Play
 from pops_companions.input.pieces import cut
 from pops_companions.input.reading import read_piece
 from pops_companions.many.tries_program import find_tries
+from pops_companions.report.events import Menace
 from pops_companions.report.moves import Mark
-from pops_companions.report.tries import FirstMove, Menace, TriesItem, read_tries
+from pops_companions.report.tries import FirstMove, TriesItem, read_tries
 from tests import support
 from tests.made_battles import made_text
 from tests.plain_tries import plain_report, plain_tries

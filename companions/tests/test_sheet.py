@@ -463,7 +463,7 @@ class Command(Case):
         self.tries.write_text("#!/bin/sh\nexit 4\n")
         outcome = self.made(OF_THE_MANUAL, "--pops-tries", str(self.tries))
         self.assertEqual((outcome.status, outcome.output), (3, b""))
-        self.assertIn("plain-tries ended with 4", outcome.error)
+        self.assertIn("plain-tries ended with status 4", outcome.error)
 
 
 if __name__ == "__main__":

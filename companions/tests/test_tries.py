@@ -6,9 +6,10 @@ import tempfile
 import unittest
 from pathlib import Path
 
+from pops_companions.report.events import Menace
 from pops_companions.report.items import FaultyItem
 from pops_companions.report.reader import ReportError
-from pops_companions.report.tries import AnyTriesItem, Menace, TriesItem, read_tries
+from pops_companions.report.tries import TriesItem, TriesReportItem, read_tries
 from tests import run_here, support
 from tests.plain_tries import plain_tries
 from tests.test_sheet import SEVERAL_THREATS
@@ -55,7 +56,7 @@ no tries in help play
 """
 
 
-def read(text: str) -> list[AnyTriesItem]:
+def read(text: str) -> list[TriesReportItem]:
     return list(read_tries(io.BytesIO(text.encode())))
 
 

@@ -7,14 +7,14 @@ from collections.abc import Iterator
 from pathlib import Path
 from typing import BinaryIO, NoReturn, Optional
 
+from pops.engine import Engine
 from pops_companions import command
 from pops_companions.command import CommandError, Status
 from pops_companions.explain.explaining import ExplainedFault, OtherText, explain
 from pops_companions.explain.mending import further_faults, mend
 from pops_companions.explain.notices import notices
 from pops_companions.explain.showing import Shower
-from pops_companions.many.child_process import outcome_of
-from pops_companions.many.program import LOOKED_FOR, MissingError, find
+from pops_companions.many.program import LOOKED_FOR, MissingError, RunError
 from pops_companions.report.items import Item
 from pops_companions.report.reader import ReportError, read_report
 
@@ -82,14 +82,11 @@ def read(file: str) -> bytes:
 def checked(text: bytes, named: Optional[str]) -> bytes:
     """Returns what pops says of a text without solving it."""
     try:
-        program = find(named)
+        return Engine(named).check(text).result.text
     except MissingError as error:
         raise CommandError(Status.DEVICE, f"{error}; or give REPORT") from None
-    run = outcome_of([program, "--check", "--no-board"], text)
-    if run.status not in (Status.GOOD, Status.FAULTY, Status.DEVICE):
-        said = run.errors.decode("utf-8", "replace").strip()
-        raise CommandError(Status.DEVICE, f"pops ended with status {run.status}: {said}")
-    return run.output
+    except RunError as error:
+        raise CommandError(Status.DEVICE, str(error)) from None
 
 
 def write(name: str, text: bytes, report: BinaryIO, target: BinaryIO, every: bool) -> Status:

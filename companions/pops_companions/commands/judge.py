@@ -90,9 +90,9 @@ def runs_of(settings: Settings) -> Runs:
     """Returns the programs, and how they are run."""
     try:
         pops = find(settings.pops)
+        tries = find_tries(settings.pops_tries, pops)
     except MissingError as error:
         raise CommandError(Status.DEVICE, str(error)) from None
-    tries = find_tries(settings.pops_tries, pops)
     return Runs(pops, tries, settings.jobs, settings.seconds or None)
 
 

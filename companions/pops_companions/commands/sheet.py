@@ -8,6 +8,7 @@ import tempfile
 from pathlib import Path
 from typing import NoReturn, Optional, Union
 
+from pops.engine import Engine
 from pops_companions import command
 from pops_companions.chess.stipulation import Play
 from pops_companions.command import CommandError, Status
@@ -16,8 +17,8 @@ from pops_companions.input.given_source import warn_of_rest
 from pops_companions.input.pieces import cut
 from pops_companions.input.reading import read_piece
 from pops_companions.many.child_process import outcome_of
-from pops_companions.many.program import LOOKED_FOR, MissingError, find
-from pops_companions.many.tries_program import TRIES_LOOKED_FOR, find_tries, output_of
+from pops_companions.many.program import LOOKED_FOR, MissingError, RunError, find
+from pops_companions.many.tries_program import TRIES_LOOKED_FOR, find_tries
 from pops_companions.report.items import AnyItem, Board, HeadlessItem, SoundItem
 from pops_companions.report.reader import ReportError, read_report
 from pops_companions.report.source import is_input, warn_of_names
@@ -126,7 +127,7 @@ class Texts:
     def items(self) -> list[AnyItem]:
         """Returns the items of the report, which has to be that of the input."""
         named = self._settings.report
-        text = _read(named) if named else output_of(self._pops(), text=self.input)
+        text = _read(named) if named else self._solved(Engine(self._pops()))
         try:
             return list(read_report(io.BytesIO(text)))
         except ReportError as error:
@@ -138,14 +139,12 @@ class Texts:
         if named is not None:
             text = _read(named)
         else:
-            pops = "" if self._settings.pops_tries else self._pops()
-            program = find_tries(self._settings.pops_tries, pops)
+            program = self._tries_program()
             if program is None:
                 message = "pops-tries isn't installed: threats and tries aren't shown"
                 print(f"{NAME}: {message}", file=sys.stderr)
                 return {}
-            refutations = str(self._settings.refutations)
-            text = output_of(program, "--refutations", refutations, text=self.input)
+            text = self._solved(Engine(program, True, self._settings.refutations))
         try:
             items = list(read_tries(io.BytesIO(text)))
         except ReportError as error:
@@ -155,6 +154,19 @@ class Texts:
     def _pops(self) -> str:
         try:
             return find(self._settings.pops)
+        except MissingError as error:
+            raise CommandError(Status.DEVICE, str(error)) from None
+
+    def _solved(self, engine: Engine) -> bytes:
+        try:
+            return engine.solve(self.input).result.text
+        except RunError as error:
+            raise CommandError(Status.DEVICE, str(error)) from None
+
+    def _tries_program(self) -> Optional[str]:
+        pops = "" if self._settings.pops_tries else self._pops()
+        try:
+            return find_tries(self._settings.pops_tries, pops)
         except MissingError as error:
             raise CommandError(Status.DEVICE, str(error)) from None
 

@@ -1,10 +1,10 @@
 """Problems as input of pops."""
 
-from collections.abc import Iterable
+from collections.abc import Iterable, Mapping
 from dataclasses import dataclass, field
-from typing import Optional
+from typing import Optional, Union
 
-from pops_companions.chess.fen import Position
+from pops_companions.chess.fen import Position, read_position
 from pops_companions.chess.men import Colour, Kind, Man, Square
 from pops_companions.chess.stipulation import Condition, Stipulation
 
@@ -18,6 +18,7 @@ class Wishes:
     condition: Optional[Condition] = None
     options: list[str] = field(default_factory=list)
     keep_colours: bool = False
+    origin: str = ""
 
 
 def text_of_problems(problems: Iterable[list[str]]) -> str:
@@ -30,7 +31,7 @@ def text_of_problems(problems: Iterable[list[str]]) -> str:
     return "\n".join(parts) + "\n"
 
 
-def pieces_line(men: dict[Square, Man]) -> str:
+def pieces_line(men: Mapping[Square, Man]) -> str:
     """Returns the line of the men: each colour's kinds in their order, squares from a1 on."""
     squares: dict[Man, list[Square]] = {}
     for square in sorted(men, key=lambda square: (square.rank, square.file)):
@@ -45,15 +46,71 @@ def pieces_line(men: dict[Square, Man]) -> str:
     return " ".join(words)
 
 
+@dataclass(frozen=True)
+class Problem:
+    """A problem as input of pops: its men, and what is asked of them.
+
+    `options` are words of the input language, as `Variation` or `MaxSolutions 5`. Line ends in
+    texts become blanks.
+    """
+
+    men: Mapping[Square, Man]
+    stipulation: Stipulation
+    condition: Optional[Condition] = None
+    options: tuple[str, ...] = ()
+    title: str = ""
+    author: str = ""
+    origin: str = ""
+    remarks: tuple[str, ...] = ()
+
+    @classmethod
+    def from_fen(
+        cls,
+        fen: str,
+        stipulation: Union[Stipulation, str],
+        options: Iterable[str] = (),
+        condition: Optional[Condition] = None,
+    ) -> "Problem":
+        """Returns the problem of a position in FEN or EPD, as fen2pop makes it.
+
+        Where the side to move isn't the one that starts, the colours are turned round, and a Remark
+        says so. FenError where the text is no FEN, ValueError where the stipulation is none.
+        """
+        position = read_position(fen)
+        asked = Stipulation.of_text(stipulation) if isinstance(stipulation, str) else stipulation
+        wishes = Wishes(condition=condition, options=list(options))
+        return problem_of_position(position, fen, asked, wishes)
+
+    @property
+    def lines(self) -> list[str]:
+        """The lines of the problem, without the words that begin and end it."""
+        named = (("Title", self.title), ("Author", self.author), ("Origin", self.origin))
+        lines = [f"{word} {_one_line(text)}" for word, text in named if text]
+        lines.extend(f"Remark {_one_line(remark)}" for remark in self.remarks)
+        if self.men:
+            lines.append(pieces_line(self.men))
+        lines.append(f"Stipulation {self.stipulation.text}")
+        if self.condition is not None:
+            lines.append(f"Condition {self.condition.value}")
+        if self.options:
+            lines.append("Option " + " ".join(self.options))
+        return lines
+
+    @property
+    def text(self) -> str:
+        """The input of pops that has this problem alone."""
+        return text_of_problems([self.lines])
+
+
 def is_turned(position: Position, stipulation: Stipulation, wishes: Wishes) -> bool:
     """Returns whether the colours are turned round: the side to move isn't the one that starts."""
     return position.turn not in (None, stipulation.starter) and not wishes.keep_colours
 
 
-def problem_lines(
+def problem_of_position(
     position: Position, source: str, stipulation: Stipulation, wishes: Wishes
-) -> list[str]:
-    """Returns the lines of a problem made of a position; the source stands in a Remark.
+) -> Problem:
+    """Returns the problem that is made of a position; the source stands in a Remark.
 
     Where the side to move isn't the one that starts, the colours are turned round, which another
     Remark says; or, where the wishes keep the colours, what belongs to that move is left out.
@@ -68,25 +125,29 @@ def problem_lines(
         position = Position(position.men, None, position.rooks, None)
         remarks.append(f"{sides}: colours kept")
     remarks.extend(_rights_without_men(position))
-    lines = []
-    for word, text in (("Title", wishes.title), ("Author", wishes.author)):
-        if text:
-            lines.append(f"{word} {_one_line(text)}")
-    lines.extend(f"Remark {_one_line(remark)}" for remark in remarks)
-    if position.men:
-        lines.append(pieces_line(position.men))
-    lines.append(f"Stipulation {stipulation.text}")
-    if wishes.condition is not None:
-        lines.append(f"Condition {wishes.condition.value}")
     options = list(wishes.options)
     if position.crossed is not None:
         options.append(f"EnPassant {position.crossed.name}")
     moved = _moved(position, wishes.condition is Condition.CIRCE)
     if moved:
         options.append(f"NoCastling {''.join(square.name for square in moved)}")
-    if options:
-        lines.append("Option " + " ".join(options))
-    return lines
+    return Problem(
+        position.men,
+        stipulation,
+        wishes.condition,
+        tuple(options),
+        wishes.title,
+        wishes.author,
+        wishes.origin,
+        tuple(remarks),
+    )
+
+
+def problem_lines(
+    position: Position, source: str, stipulation: Stipulation, wishes: Wishes
+) -> list[str]:
+    """Returns the lines of the problem that is made of a position."""
+    return problem_of_position(position, source, stipulation, wishes).lines
 
 
 def _turn(colour: Colour) -> str:

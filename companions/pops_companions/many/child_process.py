@@ -13,10 +13,13 @@ import os
 import resource
 import signal
 import subprocess
+import threading
 from collections.abc import Sequence
 from typing import IO, NamedTuple, Optional, Union
 
 Stream = Union[None, int, IO[bytes]]
+# So many bytes a pipe takes at once.
+_ROOM = 1 << 16
 
 # The processor time after which a program ends that outlives its seconds, in seconds beyond them.
 _SECONDS_MORE = 2
@@ -68,7 +71,7 @@ class ChildProcess:
         """
         try:
             if seconds is not None:
-                self._limit(seconds)
+                self.limit(seconds)
             try:
                 output, errors = self._ended(text, seconds)
                 in_time = True
@@ -90,13 +93,31 @@ class ChildProcess:
         """Returns what the program wrote and said at its end. TimeoutExpired after `seconds`."""
         return self.run.communicate(text, seconds)
 
-    def _limit(self, seconds: float) -> None:
+    def limit(self, seconds: float) -> None:
         """Limits the processor time, so that the program ends even if nobody can end it."""
         most = math.ceil(seconds) + _SECONDS_MORE
         try:
             resource.prlimit(self.run.pid, resource.RLIMIT_CPU, (most, most))
         except (OSError, ValueError, OverflowError):
             # It has ended, or has less already.
+            pass
+
+    def feed(self, text: bytes) -> None:
+        """Writes the program's standard input, a pipe, and closes it.
+
+        A long text is written in a thread, so that the output can be read meanwhile.
+        """
+        if len(text) <= _ROOM:
+            self._feed(text)
+        else:
+            threading.Thread(target=self._feed, args=(text,), daemon=True).start()
+
+    def _feed(self, text: bytes) -> None:
+        assert self.run.stdin is not None
+        try:
+            with self.run.stdin:
+                self.run.stdin.write(text)
+        except BrokenPipeError:
             pass
 
     def send(self, sign: int) -> None:

@@ -10,6 +10,7 @@ from collections.abc import Callable, Generator, Sequence
 from pathlib import Path
 from typing import Optional
 
+from pops_companions import places
 from pops_companions.many.child_process import ChildProcess, Outcome, Stream, outcome_of
 from pops_companions.many.tasks import UNFINISHED, Result, Task, is_whole, whole_lines
 from pops_companions.places import COMPANIONS
@@ -24,8 +25,7 @@ _PIECE = 1 << 16
 
 LOOKED_FOR = (
     "the program (default: $POPS, the one built in this repository or released with its sources,"
-    " the one installed with the companions (../../../bin/pops from their folder), the one on the"
-    " PATH); nothing is built"
+    " the one installed with the companions, the one on the PATH); nothing is built"
 )
 
 
@@ -46,10 +46,10 @@ def find(named: Optional[str]) -> str:
             raise MissingError(f"there is no program {named}")
         return _without_script(found)
     repository = COMPANIONS.parent
-    places = ["pops"]
+    beside = places.program("pops")
     if COMPANIONS.parts[-3:] == ("share", "pops", "companions"):
-        places.insert(0, str(COMPANIONS.parents[2] / "bin" / "pops"))
-    for found in [_of_sources(repository, "pops"), *(shutil.which(it) for it in places)]:
+        beside = shutil.which(str(COMPANIONS.parents[2] / "bin" / "pops"))
+    for found in (_of_sources(repository, "pops"), beside, shutil.which("pops")):
         if found is not None:
             return _without_script(found)
     if _is_repository(repository):
@@ -159,20 +159,22 @@ class Runs:
     def _written(
         self, child: ChildProcess, text: bytes, pause: Callable[[], int]
     ) -> Generator[bytes, None, None]:
+        """Yields what a run on a text writes, as `_output` does."""
+        child.feed(text)
+        yield from self._output(child, pause)
+
+    def _output(
+        self, child: ChildProcess, pause: Callable[[], int]
+    ) -> Generator[bytes, None, None]:
         """Yields what a run writes, piece by piece, after pauses in milliseconds. It is stopped where
         it isn't read on."""
         run, is_read = child.run, False
-        assert run.stdin is not None and run.stdout is not None
+        assert run.stdout is not None
         output = run.stdout.fileno()
         # (without an event of its own it reports only the end)
         end = select.poll()
         end.register(output, 0)
         try:
-            try:
-                with run.stdin:
-                    run.stdin.write(text)
-            except BrokenPipeError:
-                pass
             while True:
                 piece = os.read(output, _PIECE)
                 if not piece:

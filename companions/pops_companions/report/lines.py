@@ -10,7 +10,7 @@ RANK = re.compile(rb"([1-8]) ([KQRBSPGNkqrbspgn.]{8})")
 FILES = b"  abcdefgh"
 SOUND = b"sound"
 NOT_POSSIBLE = b"not possible"
-TOTAL = re.compile(rb"solutions: ([0-9]+)(, stopped)?")
+TOTAL = re.compile(rb"solutions: (0|[1-9][0-9]*)(, stopped)?")
 # How a total begins.
 SOLUTIONS = b"solutions: "
 # How the line begins that pops-many writes after the last line of a problem that it stopped.

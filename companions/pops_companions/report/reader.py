@@ -1,30 +1,42 @@
-"""Reads reports of pops, item by item, by their grammar (docs/report.ebnf).
+"""Reads reports of pops as they come, by their grammar (docs/report.ebnf).
 
 The reading is strict: a report that departs from the grammar, or that was cut, is refused with the
 line where it does. Numbers may have gaps, as pops-many leaves them where it stopped problems.
 Several reports may follow each other: a number that doesn't grow begins the next one.
-`read_unfinished_report` also takes problems that were stopped, and a report that ends inside a
-problem.
+Where unfinished problems are allowed, a problem may also have been stopped, and the report may end
+inside a problem.
 """
 
-from collections.abc import Iterable, Iterator
-from dataclasses import dataclass, field, replace
-from typing import Optional, Union
+from collections.abc import Callable, Iterable, Iterator
+from enum import Enum
+from typing import Optional
 
+from pops_companions.chess.men import Colour
 from pops_companions.chess.stipulation import Condition, Play, Stipulation
 from pops_companions.report import lines
+from pops_companions.report.events import (
+    CheckedEvent,
+    EndEvent,
+    Event,
+    FaultEvent,
+    HeadEvent,
+    LineEvent,
+    NodeEvent,
+    NotPossibleEvent,
+    PhaseEvent,
+    Place,
+    ProblemEvent,
+    TotalEvent,
+)
+from pops_companions.report.item_builder import ItemBuilder
 from pops_companions.report.items import (
     AnyItem,
     Board,
     Fault,
-    FaultyItem,
     HeadlessItem,
     HelpLine,
     Item,
-    Node,
-    Phase,
     PhaseKind,
-    SoundItem,
     Total,
 )
 from pops_companions.report.moves import PlayedMove, prefix, read_move
@@ -38,75 +50,275 @@ class ReportError(ValueError):
         self.line = line
 
 
+class Allowed(Enum):
+    """Which problems a text may hold."""
+
+    FINISHED = "finished ones"
+    UNFINISHED = "also unfinished ones"
+
+
 # Why a problem is unfinished if the report ends in it.
 CUT = "the report ends here"
+_LONGEST_SHOWN = 60
+# What a state makes of a line.
+State = Callable[[bytes], Iterator[Event]]
 
 
-class Broken(Exception):
-    """Ends the reading of an unfinished problem, with the reason."""
+class LineReader:
+    """Reads the heads of problems; what follows the head is up to subclasses.
 
-
-class Lines:
-    """The lines of a report, one looked at ahead, with their numbers.
-
-    With `may_break` an item may end early: `Broken` says so.
+    Its state is the method that takes the next line; a line that ends a list passes it on to the
+    next state.
     """
 
-    def __init__(self, source: Iterable[bytes], may_break: bool):
-        self._rest = iter(source)
-        self.may_break = may_break
-        self.number = 0
-        self._ahead: Optional[bytes] = None
-        self._step()
+    def __init__(self, allowed: Allowed):
+        self._allowed = allowed
+        self._state: State = self._problem
+        self._begun = b""
+        self._line = 0
+        self._number = 0
+        self._unfinished: Optional[str] = None
+        self._title: Optional[bytes] = None
+        self._author: Optional[bytes] = None
+        self._ranks: list[str] = []
 
-    def _step(self) -> None:
-        line = next(self._rest, None)
-        self.number += 1
-        if line is not None and not line.endswith(b"\n"):
-            if not self.may_break:
-                raise ReportError(self.number, "the report is cut inside this line")
-            line = None
-        self._ahead = None if line is None else line[:-1]
+    def feed(self, data: bytes) -> Iterator[Event]:
+        """Takes some bytes of the text, cut anywhere, and yields what they say.
+
+        Take all events before the next call. ReportError where the text departs from the grammar,
+        after the events before.
+        """
+        *whole, self._begun = (self._begun + data).split(b"\n")
+        for line in whole:
+            self._line += 1
+            yield from self._taken(line)
+
+    def close(self, reason: str = CUT) -> Iterator[Event]:
+        """Ends the text and yields the end of a problem that it is cut in, with the reason.
+
+        A cut line is left out. ReportError where unfinished problems aren't allowed.
+        """
+        if self._allowed is Allowed.FINISHED:
+            if self._begun:
+                raise ReportError(self._line + 1, "the report is cut inside this line")
+            if self._state != self._problem:
+                raise ReportError(self._line + 1, "the report is cut inside a problem")
+        if self._state != self._problem:
+            is_whole = self._state == self._end
+            yield EndEvent(self._number, self._unfinished if is_whole else reason)
+        self._begun, self._state = b"", self._problem
+
+    def _taken(self, line: bytes) -> Iterator[Event]:
+        is_marked = line.startswith(lines.UNFINISHED) and self._state != self._problem
+        if is_marked and self._allowed is Allowed.UNFINISHED:
+            self._unfinished = line[len(lines.UNFINISHED) :].decode("utf-8", "replace")
+            self._state = self._end
+            return iter(())
+        return self._state(line)
+
+    def refused(self, expected: str, line: bytes) -> ReportError:
+        """Returns what is said of a line in place of what the grammar has there."""
+        text = line.decode("latin-1")
+        shown = text if len(text) <= _LONGEST_SHOWN else text[:_LONGEST_SHOWN] + ".."
+        return ReportError(self._line, f"expected {expected}, found {shown!r}")
+
+    def _problem(self, line: bytes) -> Iterator[Event]:
+        found = lines.PROBLEM.fullmatch(line)
+        if found is None:
+            raise self.refused("a line 'problem' with its number", line)
+        self._number = int(found[1])
+        self._unfinished = self._title = self._author = None
+        self._ranks = []
+        self._state = self._fault_or_title
+        yield ProblemEvent(self._number)
+
+    def _fault_or_title(self, line: bytes) -> Iterator[Event]:
+        found = lines.FAULT.fullmatch(line)
+        if found is None:
+            yield from self._title_line(line)
+            return
+        self._state = self._end
+        fault = Fault(int(found[1]), int(found[2]), found[3].decode("latin-1"))
+        yield FaultEvent(self._number, fault)
+
+    def _title_line(self, line: bytes) -> Iterator[Event]:
+        self._state = self._author_line
+        if not line.startswith(lines.TITLE):
+            return self._author_line(line)
+        self._title = line[len(lines.TITLE) :]
+        return iter(())
+
+    def _author_line(self, line: bytes) -> Iterator[Event]:
+        self._state = self._board_line
+        if not line.startswith(lines.AUTHOR):
+            return self._board_line(line)
+        self._author = line[len(lines.AUTHOR) :]
+        return iter(())
+
+    def _board_line(self, line: bytes) -> Iterator[Event]:
+        self._state = self._rank if line.startswith(b"8 ") else self._stipulation_line
+        return self._state(line)
+
+    def _rank(self, line: bytes) -> Iterator[Event]:
+        rank = 8 - len(self._ranks)
+        found = lines.RANK.fullmatch(line)
+        if found is None or int(found[1]) != rank:
+            raise self.refused(f"rank {rank} of a board", line)
+        self._ranks.append(found[2].decode("ascii"))
+        if rank == 1:
+            self._state = self._files
+        return iter(())
+
+    def _files(self, line: bytes) -> Iterator[Event]:
+        if line != lines.FILES:
+            raise self.refused("the line of files below a board", line)
+        self._state = self._stipulation_line
+        return iter(())
+
+    def _stipulation_line(self, line: bytes) -> Iterator[Event]:
+        words = line.decode("latin-1").split(" ")
+        try:
+            stipulation = Stipulation.of_text(words[0])
+            condition = Condition(words[1]) if len(words) > 1 else None
+        except ValueError:
+            raise self.refused("a stipulation", line) from None
+        if len(words) > 2:
+            raise self.refused("a stipulation and at most one condition", line)
+        board = Board(tuple(self._ranks)) if self._ranks else None
+        self._begin(stipulation)
+        yield HeadEvent(self._number, self._title, self._author, board, stipulation, condition)
+
+    def _begin(self, stipulation: Stipulation) -> None:
+        """Sets the state that takes the first line after the head."""
+        raise NotImplementedError
+
+    def _end(self, line: bytes) -> Iterator[Event]:
+        if line != b"":
+            raise self.refused("an empty line", line)
+        self._state = self._problem
+        yield EndEvent(self._number, self._unfinished)
+
+
+class ReportReader(LineReader):
+    """Reads the phases of a report."""
+
+    def __init__(self, allowed: Allowed):
+        super().__init__(allowed)
+        self._stipulation = Stipulation.of_text("#1")
+        self._kind = PhaseKind.PLAY
+        self._count = 0
+        self._deepest = 0
+
+    def _begin(self, stipulation: Stipulation) -> None:
+        self._stipulation = stipulation
+        self._state = self._first_phase
+
+    def _first_phase(self, line: bytes) -> Iterator[Event]:
+        if line == lines.SOUND:
+            self._state = self._end
+            return iter((CheckedEvent(self._number),))
+        if line == PhaseKind.SET.value.encode("ascii"):
+            return self._phase(PhaseKind.SET)
+        return self._play(line)
+
+    def _play(self, line: bytes) -> Iterator[Event]:
+        if line != PhaseKind.PLAY.value.encode("ascii"):
+            raise self.refused("'play'", line)
+        return self._phase(PhaseKind.PLAY)
+
+    def _phase(self, kind: PhaseKind) -> Iterator[Event]:
+        self._kind, self._count, self._deepest = kind, 0, 0
+        self._state = self._first_solution
+        yield PhaseEvent(self._number, kind)
+
+    def _first_solution(self, line: bytes) -> Iterator[Event]:
+        if line != lines.NOT_POSSIBLE:
+            self._state = self._solution
+            yield from self._solution(line)
+            return
+        self._state = self._after_phase()
+        yield NotPossibleEvent(self._number, self._kind)
+
+    def _after_phase(self) -> State:
+        return self._play if self._kind is PhaseKind.SET else self._end
+
+    def _solution(self, line: bytes) -> Iterator[Event]:
+        is_set = self._kind is PhaseKind.SET
+        if self._allowed is Allowed.UNFINISHED and is_set and line == b"play":
+            # (as pops-many writes an unfinished problem of which parts of both phases were solved)
+            yield from self._play(line)
+            return
+        total = lines.TOTAL.fullmatch(line)
+        if total is not None:
+            self._refuse_other_count(int(total[1]), line)
+            self._state = self._after_phase()
+            yield TotalEvent(self._number, self._kind, Total(self._count, total[2] is not None))
+        elif self._stipulation.play is Play.HELP:
+            self._count += 1
+            yield LineEvent(self._number, self._kind, self._help_line(line))
+        else:
+            yield self._node(line, Place.SOLUTION, 0)
+
+    def _refuse_other_count(self, count: int, line: bytes) -> None:
+        if count != self._count:
+            raise self.refused(f"'solutions: {self._count}', the number of solutions above", line)
 
     @property
-    def at_end(self) -> bool:
-        return self._ahead is None
+    def _first_half(self) -> int:
+        return self._stipulation.first_half + (1 if self._kind is PhaseKind.SET else 0)
 
-    @property
-    def ahead(self) -> bytes:
-        """The line at hand. Refused at the end of the report, where an item is cut."""
-        if self._ahead is None:
-            if self.may_break:
-                raise Broken(CUT)
-            raise ReportError(self.number, "the report is cut inside a problem")
-        if self.may_break and self._ahead.startswith(lines.UNFINISHED):
-            reason = self._ahead[len(lines.UNFINISHED) :].decode("utf-8", "replace")
-            self._step()
-            raise Broken(reason)
-        return self._ahead
+    def _help_line(self, line: bytes) -> HelpLine:
+        text = line.decode("latin-1")
+        halves = self._stipulation.first_half + self._stipulation.half_moves - self._first_half
+        place = 0
+        moves: list[PlayedMove] = []
+        for half in range(self._first_half, self._first_half + halves):
+            gap = " " if moves else ""
+            lead = gap + (prefix(half) if half % 2 == 1 or not moves else "")
+            if not text.startswith(lead, place):
+                break
+            found = read_move(text, place + len(lead), half, self._stipulation.side(half))
+            if found is None:
+                break
+            moves.append(found[0])
+            place = found[1]
+        if place != len(text) or not moves or len(moves) != halves:
+            raise self.refused(f"a line of {halves} half-moves", line)
+        return HelpLine(text, tuple(moves))
 
-    @property
-    def text(self) -> str:
-        """The line at hand as text; it is ASCII everywhere but in titles and authors."""
-        return self.ahead.decode("latin-1")
+    def _node(self, line: bytes, place: Place, least: int) -> NodeEvent:
+        """Returns the node of a line, whose level is from `least` to one more than the level before."""
+        text = line.decode("latin-1")
+        level = (len(text) - len(text.lstrip(" "))) // 2
+        half = self._first_half + level
+        lead = " " * (2 * level) + prefix(half)
+        move = whole_move(text, lead, half, self._stipulation.side(half))
+        if move is None or not least <= level <= self._deepest:
+            raise self.refused("a move, or the number of solutions", line)
+        self._count += level == 0
+        self._deepest = level + 1
+        return NodeEvent(self._number, self._kind, place, level, text[2 * level :], move)
 
-    def take(self) -> str:
-        """Takes the line at hand."""
-        text = self.text
-        self._step()
-        return text
 
-    def refused(self, expected: str) -> ReportError:
-        shown = self.text if len(self.text) <= 60 else self.text[:60] + ".."
-        return ReportError(self.number, f"expected {expected}, found {shown!r}")
+def whole_move(text: str, lead: str, half: int, side: Colour) -> Optional[PlayedMove]:
+    """Returns the move that makes up a line after its lead; None for another line."""
+    found = read_move(text, len(lead), half, side) if text.startswith(lead) else None
+    return None if found is None or found[1] != len(text) else found[0]
+
+
+def read_events(reader: LineReader, source: Iterable[bytes]) -> Iterator[Event]:
+    """Yields what a text says, whose bytes come in pieces of any size."""
+    for data in source:
+        yield from reader.feed(data)
+    yield from reader.close()
 
 
 def read_report(source: Iterable[bytes]) -> Iterator[Item]:
-    """Yields the items of a report, whose lines come with their line ends, as from a binary file.
+    """Yields the items of a report, whose bytes come in pieces, as from a binary file.
 
     ReportError where the text departs from the grammar, after the items before.
     """
-    for item in _items(Lines(source, may_break=False)):
+    for item in _items(Allowed.FINISHED, source):
         assert not isinstance(item, HeadlessItem)
         yield item
 
@@ -116,219 +328,12 @@ def read_unfinished_report(source: Iterable[bytes]) -> Iterator[AnyItem]:
 
     These problems have what the report shows of them. A cut line is left out.
     """
-    return _items(Lines(source, may_break=True))
+    return _items(Allowed.UNFINISHED, source)
 
 
-def _items(source: Lines) -> Iterator[AnyItem]:
-    while not source.at_end:
-        problem = lines.PROBLEM.fullmatch(source.ahead)
-        if problem is None:
-            raise source.refused("a line 'problem' with its number")
-        source.take()
-        item = _read_item(source, int(problem[1]))
-        reason = take_end(source)
-        if reason is not None and isinstance(item, SoundItem):
-            item = replace(item, unfinished=reason)
-        yield item
-
-
-def take_end(source: Lines) -> Optional[str]:
-    """Takes the empty line after an item; returns why the item is unfinished, if it says so."""
-    reason = None
-    while True:
-        try:
-            if source.ahead != b"":
-                raise source.refused("an empty line")
-            source.take()
-            return reason
-        except Broken as broken:
-            if source.at_end:
-                return reason
-            reason = str(broken)
-
-
-@dataclass
-class Head:
-    """What a report has shown of a problem so far, above its solutions."""
-
-    title: Optional[bytes] = None
-    author: Optional[bytes] = None
-    board: Optional[Board] = None
-    asked: Optional[tuple[Stipulation, Optional[Condition]]] = None
-
-
-def _read_item(source: Lines, number: int) -> AnyItem:
-    head = Head()
-    phases: list[Phase] = []
-    unfinished = None
-    is_checked = False
-    try:
-        fault = lines.FAULT.fullmatch(source.ahead)
-        if fault is not None:
-            source.take()
-            text = fault[3].decode("latin-1")
-            return FaultyItem(number, Fault(int(fault[1]), int(fault[2]), text))
-        stipulation = read_head(source, head)
-        is_checked = source.ahead == lines.SOUND
-        if is_checked:
-            source.take()
-        else:
-            _read_phases(source, stipulation, phases)
-    except Broken as broken:
-        unfinished = str(broken)
-        if head.asked is None:
-            return HeadlessItem(number, unfinished)
-    assert head.asked is not None
-    shown = None if is_checked else tuple(phases)
-    return SoundItem(number, head.title, head.author, head.board, *head.asked, shown, unfinished)
-
-
-def read_head(source: Lines, head: Head) -> Stipulation:
-    """Reads the lines above the solutions into `head`; returns the stipulation."""
-    head.title = _read_text(source, lines.TITLE)
-    head.author = _read_text(source, lines.AUTHOR)
-    head.board = _read_board(source) if source.text.startswith("8 ") else None
-    head.asked = _read_stipulation(source)
-    return head.asked[0]
-
-
-def _read_text(source: Lines, label: bytes) -> Optional[bytes]:
-    if not source.ahead.startswith(label):
-        return None
-    text = source.ahead[len(label) :]
-    source.take()
-    return text
-
-
-def _read_board(source: Lines) -> Board:
-    ranks = []
-    for rank in range(8, 0, -1):
-        parts = lines.RANK.fullmatch(source.ahead)
-        if parts is None or int(parts[1]) != rank:
-            raise source.refused(f"rank {rank} of a board")
-        ranks.append(parts[2].decode("ascii"))
-        source.take()
-    if source.ahead != lines.FILES:
-        raise source.refused("the line of files below a board")
-    source.take()
-    return Board(tuple(ranks))
-
-
-def _read_stipulation(source: Lines) -> tuple[Stipulation, Optional[Condition]]:
-    words = source.text.split(" ")
-    try:
-        stipulation = Stipulation.of_text(words[0])
-        condition = Condition(words[1]) if len(words) > 1 else None
-    except ValueError:
-        raise source.refused("a stipulation") from None
-    if len(words) > 2:
-        raise source.refused("a stipulation and at most one condition")
-    source.take()
-    return stipulation, condition
-
-
-def _read_phases(source: Lines, stipulation: Stipulation, phases: list[Phase]) -> None:
-    """Adds the phases, the last one as far as it goes where the problem is unfinished."""
-    if source.text == PhaseKind.SET.value:
-        read_phase(source, stipulation, PhaseKind.SET, phases)
-    if source.text != PhaseKind.PLAY.value:
-        raise source.refused("'play'")
-    read_phase(source, stipulation, PhaseKind.PLAY, phases)
-
-
-@dataclass
-class _Found:
-    """The solutions of a phase so far, and their lines."""
-
-    solutions: list[Union[HelpLine, Node]] = field(default_factory=list)
-    lines: list[str] = field(default_factory=list)
-
-    def phase(self, kind: PhaseKind, total: Optional[Total], last_line: str) -> Phase:
-        return Phase(kind, tuple(self.solutions), tuple(self.lines), total, last_line)
-
-
-def read_phase(
-    source: Lines, stipulation: Stipulation, kind: PhaseKind, phases: list[Phase]
-) -> None:
-    """Adds the phase at hand, as far as it goes where the problem is unfinished."""
-    source.take()
-    found = _Found()
-    try:
-        if source.ahead == lines.NOT_POSSIBLE:
-            phases.append(found.phase(kind, None, source.take()))
-            return
-        total = _read_solutions(source, stipulation, kind, found)
-        if total is None:
-            phases.append(found.phase(kind, None, "unfinished"))
-            return
-    except Broken as broken:
-        phases.append(found.phase(kind, None, f"unfinished: {broken}"))
-        raise
-    phases.append(found.phase(kind, total, source.take()))
-
-
-def _read_solutions(
-    source: Lines, stipulation: Stipulation, kind: PhaseKind, found: _Found
-) -> Optional[Total]:
-    """Adds a phase's solutions to `found`; returns its total, whose line isn't taken.
-
-    None for the set play of an unfinished problem if the play follows without a total.
-    """
-    first_half = stipulation.first_half + (1 if kind is PhaseKind.SET else 0)
-    path: list[Node] = []
-    while True:
-        if source.may_break and kind is PhaseKind.SET and source.text == PhaseKind.PLAY.value:
-            return None
-        total = lines.TOTAL.fullmatch(source.ahead)
-        if total is not None:
-            break
-        if stipulation.play is Play.HELP:
-            found.solutions.append(_read_help_line(source, stipulation, first_half))
-        else:
-            node, depth = read_node(source, stipulation, first_half, len(path))
-            del path[depth:]
-            if path:
-                path[-1].below.append(node)
-            else:
-                found.solutions.append(node)
-            path.append(node)
-        found.lines.append(source.take())
-    count = len(found.solutions)
-    if int(total[1]) != count:
-        raise source.refused(f"'solutions: {count}', the number of solutions above")
-    return Total(count, total[2] is not None)
-
-
-def _read_help_line(source: Lines, stipulation: Stipulation, first_half: int) -> HelpLine:
-    text = source.text
-    last_half = stipulation.first_half + stipulation.half_moves - 1
-    place = 0
-    moves: list[PlayedMove] = []
-    for half in range(first_half, last_half + 1):
-        gap = " " if moves else ""
-        lead = gap + (prefix(half) if half % 2 == 1 or not moves else "")
-        if not text.startswith(lead, place):
-            break
-        found = read_move(text, place + len(lead), half, stipulation.side(half))
-        if found is None:
-            break
-        moves.append(found[0])
-        place = found[1]
-    if place != len(text) or not moves or len(moves) != last_half - first_half + 1:
-        raise source.refused(f"a line of {last_half - first_half + 1} half-moves")
-    return HelpLine(text, tuple(moves))
-
-
-def read_node(
-    source: Lines, stipulation: Stipulation, first_half: int, deepest: int
-) -> tuple[Node, int]:
-    """Returns the node of the line at hand, which isn't taken, and its level, at most `deepest`."""
-    text = source.text
-    indent = len(text) - len(text.lstrip(" "))
-    depth = indent // 2
-    half = first_half + depth
-    lead = " " * (2 * depth) + prefix(half)
-    found = read_move(text, len(lead), half, stipulation.side(half))
-    if not text.startswith(lead) or found is None or found[1] != len(text) or depth > deepest:
-        raise source.refused("a move, or the number of solutions")
-    return Node(text, found[0]), depth
+def _items(allowed: Allowed, source: Iterable[bytes]) -> Iterator[AnyItem]:
+    builder = ItemBuilder()
+    for event in read_events(ReportReader(allowed), source):
+        item = builder.take(event)
+        if item is not None:
+            yield item

@@ -5,29 +5,50 @@ The reading is strict, as that of reports.
 
 import re
 from collections.abc import Iterable, Iterator
-from dataclasses import dataclass
-from enum import Enum
+from dataclasses import dataclass, field
 from typing import Optional, Union
 
 from pops_companions.chess.stipulation import Condition, Play, Stipulation
 from pops_companions.report import lines
-from pops_companions.report.items import Board, Fault, FaultyItem, Node, Phase, PhaseKind, Total
-from pops_companions.report.moves import PlayedMove, prefix, read_move
-from pops_companions.report.reader import Head, Lines, read_head, read_node, read_phase, take_end
+from pops_companions.report.events import (
+    CheckedEvent,
+    EndEvent,
+    Event,
+    FaultEvent,
+    FirstMoveEvent,
+    FirstMoveKind,
+    HeadEvent,
+    Menace,
+    MenaceEvent,
+    NodeEvent,
+    NotPossibleEvent,
+    NoTriesEvent,
+    PhaseEvent,
+    Place,
+    RefutationEvent,
+    TotalEvent,
+    TriesEvent,
+    TriesTotalEvent,
+)
+from pops_companions.report.item_builder import GrowingPhase, total_text
+from pops_companions.report.items import (
+    Board,
+    Fault,
+    FaultyItem,
+    HeadlessItem,
+    Node,
+    Phase,
+    PhaseKind,
+    Total,
+)
+from pops_companions.report.moves import PlayedMove, prefix
+from pops_companions.report.reader import Allowed, ReportReader, State, read_events, whole_move
 
 NO_TRIES = "no tries in help play"
 _TRIES = "tries"
 _BUT = "  but"
 _TRIES_TOTAL = re.compile(r"tries: ([0-9]+)")
 _NODE = re.compile(r"( *)[0-9]")
-
-
-class Menace(Enum):
-    """What a first move menaces; its value is the printed word."""
-
-    THREAT = "threat"
-    ZUGZWANG = "zugzwang"
-    CHECK = "check"
 
 
 @dataclass(frozen=True)
@@ -47,7 +68,8 @@ class FirstMove:
 
 @dataclass(frozen=True)
 class TriesItem:
-    """A sound problem in a text of tries. Help play has neither keys nor a total.
+    """A sound problem in a text of tries. Help play and a checked problem have neither keys nor a
+    total, an unfinished problem has what the text shows of it.
 
     `lines` are all lines below the stipulation.
     """
@@ -63,147 +85,270 @@ class TriesItem:
     total: Optional[Total] = None
     tries: tuple[FirstMove, ...] = ()
     lines: tuple[str, ...] = ()
+    unfinished: Optional[str] = None
 
 
-AnyTriesItem = Union[FaultyItem, TriesItem]
+TriesReportItem = Union[FaultyItem, TriesItem]
+AnyTriesItem = Union[FaultyItem, TriesItem, HeadlessItem]
 
 
-class _Kept:
-    """The lines of a source, and those since the last call of `start`."""
+class TriesReader(ReportReader):
+    """Reads a text of tries as it comes."""
 
-    def __init__(self, source: Iterable[bytes]):
-        self._source = source
-        self._lines: list[bytes] = []
+    def __init__(self, allowed: Allowed):
+        super().__init__(allowed)
+        self._sign = FirstMoveKind.KEY
 
-    def __iter__(self) -> Iterator[bytes]:
-        for line in self._source:
-            self._lines.append(line)
-            yield line
+    def _begin(self, stipulation: Stipulation) -> None:
+        super()._begin(stipulation)
+        if stipulation.play is Play.HELP:
+            self._state = self._no_tries
+        self._sign = FirstMoveKind.KEY
 
-    def start(self) -> None:
-        """Forgets all but the line that is looked at ahead."""
-        del self._lines[:-1]
+    def _no_tries(self, line: bytes) -> Iterator[Event]:
+        if line == lines.SOUND:
+            return self._first_phase(line)
+        self._refuse_other(line, NO_TRIES)
+        self._state = self._end
+        return iter((NoTriesEvent(self._number),))
 
-    @property
-    def taken(self) -> tuple[str, ...]:
-        """The lines since `start`, without the one that is looked at ahead."""
-        return tuple(line.decode("latin-1").rstrip("\n") for line in self._lines[:-1])
+    def _refuse_other(self, line: bytes, wanted: str) -> None:
+        if line.decode("latin-1") != wanted:
+            raise self.refused(repr(wanted), line)
+
+    def _phase(self, kind: PhaseKind) -> Iterator[Event]:
+        yield from super()._phase(kind)
+        if kind is PhaseKind.PLAY:
+            self._state = self._first_move
+
+    def _first_move(self, line: bytes) -> Iterator[Event]:
+        if not line[:1].isdigit():
+            yield from self._total(line)
+            return
+        text = line.decode("latin-1")
+        move = self._signed_move(text, self._stipulation.first_half, prefix(1), self._sign.value)
+        self._count += 1
+        self._state = self._menace
+        yield FirstMoveEvent(self._number, self._sign, text, move)
+
+    def _signed_move(self, text: str, half: int, lead: str, sign: str) -> PlayedMove:
+        """Returns the move of a line that has this sign after it."""
+        move = None
+        if text.endswith(sign):
+            move = whole_move(text[: -len(sign)], lead, half, self._stipulation.side(half))
+        if move is None:
+            raise self.refused(f"a move with {sign}", text.encode("latin-1"))
+        return move
+
+    def _menace(self, line: bytes) -> Iterator[Event]:
+        text = line.decode("latin-1")
+        menace = next((it for it in Menace if text == f"  {it.value}"), None)
+        if menace is None:
+            yield from self._first_move(line)
+            return
+        self._deepest = 2
+        self._state = self._threat
+        if menace is not Menace.THREAT:
+            self._go_to_defences()
+        yield MenaceEvent(self._number, menace)
+
+    def _go_to_defences(self) -> State:
+        self._deepest, self._state = 1, self._defence
+        return self._state
+
+    def _threat(self, line: bytes) -> Iterator[Event]:
+        if not self._is_node(line, 2):
+            return self._go_to_defences()(line)
+        return iter((self._node(line, Place.THREAT, 2),))
+
+    def _defence(self, line: bytes) -> Iterator[Event]:
+        if self._is_node(line, 1):
+            return iter((self._node(line, Place.DEFENCE, 1),))
+        if self._sign is FirstMoveKind.KEY:
+            return self._first_move(line)
+        self._refuse_other(line, _BUT)
+        self._state = self._refutation
+        return iter(())
+
+    def _is_node(self, line: bytes, level: int) -> bool:
+        """Returns whether a line begins as a node of at least this level."""
+        found = _NODE.match(line.decode("latin-1"))
+        return found is not None and len(found[1]) >= 2 * level
+
+    def _refutation(self, line: bytes) -> Iterator[Event]:
+        text, lead = line.decode("latin-1"), f"    {prefix(2)}"
+        if not text.startswith(lead):
+            yield from self._first_move(line)
+            return
+        move = self._signed_move(text, self._stipulation.first_half + 1, lead, "!")
+        yield RefutationEvent(self._number, text.lstrip(" "), move)
+
+    def _total(self, line: bytes) -> Iterator[Event]:
+        if self._sign is FirstMoveKind.TRY:
+            yield from self._total_of_tries(line)
+            return
+        total = lines.TOTAL.fullmatch(line)
+        if total is None or int(total[1]) != self._count:
+            raise self.refused(f"'solutions: {self._count}', the number of keys above", line)
+        self._state = self._tries
+        is_stopped = total[2] is not None
+        yield TotalEvent(self._number, PhaseKind.PLAY, Total(self._count, is_stopped))
+
+    def _tries(self, line: bytes) -> Iterator[Event]:
+        self._refuse_other(line, _TRIES)
+        self._sign, self._count, self._state = FirstMoveKind.TRY, 0, self._first_move
+        yield TriesEvent(self._number)
+
+    def _total_of_tries(self, line: bytes) -> Iterator[Event]:
+        count = _TRIES_TOTAL.fullmatch(line.decode("latin-1"))
+        if count is None or int(count[1]) != self._count:
+            raise self.refused(f"'tries: {self._count}', the number of tries above", line)
+        self._state = self._end
+        yield TriesTotalEvent(self._number, self._count)
 
 
-def read_tries(source: Iterable[bytes]) -> Iterator[AnyTriesItem]:
-    """Yields the items of a text of tries, whose lines come with their line ends.
+@dataclass
+class _GrowingMove:
+    """A first move; what is below it comes line by line."""
+
+    first: FirstMoveEvent
+    menace: Optional[Menace] = None
+    threats: GrowingPhase = field(default_factory=lambda: GrowingPhase(PhaseKind.PLAY))
+    defences: GrowingPhase = field(default_factory=lambda: GrowingPhase(PhaseKind.PLAY))
+    refutations: list[Node] = field(default_factory=list)
+
+    def ended(self) -> FirstMove:
+        threats, defences = self.threats.nodes, self.defences.nodes
+        refutations = tuple(self.refutations)
+        text, move = self.first.text, self.first.move
+        return FirstMove(text, move, self.menace, threats, defences, refutations)
+
+
+class TriesBuilder:
+    """Makes the items of a text of tries of its events."""
+
+    def __init__(self) -> None:
+        self._begin()
+
+    def _begin(self) -> None:
+        self._fault: Optional[Fault] = None
+        self._head: Optional[HeadEvent] = None
+        self._set_play: Optional[Phase] = None
+        self._growing: Optional[GrowingPhase] = None
+        self._moves: list[_GrowingMove] = []
+        self._total: Optional[Total] = None
+        self._lines: list[str] = []
+
+    def take(self, event: Event) -> Optional[AnyTriesItem]:
+        """Takes the next event; returns the item that it ends, if it ends one."""
+        if isinstance(event, EndEvent):
+            item = self._item(event)
+            self._begin()
+            return item
+        self._lines.extend(lines_of(event))
+        if isinstance(event, FaultEvent):
+            self._fault = event.fault
+        elif isinstance(event, HeadEvent):
+            self._head = event
+        elif isinstance(event, FirstMoveEvent):
+            self._moves.append(_GrowingMove(event))
+        elif isinstance(event, (MenaceEvent, RefutationEvent)):
+            self._add_to_move(event)
+        elif isinstance(event, (PhaseEvent, NotPossibleEvent, TotalEvent)):
+            self._take_of_phase(event)
+        elif isinstance(event, NodeEvent):
+            self._add_node(event)
+        return None
+
+    def _add_to_move(self, event: Union[MenaceEvent, RefutationEvent]) -> None:
+        move = self._moves[-1]
+        if isinstance(event, MenaceEvent):
+            move.menace = event.menace
+            return
+        if not move.refutations:
+            self._lines.insert(-1, _BUT)
+        move.refutations.append(Node(f"    {event.text}", event.move))
+
+    def _take_of_phase(self, event: Union[PhaseEvent, NotPossibleEvent, TotalEvent]) -> None:
+        growing = self._growing
+        if isinstance(event, PhaseEvent):
+            if growing is not None:
+                self._set_play = growing.ended(None, "unfinished")
+            self._growing = GrowingPhase(PhaseKind.SET) if event.phase is PhaseKind.SET else None
+        elif event.phase is PhaseKind.SET and growing is not None:
+            total = event.total if isinstance(event, TotalEvent) else None
+            (last_line,) = lines_of(event)
+            self._set_play, self._growing = growing.ended(total, last_line), None
+        elif isinstance(event, TotalEvent):
+            self._total = event.total
+
+    def _add_node(self, event: NodeEvent) -> None:
+        if event.place is Place.SOLUTION:
+            if self._growing is not None:
+                self._growing.add_node(event)
+        elif event.place is Place.THREAT:
+            self._moves[-1].threats.add_node(event)
+        else:
+            self._moves[-1].defences.add_node(event)
+
+    def _item(self, end: EndEvent) -> AnyTriesItem:
+        if self._fault is not None:
+            return FaultyItem(end.problem, self._fault)
+        head = self._head
+        if head is None:
+            return HeadlessItem(end.problem, end.unfinished or "")
+        if self._growing is not None:
+            self._set_play = self._growing.ended(None, f"unfinished: {end.unfinished}")
+        names = (head.title, head.author, head.board, head.stipulation, head.condition)
+        keys = tuple(it.ended() for it in self._moves if it.first.kind is FirstMoveKind.KEY)
+        tries = tuple(it.ended() for it in self._moves if it.first.kind is FirstMoveKind.TRY)
+        shown = (self._set_play, keys, self._total, tries, tuple(self._lines))
+        return TriesItem(end.problem, *names, *shown, end.unfinished)
+
+
+def lines_of(event: Event) -> list[str]:
+    """Returns the lines below a stipulation that an event stands for; `but` has no event."""
+    if isinstance(event, NoTriesEvent):
+        return [NO_TRIES]
+    if isinstance(event, CheckedEvent):
+        return [lines.SOUND.decode("ascii")]
+    if isinstance(event, PhaseEvent):
+        return [event.phase.value]
+    if isinstance(event, NotPossibleEvent):
+        return [lines.NOT_POSSIBLE.decode("ascii")]
+    if isinstance(event, NodeEvent):
+        return ["  " * event.level + event.text]
+    if isinstance(event, FirstMoveEvent):
+        return [event.text]
+    if isinstance(event, MenaceEvent):
+        return [f"  {event.menace.value}"]
+    if isinstance(event, RefutationEvent):
+        return [f"    {event.text}"]
+    if isinstance(event, TotalEvent):
+        return [total_text(event.total)]
+    if isinstance(event, TriesEvent):
+        return [_TRIES]
+    return [f"tries: {event.count}"] if isinstance(event, TriesTotalEvent) else []
+
+
+def read_tries(source: Iterable[bytes]) -> Iterator[TriesReportItem]:
+    """Yields the items of a text of tries, whose bytes come in pieces, as from a binary file.
 
     ReportError where the text isn't of the form, after the items before.
     """
-    kept = _Kept(source)
-    text = Lines(kept, may_break=False)
-    while not text.at_end:
-        problem = lines.PROBLEM.fullmatch(text.ahead)
-        if problem is None:
-            raise text.refused("a line 'problem' with its number")
-        text.take()
-        yield _read_item(text, kept, int(problem[1]))
-        take_end(text)
+    for item in _items(Allowed.FINISHED, source):
+        assert not isinstance(item, HeadlessItem)
+        yield item
 
 
-def _read_item(text: Lines, kept: _Kept, number: int) -> AnyTriesItem:
-    fault = lines.FAULT.fullmatch(text.ahead)
-    if fault is not None:
-        text.take()
-        return FaultyItem(number, Fault(int(fault[1]), int(fault[2]), fault[3].decode("latin-1")))
-    head = Head()
-    stipulation = read_head(text, head)
-    assert head.asked is not None
-    names = (number, head.title, head.author, head.board, *head.asked)
-    kept.start()
-    if stipulation.play is Play.HELP:
-        _take(text, NO_TRIES)
-        return TriesItem(*names, lines=kept.taken)
-    set_play = _read_set_play(text, stipulation)
-    _take(text, PhaseKind.PLAY.value)
-    keys = _read_first_moves(text, stipulation, "!")
-    total = _read_total(text, len(keys))
-    _take(text, _TRIES)
-    tries = _read_first_moves(text, stipulation, "?")
-    count = _TRIES_TOTAL.fullmatch(text.text)
-    if count is None or int(count[1]) != len(tries):
-        raise text.refused(f"'tries: {len(tries)}', the number of tries above")
-    text.take()
-    return TriesItem(*names, set_play, keys, total, tries, kept.taken)
+def read_unfinished_tries(source: Iterable[bytes]) -> Iterator[AnyTriesItem]:
+    """Yields items as `read_tries` does, also of stopped problems and of a text that is cut."""
+    return _items(Allowed.UNFINISHED, source)
 
 
-def _take(text: Lines, line: str) -> None:
-    if text.text != line:
-        raise text.refused(repr(line))
-    text.take()
-
-
-def _read_set_play(text: Lines, stipulation: Stipulation) -> Optional[Phase]:
-    if text.text != PhaseKind.SET.value:
-        return None
-    phases: list[Phase] = []
-    read_phase(text, stipulation, PhaseKind.SET, phases)
-    return phases[0]
-
-
-def _read_total(text: Lines, count: int) -> Total:
-    total = lines.TOTAL.fullmatch(text.ahead)
-    if total is None or int(total[1]) != count:
-        raise text.refused(f"'solutions: {count}', the number of keys above")
-    text.take()
-    return Total(count, total[2] is not None)
-
-
-def _read_first_moves(text: Lines, stipulation: Stipulation, sign: str) -> tuple[FirstMove, ...]:
-    found: list[FirstMove] = []
-    while text.text[:1].isdigit():
-        found.append(_read_first_move(text, stipulation, sign))
-    return tuple(found)
-
-
-def _read_first_move(text: Lines, stipulation: Stipulation, sign: str) -> FirstMove:
-    move = _signed_move(text, stipulation, stipulation.first_half, prefix(1), sign)
-    shown = text.take()
-    menace = next((it for it in Menace if text.text == f"  {it.value}"), None)
-    if menace is None:
-        return FirstMove(shown, move)
-    text.take()
-    threats = _read_nodes(text, stipulation, 2) if menace is Menace.THREAT else ()
-    defences = _read_nodes(text, stipulation, 1)
-    refutations: list[Node] = []
-    if sign == "?":
-        _take(text, _BUT)
-        lead = f"    {prefix(2)}"
-        while text.text.startswith(lead):
-            reply = _signed_move(text, stipulation, stipulation.first_half + 1, lead, "!")
-            refutations.append(Node(text.take(), reply))
-    return FirstMove(shown, move, menace, threats, defences, tuple(refutations))
-
-
-def _signed_move(
-    text: Lines, stipulation: Stipulation, half: int, lead: str, sign: str
-) -> PlayedMove:
-    """Returns the move of the line at hand, which has this sign after it; the line isn't taken."""
-    line = text.text
-    unsigned = line[: -len(sign)]
-    found = read_move(unsigned, len(lead), half, stipulation.side(half))
-    is_move = found is not None and found[1] == len(unsigned)
-    if not line.startswith(lead) or not line.endswith(sign) or not is_move:
-        raise text.refused(f"a move with {sign}")
-    assert found is not None
-    return found[0]
-
-
-def _read_nodes(text: Lines, stipulation: Stipulation, level: int) -> tuple[Node, ...]:
-    """Takes the nodes from this level on, each below the last one of one level less."""
-    found: list[Node] = []
-    path: list[Node] = []
-    while True:
-        parts = _NODE.match(text.text)
-        if parts is None or len(parts[1]) < 2 * level:
-            return tuple(found)
-        node, depth = read_node(text, stipulation, stipulation.first_half, level + len(path))
-        text.take()
-        del path[depth - level :]
-        (path[-1].below if path else found).append(node)
-        path.append(node)
+def _items(allowed: Allowed, source: Iterable[bytes]) -> Iterator[AnyTriesItem]:
+    builder = TriesBuilder()
+    for event in read_events(TriesReader(allowed), source):
+        item = builder.take(event)
+        if item is not None:
+            yield item

@@ -8,6 +8,7 @@ from typing import Optional
 from pops_companions.chess.men import Kind
 from pops_companions.chess.stipulation import Play, Stipulation
 from pops_companions.input.given import GivenProblem
+from pops_companions.report.events import Menace
 from pops_companions.report.items import (
     AnyItem,
     FaultyItem,
@@ -19,7 +20,7 @@ from pops_companions.report.items import (
     SoundItem,
 )
 from pops_companions.report.moves import Mark, PlayedMove
-from pops_companions.report.tries import FirstMove, Menace, TriesItem
+from pops_companions.report.tries import FirstMove, TriesItem
 from pops_companions.review.duals import Dual, Place, last_half, late_partings, tree_duals
 from pops_companions.review.naming import counted
 

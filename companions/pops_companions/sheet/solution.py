@@ -6,9 +6,10 @@ from typing import Optional
 
 from pops_companions.chess.attacks import Men
 from pops_companions.chess.stipulation import Condition
+from pops_companions.report.events import Menace
 from pops_companions.report.items import HelpLine, Node, Phase, PhaseKind, SoundItem, Total
 from pops_companions.report.moves import prefix
-from pops_companions.report.tries import FirstMove, Menace, TriesItem
+from pops_companions.report.tries import FirstMove, TriesItem
 from pops_companions.sheet.boards import after
 from pops_companions.sheet.languages import Language
 from pops_companions.sheet.short import short

@@ -1,0 +1,254 @@
+"""A run of a program: its events as they come, its limits, its result."""
+
+import tempfile
+import threading
+import weakref
+from collections.abc import Generator, Iterator
+from dataclasses import dataclass
+from enum import Enum
+from signal import SIGKILL
+from subprocess import PIPE
+from typing import IO, Optional, Union
+
+from pops_companions.many.child_process import ChildProcess
+from pops_companions.many.program import FAULTY, PAUSE, SOUND, RunError, Runs
+from pops_companions.report.events import (
+    Event,
+    FirstMoveEvent,
+    FirstMoveKind,
+    LineEvent,
+    NodeEvent,
+    Place,
+)
+from pops_companions.report.item_builder import ItemBuilder
+from pops_companions.report.items import AnyItem
+from pops_companions.report.reader import Allowed, ReportReader
+from pops_companions.report.tries import AnyTriesItem, TriesBuilder, TriesReader
+
+
+class TextKind(Enum):
+    """What a program writes."""
+
+    REPORT = "report"
+    TRIES = "tries"
+
+
+class Ending(Enum):
+    """Why a run ended; its value is what the end of an unfinished problem says."""
+
+    COMPLETE = "complete"
+    CANCELLED = "cancelled"
+    SECONDS = "the time is over"
+    BYTES = "the text is too long"
+    SOLUTIONS = "enough solutions"
+    FAILED = "the program failed"
+
+
+# These end a run although the program has written more.
+_AT_ONCE = (Ending.CANCELLED, Ending.BYTES, Ending.SOLUTIONS)
+
+
+@dataclass(frozen=True)
+class Limits:
+    """When a run is stopped: after so many seconds, bytes of text, or solutions.
+
+    It is stopped right after a line of help play; a key comes with everything below it.
+    """
+
+    seconds: Optional[float] = None
+    bytes: Optional[int] = None
+    solutions: Optional[int] = None
+
+
+@dataclass(frozen=True)
+class Result:
+    """What a run came to: its text, and the problems in it, the last one maybe unfinished.
+
+    `status` is the exit status of a complete run: 0, or 1 if a problem is faulty.
+    """
+
+    ending: Ending
+    status: Optional[int]
+    text: bytes
+    items: tuple[Union[AnyItem, AnyTriesItem], ...]
+
+
+class Solver(Runs):
+    """A program that is begun for one run."""
+
+    def begin(self, text: bytes, errors: IO[bytes]) -> ChildProcess:
+        """Starts it on a text. RunError where it can't be started."""
+        child = self._started([], PIPE, errors)
+        child.feed(text)
+        return child
+
+    def output(self, child: ChildProcess) -> Generator[bytes, None, None]:
+        """Yields what it writes, piece by piece."""
+        return self._output(child, lambda: PAUSE)
+
+    def reason(self, status: int, said: bytes) -> str:
+        """Returns why it failed."""
+        return self._reason(status, said)
+
+
+class Run:
+    """A run of a program on a text; iterating gives its events as they come.
+
+    It goes on by itself until what it writes fills a pipe. Leaving a `with` block cancels it, and so
+    does the end of this process.
+    """
+
+    def __init__(self, solver: Solver, text: bytes, kind: TextKind, limits: Limits):
+        self._solver = solver
+        self._limits = limits
+        self._lock = threading.Lock()
+        self._reading = threading.Lock()
+        self._ending: Optional[Ending] = None
+        self._status: Optional[int] = None
+        self._text: list[bytes] = []
+        self._room = limits.bytes
+        self._items: list[Union[AnyItem, AnyTriesItem]] = []
+        is_report = kind is TextKind.REPORT
+        self._reader = (ReportReader if is_report else TriesReader)(Allowed.UNFINISHED)
+        self._builder: Union[ItemBuilder, TriesBuilder]
+        self._builder = ItemBuilder() if is_report else TriesBuilder()
+        self._counted = 0
+        self._errors = tempfile.TemporaryFile()
+        self._child = solver.begin(text, self._errors)
+        self._timer = self._started_timer()
+        self._events = self._read()
+
+    def _started_timer(self) -> Optional[threading.Timer]:
+        if self._limits.seconds is None:
+            return None
+        self._child.limit(self._limits.seconds)
+        stop = weakref.WeakMethod(self._stop)
+
+        def end() -> None:
+            found = stop()
+            if found is not None:
+                found(Ending.SECONDS)
+
+        timer = threading.Timer(self._limits.seconds, end)
+        timer.daemon = True
+        timer.start()
+        return timer
+
+    def __iter__(self) -> Iterator[Event]:
+        return self
+
+    def __next__(self) -> Event:
+        """Waits for the next event.
+
+        RunError at the end of a run that failed, ReportError where the program writes something
+        else than pops does.
+        """
+        with self._reading:
+            return next(self._events)
+
+    def __enter__(self) -> "Run":
+        return self
+
+    def __exit__(self, *_: object) -> None:
+        self.close()
+
+    def __del__(self) -> None:
+        if hasattr(self, "_events"):
+            self.close()
+
+    def cancel(self) -> None:
+        """Ends the run, from any thread. The problem at hand ends unfinished."""
+        self._stop(Ending.CANCELLED)
+
+    def close(self) -> None:
+        """Cancels the run if it goes on, and drops the events that weren't taken."""
+        self.cancel()
+        self._drop_events()
+
+    @property
+    def result(self) -> Result:
+        """What the run came to; waits for its end. RunError and ReportError as iterating."""
+        self._drop_events()
+        assert self._ending is not None
+        return Result(self._ending, self._status, b"".join(self._text), tuple(self._items))
+
+    def _drop_events(self) -> None:
+        for _ in self:
+            pass
+
+    def _stop(self, ending: Ending) -> None:
+        with self._lock:
+            if self._ending is None:
+                self._ending = ending
+                self._child.send(SIGKILL)
+
+    def _read(self) -> Generator[Event, None, None]:
+        output = self._solver.output(self._child)
+        try:
+            for piece in output:
+                yield from self._events_of(piece)
+                if self._ending in _AT_ONCE:
+                    break
+        finally:
+            output.close()
+            if self._timer is not None:
+                self._timer.cancel()
+        failure = self._ended()
+        assert self._ending is not None
+        for event in self._reader.close(self._ending.value):
+            self._build(event)
+            yield event
+        if failure is not None:
+            raise RunError(failure)
+
+    def _ended(self) -> Optional[str]:
+        """Notes how the run ended; returns why it failed, if it did."""
+        status = self._child.run.returncode
+        with self._errors, self._lock:
+            if status in (SOUND, FAULTY) and self._ending not in _AT_ONCE:
+                self._ending, self._status = Ending.COMPLETE, status
+            if self._ending is not None:
+                return None
+            self._ending = Ending.FAILED
+            self._errors.seek(0)
+            return self._solver.reason(status, self._errors.read())
+
+    def _events_of(self, piece: bytes) -> Iterator[Event]:
+        """Yields what a piece of the text says, as far as the limits let it."""
+        if self._room is not None:
+            is_over = len(piece) > self._room
+            piece = piece[: self._room]
+            self._room -= len(piece)
+        else:
+            is_over = False
+        self._text.append(piece)
+        for event in self._reader.feed(piece):
+            is_solution = _is_solution(event)
+            if is_solution and self._has_enough():
+                self._stop(Ending.SOLUTIONS)
+            if self._ending in _AT_ONCE:
+                return
+            self._counted += is_solution
+            self._build(event)
+            yield event
+            if isinstance(event, LineEvent) and self._has_enough():
+                self._stop(Ending.SOLUTIONS)
+        if is_over:
+            self._stop(Ending.BYTES)
+
+    def _has_enough(self) -> bool:
+        return self._limits.solutions is not None and self._counted >= self._limits.solutions
+
+    def _build(self, event: Event) -> None:
+        item = self._builder.take(event)
+        if item is not None:
+            self._items.append(item)
+
+
+def _is_solution(event: Event) -> bool:
+    """Returns whether an event is a solution, or begins one."""
+    if isinstance(event, NodeEvent):
+        return event.place is Place.SOLUTION and event.level == 0
+    if isinstance(event, FirstMoveEvent):
+        return event.kind is FirstMoveKind.KEY
+    return isinstance(event, LineEvent)

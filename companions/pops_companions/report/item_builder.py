@@ -1,0 +1,125 @@
+"""Makes the items of a report of its events."""
+
+from dataclasses import dataclass, field
+from typing import Optional, Union
+
+from pops_companions.report import lines
+from pops_companions.report.events import (
+    CheckedEvent,
+    EndEvent,
+    Event,
+    FaultEvent,
+    HeadEvent,
+    LineEvent,
+    NodeEvent,
+    NotPossibleEvent,
+    PhaseEvent,
+    TotalEvent,
+)
+from pops_companions.report.items import (
+    AnyItem,
+    Fault,
+    FaultyItem,
+    HeadlessItem,
+    HelpLine,
+    Node,
+    Phase,
+    PhaseKind,
+    SoundItem,
+    Total,
+)
+
+
+@dataclass
+class GrowingPhase:
+    """A phase whose solutions come one by one."""
+
+    kind: PhaseKind
+    solutions: list[Union[HelpLine, Node]] = field(default_factory=list)
+    lines: list[str] = field(default_factory=list)
+    _path: list[tuple[int, Node]] = field(default_factory=list)
+
+    def add_line(self, line: HelpLine) -> None:
+        self.solutions.append(line)
+        self.lines.append(line.text)
+
+    def add_node(self, event: NodeEvent) -> None:
+        text = "  " * event.level + event.text
+        node = Node(text, event.move)
+        while self._path and self._path[-1][0] >= event.level:
+            self._path.pop()
+        if self._path:
+            self._path[-1][1].below.append(node)
+        else:
+            self.solutions.append(node)
+        self._path.append((event.level, node))
+        self.lines.append(text)
+
+    @property
+    def nodes(self) -> tuple[Node, ...]:
+        """The moves of battle play of its first level."""
+        return tuple(it for it in self.solutions if isinstance(it, Node))
+
+    def ended(self, total: Optional[Total], last_line: str) -> Phase:
+        return Phase(self.kind, tuple(self.solutions), tuple(self.lines), total, last_line)
+
+
+def total_text(total: Total) -> str:
+    """Returns the line of a phase's total."""
+    return lines.total_line(total.count, total.stopped).decode("ascii").rstrip("\n")
+
+
+class ItemBuilder:
+    """Collects the events of one problem after another."""
+
+    def __init__(self) -> None:
+        self._begin()
+
+    def _begin(self) -> None:
+        self._fault: Optional[Fault] = None
+        self._head: Optional[HeadEvent] = None
+        self._is_checked = False
+        self._phases: list[Phase] = []
+        self._growing: Optional[GrowingPhase] = None
+
+    def take(self, event: Event) -> Optional[AnyItem]:
+        """Takes the next event; returns the item that it ends, if it ends one."""
+        if isinstance(event, EndEvent):
+            item = self._item(event)
+            self._begin()
+            return item
+        if isinstance(event, FaultEvent):
+            self._fault = event.fault
+        elif isinstance(event, HeadEvent):
+            self._head = event
+        elif isinstance(event, CheckedEvent):
+            self._is_checked = True
+        elif isinstance(event, PhaseEvent):
+            self._end_phase(None, "unfinished")
+            self._growing = GrowingPhase(event.phase)
+        elif isinstance(event, NotPossibleEvent):
+            self._end_phase(None, lines.NOT_POSSIBLE.decode("ascii"))
+        elif isinstance(event, TotalEvent):
+            self._end_phase(event.total, total_text(event.total))
+        elif self._growing is not None:
+            if isinstance(event, LineEvent):
+                self._growing.add_line(event.line)
+            elif isinstance(event, NodeEvent):
+                self._growing.add_node(event)
+        return None
+
+    def _end_phase(self, total: Optional[Total], last_line: str) -> None:
+        if self._growing is not None:
+            self._phases.append(self._growing.ended(total, last_line))
+            self._growing = None
+
+    def _item(self, end: EndEvent) -> AnyItem:
+        if self._fault is not None:
+            return FaultyItem(end.problem, self._fault)
+        head = self._head
+        if head is None:
+            return HeadlessItem(end.problem, end.unfinished or "")
+        self._end_phase(None, f"unfinished: {end.unfinished}")
+        names = (head.title, head.author, head.board, head.stipulation, head.condition)
+        phases = None if self._is_checked else tuple(self._phases)
+        return SoundItem(end.problem, *names, phases, end.unfinished)
