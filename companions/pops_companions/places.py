@@ -24,8 +24,8 @@ def version() -> str:
     """Returns number and date of this version; only its number where pip installed the package."""
     if not NUMBER:
         return number()
-    number, date = _VERSION.read_text("ascii").split()
-    return f"{number} ({date})"
+    _, date = _VERSION.read_text("ascii").split()
+    return f"{NUMBER} ({date})"
 
 
 def command(name: str) -> str:

@@ -58,7 +58,7 @@ class Examples(unittest.TestCase):
     @unittest.skipUnless(shutil.which("mypy"), "mypy isn't installed")
     def test_they_are_typed(self) -> None:
         with tempfile.TemporaryDirectory() as room:
-            files = []
+            files: list[str] = []
             for name in DOCUMENTS:
                 for example, _ in _EXAMPLE.findall(document(name)):
                     files.append(str(Path(room, f"example_{len(files)}.py")))

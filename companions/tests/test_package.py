@@ -76,7 +76,7 @@ class Package(unittest.TestCase):
             capture_output=True,
             timeout=support.PATIENCE,
         )
-        self.assertEqual(done.stderr, b"", name)
+        self.assertEqual(done.stderr.decode(), "", name)
         return done.stdout
 
     def test_it_contains_the_licences(self) -> None:

@@ -25,7 +25,8 @@ _PIECE = 1 << 16
 
 LOOKED_FOR = (
     "the program (default: $POPS, the one built in this repository or released with its sources,"
-    " the one installed with the companions, the one on the PATH); nothing is built"
+    " the one installed with the companions (../../../bin/pops from their folder, or by pip), the one"
+    " on the PATH); nothing is built"
 )
 
 
