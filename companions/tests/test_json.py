@@ -152,24 +152,177 @@ class Inputs(unittest.TestCase):
         self.assertEqual(set(faulty) - {"number", "sound", "fault"}, {"title", "author", "origin"})
 
 
+def events(text: bytes, *words: str) -> list[dict[str, Any]]:
+    return objects(text, "--events", *words)
+
+
+class Events(unittest.TestCase):
+    def test_an_object_for_each_event(self) -> None:
+        report = (support.REPOSITORY / "examples/mate_in_one.report").read_bytes()
+        problem, head, phase, node, total, end = events(report)
+        self.assertEqual(problem, {"event": "problem", "problem": 1})
+        self.assertEqual((head["event"], head["stipulation"]["text"]), ("head", "#1"))
+        self.assertEqual(phase, {"event": "phase", "problem": 1, "phase": "play"})
+        self.assertEqual((node["place"], node["level"], node["text"]), ("solution", 0, "1.Ra1-a8#"))
+        self.assertEqual((total["count"], total["stopped"]), (1, False))
+        self.assertEqual(end, {"event": "end", "problem": 1, "unfinished": None})
+
+    def test_they_come_as_the_report_comes(self) -> None:
+        """Each line of the report is answered before the next one is written."""
+        words = [sys.executable, str(support.COMPANIONS / "pops2json"), "--events"]
+        with subprocess.Popen(words, stdin=subprocess.PIPE, stdout=subprocess.PIPE) as run:
+            assert run.stdin is not None and run.stdout is not None
+            for line, name in (
+                (b"problem 1\n", "problem"),
+                (b"#1\n", "head"),
+                (b"play\n", "phase"),
+                (b"1.Ra1-a8#\n", "node"),
+                (b"solutions: 1\n", "total"),
+                (b"\n", "end"),
+            ):
+                run.stdin.write(line)
+                run.stdin.flush()
+                self.assertEqual(json.loads(run.stdout.readline())["event"], name)
+            run.stdin.close()
+            self.assertEqual(run.stdout.read(), b"")
+
+    def test_a_killed_report(self) -> None:
+        report = b"problem 7\nh#1\nplay\n1.Kh8-g8 Ra1-a8#\n1.Kh8-"
+        *_, line, end = events(report, "--unfinished")
+        self.assertEqual((line["event"], line["text"]), ("line", "1.Kh8-g8 Ra1-a8#"))
+        self.assertEqual(
+            end, {"event": "end", "problem": 7, "unfinished": "the report ends here"}
+        )
+        outcome = support.companion("pops2json", "--events", text=report)
+        self.assertEqual(outcome.status, 1)
+        self.assertEqual(
+            outcome.error,
+            "pops2json: standard input is no report of pops:"
+            " line 5: the report is cut inside this line\n",
+        )
+        self.assertEqual(len(outcome.output.splitlines()), 4)
+
+
+CUT = b"""problem 1
+title: Begun
+#2
+set
+1...Kg8-h8
+  2.Ra1-h1#
+solutions: 1
+play
+1.Kg6-f6
+"""
+
+
+class Unfinished(unittest.TestCase):
+    def test_a_killed_report(self) -> None:
+        (one,) = objects(CUT, "--unfinished")
+        self.assertEqual((one["sound"], one["unfinished"]), (True, "the report ends here"))
+        set_play, play = one["phases"]
+        self.assertEqual((set_play["possible"], set_play["count"]), (True, 1))
+        self.assertEqual((play["possible"], play["count"], play["stopped"]), (True, None, False))
+        self.assertEqual([it["text"] for it in play["solutions"]], ["1.Kg6-f6"])
+
+    def test_a_phase_that_is_not_possible(self) -> None:
+        report = b"problem 1\n#1\nset\nnot possible\nplay\n"
+        (one,) = objects(report, "--unfinished")
+        self.assertEqual([it["possible"] for it in one["phases"]], [False, True])
+
+    def test_a_problem_without_a_head(self) -> None:
+        (one,) = objects(b"problem 3\ntitle: Begun\n", "--unfinished")
+        self.assertEqual(one, {"number": 3, "unfinished": "the report ends here"})
+
+    def test_what_pops_many_kept_is_added(self) -> None:
+        with tempfile.TemporaryDirectory() as room:
+            report = Path(room) / "some.report"
+            report.write_bytes(b"problem 1\n#1\nsound\n\n")
+            mark = b"unfinished: stopped after 60 s (some.pop, line 5)\n\n"
+            Path(f"{report}.unfinished").write_bytes(b"problem 2\nh#1\nplay\n" + mark)
+            outcome = support.companion("pops2json", "--unfinished", str(report))
+        first, second = map(json.loads, outcome.output.splitlines())
+        self.assertNotIn("unfinished", first)
+        self.assertEqual(second["unfinished"], "stopped after 60 s (some.pop, line 5)")
+
+
+class Tries(unittest.TestCase):
+    TEXT = (support.REPOSITORY / "tests/tries/morphy_1856.tries").read_bytes()
+
+    def test_keys_and_tries(self) -> None:
+        (one,) = objects(self.TEXT, "--tries")
+        lines = self.TEXT.decode().split("\n")
+        self.assertEqual([it["text"] for it in one["keys"]], [it for it in lines if it[:1] == "1" and it[-1] == "!"])
+        self.assertEqual([it["text"] for it in one["tries"]], [it for it in lines if it[:1] == "1" and it[-1] == "?"])
+        self.assertEqual((one["count"], one["stopped"], one["set"]), (1, False, None))
+        refutations = [node["text"] for it in one["tries"] for node in it["refutations"]]
+        self.assertEqual(refutations, [it.strip() for it in lines if it.startswith("    ") and it.endswith("!")])
+
+    def test_a_text_that_is_cut(self) -> None:
+        cut = self.TEXT[: self.TEXT.index(b"\ntries\n") + 7]
+        (one,) = objects(cut, "--tries", "--unfinished")
+        self.assertEqual((one["tries"], one["unfinished"]), ([], "the report ends here"))
+        outcome = support.companion("pops2json", "--tries", text=cut)
+        self.assertEqual(outcome.status, 1)
+        self.assertIn("standard input is no text of pops-tries: line ", outcome.error)
+
+    def test_help_play_has_none(self) -> None:
+        (one,) = objects(b"problem 1\nh#1\nno tries in help play\n\n", "--tries")
+        self.assertEqual((one["keys"], one["count"]), ([], None))
+
+
+def printed_schema(*words: str) -> dict[str, Any]:
+    """The schema that pops2json prints."""
+    outcome = support.companion("pops2json", "--schema", *words)
+    assert (outcome.status, outcome.error) == (0, "")
+    printed: dict[str, Any] = json.loads(outcome.output)
+    return printed
+
+
 def stored_schema() -> dict[str, Any]:
-    """The schema of pops2json's objects."""
+    """The schema of the objects of a report's items."""
     path = support.PACKAGE / "show" / "item.schema.json"
     stored: dict[str, Any] = json.loads(path.read_text("utf-8"))
     return stored
 
 
 class Schema(unittest.TestCase):
+    def check(
+        self, schema: dict[str, Any], found: list[dict[str, Any]], unused: frozenset[str] = frozenset()
+    ) -> None:
+        """The objects are what the schema says, and each of its definitions but these has one."""
+        self.assertTrue(all(map(self.validity(schema), found)))
+        for name in set(schema["$defs"]) - unused:
+            with self.subTest(name):
+                without = {**schema, "$defs": {**schema["$defs"], name: False}}
+                self.assertFalse(all(map(self.validity(without), found)), "no object has one")
+
     @support.needs_module("jsonschema")
     def test_every_stored_report_has_the_stored_schema(self) -> None:
         report = b"".join(path.read_bytes() for path in support.stored_reports())
-        found = objects(report)
-        stored = stored_schema()
-        self.assertTrue(all(map(self.validity(stored), found)))
-        for name in stored["$defs"]:
-            with self.subTest(name):
-                without = {**stored, "$defs": {**stored["$defs"], name: False}}
-                self.assertFalse(all(map(self.validity(without), found)), "no report has one")
+        begun = [*objects(CUT, "--unfinished"), *objects(CUT[:20], "--unfinished")]
+        self.check(stored_schema(), objects(report) + begun)
+
+    @support.needs_module("jsonschema")
+    def test_tries_and_events_have_their_schemas(self) -> None:
+        report = b"".join(path.read_bytes() for path in support.stored_reports())
+        tries = b"".join(
+            path.with_suffix(".tries").read_bytes() for path in support.tries_inputs()
+        )
+        faulty = b"problem 1\nline 1: fault 1: BeginProblem expected\n\n"
+        texts = tries + faulty + b"problem 1\nh#1\nno tries in help play\n\nproblem 2\n"
+        found = objects(texts, "--tries", "--unfinished")
+        # (tries have no lines of help play)
+        self.check(printed_schema("--tries"), found, frozenset({"line"}))
+        found = events(report) + events(texts, "--tries", "--unfinished")
+        self.check(printed_schema("--events"), found)
+
+    def test_they_have_names_and_versions(self) -> None:
+        names = set()
+        for words in ((), ("--tries",), ("--events",)):
+            schema = printed_schema(*words)
+            names.add(schema["$id"])
+            self.assertRegex(schema["version"], r"^1\.\d+$")
+        self.assertEqual(len(names), 3)
 
     def validity(self, schema: dict[str, Any]) -> Test:
         test: Test = importlib.import_module("jsonschema").Draft202012Validator(schema).is_valid
@@ -220,7 +373,7 @@ class Command(unittest.TestCase):
     def test_help(self) -> None:
         outcome = support.companion("pops2json", "--help")
         self.assertEqual(outcome.status, 0)
-        self.assertIn(b"example:", outcome.output)
+        self.assertIn(b"examples:", outcome.output)
 
 
 if __name__ == "__main__":

@@ -1,17 +1,25 @@
-"""Writes a report of pops as JSON, one object an item."""
+"""Writes a report of pops, or a text of pops-tries, as JSON: one object an item or an event."""
 
 import argparse
 import json
-from collections.abc import Iterator, Sequence
-from typing import NoReturn, Optional
+from collections.abc import Iterator
+from contextlib import AbstractContextManager
+from typing import NoReturn, Optional, Union
 
 from pops_companions import command
 from pops_companions.command import Status
-from pops_companions.input.given import GivenProblem
 from pops_companions.input.given_source import read_given
-from pops_companions.report.items import Item
-from pops_companions.report.source import opened_report
-from pops_companions.show.as_json import Json, item_object, schema
+from pops_companions.report.items import AnyItem
+from pops_companions.report.reader import Allowed
+from pops_companions.report.source import (
+    Text,
+    opened_events,
+    opened_report,
+    opened_tries,
+    opened_unfinished_report,
+)
+from pops_companions.report.tries import AnyTriesItem
+from pops_companions.show.as_json import Form, Json, event_object, item_object, schema
 
 NAME = "pops2json"
 
@@ -24,13 +32,51 @@ class Settings(argparse.Namespace):
     input: Optional[str]
     array: bool
     schema: bool
+    events: bool
+    tries: bool
+    unfinished: bool
     encoding: str
 
+    @property
+    def allowed(self) -> Allowed:
+        return Allowed.UNFINISHED if self.unfinished else Allowed.FINISHED
 
-def object_of(item: Item, given: Sequence[GivenProblem], encoding: str) -> Json:
-    """Returns the object of an item, with what the input says of it."""
-    known = given[item.number - 1] if item.number <= len(given) else None
-    return item_object(item, encoding, known)
+    @property
+    def text(self) -> Text:
+        return Text.TRIES if self.tries else Text.REPORT
+
+    @property
+    def form(self) -> Form:
+        if self.events:
+            return Form.EVENT
+        return Form.TRIES if self.tries else Form.ITEM
+
+
+def objects_of_items(settings: Settings) -> Iterator[Json]:
+    """Yields the objects of the items, with what the input says of them."""
+    encoding = settings.encoding
+    given = [] if settings.input is None else read_given(NAME, settings.input)
+    with opened(settings) as items:
+        for item in items:
+            known = given[item.number - 1] if item.number <= len(given) else None
+            yield item_object(item, encoding, known)
+
+
+def opened(settings: Settings) -> AbstractContextManager[Iterator[Union[AnyItem, AnyTriesItem]]]:
+    """Returns the items of the text."""
+    if settings.tries:
+        return opened_tries(NAME, settings.report, settings.encoding, settings.allowed)
+    if settings.unfinished:
+        return opened_unfinished_report(NAME, settings.report, None, settings.encoding)
+    return opened_report(NAME, settings.report, settings.encoding)
+
+
+def objects_of_events(settings: Settings) -> Iterator[Json]:
+    """Yields the objects of the events, as they come."""
+    source = opened_events(NAME, settings.report, settings.text, settings.allowed)
+    with source as events:
+        for event in events:
+            yield event_object(event, settings.encoding)
 
 
 def lines(objects: Iterator[Json]) -> Iterator[str]:
@@ -48,45 +94,58 @@ def array(objects: Iterator[Json]) -> Iterator[str]:
     yield "\n]\n"
 
 
-def main(words: list[str]) -> Status:
+def arguments(words: list[str]) -> Settings:
+    """Reads the words of the command line."""
     parser = command.parser(
         NAME,
         "Writes a report of pops as JSON, one object per problem, each on its line.\n"
         "docs/COMPANIONS.md explains the objects; --schema prints their JSON Schema.",
-        epilog="example: pops problems.pop | pops2json -o problems.json",
+        epilog="examples: pops problems.pop | pops2json -o problems.json\n"
+        "          pops long.pop | pops2json --events",
     )
-    parser.add_argument(
-        "report",
-        nargs="?",
-        metavar="REPORT",
-        help="the report (default: standard input)",
-    )
-    parser.add_argument(
-        "-o", "--output", metavar="FILE", help="the JSON (default: standard output)"
-    )
-    parser.add_argument(
+    add = parser.add_argument
+    add("report", nargs="?", metavar="REPORT", help="the report (default: standard input)")
+    add("-o", "--output", metavar="FILE", help="the JSON (default: standard output)")
+    add(
         "--input",
         metavar="INPUT",
         help="the input of the report: its Origin lines, and the names of faulty problems",
     )
-    parser.add_argument("--array", action="store_true", help="one array of all the objects")
-    parser.add_argument(
-        "--schema", action="store_true", help="write the JSON Schema of an object; reads no report"
+    add("--array", action="store_true", help="one array of all the objects")
+    add(
+        "--events",
+        action="store_true",
+        help="one object for each line, move and total, written as soon as it comes",
     )
+    add("--tries", action="store_true", help="REPORT is a text of pops-tries")
+    add(
+        "--unfinished",
+        action="store_true",
+        help="REPORT may end in a problem, as where pops was stopped; what pops-many kept in"
+        " REPORT.unfinished is added",
+    )
+    add("--schema", action="store_true", help="write the JSON Schema of an object; reads no report")
     command.add_encoding(parser)
     settings = parser.parse_args(words, Settings())
+    if settings.schema and (settings.report is not None or settings.input is not None):
+        parser.error("--schema reads no report")
+    if settings.events and (settings.array or settings.input is not None):
+        parser.error("--events goes without --array and --input")
+    return settings
+
+
+def main(words: list[str]) -> Status:
+    settings = arguments(words)
     if settings.schema:
-        if settings.report is not None or settings.input is not None:
-            parser.error("--schema reads no report")
         with command.written(settings.output) as target:
-            target.write(schema().encode())
+            target.write((json.dumps(schema(settings.form), indent=1) + "\n").encode())
         return Status.GOOD
-    given = [] if settings.input is None else read_given(NAME, settings.input)
-    with opened_report(NAME, settings.report, settings.encoding) as items:
-        with command.written(settings.output) as target:
-            objects = (object_of(item, given, settings.encoding) for item in items)
-            for text in array(objects) if settings.array else lines(objects):
-                target.write(text.encode("utf-8", "replace"))
+    objects = objects_of_events(settings) if settings.events else objects_of_items(settings)
+    with command.written(settings.output) as target:
+        for text in array(objects) if settings.array else lines(objects):
+            target.write(text.encode("utf-8", "replace"))
+            if settings.events:
+                target.flush()
     return Status.GOOD
 
 

@@ -1,22 +1,48 @@
 """A report as a companion reads it, and what the companion says if it isn't one."""
 
+import io
 import os
 import sys
 from collections.abc import Callable, Iterable, Iterator
 from contextlib import contextmanager
-from typing import BinaryIO, Optional, TypeVar
+from enum import Enum
+from typing import BinaryIO, Optional, TypeVar, Union
 
 from pops_companions import command
 from pops_companions.command import CommandError, Status
 from pops_companions.input.words import is_short_for
+from pops_companions.report.events import Event
 from pops_companions.report.items import AnyItem, Item, SoundItem
-from pops_companions.report.reader import ReportError, read_report, read_unfinished_report
+from pops_companions.report.reader import (
+    Allowed,
+    ReportError,
+    ReportReader,
+    read_events,
+    read_report,
+    read_unfinished_report,
+)
+from pops_companions.report.tries import (
+    AnyTriesItem,
+    TriesItem,
+    TriesReader,
+    read_tries,
+    read_unfinished_tries,
+)
 from pops_companions.show.titles import is_text
 
 # What the name of the file ends in that pops-many writes for unfinished problems.
 UNFINISHED = ".unfinished"
 
-Read = TypeVar("Read", Item, AnyItem)
+Read = TypeVar("Read", Item, AnyItem, AnyTriesItem)
+# The most bytes of a piece of a text.
+_PIECE = 1 << 16
+
+
+class Text(Enum):
+    """What a text is, as messages name it."""
+
+    REPORT = "report of pops"
+    TRIES = "text of pops-tries"
 
 
 @contextmanager
@@ -53,6 +79,52 @@ def opened_unfinished_report(
         with command.opened(unfinished) as rest:
             more = list(_items(companion, unfinished, rest, encoding, read_unfinished_report))
         yield iter(_merged(list(items), more, name, named))
+
+
+@contextmanager
+def opened_tries(
+    companion: str, file: Optional[str], encoding: str, allowed: Allowed
+) -> Iterator[Iterator[AnyTriesItem]]:
+    """The items of a text of tries, as `opened_report` gives those of a report."""
+    read: Callable[[Iterable[bytes]], Iterator[AnyTriesItem]] = read_unfinished_tries
+    if allowed is Allowed.FINISHED:
+        read = read_tries
+    with command.opened(file) as source:
+        name = file or "standard input"
+        yield _items(companion, name, source, encoding, read, text=Text.TRIES)
+
+
+@contextmanager
+def opened_events(
+    companion: str, file: Optional[str], text: Text, allowed: Allowed
+) -> Iterator[Iterator[Event]]:
+    """The events of a text, each as soon as its line has come.
+
+    A text of another form, or an empty one, ends the companion.
+    """
+    reader = ReportReader(allowed) if text is Text.REPORT else TriesReader(allowed)
+    with command.opened(file) as source:
+        yield _events(file or "standard input", source, reader, text)
+
+
+def _events(name: str, source: BinaryIO, reader: ReportReader, text: Text) -> Iterator[Event]:
+    begin = b""
+
+    def pieces() -> Iterator[bytes]:
+        nonlocal begin
+        # (a read gives what has come, and waits only for the first byte)
+        assert isinstance(source, io.BufferedReader)
+        while piece := source.read1(_PIECE):
+            begin = begin or piece
+            yield piece
+
+    try:
+        yield from read_events(reader, pieces())
+    except ReportError as error:
+        first_line = begin.split(b"\n", 1)[0]
+        raise CommandError(Status.FAULTY, _refusal(name, first_line, error, text)) from None
+    if not begin:
+        raise CommandError(Status.FAULTY, f"{name} is empty: no {text.value}")
 
 
 def _merged(
@@ -102,6 +174,7 @@ def _items(
     encoding: str,
     read: Callable[[Iterable[bytes]], Iterator[Read]],
     may_be_empty: bool = False,
+    text: Text = Text.REPORT,
 ) -> Iterator[Read]:
     is_empty = True
     undecodable: list[int] = []
@@ -113,9 +186,9 @@ def _items(
                 undecodable.append(item.number)
             yield item
     except ReportError as error:
-        raise CommandError(Status.FAULTY, _refusal(name, lines.line, error)) from None
+        raise CommandError(Status.FAULTY, _refusal(name, lines.line, error, text)) from None
     if is_empty and not may_be_empty:
-        raise CommandError(Status.FAULTY, f"{name} is empty: no report of pops")
+        raise CommandError(Status.FAULTY, f"{name} is empty: no {text.value}")
     _warn_of_names(companion, name, undecodable, encoding)
 
 
@@ -125,19 +198,20 @@ def warn_of_names(companion: str, name: str, items: Iterable[AnyItem], encoding:
     _warn_of_names(companion, name, undecodable, encoding)
 
 
-def _has_names_in(encoding: str, item: AnyItem) -> bool:
-    texts = filter(None, (item.title, item.author)) if isinstance(item, SoundItem) else ()
-    return all(is_text(text, encoding) for text in texts)
+def _has_names_in(encoding: str, item: Union[AnyItem, AnyTriesItem]) -> bool:
+    if not isinstance(item, (SoundItem, TriesItem)):
+        return True
+    return all(is_text(it, encoding) for it in (item.title, item.author) if it)
 
 
-def _refusal(name: str, first_line: bytes, error: ReportError) -> str:
+def _refusal(name: str, first_line: bytes, error: ReportError, text: Text) -> str:
     if is_input(first_line):
         solved = name if os.path.isfile(name) else "FILE"
         return (
             f"{name} is an input of pops, no report: solve it first, as in `pops {solved} > REPORT`,"
             " or give it to pops-judge"
         )
-    return f"{name} is no report of pops: {error}"
+    return f"{name} is no {text.value}: {error}"
 
 
 def _warn_of_names(companion: str, name: str, undecodable: list[int], encoding: str) -> None:

@@ -1,46 +1,116 @@
-"""A report's items as JSON objects; item.schema.json states their schema."""
+"""What reports and texts of tries say as JSON objects; *.schema.json state their schemas."""
 
+import json
+import re
+from enum import Enum
 from pathlib import Path
 from typing import Any, Optional, Union
 
 from pops_companions.chess.stipulation import Stipulation
 from pops_companions.input.given import GivenProblem
-from pops_companions.report.items import Board, FaultyItem, HelpLine, Item, Node, Phase, SoundItem
+from pops_companions.report.events import (
+    CheckedEvent,
+    EndEvent,
+    Event,
+    FaultEvent,
+    FirstMoveEvent,
+    HeadEvent,
+    LineEvent,
+    MenaceEvent,
+    NodeEvent,
+    NotPossibleEvent,
+    NoTriesEvent,
+    PhaseEvent,
+    ProblemEvent,
+    RefutationEvent,
+    TotalEvent,
+    TriesEvent,
+    TriesTotalEvent,
+)
+from pops_companions.report.items import (
+    AnyItem,
+    Board,
+    Fault,
+    FaultyItem,
+    HeadlessItem,
+    HelpLine,
+    Node,
+    Phase,
+    SoundItem,
+)
 from pops_companions.report.moves import PlayedMove
+from pops_companions.report.tries import AnyTriesItem, FirstMove, TriesItem
 from pops_companions.show.titles import shown
 
 Json = dict[str, Any]
+_REFERENCE = re.compile(r'"#/\$defs/(\w+)"')
 
 
-def schema() -> str:
-    """Returns the schema of an item's object, as JSON Schema."""
-    return Path(__file__).with_name("item.schema.json").read_text("utf-8")
+class Form(Enum):
+    """What an object is of; its value is the name of its schema."""
+
+    ITEM = "item"
+    TRIES = "tries"
+    EVENT = "event"
 
 
-def item_object(item: Item, encoding: str, given: Optional[GivenProblem] = None) -> Json:
+def schema(form: Form) -> Json:
+    """Returns the JSON Schema of an object, with all that it refers to."""
+    made = _stored(form)
+    shared = {**_stored(Form.ITEM)["$defs"], **_stored(Form.TRIES)["$defs"]}
+    own: Json = made["$defs"]
+    while lacking := set(_REFERENCE.findall(json.dumps(made))) - set(own):
+        own.update((name, shared[name]) for name in sorted(lacking))
+    return made
+
+
+def _stored(form: Form) -> Json:
+    path = Path(__file__).with_name(f"{form.value}.schema.json")
+    stored: Json = json.loads(path.read_text("utf-8"))
+    return stored
+
+
+def item_object(
+    item: Union[AnyItem, AnyTriesItem], encoding: str, given: Optional[GivenProblem] = None
+) -> Json:
     """Returns the object of an item; title, author and origin that aren't in the encoding are
     Latin-1.
 
-    With the problem of the input it also has its origin, and if it is faulty title and author.
+    With the problem of the input it also has its origin, and if it has no head title and author.
     """
+    names = {} if given is None else _names(given, given, encoding)
     if isinstance(item, FaultyItem):
-        fault = item.fault
-        fields = {"line": fault.line, "number": fault.number, "text": fault.text}
-        names = {} if given is None else _names(given, given, encoding)
-        return {"number": item.number, "sound": False, **names, "fault": fields}
+        return {"number": item.number, "sound": False, **names, "fault": _fault(item.fault)}
+    if isinstance(item, HeadlessItem):
+        return {"number": item.number, **names, "unfinished": item.unfinished}
+    solutions = {"phases": _phases(item)} if isinstance(item, SoundItem) else _tries(item)
+    ending = {} if item.unfinished is None else {"unfinished": item.unfinished}
     return {
         "number": item.number,
         "sound": True,
         **_names(item, given, encoding),
-        "board": None if item.board is None else _board(item.board),
-        "stipulation": _stipulation(item.stipulation),
-        "condition": None if item.condition is None else item.condition.value,
-        "phases": None if item.phases is None else _phases(item),
+        **_head(item),
+        **solutions,
+        **ending,
+    }
+
+
+def _fault(fault: Fault) -> Json:
+    return {"line": fault.line, "number": fault.number, "text": fault.text}
+
+
+def _head(source: Union[SoundItem, TriesItem, HeadEvent]) -> Json:
+    return {
+        "board": None if source.board is None else _board(source.board),
+        "stipulation": _stipulation(source.stipulation),
+        "condition": None if source.condition is None else source.condition.value,
     }
 
 
 def _names(
-    source: Union[SoundItem, GivenProblem], given: Optional[GivenProblem], encoding: str
+    source: Union[SoundItem, TriesItem, HeadEvent, GivenProblem],
+    given: Optional[GivenProblem],
+    encoding: str,
 ) -> Json:
     names = {"title": _text(source.title, encoding), "author": _text(source.author, encoding)}
     if given is not None:
@@ -70,19 +140,40 @@ def _stipulation(stipulation: Stipulation) -> Json:
     }
 
 
-def _phases(item: SoundItem) -> list[Json]:
-    return [_phase(phase) for phase in item.phases or ()]
+def _phases(item: SoundItem) -> Optional[list[Json]]:
+    return None if item.phases is None else [_phase(phase) for phase in item.phases]
 
 
 def _phase(phase: Phase) -> Json:
-    if phase.total is None:
+    if not phase.is_possible:
         return {"phase": phase.kind.value, "possible": False}
     return {
         "phase": phase.kind.value,
         "possible": True,
-        "count": phase.total.count,
-        "stopped": phase.total.stopped,
+        "count": None if phase.total is None else phase.total.count,
+        "stopped": phase.total is not None and phase.total.stopped,
         "solutions": [_solution(solution) for solution in phase.solutions],
+    }
+
+
+def _tries(item: TriesItem) -> Json:
+    return {
+        "set": None if item.set_play is None else _phase(item.set_play),
+        "keys": [_first_move(one) for one in item.keys],
+        "count": None if item.total is None else item.total.count,
+        "stopped": item.total is not None and item.total.stopped,
+        "tries": [_first_move(one) for one in item.tries],
+    }
+
+
+def _first_move(first: FirstMove) -> Json:
+    return {
+        "text": first.text,
+        "move": _move(first.move),
+        "menace": None if first.menace is None else first.menace.value,
+        "threats": [_solution(node) for node in first.threats],
+        "defences": [_solution(node) for node in first.defences],
+        "refutations": [_solution(node) for node in first.refutations],
     }
 
 
@@ -115,3 +206,62 @@ def _move(move: PlayedMove) -> Json:
         },
         "mark": None if move.mark is None else move.mark.name.lower(),
     }
+
+
+def event_object(event: Event, encoding: str) -> Json:
+    """Returns the object of an event."""
+    name = _EVENT_NAMES[type(event)]
+    return {"event": name, "problem": event.problem, **_said(event, encoding)}
+
+
+_EVENT_NAMES: dict[type[Event], str] = {
+    ProblemEvent: "problem",
+    FaultEvent: "fault",
+    HeadEvent: "head",
+    CheckedEvent: "checked",
+    PhaseEvent: "phase",
+    NotPossibleEvent: "not_possible",
+    LineEvent: "line",
+    NodeEvent: "node",
+    TotalEvent: "total",
+    NoTriesEvent: "no_tries",
+    FirstMoveEvent: "first_move",
+    MenaceEvent: "menace",
+    RefutationEvent: "refutation",
+    TriesEvent: "tries",
+    TriesTotalEvent: "tries_total",
+    EndEvent: "end",
+}
+
+
+def _said(event: Event, encoding: str) -> Json:
+    if isinstance(event, FaultEvent):
+        return {"fault": _fault(event.fault)}
+    if isinstance(event, HeadEvent):
+        return {**_names(event, None, encoding), **_head(event)}
+    if isinstance(event, MenaceEvent):
+        return {"menace": event.menace.value}
+    if isinstance(event, TriesTotalEvent):
+        return {"count": event.count}
+    if isinstance(event, EndEvent):
+        return {"unfinished": event.unfinished}
+    if isinstance(event, FirstMoveEvent):
+        return {"kind": event.kind.name.lower(), "text": event.text, "move": _move(event.move)}
+    if isinstance(event, RefutationEvent):
+        return {"text": event.text, "move": _move(event.move)}
+    if isinstance(event, (PhaseEvent, NotPossibleEvent, LineEvent, NodeEvent, TotalEvent)):
+        return {"phase": event.phase.value, **_said_of_phase(event)}
+    return {}
+
+
+def _said_of_phase(
+    event: Union[PhaseEvent, NotPossibleEvent, LineEvent, NodeEvent, TotalEvent],
+) -> Json:
+    if isinstance(event, LineEvent):
+        return _solution(event.line)
+    if isinstance(event, NodeEvent):
+        shown_move = {"text": event.text, "move": _move(event.move)}
+        return {"place": event.place.value, "level": event.level, **shown_move}
+    if isinstance(event, TotalEvent):
+        return {"count": event.total.count, "stopped": event.total.stopped}
+    return {}
