@@ -48,7 +48,8 @@ class ChildProcess:
         watched, self._held = os.pipe()
         try:
             self.run = subprocess.Popen(
-                words,
+                [_plain(words[0]), *words[1:]],
+                executable=words[0],
                 stdin=source,
                 stdout=subprocess.PIPE,
                 stderr=errors,
@@ -131,6 +132,11 @@ class ChildProcess:
     def release(self) -> None:
         """Closes the pipe, once the program has ended."""
         os.close(self._held)
+
+
+def _plain(path: str) -> str:
+    """Returns the name by which a program is called: pops refuses one that isn't UTF-8."""
+    return os.path.basename(path).encode("utf-8", "replace").decode("utf-8")
 
 
 def outcome_of(
