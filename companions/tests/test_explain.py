@@ -1,6 +1,7 @@
 """Explanations of faults: three hundred slips with what has to be said of each."""
 
 import io
+import json
 import random
 import re
 import tempfile
@@ -268,6 +269,45 @@ class Command(unittest.TestCase):
             outcome = command(word)
             self.assertEqual((outcome.status, outcome.error), (0, ""))
             self.assertIn(b"pops-explain", outcome.output)
+
+
+class Json(unittest.TestCase):
+    TEXT = (
+        b"BeginProblem\nPieces White Kg6 Da1 Black Kg8\nStipulation #1\nNextProblem\n"
+        b"Pieces White Kg6 Na1 Black Kg8\nStipulation #1\nEndProblem\n"
+    )
+
+    def test_an_object_for_each(self) -> None:
+        outcome = support.companion("pops-explain", "--json", "--pops", support.pops(), text=self.TEXT)
+        self.assertEqual((outcome.status, outcome.error), (1, ""))
+        fault, notice = map(json.loads, outcome.output.splitlines())
+        cause = fault.pop("cause")
+        self.assertIn("It is the queen in German", cause)
+        self.assertEqual(
+            fault,
+            {
+                "file": "standard input",
+                "line": 2,
+                "column": 18,
+                "length": 3,
+                "problem": 1,
+                "fault": {"number": 2, "text": "unknown or misplaced word"},
+                "fix": {"line": 2, "column": 18, "length": 3, "text": "Qa1"},
+                "related": [],
+            },
+        )
+        self.assertEqual((notice["line"], notice["problem"], notice["fault"]), (5, 2, None))
+
+    def test_statuses(self) -> None:
+        sound = (support.REPOSITORY / "examples/mate_in_one.pop").read_bytes()
+        outcome = support.companion("pops-explain", "--json", "--pops", support.pops(), text=sound)
+        self.assertEqual(outcome, (0, b"", ""))
+        with tempfile.TemporaryDirectory() as room:
+            text, report = Path(room) / "a.pop", Path(room) / "a.report"
+            text.write_bytes(sound)
+            report.write_bytes(b"problem 1\nline 2: fault 5: square given twice\n\n")
+            outcome = support.companion("pops-explain", "--json", str(text), str(report))
+        self.assertEqual((outcome.status, outcome.output), (1, b""))
 
 
 if __name__ == "__main__":

@@ -7,6 +7,7 @@ The made files of data/import have the wanted output (.pop) and the wanted lines
 import contextlib
 import importlib.util
 import io
+import json
 import random
 import re
 import signal
@@ -466,7 +467,6 @@ class Yaml(unittest.TestCase):
             ("a: 'b", 1),
             ('a: "b', 1),
             ('a: "b" c', 1),
-            (r'a: "\q"', 1),
             (r'a: "\uD8zz"', 1),
             (r'a: "\uD83D"', 1),
             ("a: b: c", 1),
@@ -626,6 +626,72 @@ class NewUser(unittest.TestCase):
             self.assertEqual((run.returncode, error), (6, b"pops-import: stopped\n"))
             self.assertEqual(list(Path(room).iterdir()), [target])
             self.assertEqual(target.read_text(), "what stood there")
+
+
+YACPDB = b"""{"result": {"entries": [
+{"id": 12, "algebraic": {"white": ["Kg6", "Ra1"], "black": ["Kg8"]}, "stipulation": "#1",
+ "options": ["Circe", "SetPlay"]},
+{"id": 13, "algebraic": {"white": ["Kg6", "Ra1"], "black": ["Kh8"]}, "stipulation": "h#1",
+ "twins": {"b": "Move a1 b2", "c": "Condition Koeko"}},
+{"id": 14, "algebraic": {"white": ["Kg6", "Xa1"], "black": ["Kg8"]}, "stipulation": "#1"}
+], "count": 3}}
+"""
+
+
+@support.needs_module("yaml")
+class Databases(unittest.TestCase):
+    """What a database needs: its JSON is read, results reach its ids, messages are data."""
+
+    def test_json_of_yacpdb(self) -> None:
+        made = imported_text(YACPDB)
+        self.assertEqual(made.status, 1)
+        first, second, third = made.output.split(b"NextProblem\n")
+        self.assertIn(b"Pieces White Kg6 Ra1 Black Kg8\nStipulation #1\n", first)
+        self.assertIn(b"Condition Circe\nOption SetPlay\n", first)
+        self.assertIn(b"Pieces White Kg6 Ra1 Black Kh8\n", second)
+        self.assertIn(b"Pieces White Kg6 Rb2 Black Kh8\n", third)
+
+    def test_index(self) -> None:
+        with tempfile.TemporaryDirectory() as room:
+            table = Path(room) / "index"
+            source = Path(room) / "a\tb"
+            source.write_bytes(YACPDB)
+            imported("--index", str(table), str(source))
+            name = f"{room}/a\\tb"
+            self.assertEqual(
+                table.read_text("utf-8"),
+                "problem\tfile\tentry\tline\ttwin\tid\n"
+                f"1\t{name}\t1\t2\t\t12\n"
+                f"2\t{name}\t2\t4\ta)\t13\n"
+                f"3\t{name}\t2\t4\tb)\t13\n"
+                f"\t{name}\t2\t4\tc)\t13\n"
+                f"\t{name}\t3\t6\t\t14\n",
+            )
+
+    def test_messages_as_json(self) -> None:
+        outcome = support.companion("pops-import", "--json", text=YACPDB)
+        twin, man = map(json.loads, outcome.error.splitlines())
+        self.assertEqual(
+            twin,
+            {
+                "file": "standard input",
+                "line": 5,
+                "column": 2,
+                "length": 54,
+                "problem": 2,
+                "twin": "c)",
+                "kind": "left out",
+                "reason": "left out: pops knows no condition Koeko",
+            },
+        )
+        self.assertEqual((man["problem"], man["twin"], man["kind"]), (3, None, "left out"))
+        outcome = support.companion("pops-import", "--json", text=b"")
+        self.assertEqual(json.loads(outcome.error)["kind"], "unreadable")
+
+    def test_unknown_escapes_stand_as_they_are(self) -> None:
+        (document,) = documents(r'''{a: "\Diagram \"q\" \\D \u0041\x42 \
+            next", b: '\D'}''')
+        self.assertEqual(document.node(), {"a": r'''\Diagram "q" \D AB next''', "b": r"\D"})
 
 
 if __name__ == "__main__":

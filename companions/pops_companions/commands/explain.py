@@ -2,6 +2,7 @@
 
 import argparse
 import io
+import json
 import sys
 from collections.abc import Iterator
 from pathlib import Path
@@ -10,6 +11,7 @@ from typing import BinaryIO, NoReturn, Optional
 from pops.engine import Engine
 from pops_companions import command
 from pops_companions.command import CommandError, Status
+from pops_companions.explain.diagnostics import diagnostic_object, diagnostics
 from pops_companions.explain.explaining import ExplainedFault, OtherText, explain
 from pops_companions.explain.mending import further_faults, mend
 from pops_companions.explain.notices import notices
@@ -30,6 +32,7 @@ class Settings(argparse.Namespace):
     output: Optional[str]
     all: bool
     fix: bool
+    json: bool
     pops: Optional[str]
 
 
@@ -41,6 +44,7 @@ def arguments(words: list[str]) -> Settings:
         "Without INPUT, or for -, it reads standard input.",
         epilog="examples: pops-explain problems.pop\n"
         "          pops-explain --all --fix problems.pop\n"
+        "          pops-explain --json problems.pop\n"
         "          pops problems.pop | pops-explain problems.pop -\n"
         "exit status: 0 if no problem is faulty, 1 if one is.",
     )
@@ -58,6 +62,12 @@ def arguments(words: list[str]) -> Settings:
         action="store_true",
         help="write NAME.fixed.pop next to INPUT NAME.pop, with what the explanations say to write;"
         " check it: the causes are guesses",
+    )
+    add(
+        "--json",
+        action="store_true",
+        help="write a JSON object for each fault and for what may not be meant: file, line, column,"
+        " length, problem, fault, cause, fix",
     )
     add("--pops", metavar="PROGRAM", help=LOOKED_FOR)
     settings = parser.parse_args(words, Settings())
@@ -122,6 +132,19 @@ def write(name: str, text: bytes, report: BinaryIO, target: BinaryIO, every: boo
     return Status.FAULTY if faulty else Status.GOOD
 
 
+def write_json(name: str, text: bytes, report: bytes, target: BinaryIO, every: bool) -> Status:
+    """Writes an object for each diagnostic, a line each."""
+    items = list(read_report([report]))
+    if not items:
+        raise OtherText("it is empty")
+    status = Status.GOOD
+    for found in diagnostics(text, items, every):
+        status = Status.FAULTY if found.fault is not None else status
+        line = json.dumps(diagnostic_object(name, found), ensure_ascii=False) + "\n"
+        target.write(line.encode("utf-8", "replace"))
+    return status
+
+
 def fix(file: str, text: bytes) -> str:
     """Writes the corrected text next to its file; returns what there is to say of it."""
     made = mend(text)
@@ -145,7 +168,10 @@ def main(words: list[str]) -> Status:
         report = read(settings.report)
     try:
         with command.written(settings.output) as target:
-            status = write(name, text, io.BytesIO(report), target, settings.all)
+            if settings.json:
+                status = write_json(name, text, report, target, settings.all)
+            else:
+                status = write(name, text, io.BytesIO(report), target, settings.all)
     except (ReportError, OtherText) as error:
         source = "what pops said" if settings.report is None else name_of(settings.report)
         raise CommandError(Status.FAULTY, f"{source} is no report of {name}: {error}") from None

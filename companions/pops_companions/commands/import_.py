@@ -1,9 +1,11 @@
 """Turns inputs of Popeye and collections in YAML into input of pops."""
 
 import argparse
+import json
 import sys
 from collections.abc import Iterable, Sequence
-from typing import NoReturn, Optional
+from enum import Enum
+from typing import NamedTuple, NoReturn, Optional
 
 from pops_companions import command
 from pops_companions.command import Status
@@ -13,6 +15,7 @@ from pops_companions.import_.sources import read_drafts
 from pops_companions.import_.words import Message, Unreadable
 from pops_companions.input.writing import text_of_problems
 from pops_companions.show.titles import other_lines, text_of
+from pops_companions.tables import row_of
 
 NAME = "pops-import"
 
@@ -22,6 +25,8 @@ class Settings(argparse.Namespace):
 
     files: list[str]
     output: Optional[str]
+    index: Optional[str]
+    json: bool
     encoding: str
 
     @property
@@ -31,50 +36,139 @@ class Settings(argparse.Namespace):
         return inputs or [None]
 
 
+class Kind(Enum):
+    """What a message is about; its value is the word in JSON."""
+
+    NOTE = "note"
+    LEFT_OUT = "left out"
+    UNREADABLE = "unreadable"
+
+
+class Told(NamedTuple):
+    """A message about a place of a file. `problem` is None for one about the whole file."""
+
+    file: str
+    line: int
+    problem: Optional[int]
+    twin: str
+    kind: Kind
+    reason: str
+
+    @property
+    def text(self) -> str:
+        """The message as a line."""
+        if self.problem is None:
+            return f"{self.file}, line {self.line}: {self.reason}"
+        twin = f" {self.twin}" if self.twin else ""
+        return f"{self.file}, line {self.line}, problem {self.problem}{twin}: {self.reason}"
+
+    def json(self, row: str) -> str:
+        """The message as a JSON object; the column and the length are those of its line's text."""
+        text = row.strip()
+        place = {
+            "file": self.file,
+            "line": self.line,
+            "column": 1 + row.index(text),
+            "length": len(text),
+            "problem": self.problem,
+            "twin": self.twin or None,
+        }
+        more = {"kind": self.kind.value, "reason": self.reason}
+        return json.dumps({**place, **more}, ensure_ascii=False)
+
+
+class Entry(NamedTuple):
+    """A problem of a collection, or a twin of it, and the problem that it became, if it did."""
+
+    problem: Optional[int]
+    file: str
+    draft: Draft
+    twin: str
+
+    @property
+    def row(self) -> str:
+        """Its line in the index."""
+        problem = "" if self.problem is None else self.problem
+        draft = self.draft
+        return row_of((problem, self.file, draft.number, draft.line, self.twin, draft.key))
+
+
+COLUMNS = ("problem", "file", "entry", "line", "twin", "id")
+
+
 class Import:
     """The problems made so far, and whether one had to be left out."""
 
-    def __init__(self) -> None:
+    def __init__(self, as_json: bool) -> None:
         self.problems: list[list[str]] = []
+        self.entries: list[Entry] = []
         self.is_whole = True
+        self._as_json = as_json
+        self._rows: list[str] = []
 
     def read(self, file: Optional[str], encoding: str) -> None:
         """Converts the problems of a file, or of standard input, and reports what is left out."""
         name = file or "standard input"
         with command.opened(file) as source:
             data = source.read()
+        self._rows = []
         try:
-            drafts = read_drafts(decoded(name, data, encoding))
+            text = decoded(data, encoding)
+            self._rows = text.replace("\r\n", "\n").split("\n")
+            self._say_of_other_lines(name, data, encoding)
+            drafts = read_drafts(text)
         except UnicodeDecodeError as error:
             line = data.count(b"\n", 0, error.start) + 1
-            self._leave_out(f"{name}, line {line}: not in {encoding}: give --encoding, as utf-16")
+            why = f"not in {encoding}: give --encoding, as utf-16"
+            self._say(Told(name, line, None, "", Kind.UNREADABLE, why))
             return
         except Unreadable as error:
-            self._leave_out(f"{name}, line {error.message.line}: {error}")
+            line = error.message.line
+            self._say(Told(name, line, None, "", Kind.UNREADABLE, str(error)))
             return
         for draft in drafts:
             self._make(name, draft)
 
-    def _leave_out(self, text: str) -> None:
-        self.is_whole = False
-        say(text)
+    def _say_of_other_lines(self, name: str, data: bytes, encoding: str) -> None:
+        try:
+            data.decode(encoding)
+        except UnicodeDecodeError as error:
+            text = other_lines(name, data, encoding)
+            if not self._as_json:
+                say(text)
+                return
+            line = data.count(b"\n", 0, error.start) + 1
+            self._say(Told(name, line, None, "", Kind.NOTE, text))
+
+    def _say(self, told: Told) -> None:
+        self.is_whole = self.is_whole and told.kind is Kind.NOTE
+        if self._as_json:
+            row = self._rows[told.line - 1] if 1 <= told.line <= len(self._rows) else ""
+            print(told.json(row), file=sys.stderr)
+        else:
+            say(told.text)
 
     def _make(self, name: str, draft: Draft) -> None:
-        problem = f"problem {draft.number}"
-        tell(name, problem, draft.notes)
+        self._tell(name, draft, "", draft.notes)
         for one in posed(draft):
-            shown = f"{problem} {one.label}".rstrip()
-            tell(name, shown, one.notes)
+            self._tell(name, draft, one.label, one.notes)
             if one.faults:
-                why = "; ".join(fault.text for fault in one.faults)
                 what = "left out with its twins" if draft.faults and draft.twins else "left out"
-                self._leave_out(f"{name}, line {one.faults[0].line}, {shown}: {what}: {why}")
+                why = f"{what}: {'; '.join(fault.text for fault in one.faults)}"
+                line = one.faults[0].line
+                self._say(Told(name, line, draft.number, one.label, Kind.LEFT_OUT, why))
             else:
                 self.problems.append(one.lines)
+            made = None if one.faults else len(self.problems)
+            self.entries.append(Entry(made, name, draft, one.label))
+
+    def _tell(self, name: str, draft: Draft, twin: str, notes: Iterable[Message]) -> None:
+        for line, text in notes:
+            self._say(Told(name, line, draft.number, twin, Kind.NOTE, text))
 
 
-def decoded(name: str, data: bytes, encoding: str) -> str:
-    """Returns a file as text. Lines that aren't in the encoding are read as Latin-1, and reported.
+def decoded(data: bytes, encoding: str) -> str:
+    """Returns a file as text. Lines that aren't in the encoding are read as Latin-1.
 
     UnicodeDecodeError for a file with zero bytes, which is in neither of them.
     """
@@ -83,17 +177,11 @@ def decoded(name: str, data: bytes, encoding: str) -> str:
     except UnicodeDecodeError:
         if b"\0" in data:
             raise
-    say(other_lines(name, data, encoding))
     return text_of(data, encoding)
 
 
 def say(text: str) -> None:
     print(f"{NAME}: {text}", file=sys.stderr)
-
-
-def tell(name: str, problem: str, notes: Iterable[Message]) -> None:
-    for line, text in notes:
-        say(f"{name}, line {line}, {problem}: {text}")
 
 
 def main(words: list[str]) -> Status:
@@ -112,15 +200,31 @@ def main(words: list[str]) -> Status:
     parser.add_argument(
         "-o", "--output", metavar="FILE", help="the input of pops (default: standard output)"
     )
+    parser.add_argument(
+        "--index",
+        metavar="TABLE",
+        help="a table of which entry of which FILE became which problem: number of the problem,"
+        " file, number of the entry, its line, twin, id in the database",
+    )
+    parser.add_argument(
+        "--json",
+        action="store_true",
+        help="messages on standard error as JSON objects, a line each: file, line, column, length,"
+        " problem, twin, kind, reason",
+    )
     command.add_encoding(parser)
     settings = parser.parse_args(words, Settings())
-    made = Import()
+    made = Import(settings.json)
     for file in settings.inputs:
         made.read(file, settings.encoding)
     if made.problems:
         text = text_of_problems(made.problems).encode("utf-8", "replace")
         with command.written(settings.output) as target:
             target.write(text)
+    if settings.index is not None:
+        with command.written(settings.index) as target:
+            rows = [row_of(COLUMNS), *(entry.row for entry in made.entries)]
+            target.write("".join(rows).encode("utf-8", "surrogateescape"))
     return Status.GOOD if made.is_whole else Status.FAULTY
 
 

@@ -4,7 +4,7 @@ from bisect import bisect_right
 from collections.abc import Iterable, Iterator
 from dataclasses import dataclass
 from itertools import accumulate
-from typing import Optional
+from typing import Any, Optional
 
 from pops_companions.explain.explaining import ExplainedFault, explain
 from pops_companions.explain.mending import edit_for, further_faults, read_number
@@ -58,6 +58,28 @@ class Diagnostic:
     @property
     def length(self) -> int:
         return self.ranges[0].length
+
+
+def diagnostic_object(file: str, found: Diagnostic) -> dict[str, Any]:
+    """Returns a diagnostic of a file as a JSON object."""
+    fault = found.fault
+    return {
+        "file": file,
+        **_range_object(found.ranges[0]),
+        "problem": found.problem,
+        "fault": None if fault is None else {"number": fault.number, "text": fault.text},
+        "cause": found.cause,
+        "fix": None if found.fix is None else _fix_object(found.fix),
+        "related": [_range_object(it) for it in found.ranges[1:]],
+    }
+
+
+def _range_object(range_: Range) -> dict[str, int]:
+    return {"line": range_.line, "column": range_.column, "length": range_.length}
+
+
+def _fix_object(fix: Fix) -> dict[str, Any]:
+    return {**_range_object(fix.range), "text": fix.text}
 
 
 class _Positions:

@@ -67,7 +67,7 @@ class Draft:
     """A problem with all its twins. Notes say what is left out of it, faults why it can't be posed.
 
     Without `first` the setting is there for the twins alone. `wanted` is the number of solutions
-    that the problem should have.
+    that the problem should have, `key` by which the source's database knows it.
     """
 
     number: int
@@ -76,6 +76,7 @@ class Draft:
     setting: Setting = field(default_factory=Setting)
     first: bool = True
     wanted: Optional[int] = None
+    key: str = ""
     options: Options = field(default_factory=Options)
     twins: list[Twin] = field(default_factory=list)
     notes: list[Message] = field(default_factory=list)

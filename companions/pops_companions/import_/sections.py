@@ -54,6 +54,12 @@ def _is_command(word: Word, words: Words) -> bool:
     return meaning(word.key, words.language.commands) is not None
 
 
+def is_condition(text: str) -> bool:
+    """Returns whether a word is a condition that pops knows, or short for one."""
+    key = text.lower()
+    return len(key) >= _LEAST_LETTERS and meaning(key, _CONDITIONS) is not None
+
+
 def take_conditions(words: Words, before: tuple[str, ...] = ()) -> tuple[str, ...]:
     """Returns the words up to the first command, or to the next change of a twin, added to those
     before.

@@ -7,8 +7,9 @@ from pops_companions.import_.popeye import begins, read_popeye
 from pops_companions.import_.words import Unreadable
 from pops_companions.import_.yaml_problems import read_yaml
 
-# A line with which collections in YAML begin: a document's mark, a directive or a key.
-_YAML = re.compile(r"(?:\s*#.*\n|\s*\n)*(?:---(?:\s|$)|%YAML|(?:- )?[A-Za-z-]+:(?:\s|$))")
+# A line with which collections in YAML begin: a document's mark, a directive, a key, or what begins
+# in JSON, which is YAML too.
+_YAML = re.compile(r"(?:\s*#.*\n|\s*\n)*(?:---(?:\s|$)|%YAML|(?:- )?[A-Za-z-]+:(?:\s|$)|\s*[\[{])")
 
 
 def read_drafts(text: str) -> list[Draft]:

@@ -8,7 +8,7 @@ from pops_companions.import_.men import read_men
 from pops_companions.import_.options import read_options
 from pops_companions.import_.origins import origin_of
 from pops_companions.import_.popeye import place
-from pops_companions.import_.sections import take_conditions, wanted_of
+from pops_companions.import_.sections import is_condition, take_conditions, wanted_of
 from pops_companions.import_.twins import read_twin
 from pops_companions.import_.words import Message, TextLine, Unreadable, Words
 from pops_companions.import_.yaml_text import Node, Scalar, YamlError, documents, line_of
@@ -29,7 +29,7 @@ def read_yaml(text: str) -> list[Draft]:
             drafts.append(Draft(len(drafts) + 1, document.line))
             drafts[-1].faults.append(Message(error.line, f"this isn't read as YAML: {error}"))
             continue
-        for problem in node if isinstance(node, list) else [node]:
+        for problem in _problems_in(node):
             draft = Draft(len(drafts) + 1, document.line)
             drafts.append(draft)
             if isinstance(problem, dict):
@@ -41,6 +41,18 @@ def read_yaml(text: str) -> list[Draft]:
                 line = problem.line if isinstance(problem, Scalar) else draft.line
                 draft.faults.append(Message(line, "there are no keys of a problem"))
     return drafts
+
+
+def _problems_in(node: Node) -> list[Node]:
+    """Returns the problems of a document: those of a list, also one below `entries` as YACPDB's JSON
+    has it, or the document itself.
+    """
+    while isinstance(node, dict):
+        below = node.get("entries", node.get("result"))
+        if not isinstance(below, (list, dict)):
+            return [node]
+        node = below
+    return node if isinstance(node, list) else [node]
 
 
 def _read_key(key: str, value: Node, draft: Draft) -> None:
@@ -57,12 +69,18 @@ def _read_key(key: str, value: Node, draft: Draft) -> None:
         "twins": _read_twins,
         "intended-solutions": _read_wanted,
         "comments": _read_comments,
+        "id": _read_key_of_database,
     }
     reader = readers.get(key.lower(), _read_other)
     try:
         reader(key, value, draft)
     except Unreadable as error:
         draft.faults.append(error.message)
+
+
+def _read_key_of_database(key: str, value: Node, draft: Draft) -> None:
+    draft.key = draft.key or _one_line(value, " ")
+    _read_other(key, value, draft)
 
 
 def _read_later(_: str, __: Node, ___: Draft) -> None:
@@ -199,9 +217,13 @@ def _read_conditions(_: str, value: Node, draft: Draft) -> None:
         _words_of(text, read, draft)
 
 
-def _read_options(_: str, value: Node, draft: Draft) -> None:
+def _read_options(key: str, value: Node, draft: Draft) -> None:
+    """Options; a condition among them, as YACPDB has it, is a condition."""
     for text in _texts(value):
-        _words_of(text, lambda words: read_options(words, draft), draft)
+        if is_condition(text):
+            _read_conditions(key, text, draft)
+        else:
+            _words_of(text, lambda words: read_options(words, draft), draft)
 
 
 def _read_twins(key: str, value: Node, draft: Draft) -> None:

@@ -26,6 +26,11 @@ _MEANINGS = (
     (r"expected ',' or '(.)', .*", r"a comma or \1 is missing"),
     (r"expected <block end>, .*", "this line belongs to nothing above it"),
 )
+# A text in double quotes, and an escape in it.
+_IN_QUOTES = re.compile(r'"(?:[^"\\]|\\.)*"', re.S)
+_ESCAPE = re.compile(r"\\(.)", re.S)
+# The characters that begin escapes of YAML.
+_ESCAPES = '0abt\tnvfre "/\\N_LP\nxuU'
 _NOTHING = ("", "~", "null", "Null", "NULL")
 # A collection has five levels or fewer.
 _MOST_LEVELS = 40
@@ -99,8 +104,30 @@ def _pyyaml() -> Any:
         ) from None
 
 
+def _with_known_escapes(text: str) -> str:
+    r"""Doubles the backslashes in quotes that begin no escape of YAML, as in `"\Diagram"`."""
+
+    def read(escape: "re.Match[str]") -> str:
+        return escape[0] if escape[1] in _ESCAPES else f"\\{escape[0]}"
+
+    return _IN_QUOTES.sub(lambda quoted: _ESCAPE.sub(read, quoted[0]), text)
+
+
 def _events(text: str, first: int) -> list[Any]:
-    """Returns the events of a document whose first line has this number."""
+    """Returns the events of a document whose first line has this number.
+
+    An unknown escape is read as it stands.
+    """
+    try:
+        return _parsed(text, first)
+    except YamlError:
+        mended = _with_known_escapes(text)
+        if mended == text:
+            raise
+        return _parsed(mended, first)
+
+
+def _parsed(text: str, first: int) -> list[Any]:
     yaml = _pyyaml()
     if yaml.__with_libyaml__:
         try:

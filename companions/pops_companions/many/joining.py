@@ -8,6 +8,7 @@ from pops_companions.many.journal import Journal
 from pops_companions.many.targets import Target
 from pops_companions.many.tasks import Task
 from pops_companions.report import lines
+from pops_companions.tables import row_of
 
 _COLUMNS = ("start", "bytes", "status", "problem", "line", "file")
 
@@ -124,17 +125,12 @@ def write_index(target: Target, tasks: Sequence[Task], journal: Journal) -> None
     """Writes a table of the items of a report on all tasks: their places and their sources."""
     start = 0
     with target.opened() as file:
-        file.write("\t".join(_COLUMNS).encode("ascii") + b"\n")
+        file.write(row_of(_COLUMNS).encode("ascii"))
         for task in tasks:
             if not journal.is_finished(task.place):
                 continue
             kept = journal.kept[task.place]
             number, line = ("", "") if task.piece is None else (task.piece.number, task.piece.line)
-            row = (start, kept.length, kept.status, number, line, _escaped(task.source.shown))
-            file.write(os.fsencode("\t".join(map(str, row)) + "\n"))
+            row = (start, kept.length, kept.status, number, line, task.source.shown)
+            file.write(os.fsencode(row_of(row)))
             start += kept.length
-
-
-def _escaped(name: str) -> str:
-    """Returns a file's name without tabs and line ends."""
-    return name.replace("\\", "\\\\").replace("\t", "\\t").replace("\n", "\\n")
