@@ -197,11 +197,21 @@ def _is_of_lines(encoding: str) -> bool:
     return is_ascii
 
 
-def add_encoding(parser: argparse.ArgumentParser) -> None:
-    """Adds the option for the encoding of titles and authors."""
+def is_of_text(encoding: str) -> bool:
+    """Returns whether an encoding is one of whole texts, as UTF-16 is too."""
+    try:
+        return "a\n".encode(encoding).decode(encoding) == "a\n"
+    except (LookupError, ValueError, TypeError, OSError):
+        return False
+
+
+def add_encoding(
+    parser: argparse.ArgumentParser, fits: Callable[[str], bool] = _is_of_lines
+) -> None:
+    """Adds the option for the encoding of titles and authors, which has to fit."""
 
     def encoding(name: str) -> str:
-        if not _is_of_lines(name):
+        if not fits(name):
             raise argparse.ArgumentTypeError(f"no encoding of lines of text is called {name}")
         return name
 

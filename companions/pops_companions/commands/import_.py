@@ -212,7 +212,7 @@ def main(words: list[str]) -> Status:
         help="messages on standard error as JSON objects, a line each: file, line, column, length,"
         " problem, twin, kind, reason",
     )
-    command.add_encoding(parser)
+    command.add_encoding(parser, command.is_of_text)
     settings = parser.parse_args(words, Settings())
     made = Import(settings.json)
     for file in settings.inputs:
