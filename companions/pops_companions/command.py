@@ -1,6 +1,7 @@
 """What all companions share as commands: input and output, messages, exit status."""
 
 import argparse
+import gc
 import io
 import os
 import signal
@@ -54,7 +55,7 @@ def parser(name: str, description: str, **more: object) -> argparse.ArgumentPars
 
 def run(name: str, command: Callable[[list[str]], int]) -> NoReturn:
     """Runs a companion on the program's arguments and ends with its status."""
-    with _signals_as_interrupts():
+    with _signals_as_interrupts(), _rare_collections():
         status = _ended(name, command)
     _close_output()
     sys.exit(status)
@@ -111,6 +112,17 @@ def _signals_as_interrupts() -> Iterator[None]:
     finally:
         for sign in heeded:
             signal.signal(sign, before[sign])
+
+
+@contextmanager
+def _rare_collections() -> Iterator[None]:
+    """Lets Python look seldom for cycles: the trees of a report have none, and are large."""
+    before = gc.get_threshold()
+    gc.set_threshold(100_000, 50, 1000)
+    try:
+        yield
+    finally:
+        gc.set_threshold(*before)
 
 
 def _say(text: str) -> None:

@@ -1,7 +1,8 @@
 """Makes the items of a report of its events."""
 
+from collections.abc import Sequence
 from dataclasses import dataclass, field
-from typing import Optional, Union
+from typing import Any, NamedTuple, Optional, Union
 
 from pops_companions.report import lines
 from pops_companions.report.events import (
@@ -28,6 +29,20 @@ from pops_companions.report.items import (
     SoundItem,
     Total,
 )
+from pops_companions.report.moves import PlayedMove
+
+
+class KnownNode(NamedTuple):
+    """What a line says that was read before: its level, the whole line, its move."""
+
+    level: int
+    text: str
+    move: PlayedMove
+
+
+KnownNodes = dict[bytes, KnownNode]
+# More than the half-moves of any stipulation.
+_MOST_LEVELS = 64
 
 
 @dataclass
@@ -54,6 +69,34 @@ class GrowingPhase:
             self.solutions.append(node)
         self._path.append((event.level, node))
         self.lines.append(text)
+
+    def add_known(self, source: Sequence[bytes], start: int, known: KnownNodes) -> int:
+        """Adds the nodes of the lines from a place on, as far as they are known and go on in levels.
+
+        Returns how many they are.
+        """
+        below: list[list[Any]] = [self.solutions, *(node.below for _, node in self._path)]
+        deepest = len(self._path)
+        below.extend([] for _ in range(_MOST_LEVELS - deepest))
+        texts = self.lines
+        before = len(texts)
+        for place in range(start, len(source)):
+            found = known.get(source[place])
+            if found is None or found[0] > deepest:
+                break
+            level, text, move = found
+            nodes: list[Node] = []
+            below[level].append(Node(text, move, nodes))
+            deepest = level + 1
+            below[deepest] = nodes
+            texts.append(text)
+        self._path = [(level, below[level][-1]) for level in range(deepest)]
+        return len(texts) - before
+
+    @property
+    def depth(self) -> int:
+        """The level that the next node can have at most."""
+        return len(self._path)
 
     @property
     def nodes(self) -> tuple[Node, ...]:
@@ -107,6 +150,17 @@ class ItemBuilder:
             elif isinstance(event, NodeEvent):
                 self._growing.add_node(event)
         return None
+
+    def take_known(self, source: Sequence[bytes], start: int, known: KnownNodes) -> int:
+        """Takes lines of the phase at hand as their events would say them; returns how many."""
+        assert self._growing is not None
+        return self._growing.add_known(source, start, known)
+
+    @property
+    def phase_so_far(self) -> tuple[int, int]:
+        """How many solutions the phase at hand has, and how deep the next node can be."""
+        assert self._growing is not None
+        return len(self._growing.solutions), self._growing.depth
 
     def _end_phase(self, total: Optional[Total], last_line: str) -> None:
         if self._growing is not None:

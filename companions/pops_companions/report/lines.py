@@ -2,15 +2,15 @@
 
 import re
 
-PROBLEM = re.compile(rb"problem ([1-9][0-9]*)")
-FAULT = re.compile(rb"line ([1-9][0-9]*): fault ([1-9][0-9]?): (.+)")
+PROBLEM = re.compile(rb"problem ([1-9][0-9]{0,17})")
+FAULT = re.compile(rb"line ([1-9][0-9]{0,17}): fault ([1-9][0-9]?): (.+)")
 TITLE = b"title: "
 AUTHOR = b"author: "
 RANK = re.compile(rb"([1-8]) ([KQRBSPGNkqrbspgn.]{8})")
 FILES = b"  abcdefgh"
 SOUND = b"sound"
 NOT_POSSIBLE = b"not possible"
-TOTAL = re.compile(rb"solutions: (0|[1-9][0-9]*)(, stopped)?")
+TOTAL = re.compile(rb"solutions: (0|[1-9][0-9]{0,17})(, stopped)?")
 # How a total begins.
 SOLUTIONS = b"solutions: "
 # How the line begins that pops-many writes after the last line of a problem that it stopped.

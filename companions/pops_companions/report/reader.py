@@ -7,6 +7,7 @@ Where unfinished problems are allowed, a problem may also have been stopped, and
 inside a problem.
 """
 
+import io
 from collections.abc import Callable, Iterable, Iterator
 from enum import Enum
 from typing import Optional
@@ -28,7 +29,7 @@ from pops_companions.report.events import (
     ProblemEvent,
     TotalEvent,
 )
-from pops_companions.report.item_builder import ItemBuilder
+from pops_companions.report.item_builder import ItemBuilder, KnownNode, KnownNodes
 from pops_companions.report.items import (
     AnyItem,
     Board,
@@ -60,6 +61,9 @@ class Allowed(Enum):
 # Why a problem is unfinished if the report ends in it.
 CUT = "the report ends here"
 _LONGEST_SHOWN = 60
+# So that the memory for known lines is bounded.
+_MOST_KNOWN = 100_000
+_PIECE = 1 << 16
 # What a state makes of a line.
 State = Callable[[bytes], Iterator[Event]]
 
@@ -88,10 +92,13 @@ class LineReader:
         Take all events before the next call. ReportError where the text departs from the grammar,
         after the events before.
         """
+        for line in self._whole_lines(data):
+            yield from self.take(line)
+
+    def _whole_lines(self, data: bytes) -> list[bytes]:
+        """Returns the lines that end with these bytes."""
         *whole, self._begun = (self._begun + data).split(b"\n")
-        for line in whole:
-            self._line += 1
-            yield from self._taken(line)
+        return whole
 
     def close(self, reason: str = CUT) -> Iterator[Event]:
         """Ends the text and yields the end of a problem that it is cut in, with the reason.
@@ -108,7 +115,9 @@ class LineReader:
             yield EndEvent(self._number, self._unfinished if is_whole else reason)
         self._begun, self._state = b"", self._problem
 
-    def _taken(self, line: bytes) -> Iterator[Event]:
+    def take(self, line: bytes) -> Iterator[Event]:
+        """Takes the next line and yields what it says."""
+        self._line += 1
         is_marked = line.startswith(lines.UNFINISHED) and self._state != self._problem
         if is_marked and self._allowed is Allowed.UNFINISHED:
             self._unfinished = line[len(lines.UNFINISHED) :].decode("utf-8", "replace")
@@ -208,6 +217,36 @@ class ReportReader(LineReader):
         self._kind = PhaseKind.PLAY
         self._count = 0
         self._deepest = 0
+        # What lines of battle play say, for each first half-move.
+        self._known: dict[int, KnownNodes] = {}
+        self._known_here: KnownNodes = {}
+
+    def feed_builder(self, data: bytes, builder: ItemBuilder) -> Iterator[AnyItem]:
+        """Takes some bytes as `feed` does, and yields the items that end in them.
+
+        Lines of battle play that were read before make no events: a tree repeats its lines.
+        """
+        lines_left = self._whole_lines(data)
+        at = 0
+        while at < len(lines_left):
+            known = self._take_known(lines_left, at, builder)
+            if known:
+                at += known
+                continue
+            for event in self.take(lines_left[at]):
+                item = builder.take(event)
+                if item is not None:
+                    yield item
+            at += 1
+
+    def _take_known(self, lines_left: list[bytes], at: int, builder: ItemBuilder) -> int:
+        """Takes the nodes that are known, from a line on; returns how many."""
+        if self._state != self._solution or self._stipulation.play is Play.HELP:
+            return 0
+        taken = builder.take_known(lines_left, at, self._known_here)
+        self._line += taken
+        self._count, self._deepest = builder.phase_so_far
+        return taken
 
     def _begin(self, stipulation: Stipulation) -> None:
         self._stipulation = stipulation
@@ -228,6 +267,7 @@ class ReportReader(LineReader):
 
     def _phase(self, kind: PhaseKind) -> Iterator[Event]:
         self._kind, self._count, self._deepest = kind, 0, 0
+        self._known_here = self._known.setdefault(self._first_half, {})
         self._state = self._first_solution
         yield PhaseEvent(self._number, kind)
 
@@ -293,10 +333,13 @@ class ReportReader(LineReader):
         half = self._first_half + level
         lead = " " * (2 * level) + prefix(half)
         move = whole_move(text, lead, half, self._stipulation.side(half))
-        if move is None or not least <= level <= self._deepest:
+        last = self._stipulation.first_half + self._stipulation.half_moves - 1
+        if move is None or half > last or not least <= level <= self._deepest:
             raise self.refused("a move, or the number of solutions", line)
         self._count += level == 0
         self._deepest = level + 1
+        if len(self._known_here) < _MOST_KNOWN:
+            self._known_here[line] = KnownNode(level, text, move)
         return NodeEvent(self._number, self._kind, place, level, text[2 * level :], move)
 
 
@@ -332,8 +375,19 @@ def read_unfinished_report(source: Iterable[bytes]) -> Iterator[AnyItem]:
 
 
 def _items(allowed: Allowed, source: Iterable[bytes]) -> Iterator[AnyItem]:
-    builder = ItemBuilder()
-    for event in read_events(ReportReader(allowed), source):
+    reader, builder = ReportReader(allowed), ItemBuilder()
+    for data in _pieces(source):
+        yield from reader.feed_builder(data, builder)
+    for event in reader.close():
         item = builder.take(event)
         if item is not None:
             yield item
+
+
+def _pieces(source: Iterable[bytes]) -> Iterator[bytes]:
+    """Yields the bytes of a source; those of a binary file in pieces longer than a line."""
+    if not isinstance(source, io.BufferedIOBase):
+        yield from source
+        return
+    while piece := source.read1(_PIECE):
+        yield piece

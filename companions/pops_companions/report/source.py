@@ -108,22 +108,13 @@ def opened_events(
 
 
 def _events(name: str, source: BinaryIO, reader: ReportReader, text: Text) -> Iterator[Event]:
-    begin = b""
-
-    def pieces() -> Iterator[bytes]:
-        nonlocal begin
-        # (a read gives what has come, and waits only for the first byte)
-        assert isinstance(source, io.BufferedReader)
-        while piece := source.read1(_PIECE):
-            begin = begin or piece
-            yield piece
-
+    pieces = _Pieces(source)
     try:
-        yield from read_events(reader, pieces())
+        yield from read_events(reader, pieces)
     except ReportError as error:
-        first_line = begin.split(b"\n", 1)[0]
-        raise CommandError(Status.FAULTY, _refusal(name, first_line, error, text)) from None
-    if not begin:
+        message = _refusal(name, pieces.first_line, error, text)
+        raise CommandError(Status.FAULTY, message) from None
+    if pieces.is_empty:
         raise CommandError(Status.FAULTY, f"{name} is empty: no {text.value}")
 
 
@@ -153,18 +144,27 @@ def is_input(line: bytes) -> bool:
     return bool(words) and is_short_for(words[0], "BeginProblem")
 
 
-class _FirstLine:
-    """The lines of a source; the first one is kept."""
+class _Pieces:
+    """The bytes of a source in pieces, each as soon as it has come; the first line is kept."""
 
     def __init__(self, source: BinaryIO):
         self._source = source
-        self.line = b""
+        self._first = b""
 
     def __iter__(self) -> Iterator[bytes]:
-        for number, line in enumerate(self._source):
-            if number == 0:
-                self.line = line
-            yield line
+        # (a read gives what has come, and waits only for the first byte)
+        assert isinstance(self._source, io.BufferedIOBase)
+        while piece := self._source.read1(_PIECE):
+            self._first = self._first or piece
+            yield piece
+
+    @property
+    def is_empty(self) -> bool:
+        return not self._first
+
+    @property
+    def first_line(self) -> bytes:
+        return self._first.split(b"\n", 1)[0]
 
 
 def _items(
@@ -178,15 +178,16 @@ def _items(
 ) -> Iterator[Read]:
     is_empty = True
     undecodable: list[int] = []
-    lines = _FirstLine(source)
+    pieces = _Pieces(source)
     try:
-        for item in read(lines):
+        for item in read(pieces):
             is_empty = False
             if not _has_names_in(encoding, item):
                 undecodable.append(item.number)
             yield item
     except ReportError as error:
-        raise CommandError(Status.FAULTY, _refusal(name, lines.line, error, text)) from None
+        message = _refusal(name, pieces.first_line, error, text)
+        raise CommandError(Status.FAULTY, message) from None
     if is_empty and not may_be_empty:
         raise CommandError(Status.FAULTY, f"{name} is empty: no {text.value}")
     _warn_of_names(companion, name, undecodable, encoding)

@@ -47,7 +47,7 @@ from pops_companions.report.reader import Allowed, ReportReader, State, read_eve
 NO_TRIES = "no tries in help play"
 _TRIES = "tries"
 _BUT = "  but"
-_TRIES_TOTAL = re.compile(r"tries: ([0-9]+)")
+_TRIES_TOTAL = re.compile(r"tries: ([0-9]{1,18})")
 _NODE = re.compile(r"( *)[0-9]")
 
 

@@ -14,6 +14,9 @@ from pops_companions.review.judging import Judgement, judged, missing
 from pops_companions.review.posing import AnswersError, ShortAnswers
 from pops_companions.review.reading import reviewed_unfinished_report
 
+# Without an input no more problems than these are listed as missing.
+_MOST_LACKING = 10_000
+
 
 class Beside:
     """The input of a report and the report of the shorter stipulations, where they are named."""
@@ -48,7 +51,7 @@ class Beside:
 
     def judgements(self, items: Iterator[AnyItem]) -> Iterator[Judgement]:
         """Judges the items of a report, and adds the problems that it lacks."""
-        last = 0
+        last = lacking = 0
         for item in items:
             if item.number <= last:
                 if self._input_file is not None or self._short_file is not None or self._tries:
@@ -56,6 +59,8 @@ class Beside:
                     message = f"{options} go with one report, not with several joined"
                     raise CommandError(Status.DEVICE, message)
                 last = 0
+            lacking += item.number - last - 1
+            self._refuse_far(item.number, lacking)
             yield from map(self._missing, range(last + 1, item.number))
             last = item.number
             yield self._judged(item)
@@ -67,9 +72,15 @@ class Beside:
     def _missing(self, number: int) -> Judgement:
         return replace(missing(number), given=self._given_of(number))
 
+    def _refuse_far(self, number: int, lacking: int) -> None:
+        """Refuses a number that the input hasn't, or that leaves too many problems missing."""
+        if self._input_file is None and lacking > _MOST_LACKING:
+            message = f"problem {number} leaves more than {_MOST_LACKING} missing: name the --input"
+            raise CommandError(Status.DEVICE, message)
+        if self._input_file is not None and number > len(self.given):
+            self._refuse_input(f"it has no problem {number}")
+
     def _judged(self, item: AnyItem) -> Judgement:
-        if self._input_file is not None and item.number > len(self.given):
-            self._refuse_input(f"it has no problem {item.number}")
         wanted, short, tries = 1, None, None
         if isinstance(item, SoundItem):
             wanted = self._wanted(item)

@@ -66,26 +66,40 @@ def tree_duals(keys: Iterable[Node]) -> Iterator[Dual]:
     White's last move is the one at the end, in a selfmate too, where it forces the goal.
     """
     for key in keys:
+        duals: list[Dual] = []
         for defence in key.below:
-            yield from _duals_below(defence, [key.move])
+            _add_duals(defence, [key.move], duals)
+        yield from duals
 
 
-def _duals_below(node: Node, path: list[PlayedMove]) -> Iterator[Dual]:
-    path = path + [node.move]
-    if len(node.below) > 1:
-        choices = tuple(choice.move for choice in node.below)
-        last = max(map(last_half, node.below))
-        at_the_end = move_number(last) == move_number(choices[0].half)
-        place = Place.AT_THE_END if at_the_end else Place.EARLIER
-        yield Dual(tuple(path), choices, last, place)
+def _add_duals(node: Node, path: list[PlayedMove], duals: list[Dual]) -> int:
+    """Adds the duals after a move of Black and below it; returns the half-move of its deepest node.
+    """
+    if not node.below:
+        return node.move.half
+    path.append(node.move)
+    place, last = len(duals), 0
     for white in node.below:
-        for black in white.below:
-            yield from _duals_below(black, path + [white.move])
+        half = white.move.half
+        if white.below:
+            path.append(white.move)
+            half = max([_add_duals(black, path, duals) for black in white.below])
+            path.pop()
+        last = max(last, half)
+    if len(node.below) > 1:
+        choices = tuple([choice.move for choice in node.below])
+        at_the_end = move_number(last) == move_number(choices[0].half)
+        where = Place.AT_THE_END if at_the_end else Place.EARLIER
+        duals.insert(place, Dual(tuple(path), choices, last, where))
+    path.pop()
+    return last
 
 
 def last_half(node: Node) -> int:
     """Returns the half-move of the deepest node of a tree."""
-    return max(map(last_half, node.below), default=node.move.half)
+    if not node.below:
+        return node.move.half
+    return max([last_half(it) if it.below else it.move.half for it in node.below])
 
 
 def late_partings(lines: Sequence[HelpLine]) -> Iterator[Dual]:
