@@ -2,15 +2,17 @@
 
 import argparse
 from collections.abc import Iterator
+from contextlib import AbstractContextManager
+from functools import partial
 from typing import NoReturn, Optional
 
 from pops_companions import command
 from pops_companions.command import Status
-from pops_companions.report.items import Item
-from pops_companions.review.differences import Counts, differences_of, heading
+from pops_companions.many.progress import Progress
+from pops_companions.review.differences import Counts, Differences, differences_of, heading
+from pops_companions.review.kept_report import KeptReport, kept_report
 from pops_companions.review.matching import Pair, pairs_of
 from pops_companions.review.naming import counted
-from pops_companions.review.reading import reviewed_report
 
 NAME = "pops-compare"
 
@@ -46,26 +48,34 @@ def arguments(words: list[str]) -> Settings:
     return settings
 
 
-def report_of(file: str, encoding: str) -> list[Item]:
-    """Returns all items of a report."""
-    with reviewed_report(NAME, None if file == "-" else file, encoding) as items:
-        return list(items)
-
-
 class Comparison:
     """The comparison of two reports, written problem by problem."""
 
-    def __init__(self, encoding: str):
+    def __init__(self, old: KeptReport, new: KeptReport, encoding: str):
+        self._old, self._new = old, new
         self._encoding = encoding
         self._counts = Counts()
         self._pairs = 0
         self.differing = 0
 
-    def texts(self, pairs: list[Pair]) -> Iterator[str]:
+    def _differences(self, pair: Pair) -> Differences:
+        """Returns the differences of a pair of heads; equal texts have none."""
+        if pair.old is None or pair.new is None:
+            return differences_of(pair, self._encoding)
+        old, new = self._old.text(pair.old), self._new.text(pair.new)
+        if old.partition(b"\n")[2] == new.partition(b"\n")[2]:
+            return Differences()
+        whole = Pair(self._old.item(old), self._new.item(new))
+        return differences_of(whole, self._encoding)
+
+    def texts(self, progress: Progress) -> Iterator[str]:
         """Yields the differences of each pair that has any, then what they come to."""
+        pairs = pairs_of(self._old.heads, self._new.heads)
+        progress.begin(0, len(pairs))
         for pair in pairs:
             self._pairs += 1
-            found = differences_of(pair, self._encoding)
+            found = self._differences(pair)
+            progress.one_more()
             self._counts.add(found.counts)
             if found.lines or pair.old is None or pair.new is None:
                 self.differing += 1
@@ -94,12 +104,18 @@ class Comparison:
 
 def main(words: list[str]) -> Status:
     settings = arguments(words)
-    old = report_of(settings.old, settings.encoding)
-    new = report_of(settings.new, settings.encoding)
-    comparison = Comparison(settings.encoding)
-    with command.written(settings.output) as target:
-        for text in comparison.texts(pairs_of(old, new)):
-            target.write(text.encode("utf-8", "replace"))
+    progress = Progress(NAME)
+
+    def report(name: str) -> AbstractContextManager[KeptReport]:
+        told = partial(progress.reading, name)
+        return kept_report(NAME, None if name == "-" else name, settings.encoding, told)
+
+    with report(settings.old) as old, report(settings.new) as new:
+        comparison = Comparison(old, new, settings.encoding)
+        with command.written(settings.output) as target:
+            for text in comparison.texts(progress):
+                target.write(text.encode("utf-8", "replace"))
+    progress.end()
     return Status.FAULTY if comparison.differing else Status.GOOD
 
 

@@ -56,6 +56,13 @@ def opened_report(companion: str, file: Optional[str], encoding: str) -> Iterato
         yield _items(companion, file or "standard input", source, encoding, read_report)
 
 
+def items_of_report(
+    companion: str, name: str, source: BinaryIO, encoding: str
+) -> Iterator[Item]:
+    """Yields the items of a report that is open, and refuses it as `opened_report` does."""
+    return _items(companion, name, source, encoding, read_report)
+
+
 @contextmanager
 def opened_unfinished_report(
     companion: str, file: Optional[str], unfinished: Optional[str], encoding: str

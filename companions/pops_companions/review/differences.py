@@ -170,6 +170,8 @@ def _said(true: bool) -> str:
 
 
 def _compare_phase(found: Differences, old: Phase, new: Phase) -> None:
+    if old.lines == new.lines and old.last_line == new.last_line:
+        return
     inside = Differences(counts=found.counts)
     _compare_lines(inside, _help_lines(old), _help_lines(new))
     deeper = _compare_nodes(inside, _nodes(old), _nodes(new), ())

@@ -3,6 +3,7 @@
 from collections.abc import Iterable, Iterator, Sequence
 from dataclasses import dataclass
 from enum import Enum
+from typing import Union, overload
 
 from pops_companions.report.items import HelpLine, Node
 from pops_companions.report.moves import PlayedMove, prefix
@@ -45,6 +46,29 @@ class Dual:
         lead = prefix(self.choices[0].half) if self.choices[0].half % 2 == 1 else ""
         choices = " | ".join(move.text for move in self.choices)
         return f"{line_text(self.before)} {lead}{choices}"
+
+
+class DualLines(Sequence[str]):
+    """The texts of duals, each made when it is shown: a tree may have many thousands."""
+
+    def __init__(self, duals: Sequence[Dual]):
+        self._duals = duals
+
+    def __len__(self) -> int:
+        return len(self._duals)
+
+    @overload
+    def __getitem__(self, place: int) -> str: ...
+
+    @overload
+    def __getitem__(self, place: slice) -> Sequence[str]: ...
+
+    def __getitem__(self, place: Union[int, slice]) -> Union[str, Sequence[str]]:
+        if isinstance(place, slice):
+            return DualLines(self._duals[place])
+        dual = self._duals[place]
+        is_last = dual.place is Place.AT_THE_END
+        return dual.text if is_last else f"{dual.text} (ends on move {dual.end})"
 
 
 def move_number(half: int) -> int:
@@ -95,11 +119,9 @@ def _add_duals(node: Node, path: list[PlayedMove], duals: list[Dual]) -> int:
     return last
 
 
-def last_half(node: Node) -> int:
-    """Returns the half-move of the deepest node of a tree."""
-    if not node.below:
-        return node.move.half
-    return max([last_half(it) if it.below else it.move.half for it in node.below])
+def reaches(node: Node, half: int) -> bool:
+    """Returns whether a tree goes on to a half-move."""
+    return node.move.half >= half or any(reaches(below, half) for below in node.below)
 
 
 def late_partings(lines: Sequence[HelpLine]) -> Iterator[Dual]:

@@ -79,8 +79,14 @@ def _findings(judgement: Judgement, indent: str, most: Optional[int]) -> Iterato
 
 def csv_line(values: "tuple[object, ...]") -> str:
     target = io.StringIO()
-    csv.writer(target, lineterminator="\n").writerow(values)
+    csv.writer(target, lineterminator="\n").writerow(map(_as_text, values))
     return target.getvalue()
+
+
+def _as_text(value: object) -> object:
+    """Returns a value for a cell; a text that a spreadsheet would compute has an apostrophe in front."""
+    is_formula = isinstance(value, str) and value.startswith(_OF_FORMULAS)
+    return f"'{value}" if is_formula else value
 
 
 def as_csv(judgement: Judgement, encoding: str) -> str:

@@ -1,6 +1,7 @@
 """The judgement of a problem by its report; docs/SOUNDNESS.md states what each word means."""
 
 from collections import Counter
+from collections.abc import Sequence
 from dataclasses import dataclass, field
 from enum import Enum
 from typing import Optional
@@ -21,7 +22,14 @@ from pops_companions.report.items import (
 )
 from pops_companions.report.moves import Mark, PlayedMove
 from pops_companions.report.tries import FirstMove, TriesItem
-from pops_companions.review.duals import Dual, Place, last_half, late_partings, tree_duals
+from pops_companions.review.duals import (
+    Dual,
+    DualLines,
+    Place,
+    late_partings,
+    reaches,
+    tree_duals,
+)
 from pops_companions.review.naming import counted
 
 
@@ -49,7 +57,7 @@ class Finding:
 
     weight: Weight
     text: str
-    lines: tuple[str, ...] = ()
+    lines: Sequence[str] = ()
 
 
 @dataclass
@@ -89,7 +97,7 @@ class Judgement:
         """What decides the verdict, in words; nothing for a sound problem."""
         return [finding.text for finding in self.findings if finding.weight is not Weight.NOTE]
 
-    def find(self, weight: Weight, text: str, lines: tuple[str, ...] = ()) -> None:
+    def find(self, weight: Weight, text: str, lines: Sequence[str] = ()) -> None:
         self.findings.append(Finding(weight, text, lines))
 
 
@@ -217,10 +225,9 @@ def _judge_short_solutions(
     lines = list(asked or ())
     all_shown = stipulation.play is not Play.HELP and not judgement.stopped
     for key in _nodes(play):
-        length = _length_of_key(key)
-        if length is None:
+        if not key.below and not _ends(key.move):
             all_shown = False
-        elif length < stipulation.moves and key.text not in lines:
+        elif not reaches(key, 2 * stipulation.moves - 1) and key.text not in lines:
             lines.append(key.text)
     if lines:
         judgement.find(Weight.FLAW, counted(len(lines), "short solution"), tuple(lines))
@@ -232,13 +239,6 @@ def _judge_short_solutions(
 
 def _can_be_short(stipulation: Stipulation) -> bool:
     return stipulation.moves > (0 if stipulation.half_more else 1)
-
-
-def _length_of_key(key: Node) -> Optional[int]:
-    """In how many moves a key reaches the goal; None where its variations aren't shown."""
-    if key.below:
-        return (last_half(key) + 1) // 2
-    return 1 if _ends(key.move) else None
 
 
 def _ends(move: PlayedMove) -> bool:
@@ -317,11 +317,7 @@ def _find_duals(judgement: Judgement, where: str, duals: list[Dual]) -> None:
     promotions = sum(dual.by_promotion for dual in duals)
     of_these = f"; {promotions} by promotion alone" if promotions else ""
     text = f"{counted(len(duals), 'dual')} {where}: {places}{of_these}"
-    lines = tuple(
-        dual.text if dual.place is Place.AT_THE_END else f"{dual.text} (ends on move {dual.end})"
-        for dual in duals
-    )
-    judgement.find(Weight.NOTE, text, lines)
+    judgement.find(Weight.NOTE, text, DualLines(duals))
 
 
 def _judge_set_play(judgement: Judgement, item: SoundItem, play: Phase) -> None:

@@ -14,19 +14,14 @@ from pops_companions.report.tries import TriesItem, read_tries
 
 
 @contextmanager
-def reviewed_report(companion: str, file: Optional[str], encoding: str) -> Iterator[Iterator[Item]]:
-    """The items of a report; what ends the companion while it is open ends it as a device would."""
-    with _refused_as_device():
-        with opened_report(companion, file, encoding) as items:
-            yield items
-
-
-@contextmanager
 def reviewed_unfinished_report(
     companion: str, file: Optional[str], unfinished: Optional[str], encoding: str
 ) -> Iterator[Iterator[AnyItem]]:
-    """As `reviewed_report`, with the problems that aren't finished."""
-    with _refused_as_device():
+    """The items of a report, also of problems that aren't finished.
+
+    What ends the companion while it is open ends it as a device would.
+    """
+    with refused_as_device():
         with opened_unfinished_report(companion, file, unfinished, encoding) as items:
             yield items
 
@@ -54,7 +49,8 @@ def _tries_of_lines(name: str, source: Iterable[bytes]) -> dict[int, TriesItem]:
 
 
 @contextmanager
-def _refused_as_device() -> Iterator[None]:
+def refused_as_device() -> Iterator[None]:
+    """Gives whatever ends the companion meanwhile the status of a device that failed."""
     try:
         yield
     except CommandError as error:

@@ -1,0 +1,84 @@
+"""A report of which only the heads are kept in memory; its problems are read again one by one."""
+
+import shutil
+import tempfile
+from collections.abc import Callable, Iterator
+from contextlib import ExitStack, contextmanager
+from dataclasses import replace
+from typing import BinaryIO, NoReturn, Optional, cast
+
+from pops_companions import command
+from pops_companions.command import CommandError, Status
+from pops_companions.report.items import Item, SoundItem
+from pops_companions.report.reader import ReportError, read_report
+from pops_companions.report.source import items_of_report
+from pops_companions.review.reading import refused_as_device
+
+_BEGIN = b"problem "
+# Takes how many bytes of how many are read.
+Told = Callable[[int, int], None]
+
+
+class KeptReport:
+    """A whole report, in a file that can be read twice."""
+
+    def __init__(self, name: str, source: BinaryIO, heads: list[Item]):
+        self._name = name
+        self._source = source
+        # The items without their solutions.
+        self.heads = heads
+        self._numbers = {id(head): place for place, head in enumerate(heads)}
+        self._starts = list(_starts(source))
+        if len(self._starts) != len(heads) + 1:
+            self._refuse_changed()
+
+    def text(self, head: Item) -> bytes:
+        """Returns the lines of an item, by its head."""
+        place = self._numbers[id(head)]
+        start, end = self._starts[place : place + 2]
+        self._source.seek(start)
+        return self._source.read(end - start)
+
+    def item(self, text: bytes) -> Item:
+        """Returns the item of these lines."""
+        try:
+            (item,) = read_report([text])
+        except (ReportError, ValueError):
+            self._refuse_changed()
+        return item
+
+    def _refuse_changed(self) -> NoReturn:
+        raise CommandError(Status.DEVICE, f"{self._name} was changed while it was read")
+
+
+def _starts(source: BinaryIO) -> Iterator[int]:
+    """Yields where the items of a report begin, and its end."""
+    source.seek(0)
+    place = 0
+    for line in source:
+        if line.startswith(_BEGIN):
+            yield place
+        place += len(line)
+    yield place
+
+
+@contextmanager
+def kept_report(
+    companion: str, file: Optional[str], encoding: str, told: Told
+) -> Iterator[KeptReport]:
+    """Opens a report, or standard input where no file is named; refuses what isn't one."""
+    name = file or "standard input"
+    with ExitStack() as stack:
+        source = stack.enter_context(command.opened(file))
+        if not source.seekable():
+            copy = cast(BinaryIO, stack.enter_context(tempfile.TemporaryFile()))
+            shutil.copyfileobj(source, copy)
+            source = copy
+        size = source.seek(0, 2)
+        source.seek(0)
+        heads: list[Item] = []
+        with refused_as_device():
+            for item in items_of_report(companion, name, source, encoding):
+                heads.append(replace(item, phases=()) if isinstance(item, SoundItem) else item)
+                told(source.tell(), size)
+        yield KeptReport(name, source, heads)
