@@ -11,7 +11,8 @@ _pops_options() {
       own='--file --stipulation --title --author --condition --set-play --variation --no-board --max-solutions
         --keep-colours --output'
       ;;
-    pops-import | pops-compare) own='--output --encoding' ;;
+    pops-compare) own='--output --encoding' ;;
+    pops-import) own='--output --index --json --encoding' ;;
     pops-many)
       own='--output --each --index --jobs --check --no-board --seconds --unfinished --split --split-after --split-depth
         --pops-part --resume --journal --pops --sshlogin --remote-pops --remote-pops-part --ssh'
@@ -22,7 +23,7 @@ _pops_options() {
       ;;
     pops-page) own='--output --heading --input --unfinished --apart --encoding' ;;
     pops-diagram) own='--svg --png --latex --output --width --input --apart --encoding' ;;
-    pops2json) own='--output --array --schema --input --encoding' ;;
+    pops2json) own='--output --array --events --tries --unfinished --schema --input --encoding' ;;
     pops-test)
       own='--input --solutions --pose --short --tries --unfinished --csv --page --heading --apart --all --output --encoding'
       ;;
@@ -34,7 +35,7 @@ _pops_options() {
       own='--add --near --play --report --author --title --stipulation --condition --men --count --most --output
         --encoding'
       ;;
-    pops-explain) own='--output --all --fix --pops' ;;
+    pops-explain) own='--output --all --fix --json --pops' ;;
   esac
   # shellcheck disable=SC2086
   echo --help --version $own

@@ -36,7 +36,7 @@ class Engine:
     @property
     def version(self) -> str:
         """The number of the program's version: by the file BUILT next to it, else that of this
-        module; `unknown` for a program that was named and has no such file.
+        module; `unknown` for a program that was named and has no file BUILT.
         """
         noted = _noted_version(Path(self.program).resolve())
         return noted or (UNKNOWN if self._is_named else places.number())

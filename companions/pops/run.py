@@ -50,7 +50,7 @@ _AT_ONCE = (Ending.CANCELLED, Ending.BYTES, Ending.SOLUTIONS)
 
 @dataclass(frozen=True)
 class Limits:
-    """When a run is stopped: after so many seconds, bytes of text, or solutions.
+    """When a run is stopped: the most seconds, bytes of text, and solutions.
 
     It is stopped right after a line of help play; a key comes with everything below it.
     """

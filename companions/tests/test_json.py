@@ -168,7 +168,7 @@ class Events(unittest.TestCase):
         self.assertEqual(end, {"event": "end", "problem": 1, "unfinished": None})
 
     def test_they_come_as_the_report_comes(self) -> None:
-        """Each line of the report is answered before the next one is written."""
+        """The event of each line is there before the next line is written."""
         words = [sys.executable, str(support.COMPANIONS / "pops2json"), "--events"]
         with subprocess.Popen(words, stdin=subprocess.PIPE, stdout=subprocess.PIPE) as run:
             assert run.stdin is not None and run.stdout is not None

@@ -63,7 +63,7 @@ class Told(NamedTuple):
         return f"{self.file}, line {self.line}, problem {self.problem}{twin}: {self.reason}"
 
     def json(self, row: str) -> str:
-        """The message as a JSON object; the column and the length are those of its line's text."""
+        """The message as a JSON object; column and length are its line's text."""
         text = row.strip()
         place = {
             "file": self.file,

@@ -44,8 +44,8 @@ def read_yaml(text: str) -> list[Draft]:
 
 
 def _problems_in(node: Node) -> list[Node]:
-    """Returns the problems of a document: those of a list, also one below `entries` as YACPDB's JSON
-    has it, or the document itself.
+    """Returns the problems of a document: of a list, also one below `entries` as YACPDB's JSON has it,
+    or the document itself.
     """
     while isinstance(node, dict):
         below = node.get("entries", node.get("result"))

@@ -48,7 +48,7 @@ def pieces_line(men: Mapping[Square, Man]) -> str:
 
 @dataclass(frozen=True)
 class Problem:
-    """A problem as input of pops: its men, and what is asked of them.
+    """A problem as input of pops: its men and its stipulation.
 
     `options` are words of the input language, as `Variation` or `MaxSolutions 5`. Line ends in
     texts become blanks.

@@ -18,7 +18,7 @@ from collections.abc import Sequence
 from typing import IO, NamedTuple, Optional, Union
 
 Stream = Union[None, int, IO[bytes]]
-# So many bytes a pipe takes at once.
+# The bytes that a pipe takes at once.
 _ROOM = 1 << 16
 
 # The processor time after which a program ends that outlives its seconds, in seconds beyond them.

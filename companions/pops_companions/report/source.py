@@ -92,7 +92,7 @@ def opened_unfinished_report(
 def opened_tries(
     companion: str, file: Optional[str], encoding: str, allowed: Allowed
 ) -> Iterator[Iterator[AnyTriesItem]]:
-    """The items of a text of tries, as `opened_report` gives those of a report."""
+    """The items of a text of tries, as `opened_report` gives a report's."""
     read: Callable[[Iterable[bytes]], Iterator[AnyTriesItem]] = read_unfinished_tries
     if allowed is Allowed.FINISHED:
         read = read_tries
