@@ -358,5 +358,54 @@ class PlainPosition:
         return False
 
 
+GAMES = b"""\xef\xbb\xbf[Event "Casual \\"blitz\\""]
+[Site "?"]
+[White "Anderssen, A"]
+[Black "Kieseritzky, L"]
+[FEN "6k1/8/6K1/8/8/8/8/R7 w - - 0 1"]
+[SetUp "1"]
+
+1. Ra8# {# no comment of fen2pop
+8/8/8/8/8/8/8/8} 1-0
+
+[Event "?"]
+[White "?"]
+[Black "?"]
+
+1. e4 *
+
+[White "Only White"]
+[FEN "6k1/8/6K1/8/8/8/8/R7 w - - 0 1"]
+"""
+
+
+class Games(unittest.TestCase):
+    def test_tags_of_pgn(self) -> None:
+        outcome = support.companion("fen2pop", "-s", "#1", text=GAMES)
+        self.assertEqual(
+            outcome.output.decode(),
+            "BeginProblem\nTitle Anderssen, A - Kieseritzky, L\nOrigin Casual \"blitz\"\n"
+            "Remark FEN 6k1/8/6K1/8/8/8/8/R7 w - - 0 1\n"
+            "Pieces White Kg6 Ra1 Black Kg8\nStipulation #1\n"
+            "NextProblem\nTitle Only White\nRemark FEN 6k1/8/6K1/8/8/8/8/R7 w - - 0 1\n"
+            "Pieces White Kg6 Ra1 Black Kg8\nStipulation #1\nEndProblem\n",
+        )
+        self.assertEqual(
+            (outcome.status, outcome.error),
+            (1, "fen2pop: standard input, line 11: the game has no tag FEN\n"),
+        )
+
+    def test_games_that_debian_has(self) -> None:
+        """Each FEN of a collection of puzzles is a problem that pops takes."""
+        folder = Path("/usr/share/pychess/learn/puzzles")
+        files = sorted(folder.glob("*.pgn"))
+        if not files:
+            self.skipTest("pychess isn't installed")
+        for path in files[:2]:
+            tags = path.read_bytes().count(b"[FEN ")
+            outcome = support.companion("fen2pop", "-s", "#2", "-f", str(path))
+            self.assertEqual(outcome.output.count(b"Stipulation #2\n"), tags)
+
+
 if __name__ == "__main__":
     unittest.main()

@@ -1,10 +1,10 @@
-"""Turns positions in FEN or EPD into input of pops."""
+"""Turns positions in FEN or EPD, and games in PGN that begin with a position, into input of pops."""
 
 import argparse
 import os
 import re
 import sys
-from collections.abc import Iterator
+from collections.abc import Iterator, Mapping
 from dataclasses import replace
 from typing import NamedTuple, NoReturn, Optional
 
@@ -17,6 +17,8 @@ from pops_companions.input.writing import Wishes, is_turned, problem_lines, text
 NAME = "fen2pop"
 # At most this many positions with reversed colours are named.
 _TURNED_NAMED = 3
+# A tag of a game in PGN, as `[White "Morphy"]` (PGN Standard, section 8.1).
+_TAG = re.compile(r'\[\s*(\w+)\s+"((?:[^"\\]|\\.)*)"\s*\]')
 
 
 class Settings(argparse.Namespace):
@@ -35,10 +37,22 @@ class Settings(argparse.Namespace):
 
 
 class Given(NamedTuple):
-    """A text that should be a position, with where it stands."""
+    """A text that should be a position, with where it stands, and the tags of its game, if any."""
 
     place: str
     text: str
+    tags: Mapping[str, str] = {}
+
+    @property
+    def players(self) -> str:
+        """The players of the game, as `White - Black`."""
+        names = (self.tags.get(name, "") for name in ("White", "Black"))
+        return " - ".join(name for name in names if name.strip("?"))
+
+    @property
+    def event(self) -> str:
+        """Where the game was played."""
+        return self.tags.get("Event", "").strip("?")
 
 
 def of_words(words: list[str]) -> Iterator[Given]:
@@ -53,13 +67,33 @@ def of_words(words: list[str]) -> Iterator[Given]:
 
 
 def of_file(file: Optional[str]) -> Iterator[Given]:
-    """Yields the positions of a file, one a line, without empty lines and lines that begin with #."""
+    """Yields the positions of a file: one a line, without empty lines and lines that begin with #, or
+    the FEN tags of games in PGN.
+    """
     name = file or "standard input"
+    tags: dict[str, str] = {}
+    begun = 0
+    is_pgn = False
     with command.opened(file) as source:
         for number, line in enumerate(source, start=1):
             text = line.decode("utf-8", "surrogateescape").lstrip("\ufeff").strip()
-            if text and not text.startswith("#"):
+            tag = _TAG.fullmatch(text)
+            if tag is not None:
+                is_pgn = True
+                begun = begun or number
+                tags[tag[1]] = re.sub(r"\\(.)", r"\1", tag[2])
+                continue
+            if tags:
+                yield _of_game(name, begun, tags)
+                tags, begun = {}, 0
+            if text and not is_pgn and not text.startswith("#"):
                 yield Given(f"{name}, line {number}", text)
+    if tags:
+        yield _of_game(name, begun, tags)
+
+
+def _of_game(name: str, line: int, tags: dict[str, str]) -> Given:
+    return Given(f"{name}, line {line}", tags.get("FEN", ""), tags)
 
 
 def stipulation(text: str) -> Stipulation:
@@ -76,12 +110,15 @@ class Problem(NamedTuple):
 
 def problem_of(given: Given, wishes: Wishes, named: Optional[Stipulation]) -> Problem:
     """Returns a position's problem; an EPD may have its title and its mate in itself."""
+    if given.tags and not given.text:
+        raise FenError("the game has no tag FEN")
     position = read_position(given.text)
     asked = named or mate_of(position)
     if asked is None:
         raise FenError("no stipulation: give --stipulation")
-    title = position.operations.get("id", "") or wishes.title
-    lines = problem_lines(position, given.text, asked, replace(wishes, title=title))
+    title = position.operations.get("id", "") or given.players or wishes.title
+    named_wishes = replace(wishes, title=title, origin=given.event)
+    lines = problem_lines(position, given.text, asked, named_wishes)
     return Problem(lines, is_turned(position, asked, wishes))
 
 
@@ -151,14 +188,14 @@ def command_line() -> argparse.ArgumentParser:
         metavar="FEN",
         help="a position; without FEN and --file, each line of standard input is one",
     )
-    add("-f", "--file", action="append", default=[], help="a file of positions, one per line")
+    add("-f", "--file", action="append", default=[], help="a file of positions, one per line, or of games in PGN with tags FEN")
     add(
         "-s",
         "--stipulation",
         type=stipulation,
         help="such as '#2', 's#3', 'h#2.5', '=1'; not needed if each EPD has a dm",
     )
-    add("-t", "--title", default="", help="the title of each problem; an EPD's id takes precedence")
+    add("-t", "--title", default="", help="the title of each problem; an EPD's id and a game's players take precedence")
     add("-a", "--author", default="", help="the author of each problem")
     add(
         "-c",
