@@ -8,7 +8,7 @@ import sys
 import tempfile
 import unittest
 from pathlib import Path
-from typing import Optional
+from typing import Optional, Union
 
 from tests import support
 
@@ -21,7 +21,8 @@ if int(setuptools.__version__.split(".")[0]) < 71:
 """
 LICENCES = ("LICENSE-MIT", "LICENSE-APACHE", "THIRD-PARTY")
 PACKAGES = ("companions/pops", "companions/pops_companions")
-SOURCES = ("pyproject.toml", "VERSION", "build", *LICENCES, *PACKAGES)
+SOURCES = ("pyproject.toml", "MANIFEST.in", "VERSION", "build", "docs/API.md", *LICENCES, *PACKAGES)
+PROGRAMS = ("pops", "pops-part", "pops-tries")
 MATE = support.REPOSITORY / "examples" / "mate_in_one.pop"
 
 
@@ -42,6 +43,30 @@ def commands() -> list[str]:
     return re.findall(r'^(\S+) = "pops_companions\.commands\.\w+:run"$', text, re.M)
 
 
+def copied_sources(room: str) -> Path:
+    """A copy of what the package is made of."""
+    sources = Path(room, "sources")
+    for name in SOURCES:
+        (sources / name).parent.mkdir(parents=True, exist_ok=True)
+        if (support.REPOSITORY / name).is_dir():
+            shutil.copytree(support.REPOSITORY / name, sources / name)
+        else:
+            shutil.copy(support.REPOSITORY / name, sources / name)
+    return sources
+
+
+def environment_with(room: str, package: Path) -> Path:
+    """The commands of a new environment into which a package was installed, without a network."""
+    assert PYTHON is not None
+    new = Path(room, "new")
+    subprocess.run(
+        [PYTHON, "-m", "venv", "--system-site-packages", "--without-pip", new], check=True
+    )
+    words = ["--no-build-isolation", "--no-deps", "--no-index", "--no-cache-dir", "--quiet"]
+    subprocess.run([new / "bin/python", "-m", "pip", "install", *words, package], check=True)
+    return new / "bin"
+
+
 @unittest.skipUnless(PYTHON, "no Python here has pip, venv, setuptools and wheel")
 class Package(unittest.TestCase):
     room: "tempfile.TemporaryDirectory[str]"
@@ -52,20 +77,9 @@ class Package(unittest.TestCase):
         assert PYTHON is not None
         cls.room = tempfile.TemporaryDirectory()
         cls.addClassCleanup(cls.room.cleanup)
-        sources, new = Path(cls.room.name, "sources"), Path(cls.room.name, "new")
-        for name in SOURCES:
-            (sources / name).parent.mkdir(parents=True, exist_ok=True)
-            if (support.REPOSITORY / name).is_dir():
-                shutil.copytree(support.REPOSITORY / name, sources / name)
-            else:
-                shutil.copy(support.REPOSITORY / name, sources / name)
-        subprocess.run(
-            [PYTHON, "-m", "venv", "--system-site-packages", "--without-pip", new], check=True
-        )
-        words = ["--no-build-isolation", "--no-deps", "--no-index", "--no-cache-dir", "--quiet"]
-        subprocess.run([new / "bin/python", "-m", "pip", "install", *words, sources], check=True)
+        sources = copied_sources(cls.room.name)
+        cls.commands = environment_with(cls.room.name, sources)
         shutil.rmtree(sources)
-        cls.commands = new / "bin"
 
     def said(self, name: str, *words: str, text: bytes = b"") -> bytes:
         """What an installed command writes, run in another folder."""
@@ -119,6 +133,68 @@ class Package(unittest.TestCase):
     def test_one_command_runs_another(self) -> None:
         said = self.said("pops-judge", "--pops", support.pops(), str(MATE), "-o", "sheet.html")
         self.assertIn(b"1 problem: 1 sound", said)
+
+
+def number() -> str:
+    return (support.REPOSITORY / "VERSION").read_text("ascii").split()[0]
+
+
+def is_accepted(package: Path) -> bool:
+    """Whether twine accepts a package, where it is installed."""
+    return shutil.which("twine") is None or support.run(["twine", "check", str(package)]).status == 0
+
+
+@unittest.skipUnless(PYTHON, "no Python here has pip, venv, setuptools and wheel")
+class Sources(unittest.TestCase):
+    def test_the_archive_of_sources_has_its_version(self) -> None:
+        assert PYTHON is not None
+        with tempfile.TemporaryDirectory() as room:
+            build = "from setuptools.build_meta import build_sdist; build_sdist('made')"
+            subprocess.run(
+                [PYTHON, "-c", build], cwd=copied_sources(room), check=True, capture_output=True
+            )
+            (archive,) = Path(room, "sources", "made").iterdir()
+            self.assertEqual(archive.name, f"pops-{number()}.tar.gz")
+            self.assertTrue(is_accepted(archive))
+            commands = environment_with(room, archive)
+            said = support.run([str(commands / "pops2json"), "--version"]).output
+        self.assertEqual(said.decode(), f"pops2json {number()}\n")
+
+
+@unittest.skipUnless(PYTHON, "no Python here has pip, venv, setuptools and wheel")
+class Wheel(unittest.TestCase):
+    def test_it_has_programs_companions_and_module(self) -> None:
+        """It is made twice with the same bytes, and installed without other programs in sight."""
+        made = support.run([str(support.REPOSITORY / "make-release"), "--wheel"])
+        if made.status == 5 and "of these sources" in made.error:
+            self.skipTest(made.error.strip())
+        self.assertEqual((made.status, made.error), (0, ""))
+        wheel = support.REPOSITORY / made.output.decode().split(":")[0]
+        before = wheel.read_bytes()
+        support.run([str(support.REPOSITORY / "make-release"), "--wheel"])
+        self.assertEqual(wheel.read_bytes(), before)
+        self.assertTrue(is_accepted(wheel))
+        with tempfile.TemporaryDirectory() as room:
+            commands = environment_with(room, wheel)
+            for name in (*PROGRAMS, "python"):
+                with self.subTest(name):
+                    self.assertTrue(os.access(commands / name, os.X_OK))
+            report = self.said(room, commands / "pops", str(MATE))
+            self.assertEqual(report.encode(), MATE.with_suffix(".report").read_bytes())
+            asked = "import pops; print(pops.Engine().program, pops.Engine(tries=True).program)"
+            said = self.said(room, commands / "python", "-c", asked)
+            self.assertEqual(said, f"{commands}/pops {commands}/pops-tries\n")
+            self.assertIn("none faulty", self.said(room, commands / "pops-explain", str(MATE)))
+            made_parts = self.said(room, commands / "pops-many", "--split", str(MATE))
+            self.assertEqual(made_parts, report)
+
+    def said(self, room: str, *words: Union[str, Path]) -> str:
+        """What a command says in an environment that names no other programs."""
+        done = subprocess.run(
+            words, cwd=room, env={"PATH": "/usr/bin:/bin"}, capture_output=True, timeout=60
+        )
+        self.assertEqual((done.returncode, done.stderr.decode()), (0, ""))
+        return done.stdout.decode()
 
 
 if __name__ == "__main__":
