@@ -16,7 +16,7 @@ from typing import Any, Optional
 # Generous: a machine may have much else to do.
 SECONDS_OF_AN_ANSWER = 1800
 SECONDS_OF_AN_END = 20
-# (the superuser's browser has no sandbox; no host is found, so nothing goes into a network)
+# (the superuser's browser has no sandbox; no host but this one is found, so nothing goes into a network)
 _FLAGS = (
     "--headless",
     "--no-sandbox",
@@ -25,7 +25,7 @@ _FLAGS = (
     "--hide-scrollbars",
     "--disable-dev-shm-usage",
     "--disable-background-networking",
-    "--host-resolver-rules=MAP * ~NOTFOUND",
+    "--host-resolver-rules=MAP * ~NOTFOUND, EXCLUDE 127.0.0.1",
     "--remote-debugging-pipe",
 )
 
