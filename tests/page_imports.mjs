@@ -9,9 +9,9 @@ export function makeDocument() {
   globalThis.document ??= { getElementById: name => (name === 'explanations' ? { textContent: EXPLANATIONS } : null) };
 }
 
-/** Returns the paths of all modules, except the worker, which is a script of its own. */
+/** Returns the paths of the page's modules: not the worker, which is a script of its own, and not those of the package of npm. */
 export function modulePaths(below = '') {
-  const entries = readdirSync(new URL(below, WEB), { withFileTypes: true });
+  const entries = readdirSync(new URL(below, WEB), { withFileTypes: true }).filter(it => it.name !== 'npm');
   return entries.flatMap(it => (it.isDirectory() ? modulePaths(`${below}${it.name}/`)
     : it.name.endsWith('.js') && it.name !== 'worker.js' ? [below + it.name] : []));
 }

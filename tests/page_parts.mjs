@@ -225,7 +225,7 @@ async function solved(make, given) {
       clearTimeout(limit);
       limit = setTimeout(isLate, given.seconds * 1000);
     }
-    report = text === null ? '' : report + text;
+    report += text;
     pieces += 1;
     if (pieces === given.stopAfter) solving.stop();
   });

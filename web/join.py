@@ -3,6 +3,7 @@
 
   web/join.py            prints the script of web/page.js and of all modules that it imports
   web/join.py FILE       the same for another module
+  web/join.py --module FILE    the same as a module, which exports what FILE exports
 
 Each module comes once, after the modules that it imports, without its lines of import and export: all share one scope. A fault ends
 with status 1: a missing module, a missing export, modules that import each other, a name that two modules declare, or a line of import
@@ -93,9 +94,19 @@ def joined(path: str) -> str:
     return "\n".join(["'use strict';", *(module.body for module in modules.values())])
 
 
+def joined_module(path: str) -> str:
+    """Returns the script of `joined` as a module with the exports of the file at this path."""
+    names = ", ".join(sorted(read_module(path).exports))
+    return f"{joined(path)}\nexport {{ {names} }};"
+
+
 def main() -> int:
+    words = sys.argv[1:]
     try:
-        print(joined(sys.argv[1] if len(sys.argv) > 1 else f"{HERE}/page.js"))
+        if words[:1] == ["--module"]:
+            print(joined_module(words[1]))
+        else:
+            print(joined(words[0] if words else f"{HERE}/page.js"))
     except JoinError as fault:
         print(f"join: {fault}", file=sys.stderr)
         return 1

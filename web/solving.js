@@ -10,7 +10,6 @@ const LEAST_HALF_MOVES = 4;
 const PARTS_A_WORKER = 16;
 const MOST_PARTS = 4096;
 const MOST_DEPTH = 4;
-const MOST_REPORT = 1 << 24;
 const CUT_STATUS = 3;
 
 /** The error that the text and the engine's report don't agree on the problems. */
@@ -19,17 +18,18 @@ class CutWrong extends Error {}
 export class Solving {
   /**
    * CHECK and NOBOARD are the settings. REFUTATIONS is the most refutations of a try, or null for a report without tries. A
-   * problem with LEAST half-moves or more is solved by parts. SAID receives each new part of the report, and null if the report
-   * begins again.
+   * problem with LEAST half-moves or more is solved by parts. A report is cut once it has more than MOST letters. SAID receives
+   * each new part of the report.
    * @param {string} text
-   * @param {{ check?: boolean, noBoard?: boolean, refutations?: number | null, least?: number }} settings
+   * @param {{ check?: boolean, noBoard?: boolean, refutations?: number | null, least?: number, most?: number }} settings
    * @param {Crew} crew
-   * @param {(text: string | null) => void} said
+   * @param {(text: string) => void} said
    */
-  constructor(text, { check = false, noBoard = false, refutations = null, least = LEAST_HALF_MOVES }, crew, said) {
+  constructor(text, { check = false, noBoard = false, refutations = null, least = LEAST_HALF_MOVES, most = Infinity }, crew, said) {
     this.text = text;
     this.check = check;
     this.noBoard = noBoard;
+    this.most = most;
     this.least = refutations === null ? least : Infinity;
     /** @type {Call} the call that solves a problem or a text whole */
     this.wholeCall = refutations === null ? { call: 'report', check: false, noBoard } : { call: 'tries', noBoard, refutations };
@@ -41,8 +41,8 @@ export class Solving {
     this.tasks = new Set();
     /** @type {PhasePiece[]} */
     this.phases = [];
-    /** The number of letters that were shown. */
-    this.length = 0;
+    /** What was shown of the report. */
+    this.shown = '';
     this.status = 0;
     this.found = 0;
     /** The number of problems that are solved whole, and how many of them are. */
@@ -121,22 +121,22 @@ export class Solving {
     return this.crew.ask({ ...call, text }).answer;
   }
 
-  /** Solves the whole text by one call. */
+  /** Solves the whole text by one call; the report goes on where it was. */
   async solveWhole() {
     for (const task of this.tasks) this.crew.drop(task);
     this.tasks.clear();
-    Object.assign(this, { isByOneCall: true, phases: [], length: 0, found: 0, whole: 1, wholeDone: 0 });
-    this.said(null);
+    Object.assign(this, { isByOneCall: true, phases: [], found: 0, whole: 1, wholeDone: 0 });
     const { status, text } = await this.ask(this.wholeCall, this.text);
     this.wholeDone = 1;
-    this.give(text);
+    if (text.startsWith(this.shown)) this.give(text.slice(this.shown.length));
+    else if (status !== CUT_STATUS || !this.shown.startsWith(text)) throw new Error('the report begins in two ways');
     this.end({ status });
   }
 
   /** @param {string} text */
   give(text) {
     if (this.isOver || !text) return;
-    this.length += text.length;
+    this.shown += text;
     this.said(text);
   }
 
@@ -145,7 +145,7 @@ export class Solving {
     if (this.isOver || this.isByOneCall) return;
     this.give(this.report.more());
     if (this.report.isWhole) this.end({ status: this.status });
-    else if (this.report.isCut || this.length > MOST_REPORT) this.end({ status: CUT_STATUS });
+    else if (this.report.isCut || this.shown.length > this.most) this.end({ status: CUT_STATUS });
   }
 
   /**

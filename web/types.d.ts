@@ -113,6 +113,14 @@ interface Head { text: string; isSound: boolean; halfMoves: number }
 /** How solving ended. */
 interface Ended { status?: number; failed?: string; isStopped?: boolean }
 
+/** How a program wants a text solved (npm/pops.d.ts says what each means). */
+interface SolveOptions {
+  tries?: boolean; refutations?: number; workers?: number; seconds?: number; signal?: AbortSignal; check?: boolean; noBoard?: boolean;
+  onText?: (text: any) => void;
+}
+/** What a program gets: status and report, of which more may follow if solving was stopped. */
+interface Solved { status: number | null; report: string | Uint8Array; stopped: boolean }
+
 // Explanations of faults.
 
 /** What is wrong and what to do, with the places to look at. */

@@ -73,7 +73,7 @@ test('state: a report that grows, and its end', () => {
   assert.deepEqual([state.solved, state.report], ['a', 'bc']);
   state.endReport(false);
   assert.equal(state.isBeginning, true);
-  state.addReport(null);
+  state.beginReport('a');
   state.endReport(false);
   assert.deepEqual([state.report, state.isBeginning], ['', false]);
   assert.equal(state.isSolved(), false);

@@ -49,12 +49,11 @@ export function beginReport(text) {
 }
 
 /**
- * Receives a new part of the report, or null if the report begins again; draws it after a pause.
- * @param {string | null} text
+ * Receives a new part of the report; draws it after a pause.
+ * @param {string} text
  */
 export function reportGrew(text) {
   state.addReport(text);
-  if (text === null) drawReport();
   drawing.timer ??= setTimeout(drawGrowth, drawing.pause);
 }
 

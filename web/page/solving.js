@@ -1,5 +1,6 @@
 // @ts-check
 // Solves the text on the page: starts and stops the workers, and says how far they are.
+import { UTF8 } from '../codecs.js';
 import { Crew } from '../crew.js';
 import { element, partText } from '../elements.js';
 import { Solving } from '../solving.js';
@@ -15,6 +16,8 @@ import { leave } from './walk.js';
 // The greatest status of a whole report.
 const WHOLE_STATUS = 1;
 const MOST_REFUTATIONS = 200;
+// The most letters of a report that the page shows.
+const MOST_REPORT = 1 << 24;
 /** @type {{ engine: WebAssembly.Module | null, solving: Solving | null, clock: ReturnType<typeof setInterval> | undefined, begun: number }} */
 const run = { engine: null, solving: null, clock: undefined, begun: 0 };
 
@@ -87,10 +90,9 @@ export function solve() {
   beginReport(textNow());
   element('solve').disabled = true;
   element('stop').disabled = false;
-  /** @type {Codec} */
-  const codec = { encode: text => new TextEncoder().encode(text), decode: bytes => new TextDecoder().decode(bytes) };
-  const crew = new Crew(navigator.hardwareConcurrency || 1, makeWorker, codec);
-  run.solving = new Solving(state.solved, { check: element('check').checked, refutations: mostRefutations() }, crew, reportGrew);
+  const crew = new Crew(navigator.hardwareConcurrency || 1, makeWorker, UTF8);
+  const settings = { check: element('check').checked, refutations: mostRefutations(), most: MOST_REPORT };
+  run.solving = new Solving(state.solved, settings, crew, reportGrew);
   tellProgress();
   run.clock = setInterval(tellProgress, 1000);
   run.solving.solve().then(solvingEnded);

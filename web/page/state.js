@@ -72,11 +72,11 @@ class PageState {
   }
 
   /**
-   * Adds a part to the report; null begins it again.
-   * @param {string | null} text
+   * Adds a part to the report.
+   * @param {string} text
    */
   addReport(text) {
-    this.report = text === null ? '' : this.report + text;
+    this.report += text;
   }
 
   /**

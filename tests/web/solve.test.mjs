@@ -1,0 +1,98 @@
+// How a program solves a text: with made workers, whose engine knows one problem.
+import assert from 'node:assert/strict';
+import { test } from 'node:test';
+import { LETTERS, UTF8 } from '../../web/codecs.js';
+import { solve, solveWith } from '../../web/npm/pops.js';
+import { solveByWorkers } from '../../web/solve.js';
+
+const TEXT = 'BeginProblem\nTitle é\nPieces White Kg6 Ra1 Black Kg8\nStipulation #1\nEndProblem\n';
+const HEAD = 'problem 1\ntitle: é\n#1\n';
+const REPORT = `${HEAD}play\n1.Ra1-a8#\nsolutions: 1\n\n`;
+const TRIES = `${HEAD}play\n1.Ra1-a8#\nsolutions: 1\ntries\ntries: 0\n\n`;
+
+/** A worker that answers at once, or never answers what takes long. */
+class MadeWorker {
+  static ended = 0;
+
+  constructor({ hangs = false, fails = false } = {}) {
+    Object.assign(this, { hangs, fails, asked: [] });
+  }
+
+  postMessage(call) {
+    this.asked.push(call);
+    if (this.hangs && !call.check) return;
+    queueMicrotask(() => this.onmessage({ data: this.fails ? { failed: 'broken' } : this.answer(call) }));
+  }
+
+  answer({ call, check }) {
+    const report = call === 'tries' ? TRIES : check ? `${HEAD}sound\n\n` : REPORT;
+    return { status: 0, bytes: new TextEncoder().encode(report) };
+  }
+
+  terminate() {
+    MadeWorker.ended += 1;
+  }
+}
+
+const make = () => new MadeWorker();
+
+test('codecs: any bytes are letters, also a byte order mark', () => {
+  const bytes = Uint8Array.from({ length: 20000 }, (_, at) => at % 256);
+  assert.deepEqual(LETTERS.encode(LETTERS.decode(bytes)), bytes);
+  assert.equal(UTF8.decode(UTF8.encode('\ufeffé')), '\ufeffé');
+});
+
+test('solve: letters give letters, part by part, and all workers end', async () => {
+  const parts = [];
+  let made = 0;
+  MadeWorker.ended = 0;
+  const counted = () => { made += 1; return make(); };
+  assert.deepEqual(await solveByWorkers(counted, TEXT, { onText: part => parts.push(part) }), { status: 0, report: REPORT, stopped: false });
+  assert.deepEqual([parts.join(''), parts.length > 1, MadeWorker.ended], [REPORT, true, made]);
+});
+
+test('solve: bytes give bytes', async () => {
+  const wanted = new TextEncoder().encode(REPORT);
+  const parts = [];
+  const { report } = await solveByWorkers(make, new TextEncoder().encode(TEXT), { onText: part => parts.push(...part) });
+  assert.deepEqual([report, Uint8Array.from(parts)], [wanted, wanted]);
+});
+
+test('solve: tries and their refutations are asked for', async () => {
+  const workers = [];
+  const seen = () => { workers.push(make()); return workers.at(-1); };
+  assert.equal((await solveByWorkers(seen, TEXT, { tries: true, refutations: 3, noBoard: true })).report, TRIES);
+  const calls = workers.flatMap(it => it.asked).filter(it => it.call === 'tries');
+  assert.deepEqual(calls.map(it => [it.refutations, it.noBoard]), [[3, true]]);
+});
+
+test('solve: a signal or the time stops it, with a beginning of the report', async () => {
+  const stopping = new AbortController();
+  const hanging = () => new MadeWorker({ hangs: true });
+  const stopped = { status: null, report: HEAD, stopped: true };
+  assert.deepEqual(await solveByWorkers(hanging, TEXT, { signal: stopping.signal, onText: () => stopping.abort() }), stopped);
+  assert.deepEqual(await solveByWorkers(hanging, TEXT, { seconds: 0.05 }), stopped);
+  assert.deepEqual(await solveByWorkers(hanging, TEXT, { signal: stopping.signal }), { ...stopped, report: '' });
+});
+
+test('solve: an engine or a receiver that fails rejects', async () => {
+  await assert.rejects(solveByWorkers(() => new MadeWorker({ fails: true }), TEXT), /broken/);
+  await assert.rejects(solveByWorkers(make, TEXT, { onText: () => { throw new Error('full'); } }), /full/);
+});
+
+test('solve: options without a meaning are refused', async () => {
+  for (const wrong of [{ refutations: 201 }, { refutations: 0.5 }, { workers: 0 }, { seconds: -1 }, { seconds: NaN }]) {
+    await assert.rejects(solveByWorkers(make, TEXT, wrong), RangeError);
+  }
+});
+
+test('the package for web pages: a missing engine rejects, each time', async () => {
+  assert.equal(solveWith, solveByWorkers);
+  const { fetch } = globalThis;
+  globalThis.fetch = async () => ({ ok: false, status: 404, statusText: 'Not Found' });
+  try {
+    for (const _ of [1, 2]) await assert.rejects(solve(TEXT), /pops.wasm: 404 Not Found/);
+  } finally {
+    globalThis.fetch = fetch;
+  }
+});
