@@ -30,6 +30,7 @@ _pops_options() {
     pops-judge)
       own='--output --heading --seconds --jobs --solutions --resume --apart --all --pops --pops-tries --encoding'
       ;;
+    popeye-py) own='-maxtime -maxmem -maxpos --pops --pops-tries' ;;
     pops-export) own='--to --report --apart --output --encoding' ;;
     pops-find)
       own='--add --near --play --report --author --title --stipulation --condition --men --count --most --output
@@ -65,4 +66,4 @@ _pops() {
 }
 complete -o filenames -o bashdefault -o default -F _pops \
   pops pops-part pops-tries fen2pop pops-import pops-export pops-many pops-page pops-sheet pops-diagram pops2json pops-test \
-  pops-judge pops-compare pops-explain pops-find
+  pops-judge pops-compare pops-explain pops-find popeye-py

@@ -21,7 +21,7 @@ PACKAGE = COMPANIONS / "pops_companions"
 # The seconds after which a test gives up waiting: no busy machine takes so long.
 PATIENCE = 1800
 # Commands whose module has another name.
-_OTHER_NAMES = {"pops-import": "import_", "pops-test": "soundness"}
+_OTHER_NAMES = {"pops-import": "import_", "pops-test": "soundness", "popeye-py": "popeye_py"}
 Test = TypeVar("Test", bound=Callable[..., Any])
 
 # The rows as files: NAME.in, NAME.out and NAME.options.

@@ -101,7 +101,7 @@ class Package(unittest.TestCase):
     def test_each_command_helps(self) -> None:
         shown = {path.name for path in support.COMPANIONS.iterdir() if os.access(path, os.X_OK)}
         self.assertLessEqual(set(commands()), shown)
-        self.assertEqual(len(commands()), 13)
+        self.assertEqual(len(commands()), 14)
         for name in commands():
             with self.subTest(name):
                 self.assertTrue(self.said(name, "--help").startswith(f"usage: {name} ".encode()))

@@ -51,7 +51,10 @@ class Twin:
 
 @dataclass
 class Options:
-    """What the options of a problem ask for; `words` are those that stand without a value."""
+    """What the options of a problem ask for; `words` are those that stand without a value.
+
+    `refutations` is how many a try may have that is to be shown; 0 shows no tries.
+    """
 
     words: list[str] = field(default_factory=list)
     max_solutions: Optional[int] = None
@@ -60,6 +63,7 @@ class Options:
     plain: bool = True
     turned: bool = False
     white_to_play: bool = False
+    refutations: int = 0
 
 
 @dataclass

@@ -73,6 +73,10 @@ def _read_option(words: Words, option: Option, draft: Draft) -> None:
         options.white_to_play = True
     elif option in _LEFT_OUT:
         value = _number(words)
+        if option is Option.TRY:
+            options.refutations = max(options.refutations, 1)
+        elif option is Option.DEFENCE and value is not None:
+            options.refutations = int(value)
         text = option.value if value is None else f"{option.value} {value}"
         draft.notes.append(Message(line, f"{text} left out: {_LEFT_OUT[option]}"))
     else:

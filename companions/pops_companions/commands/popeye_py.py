@@ -1,0 +1,202 @@
+"""Stands in for Popeye's command line: reads an input of Popeye, solves it, writes Popeye's layout."""
+
+import argparse
+import sys
+import time
+from collections.abc import Iterable, Iterator
+from dataclasses import replace
+from typing import NoReturn, Optional
+
+from pops.engine import Engine
+from pops.run import Ending, Limits, Result
+from pops_companions import command
+from pops_companions.chess.stipulation import Play
+from pops_companions.command import CommandError, Status
+from pops_companions.export.popeye_layout import (
+    Shown,
+    asked_line,
+    board_lines,
+    help_lines,
+    solution_lines,
+    with_all_defences,
+)
+from pops_companions.import_.draft import Draft, Options
+from pops_companions.import_.posing import Posed, posed
+from pops_companions.import_.sources import read_drafts
+from pops_companions.import_.words import Unreadable
+from pops_companions.input.writing import text_of_problems
+from pops_companions.many.program import LOOKED_FOR, MissingError, RunError
+from pops_companions.many.tries_program import TRIES_LOOKED_FOR
+from pops_companions.report.items import Node, Phase, SoundItem
+from pops_companions.report.tries import FirstMove, TriesItem
+from pops_companions.show.titles import shown, text_of
+
+NAME = "popeye-py"
+_MOST_REFUTATIONS = 200
+
+
+class Settings(argparse.Namespace):
+    """The words of the command line."""
+
+    files: list[str]
+    maxtime: Optional[int]
+    maxmem: Optional[str]
+    maxpos: Optional[str]
+    pops: Optional[str]
+    pops_tries: Optional[str]
+
+
+def arguments(words: list[str]) -> Settings:
+    """Reads the words of the command line."""
+    parser = command.parser(
+        NAME,
+        "Stands in for Popeye's command line, for programs that call it: reads Popeye inputs as\n"
+        "pops-import does, solves them, and writes the solutions in Popeye's layout, with tries for\n"
+        "Option Try, variations for Option Variation, set play for Option SetPlay.",
+        epilog="example: popeye-py -maxtime 60 problem.inp\n"
+        "exit status: 0 if all is well, 1 if a problem can't be posed or solved in time, 3 if a file\n"
+        "can't be read or a program fails.",
+    )
+    add = parser.add_argument
+    add("files", nargs="*", metavar="FILE", help="an input of Popeye (default: standard input)")
+    add(
+        "-maxtime",
+        type=command.number_from_one,
+        metavar="N",
+        help="stop a problem after N seconds, and show what was found",
+    )
+    add("-maxmem", metavar="SIZE", help="without effect: the memory of pops is fixed")
+    add("-maxpos", metavar="N", help="without effect: pops keeps no positions")
+    add("--pops", metavar="PROGRAM", help=LOOKED_FOR)
+    add("--pops-tries", metavar="PROGRAM", help=TRIES_LOOKED_FOR)
+    return parser.parse_args(words, Settings())
+
+
+class Solver:
+    """The programs, and the time that a problem has."""
+
+    def __init__(self, settings: Settings):
+        self._settings = settings
+        self._pops = Engine(settings.pops)
+        self.is_whole = True
+
+    def _tries_engine(self, refutations: int) -> Engine:
+        return Engine(self._settings.pops_tries, True, min(refutations, _MOST_REFUTATIONS))
+
+    def lines(self, draft: Draft, one: Posed) -> Iterator[str]:
+        """Yields the lines of a problem: head, solutions, how it ended."""
+        begun = time.monotonic()
+        text = text_of_problems([_with_all_shown(one.lines)])
+        tries = self._run(self._tries_engine(draft.options.refutations), text, begun)
+        item = tries.items[0] if tries.items else None
+        if not isinstance(item, TriesItem):
+            raise RunError("pops-tries shows nothing of the problem")
+        yield from _head(one.label, item)
+        result = self._run(self._pops, text, begun)
+        solved = result.items[0] if result.items else None
+        phases = solved.phases or () if isinstance(solved, SoundItem) else ()
+        if item.stipulation.play is Play.HELP:
+            for phase in phases:
+                yield from help_lines(phase)
+                yield ""
+        else:
+            yield from solution_lines(_joined(item, phases), _shown_by(draft.options))
+        self.is_whole = tries.ending is result.ending is Ending.COMPLETE
+        said = "solution finished." if self.is_whole else "Partial solution"
+        yield f"{said} Time = {time.monotonic() - begun:.3f} s"
+        yield ""
+
+    def _run(self, engine: Engine, text: str, begun: float) -> Result:
+        seconds = self._settings.maxtime
+        left = None if seconds is None else max(begun + seconds - time.monotonic(), 0.001)
+        return engine.solve(text, Limits(seconds=left)).result
+
+
+def _shown_by(options: Options) -> Shown:
+    """Returns what the options of an input ask for."""
+    asked = Shown.KEYS
+    if "Variation" in options.words:
+        asked |= Shown.VARIATIONS
+    return asked | Shown.TRIES if options.refutations else asked
+
+
+def _with_all_shown(lines: list[str]) -> list[str]:
+    """Returns a problem with its board and all defences in the report."""
+    named = [line for line in lines if not line.startswith("Option ")]
+    words = [word for line in lines if line.startswith("Option ") for word in line.split()[1:]]
+    words = [word for word in words if word not in ("NoBoard", "Variation")]
+    return [*named, " ".join(("Option Variation", *words))]
+
+
+def _head(label: str, item: TriesItem) -> Iterator[str]:
+    assert item.board is not None
+    yield ""
+    for text in (item.author, item.title):
+        if text is not None:
+            yield shown(text, "utf-8")
+    yield ""
+    yield from board_lines(item.board.men)
+    condition = "" if item.condition is None else f" {item.condition.value}"
+    yield asked_line(item.stipulation, item.board.men) + condition
+    yield ""
+    if label:
+        yield label
+        yield ""
+
+
+def _joined(tries: TriesItem, phases: Iterable[Phase]) -> TriesItem:
+    """Returns the tries of a problem with all defences against its keys."""
+    keys: dict[str, Node] = {}
+    for phase in phases:
+        keys.update((it.move.text, it) for it in phase.solutions if isinstance(it, Node))
+
+    def whole(first: FirstMove) -> FirstMove:
+        key = keys.get(first.move.text)
+        return first if key is None else with_all_defences(first, key)
+
+    return replace(tries, keys=tuple(map(whole, tries.keys)))
+
+
+def drafts_of(file: Optional[str]) -> list[Draft]:
+    """Returns the problems of a file. CommandError where it holds none."""
+    with command.opened(file) as source:
+        text = text_of(source.read(), "utf-8")
+    try:
+        return read_drafts(text)
+    except Unreadable as error:
+        name = file or "standard input"
+        message = f"{name}, line {error.message.line}: {error}"
+        raise CommandError(Status.FAULTY, message) from None
+
+
+def write(solver: Solver, draft: Draft, one: Posed) -> Status:
+    """Writes a problem with its solutions, or says on standard error why it has none."""
+    if one.faults:
+        why = "; ".join(fault.text for fault in one.faults)
+        name = f"problem {draft.number} {one.label}".rstrip()
+        print(f"{NAME}: {name}: left out: {why}", file=sys.stderr)
+        return Status.FAULTY
+    for line in solver.lines(draft, one):
+        print(line)
+    return Status.GOOD if solver.is_whole else Status.FAULTY
+
+
+def main(words: list[str]) -> Status:
+    settings = arguments(words)
+    inputs: list[Optional[str]] = [*settings.files]
+    try:
+        solver = Solver(settings)
+        statuses = [
+            write(solver, draft, one)
+            for file in inputs or [None]
+            for draft in drafts_of(file)
+            for one in posed(draft)
+        ]
+    except (MissingError, RunError) as error:
+        raise CommandError(Status.DEVICE, str(error)) from None
+    return max(statuses, default=Status.GOOD)
+
+
+def run() -> NoReturn:
+    """Runs the command on the program's arguments."""
+    command.run(NAME, main)
