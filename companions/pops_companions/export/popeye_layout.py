@@ -1,6 +1,6 @@
 """Solutions in Popeye's layout, in the order in which Popeye shows moves.
 
-Layout and order are those of the solutions by Popeye that YACPDB publishes; the board is from memory. White's men come from h8
+Layout and order are as in the solutions by Popeye that YACPDB publishes; the board is from memory. White's men come from h8
 to a1, Black's from a1 to h8; of a man's moves those along a line from the farthest on.
 """
 

@@ -385,7 +385,7 @@ def _items(allowed: Allowed, source: Iterable[bytes]) -> Iterator[AnyItem]:
 
 
 def _pieces(source: Iterable[bytes]) -> Iterator[bytes]:
-    """Yields the bytes of a source; those of a binary file in pieces longer than a line."""
+    """Yields the bytes of a source, of a binary file in pieces longer than a line."""
     if not isinstance(source, io.BufferedIOBase):
         yield from source
         return

@@ -14,6 +14,8 @@ from pops_companions.show.titles import printable
 
 # How many moves of a finding are shown without --all.
 MOST_LINES = 10
+# What a text begins with that a spreadsheet computes.
+_OF_FORMULAS = ("=", "+", "-", "@", "\t", "\r")
 
 COLUMNS = (
     "number",
