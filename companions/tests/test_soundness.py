@@ -447,6 +447,16 @@ class Collection(unittest.TestCase):
         self.assertEqual(places, sorted(places))
         self.assertTrue(text.endswith(shown[-1]))
 
+    def test_csv_has_nothing_that_a_spreadsheet_computes(self) -> None:
+        heads = (b"title: =1+1\nauthor: @SUM(A1)\n#1", b"title: -2\nauthor: +3\n=1", b"title: a=b\n#1")
+        items = (b"problem %d\n%s\nsound\n\n" % (it, head) for it, head in enumerate(heads, 1))
+        said = run_here.companion("pops-test", "--csv", text=b"".join(items)).output.decode()
+        rows = list(csv.DictReader(io.StringIO(said)))
+        cells = [(row["title"], row["author"], row["stipulation"]) for row in rows]
+        self.assertEqual(
+            cells, [("'=1+1", "'@SUM(A1)", "#1"), ("'-2", "'+3", "'=1"), ("a=b", "", "#1")]
+        )
+
     def test_csv(self) -> None:
         rows = list(csv.DictReader(io.StringIO(self.judged("--csv").output.decode())))
         self.assertEqual([row["verdict"] for row in rows], [verdict for verdict, _ in self.WANTED])

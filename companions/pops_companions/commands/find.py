@@ -2,6 +2,7 @@
 
 import argparse
 import re
+import sqlite3
 import sys
 from pathlib import Path
 from typing import NoReturn, Optional
@@ -206,6 +207,9 @@ def main(words: list[str]) -> Status:
             collection.close()
     except CollectionError as error:
         raise CommandError(Status.DEVICE, str(error)) from None
+    except sqlite3.Error as error:
+        message = f"cannot read {settings.collection}: {error}"
+        raise CommandError(Status.DEVICE, message) from None
 
 
 def run() -> NoReturn:

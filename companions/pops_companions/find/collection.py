@@ -73,17 +73,29 @@ class Collection:
         """Opens a file; `new` makes it where it isn't there. CollectionError for other files."""
         if not new and not os.path.exists(path):
             raise CollectionError(f"there is no {path}: --add makes a collection")
+        # (what a killed run left half written is taken back where the file may be written)
+        mode = "rwc" if new else "rw" if os.access(path, os.W_OK) else "ro"
         try:
-            mode = "rwc" if new else "ro"
             self._data = sqlite3.connect(f"{_uri(path)}?mode={mode}", uri=True)
+            if new:
+                self._data.execute("BEGIN IMMEDIATE")
+                if not self._tables():
+                    self._make()
+                self._data.commit()
             (form,) = self._data.execute("PRAGMA application_id").fetchone()
-            tables = self._data.execute("SELECT count(*) FROM sqlite_master").fetchone()[0]
-            if new and not tables:
-                self._data.executescript(_SCHEMA + f"PRAGMA application_id = {_FORM};")
-            elif form != _FORM:
-                raise CollectionError(f"{path} is no collection of pops-find")
         except sqlite3.Error as error:
             raise CollectionError(f"cannot open {path}: {error}") from None
+        if form != _FORM:
+            raise CollectionError(f"{path} is no collection of pops-find")
+
+    def _tables(self) -> int:
+        return int(self._data.execute("SELECT count(*) FROM sqlite_master").fetchone()[0])
+
+    def _make(self) -> None:
+        """Makes the tables and the mark, all or nothing, within the transaction at hand."""
+        for statement in filter(str.strip, _SCHEMA.split(";")):
+            self._data.execute(statement)
+        self._data.execute(f"PRAGMA application_id = {_FORM}")
 
     def close(self) -> None:
         self._data.close()
