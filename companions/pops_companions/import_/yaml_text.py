@@ -7,7 +7,7 @@ tags have no meaning. Line ends at the end of a block text are dropped.
 
 import importlib
 import re
-from collections.abc import Iterator
+from collections.abc import Iterable, Iterator
 from typing import Any, Union
 
 from pops_companions.command import CommandError, Status
@@ -131,12 +131,12 @@ def _parsed(text: str, first: int) -> list[Any]:
     yaml = _pyyaml()
     if yaml.__with_libyaml__:
         try:
-            return list(yaml.parse(text, yaml.CBaseLoader))
+            return list(_of_few_levels(yaml.parse(text, yaml.CBaseLoader), first))
         except yaml.YAMLError:
             # The slower parser names the same faults on every machine, and reads surrogates.
             pass
     try:
-        return list(yaml.parse(text, yaml.BaseLoader))
+        return list(_of_few_levels(yaml.parse(text, yaml.BaseLoader), first))
     except yaml.MarkedYAMLError as error:
         ends = "end of stream" in error.problem and error.context_mark is not None
         mark = error.context_mark if ends else error.problem_mark
@@ -144,6 +144,21 @@ def _parsed(text: str, first: int) -> list[Any]:
     except yaml.reader.ReaderError as error:
         line = first + text.count("\n", 0, error.position)
         raise YamlError(line, f"U+{error.character:04X} isn't allowed") from None
+
+
+def _of_few_levels(events: Iterable[Any], first: int) -> Iterator[Any]:
+    """Yields events; refuses too many levels before PyYAML has read them, which would take long."""
+    kinds = importlib.import_module("yaml.events")
+    level = 0
+    for event in events:
+        if isinstance(event, (kinds.SequenceStartEvent, kinds.MappingStartEvent)):
+            level += 1
+            if level > _MOST_LEVELS:
+                line = first + event.start_mark.line
+                raise YamlError(line, f"there are more than {_MOST_LEVELS} levels")
+        elif isinstance(event, (kinds.SequenceEndEvent, kinds.MappingEndEvent)):
+            level -= 1
+        yield event
 
 
 def _meaning(problem: str) -> str:
@@ -167,7 +182,7 @@ class _Reader:
         self._first = first
 
     def document(self) -> Node:
-        return next(self._node(event, 0) for event in self._events if self._is_node(event))
+        return next(self._node(event) for event in self._events if self._is_node(event))
 
     def _is_node(self, event: Any) -> bool:
         return isinstance(event, self._nodes)
@@ -176,15 +191,13 @@ class _Reader:
         line: int = self._first + event.start_mark.line
         return line
 
-    def _node(self, event: Any, level: int) -> Node:
-        if level > _MOST_LEVELS:
-            raise YamlError(self._line(event), f"there are more than {_MOST_LEVELS} levels")
+    def _node(self, event: Any) -> Node:
         if event.anchor is not None:
             raise YamlError(self._line(event), "anchors and aliases aren't read")
         if isinstance(event, self._sequence):
-            return [self._node(inner, level + 1) for inner in self._inside()]
+            return [self._node(inner) for inner in self._inside()]
         if isinstance(event, self._mapping):
-            return self._keys(level + 1)
+            return self._keys()
         return self._text(event)
 
     def _inside(self) -> Iterator[Any]:
@@ -194,15 +207,15 @@ class _Reader:
                 return
             yield event
 
-    def _keys(self, level: int) -> dict[str, Node]:
+    def _keys(self) -> dict[str, Node]:
         mapping: dict[str, Node] = {}
         for event in self._inside():
-            key = self._node(event, level)
+            key = self._node(event)
             if not isinstance(key, Scalar):
                 raise YamlError(self._line(event), "a key has to be a text")
             if key in mapping:
                 raise YamlError(key.line, f"the key {key} occurs twice")
-            mapping[key] = self._node(next(self._events), level)
+            mapping[key] = self._node(next(self._events))
         return mapping
 
     def _text(self, event: Any) -> Node:
