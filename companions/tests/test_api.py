@@ -1,4 +1,4 @@
-"""The examples in Python of docs/API.md and docs/INTEGRATING.md: each prints what stands there."""
+"""The examples in Python of docs/API.md, and examples/tree.py: each prints what it should."""
 
 import os
 import re
@@ -13,7 +13,8 @@ import pops
 from tests import support
 
 _EXAMPLE = re.compile(r"^```python\n(.*?)^```\n(?:\nprints\n\n```text\n(.*?)^```\n)?", re.M | re.S)
-DOCUMENTS = ("API.md", "INTEGRATING.md")
+DOCUMENTS = ("API.md",)
+TREE = support.REPOSITORY / "examples" / "tree.py"
 MATE = support.REPOSITORY / "examples" / "mate_in_one.pop"
 
 
@@ -50,6 +51,12 @@ class Examples(unittest.TestCase):
                     tried += 1
         self.assertGreaterEqual(tried, 3)
 
+    def test_a_tree_as_it_grows(self) -> None:
+        """The program has thirty lines at most. A closed input doesn't stop it."""
+        self.assertLessEqual(len(TREE.read_text().splitlines()), 30)
+        wanted = "problem 1: #1\n1.Ra1-a8#\nplay: 1 solutions\n"
+        self.assertEqual(output_of(TREE.read_text()), wanted)
+
     def test_the_events_are_those_of_the_module(self) -> None:
         named = set(re.findall(r"`(\w+Event)`", document("API.md")))
         events = {name for name in pops.__all__ if name.endswith("Event")}
@@ -58,7 +65,7 @@ class Examples(unittest.TestCase):
     @unittest.skipUnless(shutil.which("mypy"), "mypy isn't installed")
     def test_they_are_typed(self) -> None:
         with tempfile.TemporaryDirectory() as room:
-            files: list[str] = []
+            files = [str(TREE)]
             for name in DOCUMENTS:
                 for example, _ in _EXAMPLE.findall(document(name)):
                     files.append(str(Path(room, f"example_{len(files)}.py")))
