@@ -9,7 +9,6 @@ import tempfile
 import unittest
 from pathlib import Path
 
-import pops
 from tests import support
 
 _EXAMPLE = re.compile(r"^```python\n(.*?)^```\n(?:\nprints\n\n```text\n(.*?)^```\n)?", re.M | re.S)
@@ -56,11 +55,6 @@ class Examples(unittest.TestCase):
         self.assertLessEqual(len(TREE.read_text().splitlines()), 30)
         wanted = "problem 1: #1\n1.Ra1-a8#\nplay: 1 solutions\n"
         self.assertEqual(output_of(TREE.read_text()), wanted)
-
-    def test_the_events_are_those_of_the_module(self) -> None:
-        named = set(re.findall(r"`(\w+Event)`", document("API.md")))
-        events = {name for name in pops.__all__ if name.endswith("Event")}
-        self.assertEqual(named, events - {"Event"})
 
     @unittest.skipUnless(shutil.which("mypy"), "mypy isn't installed")
     def test_they_are_typed(self) -> None:
