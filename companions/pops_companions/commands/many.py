@@ -42,7 +42,11 @@ def read_source(name: Optional[str], progress: Progress) -> Source:
     An input that can't be opened or read is reported and left to pops.
     """
     try:
-        source = Source(name, sys.stdin.buffer.read() if name is None else Path(name).read_bytes())
+        if name is None:
+            with command.opened(None) as given:
+                source = Source(None, given.read())
+        else:
+            source = Source(name, Path(name).read_bytes())
     except OSError as error:
         if name is None:
             raise

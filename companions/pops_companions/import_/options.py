@@ -10,6 +10,7 @@ from pops_companions.import_.words import Message, Unreadable, Words
 MOST_SOLUTIONS = 4_000_000_000
 _CASTLING_SQUARES = ("a1", "e1", "h1", "a8", "e8", "h8")
 _LEAST_LETTERS = 3
+_LONGEST_NUMBER = 10
 
 _ALL_SHOWN = "all solutions are shown, whatever the defences"
 _SHOWN_OTHERWISE = "the report has its own form"
@@ -85,7 +86,9 @@ def _read_option(words: Words, option: Option, draft: Draft) -> None:
 
 def _number(words: Words) -> Optional[str]:
     word = words.peek()
-    return words.take().text if word is not None and word.text.isdecimal() else None
+    if word is None or not word.text.isdecimal() or len(word.text) > _LONGEST_NUMBER:
+        return None
+    return words.take().text
 
 
 def _solutions(words: Words) -> int:

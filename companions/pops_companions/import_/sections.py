@@ -13,6 +13,7 @@ _CONDITIONS = table_of((condition.value, condition.value) for condition in Condi
 
 
 # As 2, 2.1.1.1 and 2.1..: how many solutions there are, by how many half-moves they part.
+_MOST_WANTED = 999_999_999
 _WANTED = re.compile(r"[1-9][0-9]{0,8}(\.[1-9][0-9]{0,8})*\.*")
 
 
@@ -21,7 +22,8 @@ def wanted_of(text: str) -> Optional[int]:
     """
     if not _WANTED.fullmatch(text):
         return None
-    return math.prod(int(number) for number in text.split(".") if number)
+    wanted = math.prod(int(number) for number in text.split(".") if number)
+    return wanted if wanted <= _MOST_WANTED else None
 
 
 def take_wanted(words: Words) -> tuple[Optional[int], str]:
