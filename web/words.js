@@ -38,7 +38,7 @@ const WORDS = {
     tailLoose: 'Nothing after EndProblem in line {endLine} is read, and the text goes on in line {line}: write more problems '
       + 'before it, after NextProblem, and a comment after Remark.', open: 'Open a file', next: 'Next problem',
     fileTaken: '{name} was read', fileLatin: '{name} isn’t UTF-8: it was read letter by letter, as Windows-1252',
-    fileLong: '{name} is longer than 8 MiB: too long for the page',
+    fileLong: '{name} is longer than 8 MiB: too long for the page', textLong: 'The text would be longer than 8 MiB: too long for the page',
     solve: 'Solve', stop: 'Stop', check: 'test only', withTries: 'tries and threats', mostRefutations: 'refutations of a try, at most', loading: 'loading', ready: 'ready',
     solving: 'solving: {seconds} s, {done} of {parts} parts, {found} solutions so far',
     stopped: 'stopped after {seconds} s: this is a beginning of the report',

@@ -125,6 +125,16 @@ test('files: a dropped text is taken', () => {
   assert.equal(textNow(), TEXT);
 });
 
+test('a text that is too long for the page is refused', () => {
+  const long = 'x'.repeat((1 << 23) + 1);
+  for (const give of [() => paste(long), () => send('drop', { dataTransfer: { types: ['text/plain'], files: [], getData: () => long } })]) {
+    begin(TEXT);
+    give();
+    assert.equal(textNow(), TEXT);
+    assert.match(element('note').textContent, /would be longer than 8 MiB/);
+  }
+});
+
 test('faults: marks at their lines, until the text changes', () => {
   const text = TEXT.replace('#1', '#0');
   begin(text, 'problem 1\nline 3: fault 8: bad stipulation\n\n');

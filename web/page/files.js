@@ -7,6 +7,7 @@ import { MOST_FILE_BYTES, textOfBytes } from '../store.js';
 import { blocksOf } from '../text.js';
 import { say } from '../words.js';
 import { LONG_TEXT, takeFen, takeText } from './editing.js';
+import { textNow } from './state.js';
 import { note } from './views.js';
 
 /** @param {File | undefined} file */
@@ -23,12 +24,31 @@ async function takeFile(file) {
   note([say(isUtf8 ? 'fileTaken' : 'fileLatin', { name: file.name }), said].filter(Boolean).join('. '));
 }
 
+/**
+ * Returns whether a text from elsewhere is too long, and says so.
+ * @param {number} length
+ */
+function isTooLong(length) {
+  if (length > MOST_FILE_BYTES) note(say('textLong'));
+  return length > MOST_FILE_BYTES;
+}
+
 /** @param {ClipboardEvent} event */
 function pasted(event) {
   const text = event.clipboardData?.getData('text/plain') ?? '';
   const isField = /** @type {Element} */ (event.target).closest?.('input, select');
   const isText = event.target === element('text');
   if (isField || !text) return;
+  if (isTooLong(isText ? textNow().length + text.length : text.length)) event.preventDefault();
+  else takePasted(event, text, isText);
+}
+
+/**
+ * @param {ClipboardEvent} event
+ * @param {string} text
+ * @param {boolean} isText
+ */
+function takePasted(event, text, isText) {
   if (readFen(text)) takeFen(text);
   else if ((!isText && blocksOf(text).length) || (text.length < LONG_TEXT && imported(text)?.text)) takeText(text);
   else return;
@@ -41,8 +61,9 @@ function dropped(event) {
   if (!isDroppable(event)) return;
   event.preventDefault();
   const { dataTransfer } = event;
+  const text = dataTransfer?.getData('text/plain') ?? '';
   if (dataTransfer?.files.length) takeFile(dataTransfer.files[0]);
-  else takeText(dataTransfer?.getData('text/plain') ?? '');
+  else if (!isTooLong(text.length)) takeText(text);
 }
 
 /** @param {DragEvent} event */
