@@ -253,7 +253,9 @@ def opened(file: Optional[str]) -> Iterator[BinaryIO]:
 
 
 @contextmanager
-def written(file: Optional[str]) -> Iterator[BinaryIO]:
+def written(
+    file: Optional[str], links: files.Links = files.Links.FOLLOWED
+) -> Iterator[BinaryIO]:
     """Opens the file that a companion writes, or standard output where no file is named.
 
     A file gets its name once all of it is written: a run that fails leaves the old file as it
@@ -265,7 +267,7 @@ def written(file: Optional[str]) -> Iterator[BinaryIO]:
         return
     begun = False
     try:
-        with files.written_whole(file) as target:
+        with files.written_whole(file, links=links) as target:
             begun = True
             yield target
     except OSError as error:

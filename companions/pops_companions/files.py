@@ -5,10 +5,20 @@ import secrets
 import stat
 from collections.abc import Iterator
 from contextlib import contextmanager, suppress
+from enum import Enum
 from typing import BinaryIO, Optional
 
 # No file and no link that is there already is opened.
 _NEW = os.O_RDWR | os.O_CREAT | os.O_EXCL | os.O_NOFOLLOW | os.O_CLOEXEC
+
+
+class Links(Enum):
+    """What becomes of a link by the name of a file that is written."""
+
+    # The user named it.
+    FOLLOWED = "followed"
+    # The name is made of another's: whoever put a link there didn't name it for this.
+    REPLACED = "replaced"
 
 
 def is_device(path: str) -> bool:
@@ -16,19 +26,29 @@ def is_device(path: str) -> bool:
     return os.path.exists(path) and not os.path.isfile(path)
 
 
+def real_of(path: str, links: Links) -> str:
+    """Returns the path of the file that is written."""
+    if links is Links.FOLLOWED:
+        return os.path.realpath(path)
+    folder, name = os.path.split(path)
+    return os.path.join(os.path.realpath(folder), name)
+
+
 @contextmanager
-def written_whole(path: str, unfinished: Optional[str] = None) -> Iterator[BinaryIO]:
+def written_whole(
+    path: str, unfinished: Optional[str] = None, links: Links = Links.FOLLOWED
+) -> Iterator[BinaryIO]:
     """Opens a file for writing that appears under its name when all is written.
 
     If the writing fails, the file that was there stays. A new one has its owner and permissions.
     Until it is whole the file has a name that nobody can guess, or is called `unfinished`; what
-    an earlier run left under that name is removed. A link is followed to what it names.
+    an earlier run left under that name is removed.
     """
-    if is_device(path):
+    if links is Links.FOLLOWED and is_device(path):
         with open(path, "wb") as device:
             yield device
         return
-    real = os.path.realpath(path)
+    real = real_of(path, links)
     before = _kept(real)
     name = unfinished or f"{real}.{secrets.token_hex(6)}"
     if unfinished is not None:
@@ -63,9 +83,13 @@ def remove(path: str) -> None:
 def _kept(real: str) -> Optional[os.stat_result]:
     """Returns what is known of the file that is there. OSError where it isn't to be written."""
     try:
-        before = os.stat(real)
+        before = os.lstat(real)
     except FileNotFoundError:
         return None
+    if stat.S_ISLNK(before.st_mode):
+        return None
+    if not stat.S_ISREG(before.st_mode):
+        raise FileExistsError(17, "there is something that is no file", real)
     if not os.access(real, os.W_OK):
         raise PermissionError(13, os.strerror(13), real)
     return before

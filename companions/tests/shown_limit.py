@@ -2,7 +2,7 @@
 
 import subprocess
 from collections.abc import Iterator
-from contextlib import contextmanager
+from contextlib import contextmanager, suppress
 from pathlib import Path
 from typing import Optional
 from unittest import mock
@@ -27,11 +27,15 @@ def limit_when_shown(room: Path) -> Iterator[None]:
         if seconds is None:
             return child.run.communicate(text)
         mark = room / f"shown-{child.run.pid}"
+        # (a call that is over before it has written its input never writes the rest)
+        if child.run.stdin is not None:
+            with suppress(BrokenPipeError), child.run.stdin as stdin:
+                stdin.write(text or b"")
+            child.run.stdin = None
         while True:
             try:
-                return child.run.communicate(text, _SECONDS_BETWEEN_LOOKS)
+                return child.run.communicate(timeout=_SECONDS_BETWEEN_LOOKS)
             except subprocess.TimeoutExpired:
-                text = None
                 if mark.exists():
                     mark.unlink()
                     raise

@@ -12,6 +12,7 @@ from typing import NoReturn, Optional
 
 from pops_companions import command
 from pops_companions.command import CommandError, Status
+from pops_companions.files import Links
 from pops_companions.input.given_source import read_given
 from pops_companions.many.child_process import outcome_of
 from pops_companions.report.items import Board, Item, SoundItem, named_items
@@ -164,7 +165,7 @@ def main(words: list[str]) -> Status:
             file = f"{beginning}{name}.{settings.kind}"
             contents = drawing(group, item.board)
             os.makedirs(os.path.dirname(file) or ".", exist_ok=True)
-            with command.written(file) as target:
+            with command.written(file, Links.REPLACED) as target:
                 target.write(contents)
             print(file)
     return status

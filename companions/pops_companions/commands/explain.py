@@ -11,6 +11,7 @@ from typing import BinaryIO, NoReturn, Optional
 from pops.engine import Engine
 from pops_companions import command
 from pops_companions.command import CommandError, Status
+from pops_companions.files import Links
 from pops_companions.explain.diagnostics import diagnostic_object, diagnostics
 from pops_companions.explain.explaining import ExplainedFault, OtherText, explain
 from pops_companions.explain.mending import further_faults, mend
@@ -152,7 +153,7 @@ def fix(file: str, text: bytes) -> str:
         return f"{NAME}: {file}: nothing could be corrected\n" if made.left else ""
     path = Path(file)
     place = path.with_name(f"{path.stem}.fixed{path.suffix}")
-    with command.written(str(place)) as target:
+    with command.written(str(place), Links.REPLACED) as target:
         target.write(made.text)
     left = f", {made.left} left" if made.left else ""
     return f"{NAME}: {place}: {made.mended} corrected{left}\n"

@@ -18,6 +18,7 @@ from pops_companions.commands.many_options import (
     depth_of,
     moment_of,
 )
+from pops_companions.files import Links
 from pops_companions.input.pieces import rest_of
 from pops_companions.many.joining import Joined, Report, path_of_report, write_index
 from pops_companions.many.journal import Journal, JournalError, fingerprint
@@ -65,12 +66,12 @@ def reports_of(
     limited = settings.seconds is not None or settings.split or settings.resume
 
     def report(tasks: Sequence[Task], path: Optional[str]) -> Report:
-        second = settings.unfinished or (path and path + UNFINISHED)
-        return Report(
-            tasks,
-            Target(path, run) if path else None,
-            Target(second, run) if second and limited else None,
-        )
+        second = None
+        if settings.unfinished and limited:
+            second = Target(settings.unfinished, run)
+        elif path and limited:
+            second = Target(path + UNFINISHED, run, Links.REPLACED)
+        return Report(tasks, Target(path, run) if path else None, second)
 
     if not settings.each:
         return [report(tasks, settings.output)]
@@ -221,7 +222,7 @@ class Solving:
             raise
         reports = files.reports
         if settings.split:
-            second = Target(journal.path + UNFINISHED, self._name)
+            second = Target(journal.path + UNFINISHED, self._name, Links.REPLACED)
             reports = [it._replace(unfinished=it.unfinished or second) for it in reports]
         return self._go(journal, Joined(journal, reports, output), index, elsewhere)
 

@@ -21,6 +21,8 @@ _HEAD = b"pops-many journal 1 "
 _RECORD = re.compile(rb"task (\d+) status (\d+)(?: seconds (\d+\.\d+))? bytes (\d+) sum (\d+)\n")
 _PART = re.compile(rb"part (\d+) (set|play) (\d+) depth (\d+) bytes (\d+) sum (\d+)\n")
 _LONGEST_HEAD = 200
+# (its name is made of the report's: a link by that name isn't followed)
+_OPEN = os.O_RDWR | os.O_NOFOLLOW | os.O_CLOEXEC
 
 
 class JournalError(Exception):
@@ -69,7 +71,7 @@ class Journal:
         self._seconds = seconds
         self._head = _HEAD + run + b"\n"
         try:
-            opened = os.open(path, os.O_RDWR | (0 if resume else os.O_CREAT), 0o666)
+            opened = os.open(path, _OPEN | (0 if resume else os.O_CREAT), 0o666)
         except FileNotFoundError:
             if not resume:
                 raise

@@ -6,6 +6,7 @@ from contextlib import contextmanager
 from typing import BinaryIO
 
 from pops_companions import files
+from pops_companions.files import Links
 
 
 class Target:
@@ -16,25 +17,26 @@ class Target:
     are.
     """
 
-    def __init__(self, path: str, run: bytes):
+    def __init__(self, path: str, run: bytes, links: Links = Links.FOLLOWED):
         self.path = path
-        self._real = os.path.realpath(path)
+        self._links = links
+        self._real = files.real_of(path, links)
         self._temporary = f"{self._real}.{run.decode('ascii')[:12]}"
 
     def try_out(self) -> None:
         """Removes what the run left. OSError where the file couldn't be written."""
-        if os.path.isdir(self.path):
+        if os.path.isdir(self._real):
             raise IsADirectoryError(None, "Is a directory")
-        if not files.is_device(self.path):
+        if self._links is Links.REPLACED or not files.is_device(self.path):
             files.try_out(self._temporary)
 
     @contextmanager
     def opened(self) -> Iterator[BinaryIO]:
         """The file, open for writing; one that fails leaves what stood there before."""
-        with files.written_whole(self.path, self._temporary) as file:
+        with files.written_whole(self.path, self._temporary, self._links) as file:
             yield file
 
     def remove(self) -> None:
         """Removes the file where there is one."""
-        if os.path.isfile(self._real):
-            os.unlink(self._real)
+        if os.path.isfile(self._real) or os.path.islink(self._real):
+            files.remove(self._real)

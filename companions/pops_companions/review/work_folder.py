@@ -77,7 +77,7 @@ class WorkFolder:
     @staticmethod
     def write(path: Path, text: bytes) -> None:
         """Writes a file of the folder, completely or not at all."""
-        with files.written_whole(str(path)) as file:
+        with files.written_whole(str(path), links=files.Links.REPLACED) as file:
             file.write(text)
 
     def keep(self, path: Path, text: bytes) -> None:
