@@ -340,7 +340,7 @@ def without_engine(page: Page) -> None:
     refuses = "WebAssembly.compile = () => Promise.reject(new WebAssembly.CompileError('refused'))"
     script = browser.call("Page.addScriptToEvaluateOnNewDocument", source=refuses)["identifier"]
     browser.open(page.address, "document.getElementById('state').textContent.includes('refused')")
-    page.holds("Firefox 104" in page.told("state"), f"what to do is told: {page.told('state')}")
+    page.holds("Firefox 104" in page.told("state"), f"the page says what to do: {page.told('state')}")
     page.holds(browser.run("document.getElementById('solve').disabled"), "nothing is solved")
     browser.click("#men [data-tool=wQ]")
     browser.click("#b4")

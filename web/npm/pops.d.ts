@@ -6,7 +6,7 @@ export interface SolveOptions<Text> {
   refutations?: number;
   /** The number of workers; by default that of the processors. */
   workers?: number;
-  /** Stops solving after so many seconds. */
+  /** Stops solving after this many seconds. */
   seconds?: number;
   /** Stops solving at once. */
   signal?: AbortSignal;
