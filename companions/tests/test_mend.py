@@ -57,10 +57,67 @@ class Mending(unittest.TestCase):
             ("Stipulation #2\nOption Variatons", "Stipulation #2\nOption Variation"),
             ("Stipulation #2\nSetPlay", "Stipulation #2\nOption SetPlay"),
             ("Stipulation #2\n# a comment", "Stipulation #2\nRemark # a comment"),
-            ("Stipulation #2\nStipulation #2", "Stipulation #2\n"),
+            ("Stipulation #2\nStipulation #2", "Stipulation #2"),
         ):
             with self.subTest(wrong):
                 self.assertEqual(mend(text_of(PIECES, wrong)).text, text_of(PIECES, right))
+
+    def test_what_advice_leaves_out(self) -> None:
+        for wrong, right in (
+            ("Stipulation #2\nOption Threat Variation", "Stipulation #2\nOption Variation"),
+            ("Stipulation #2\nOption StartMoveNumber", "Stipulation #2"),
+            ("Stipulation #2\nOption Try Defence 1 SetPlay", "Stipulation #2\nOption SetPlay"),
+            ("Stipulation #2\nOption MaxTime 60", "Stipulation #2"),
+            ("Stipulation #2\nOption NoThreat Intelligent", "Stipulation #2"),
+            ("Stipulation h#2\nOption MaxSol 5 MoveNumbers", "Stipulation h#2\nOption MaxSol 5"),
+        ):
+            with self.subTest(wrong):
+                made = mend(text_of(PIECES, wrong))
+                self.assertEqual((made.text, made.left), (text_of(PIECES, right), 0))
+
+    def test_set_play_and_wanted_solutions(self) -> None:
+        for wrong, right in (
+            ("Stipulation h#2*", "Stipulation h#2\nOption SetPlay"),
+            ("Stipulation h#2 2.1.1.1", "Stipulation h#2\nRemark solutions 2"),
+            ("Stipulation h#2 2.1..", "Stipulation h#2\nRemark solutions 2"),
+            ("Stipulation h#2.5 3.", "Stipulation h#2.5\nRemark solutions 3"),
+            ("Stipulation h#2;2.3.1.1", "Stipulation h#2\nRemark solutions 6"),
+            (
+                "Stipulation h#2 2.1.1.1 Option SetPlay",
+                "Stipulation h#2\nRemark solutions 2\n Option SetPlay",
+            ),
+            (
+                "Stipulation h#2* 2.1.1.1",
+                "Option SetPlay\nStipulation h#2\nRemark solutions 2",
+            ),
+        ):
+            with self.subTest(wrong):
+                made = mend(text_of(PIECES, wrong))
+                self.assertEqual((made.text, made.left), (text_of(PIECES, right), 0))
+                self.assertEqual(faults(made.text), 0)
+
+    def test_no_other_problem_is_posed(self) -> None:
+        for wrong in (
+            "Stipulation #2\nCondition MadrasiRexInclusive",
+            "Stipulation #2\nCondition MadrasiRI",
+            "Stipulation #2\nCondition CirceParrain",
+            "Stipulation #2\nCondition Circe Parrain",
+            "Stipulation #2\nCondition CirceRI",
+            "Stipulation #2\nCondition Anticirce",
+            "Stipulation h#2\nOption HalfDuplex",
+            "Stipulation h#2\nOption WhiteToPlay",
+            "Stipulation #2\nOption PostKeyPlay",
+            "Stipulation r#2",
+            "Stipulation hs#2",
+            "Stipulation exact-#2",
+            "Stipulation h#2 0.1.1.1",
+        ):
+            with self.subTest(wrong):
+                made = mend(text_of(PIECES, wrong))
+                self.assertEqual((made.text, made.mended), (text_of(PIECES, wrong), 0))
+                self.assertEqual(made.left, 1)
+        made = mend(text_of(PIECES, "Stipulation #2\nCondition Circes"))
+        self.assertEqual(made.text, text_of(PIECES, "Stipulation #2\nCondition Circe"))
 
     def test_men_of_another_language_are_left(self) -> None:
         """In German B is the pawn: to write the other letters in English would leave it a bishop."""
@@ -125,6 +182,10 @@ class Further(unittest.TestCase):
         found = self.found(PIECES, "Stipulation #1", "Option NoCastling a2", "Option Nothing")
         self.assertEqual(found, ["5: 2: Nothing"])
 
+    def test_lines_that_are_added_or_left_out_do_not_count(self) -> None:
+        found = self.found(PIECES, "Option Try", "Stipulation h#2 2.1.1.1", "Option Nothing")
+        self.assertEqual(found, ["4: 2: 2.1.1.1", "5: 2: Nothing"])
+
     def test_men_of_another_language(self) -> None:
         found = self.found("Steine Weiss Kg6 Ta1 Schwarz Kg8", "Forderung 2#")
         wanted = ["2: 2: Weiss", "2: 2: Ta1", "2: 2: Schwarz", "3: 2: Forderung", "3: 8: 2#"]
@@ -144,6 +205,31 @@ class Notices(unittest.TestCase):
         found = [(notice.line, notice.problem) for notice in notices(text)]
         self.assertEqual(found, [(2, 1), (4, 1), (10, None)])
         self.assertEqual(list(notices(text_of(PIECES, "Stipulation #1"))), [])
+
+    def test_an_input_of_popeye_is_for_pops_import(self) -> None:
+        for lines in (
+            (PIECES, "Stipulation #1", "Twin Move a1 b1", "Twin Move a1 c1"),
+            (PIECES, "Stipulation #1", "NextProblem", PIECES, "Stipulation #1", "Option Try"),
+            ("Steine Weiss Kg6 Ta1 Schwarz Kg8", "Forderung #1"),
+        ):
+            with self.subTest(lines):
+                (notice,) = notices(text_of(*lines))
+                self.assertIn("pops-import", notice.text)
+        self.assertEqual(list(notices(text_of(PIECES, "Stipulation 2#"))), [])
+
+    def test_a_collection_is_for_pops_import(self) -> None:
+        yaml = 'algebraic:\n  white: [Kg6, Ra1]\n  black: [Kg8]\nstipulation: "#1"\n'
+        for text in (
+            yaml,
+            f"---\ntitle: A\n{yaml}",
+            f"\ufeff# by hand\n\n- {yaml}",
+            '{"algebraic": {"white": ["Kg6"], "black": ["Kg8"]}, "stipulation": "#1"}',
+        ):
+            with self.subTest(text):
+                said = run_here.companion("pops-explain", text=text.encode()).output.decode()
+                self.assertIn("YAML or JSON", said)
+                self.assertIn("`pops-import FILE`", said)
+                self.assertEqual(mend(text.encode()).mended, 0)
 
 
 class Command(unittest.TestCase):

@@ -13,9 +13,11 @@ import { wordings } from './wordings.js';
 export const misplacedCauses = (() => {
   const { SECTIONS, COMMAND_NAMES, OPTIONS, COLOURS, LONGEST_WORD, named, squaresIn, isMan, isNumber } = reading;
   const { looksLikeStipulation } = stipulationCauses;
+  const COLLECTION = new RegExp(EXPLANATIONS.collection);
 
   /** @param {FaultCase} it */
   function* beginMissing(it) {
+    if (COLLECTION.test(it.text)) yield it.says(sentence('collection'));
     yield* wordings.charactersIn(it);
     yield otherFile(it);
     if (it.text.startsWith('problem 1\n')) yield it.says(sentence('report'));

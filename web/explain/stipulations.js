@@ -11,7 +11,7 @@ export const stipulationCauses = (() => {
   const KNOWN = EXPLANATIONS.stipulations;
   const { MOST_MOVES, OPTIONS, COLOURS, named, isMan, isNumber } = reading;
   const LIKE = /^(?:[a-z]{0,5}-)?[a-z]{0,2}(?:#|==?)[0-9]+(?:\.5)?$/i;
-  const COUNTS = /^[0-9]+(?:\.[0-9]+)+\.*$/;
+  const COUNTS = /^[1-9][0-9]*(?:(?:\.[1-9][0-9]*)+\.*|\.+)$/;
   const GOOD = /^([sh]?)([#=])([0-9]+)(\.5)?$/i;
   const OTHER_GOALS = new RegExp(`^(?:${KNOWN.goals})$`, 'i');
   const forms = sentence('forms');
@@ -28,8 +28,14 @@ export const stipulationCauses = (() => {
    */
   function solutionNumbers(it) {
     if (it.read.section !== 'Stipulation' || !COUNTS.test(it.plain)) return null;
-    return it.says(sentence('count_of_solutions', { word: it.quoted }));
+    return it.says(sentence('count_of_solutions', { word: it.quoted, count: productOf(it.plain) }));
   }
+
+  /**
+   * Multiplies the numbers of a text as `2.1.1.1`.
+   * @param {string} text
+   */
+  const productOf = text => (text.match(/[0-9]+/g) ?? []).reduce((product, number) => product * BigInt(number), 1n);
 
   /** @param {FaultCase} it */
   function* bad(it) {
@@ -113,9 +119,9 @@ export const stipulationCauses = (() => {
 
   /** @param {FaultCase} it */
   function counted(it) {
-    const found = /^(.+?)[;:,([/]+([0-9]+(?:[.,][0-9]+)*)\.*[)\]]?$/.exec(it.plain);
+    const found = /^(.+?)[;:,([/]+([1-9][0-9]*(?:[.,][1-9][0-9]*)*)\.*[)\]]?$/.exec(it.plain);
     if (!found || !it.fits(found[1]) || /^h[#=]\d+,5$/.test(it.plain)) return null;
-    return it.says(sentence('counted', { first: found[1], second: found[2] }));
+    return it.says(sentence('counted', { first: found[1], second: found[2], count: productOf(found[2]) }));
   }
 
   /** @param {FaultCase} it */

@@ -1,6 +1,6 @@
 // @ts-check
 // Causes that words of every section share: characters, signs, blanks, comments, spelling.
-import { lineOf } from '../text.js';
+import { CONDITIONS, lineOf } from '../text.js';
 import { FaultCase, textNameOf, wholeOf } from './case.js';
 import { characters } from './characters.js';
 import { EXPLANATIONS } from './explanations.js';
@@ -163,7 +163,7 @@ export const wordings = (() => {
   function lengthened(it) {
     const word = it.plain.toLowerCase();
     /** @param {string} name */
-    const isLonger = name => word.startsWith(name.toLowerCase()) && isAlpha(word.slice(name.length)) && it.fits(name);
+    const isLonger = name => word.startsWith(name.toLowerCase()) && isAlpha(word.slice(name.length)) && it.fits(name) && !namesMore(word, name);
     const name = FaultCase.NAMES.find(isLonger);
     return name ? it.says(sentence('lengthened', { name, word: it.quoted })) : null;
   }
@@ -191,8 +191,16 @@ export const wordings = (() => {
       const near = nearness(word, name.toLowerCase());
       if (near < least) [best, least] = [name, near];
     }
-    return least > (word.length < 6 ? 1 : 2) ? null : it.says(sentence('misspelt', { word: it.quoted, best }));
+    if (!best || least > (word.length < 6 ? 1 : 2) || namesMore(word, best)) return null;
+    return it.says(sentence('misspelt', { word: it.quoted, best }));
   }
+
+  /**
+   * Returns whether a word may be another condition that begins as this one, as CirceParrain.
+   * @param {string} word
+   * @param {string} name
+   */
+  const namesMore = (word, name) => CONDITIONS.includes(name) && word.startsWith(name.toLowerCase()) && word !== `${name.toLowerCase()}s`;
 
   /**
    * Counts the letters of the word that must change to make it a short form of the name.

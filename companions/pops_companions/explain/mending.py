@@ -35,7 +35,7 @@ _JOINED = re.compile(rf"^{_QUOTED} is one word, without a blank")
 _LONGER = re.compile(rf"Write three letters or more: {_QUOTED} or {_QUOTED}")
 _PAWN = re.compile(rf"A pawn is {_QUOTED}\.$")
 _LEFT_OUT = re.compile(
-    r"Leave (?:it|`BeginProblem`) out\.$|(?:stipulation|condition) .* Leave one out"
+    r"Leave (?:it|`BeginProblem`) out(?:\.$|: )|(?:stipulation|condition) .* Leave one out"
 )
 _SQUARE_LEFT_OUT = re.compile(r"(?:names .* twice|was given before, .*)\. Leave one out")
 # Where men may have the letters of that language, a word alone isn't mended.
@@ -43,8 +43,14 @@ _IN_ANOTHER_LANGUAGE = re.compile(
     rf" is (?:German|French), .* Write `(?:BeginProblem|Pieces|White|Black)`|Then {_QUOTED} is "
 )
 _STIPULATION_IN_WORDS = re.compile("A stipulation is one word")
+# What takes the rest of its line, or a line of its own, in place of the marked word or after it.
+_REMARK_IN_PLACE = re.compile("Write `(Remark solutions [0-9]+)` in its place")
+_REMARK_TOO = re.compile(f"Write {_QUOTED}, and `(Remark solutions [0-9]+)`")
+_STAR = re.compile("A star means set play, .*: `Stipulation ([^`]+)` and `(Option SetPlay)`")
 # A command without the word that was left out.
-_BARE = re.compile(rb"(?i)^[ \t]*(?:sti|con)[a-z]*[ \t]+$")
+_BARE = re.compile(rb"(?i)^[ \t]*(?:sti|con|opt)[a-z]*[ \t]+$")
+# The number that goes with an option of Popeye.
+_ITS_NUMBER = re.compile(rb"[ \t]+[0-9]+(?!\S)")
 _BYTE_ORDER_MARK = "\ufeff".encode("utf-8")
 _END_AND_BEGIN = re.compile(rb"(?i)\S+\s+(?:" + short_forms("BeginProblem") + rb")(?!\S)")
 _MOST_FAULTS = 50
@@ -176,6 +182,7 @@ def _proposed(text: bytes, reading: Reading, said: Explanation) -> Iterator[Edit
         yield Edit(Span(word.start, word.start), section[1].encode("utf-8") + b" ")
         return
     yield from _taken_out(text, reading, said.text)
+    yield from _on_own_lines(text, reading, said.text)
     crossed = re.search(r"write `EnPassant ([a-h][1-8])`", said.text)
     if crossed is not None and reading.crossed_word is not None:
         yield Edit(reading.crossed_word.span, crossed[1].encode("ascii"))
@@ -205,11 +212,53 @@ def _taken_out(text: bytes, reading: Reading, said: str) -> Iterator[Edit]:
         rest = word.bytes[:place] + word.bytes[place + 2 :]
         yield Edit(word.span, rest if squares_of(rest[1:]) else b"")
     if _LEFT_OUT.search(said):
-        line = text.rfind(b"\n", 0, word.start) + 1
-        is_bare = _BARE.match(text[line : word.start]) and text[word.span.stop :][:1] in b"\r\n"
-        yield Edit(Span(line, word.span.stop) if is_bare else word.span, b"")
+        yield Edit(_with_its_own(text, word.span), b"")
     if said.startswith("`BeginProblem` comes once"):
         yield Edit(word.span, b"NextProblem")
+
+
+def _with_its_own(text: bytes, word: Span) -> Span:
+    """Returns a word with its number, and with the command or the blanks that it leaves alone."""
+    number = _ITS_NUMBER.match(text, word.stop)
+    stop = word.stop if number is None else number.end()
+    line = text.rfind(b"\n", 0, word.start) + 1
+    is_last = text[stop : stop + 1] in (b"", b"\r", b"\n")
+    if is_last and _BARE.match(text[line : word.start]):
+        return Span(line, text.find(b"\n", stop) + 1 or stop)
+    return Span(_end_of_word_before(text, word), stop)
+
+
+def _end_of_word_before(text: bytes, word: Span) -> int:
+    """Returns where the blanks before a word begin; the word's start if it begins its line."""
+    before = text[text.rfind(b"\n", 0, word.start) + 1 : word.start]
+    return word.start - (len(before) - len(before.rstrip(b" \t")) if before.strip() else 0)
+
+
+def _on_own_lines(text: bytes, reading: Reading, said: str) -> Iterator[Edit]:
+    """Yields what an explanation writes on a line of its own: a Remark, or the option of set play.
+    """
+    word = reading.word.span
+    end = text.find(b"\n", word.stop)
+    rest = text[word.stop : len(text) if end < 0 else end].strip()
+    after = b"\n" if rest else b""
+    remark = _REMARK_IN_PLACE.search(said)
+    if remark is not None:
+        start = _end_of_word_before(text, word)
+        before = b"\n" if start < word.start else b""
+        yield Edit(Span(start, word.stop), before + remark[1].encode("ascii") + after)
+    both = _REMARK_TOO.search(said)
+    if both is not None:
+        yield Edit(word, f"{both[1]}\n{both[2]}".encode("utf-8") + after)
+    star = _STAR.search(said)
+    if star is not None and reading.opener is not None:
+        stipulation, option = star[1].encode("utf-8"), star[2].encode("ascii")
+        if not rest:
+            yield Edit(word, stipulation + b"\n" + option)
+        else:
+            # (the rest of the line belongs to the stipulation)
+            opener = text[reading.opener.start : word.start]
+            whole = Span(reading.opener.start, word.stop)
+            yield Edit(whole, option + b"\n" + opener + stipulation)
 
 
 def _in_place(text: bytes, marks: tuple[Span, ...], said: str) -> Iterator[Edit]:
@@ -252,7 +301,8 @@ def further_faults(text: bytes, number: int) -> Iterator[FurtherFault]:
             said = explanation(changed, reading)
             marks = tuple(back.span(mark, len(text)) for mark in said.marks)
             at = len(changed) if reading.at is None else reading.word.start
-            line = changed.count(b"\n", 0, at) + 1
+            at = back.span(Span(at, at), len(text)).start
+            line = text.count(b"\n", 0, at) + 1
             yield FurtherFault(number, reading.number, line, Explanation(said.text, marks))
         edit = edit_for(changed, number, reading, in_any_language=True)
         if edit is None:
@@ -263,7 +313,7 @@ def further_faults(text: bytes, number: int) -> Iterator[FurtherFault]:
         else:
             edits = [edit]
         for one in edits:
-            if one.text.count(b"\n") != changed[one.span.start : one.span.stop].count(b"\n"):
+            if one.span == Span(0, len(changed)):
                 return
             back.note(one)
             changed = one.of(changed)

@@ -25,6 +25,7 @@ from pops_companions.input.reading import (
 )
 from pops_companions.input.words import LONGEST_WORD, Span, named
 
+_COLLECTION = re.compile(DATA["collection"].encode("ascii"))
 _FILES = tuple((head.encode("latin-1"), what) for head, what in DATA["files"])
 
 
@@ -48,6 +49,7 @@ def no_problem(text: bytes, has_text_lines: bool) -> Explanation:
 
 
 def _causes_at_the_beginning(case: Case) -> Iterator[Optional[Explanation]]:
+    yield _collection(case)
     yield from wordings.characters_in(case)
     yield _other_file(case)
     yield _report(case)
@@ -59,6 +61,13 @@ def _causes_at_the_beginning(case: Case) -> Iterator[Optional[Explanation]]:
     yield wordings.in_another_language(case)
     yield from wordings.spelling(case)
     yield case.says(sentence("first_word", word=case.quoted))
+
+
+def _collection(case: Case) -> Optional[Explanation]:
+    """Explains a collection in YAML or JSON, as Olive and YACPDB have them."""
+    if not _COLLECTION.search(case.text):
+        return None
+    return case.says(sentence("collection"))
 
 
 def _other_file(case: Case) -> Optional[Explanation]:

@@ -1,15 +1,19 @@
-"""What is no fault of a text, and may not be meant: nightriders, names in Latin-1, text that is lost."""
+"""What is no fault of a text, and may not be meant: nightriders, names in Latin-1, text that is lost,
+an input of Popeye."""
 
 from collections.abc import Iterator
 from typing import NamedTuple, Optional
 
 from pops_companions.chess.men import Kind
+from pops_companions.explain.characters import decoded
+from pops_companions.explain.vocabulary import foreign, unread
 from pops_companions.input.pieces import Piece, cut, rest_of
 from pops_companions.input.reading import Reading, read_piece
 from pops_companions.input.words import TextLine, TextWord
 from pops_companions.show.titles import is_text
 
 _NIGHTRIDERS = "`N` is a nightrider, and there is no knight: knights are `S`"
+_OF_POPEYE = "is a word of Popeye: `pops-import FILE` makes an input of pops of Popeye's inputs"
 _NAMES = (TextWord.TITLE, TextWord.AUTHOR)
 
 
@@ -30,6 +34,7 @@ def notices(text: bytes) -> Iterator[Notice]:
     """Yields the notices of a text, problem by problem."""
     for piece in cut(text):
         yield from _of_problem(text, piece)
+    yield from _of_popeye(text)
     rest = rest_of(text)
     if rest is not None:
         yield Notice(rest.line, None, rest.text)
@@ -44,6 +49,18 @@ def _of_problem(text: bytes, piece: Piece) -> Iterator[Notice]:
     line = _line_of_nightrider(read_piece(text, piece))
     if line is not None:
         yield Notice(line, piece.number, _NIGHTRIDERS)
+
+
+def _of_popeye(text: bytes) -> Iterator[Notice]:
+    """Yields a notice of the first faulty word that is Popeye's, and could be read by pops-import."""
+    for piece in cut(text):
+        reading = read_piece(text, piece)
+        if reading.number is None or reading.at is None:
+            continue
+        word = decoded(reading.word.bytes)
+        if unread(word) is not None or foreign(word) is not None:
+            yield Notice(reading.word.line, piece.number, f"`{word}` {_OF_POPEYE}")
+            return
 
 
 def _line_of_nightrider(reading: Reading) -> Optional[int]:

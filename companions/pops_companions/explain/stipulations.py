@@ -1,5 +1,6 @@
 """Faults 8 to 10: a bad, a second or no stipulation."""
 
+import math
 import re
 from collections.abc import Iterator
 from typing import Any, Optional
@@ -21,7 +22,7 @@ from pops_companions.input.words import Word, named
 
 _FORMS = sentence("forms")
 _STIPULATION = re.compile(r"(?:[a-z]{0,5}-)?[a-z]{0,2}(?:#|==?)[0-9]+(?:\.5)?", re.IGNORECASE)
-_COUNTS = re.compile(r"[0-9]+(?:\.[0-9]+)+\.*")
+_COUNTS = re.compile(r"[1-9][0-9]*(?:(?:\.[1-9][0-9]*)+\.*|\.+)")
 _GOOD = re.compile(r"([sh]?)([#=])([0-9]+)(\.5)?", re.IGNORECASE)
 _KNOWN: dict[str, Any] = DATA["stipulations"]
 _OTHER_PLAY = tuple((re.compile(plays, re.IGNORECASE), what) for plays, what in _KNOWN["plays"])
@@ -39,7 +40,14 @@ def solution_numbers(case: Case) -> Optional[Explanation]:
     """Explains a number of solutions after a stipulation, as `2.1.1.1`."""
     if case.reading.section is not Section.STIPULATION or not _COUNTS.fullmatch(case.plain):
         return None
-    return case.says(sentence("count_of_solutions", word=case.quoted))
+    return case.says(
+        sentence("count_of_solutions", word=case.quoted, count=_product(case.plain))
+    )
+
+
+def _product(numbers: str) -> int:
+    """Multiplies the numbers of a text as 2.1.1.1."""
+    return math.prod(int(it) for it in re.findall("[0-9]+", numbers))
 
 
 def bad(case: Case) -> Explanation:
@@ -149,10 +157,12 @@ def _star(case: Case) -> Optional[Explanation]:
 
 
 def _counted(case: Case) -> Optional[Explanation]:
-    found = re.fullmatch(r"(.+?)[;:,(\[/]+([0-9]+(?:[.,][0-9]+)*)\.*[)\]]?", case.plain)
+    found = re.fullmatch(r"(.+?)[;:,(\[/]+([1-9][0-9]*(?:[.,][1-9][0-9]*)*)\.*[)\]]?", case.plain)
     if found is None or not case.fits(found[1]) or re.fullmatch(r"h[#=]\d+,5", case.plain):
         return None
-    return case.says(sentence("counted", second=found[2], first=found[1]))
+    return case.says(
+        sentence("counted", second=found[2], first=found[1], count=_product(found[2]))
+    )
 
 
 def _other_play(case: Case) -> Optional[Explanation]:

@@ -8,6 +8,7 @@ from pops_companions.explain import characters
 from pops_companions.explain.case import NAMES, Case, Explanation
 from pops_companions.explain.sentences import DATA, sentence
 from pops_companions.explain.vocabulary import foreign, unread
+from pops_companions.input.reading import CONDITIONS
 from pops_companions.input.words import TEXT_WORDS, named
 
 _SIGNS: dict[str, str] = DATA["signs"]
@@ -179,7 +180,7 @@ def lengthened(case: Case) -> Optional[Explanation]:
     word = case.plain.lower()
     for name in NAMES:
         if word.startswith(name.lower()) and word[len(name) :].isalpha():
-            if case.fits(name):
+            if case.fits(name) and not _names_more(word, name):
                 return case.says(sentence("lengthened", name=name, word=case.quoted))
     return None
 
@@ -203,7 +204,14 @@ def misspelt(case: Case) -> Optional[Explanation]:
     best = min(case.names_here(), key=lambda name: _nearness(word, name), default=None)
     if best is None or _nearness(word, best) > (1 if len(word) < 6 else 2):
         return None
+    if _names_more(word, best):
+        return None
     return case.says(sentence("misspelt", word=case.quoted, best=best))
+
+
+def _names_more(word: str, name: str) -> bool:
+    """Returns whether a word may be another condition that begins as this one, as CirceParrain."""
+    return name in CONDITIONS and word.startswith(name.lower()) and word != f"{name.lower()}s"
 
 
 def _nearness(word: str, name: str) -> float:
