@@ -143,7 +143,7 @@ FIELDS: list[Case] = [
       for it in (ODD, "é ♞ + % & # = \u0000 \U0001f600", "<script>alert(1)</script>", "a=b&text=c")],
     ("a link too long", "fragmentOf('a'.repeat(given))", 40000, None),
     ("no text in a link", "textOfFragment(given)", "#a", None),
-    ("kept once, newest first", "withKept(withKept(withKept([], 'a', 1), 'b', 2), 'a', 3)", 0,
+    ("kept once, newest first", "['a', 'b', 'a'].reduce((list, text, at) => withKept(list, { text, time: at + 1 }), [])", 0,
      [{"text": "a", "time": 3}, {"text": "b", "time": 2}]),
     ("a store that someone else wrote", "[keptOf('x'), keptOf('{}'), keptOf('[1]'), keptOf('[{\"text\":1}]')]", 0, [[], [], [], []]),
     ("a file in UTF-8", "textOfBytes(new Uint8Array(given))", [0x61, 0xC3, 0xA9], {"text": "aé", "isUtf8": True}),

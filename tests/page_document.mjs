@@ -56,6 +56,8 @@ export class Thing {
 
 const known = new Map();
 export const kept = new Map();
+export const keptInTab = new Map();
+const storage = map => ({ getItem: name => map.get(name) ?? null, setItem: (name, value) => map.set(name, value), removeItem: name => map.delete(name) });
 const listeners = new Map();
 // Names the element under the pointer.
 let under = '';
@@ -71,11 +73,11 @@ Object.assign(globalThis, {
     activeElement: null, body: new Thing('body'), documentElement: new Thing('html'),
     getElementById: name => known.get(name) ?? made(name),
     createElement: tag => new Thing(tag), createElementNS: (_, tag) => new Thing(tag),
-    querySelectorAll: () => [],
+    querySelectorAll: () => [], addEventListener() {},
     elementFromPoint: () => ({ closest: () => known.get(under) ?? null }),
   },
   addEventListener: (name, act) => listeners.set(name, [...(listeners.get(name) ?? []), act]),
-  localStorage: { getItem: name => kept.get(name) ?? null, setItem: (name, value) => kept.set(name, value), removeItem: name => kept.delete(name) },
+  localStorage: storage(kept), sessionStorage: storage(keptInTab),
   location: { hash: '' },
   Option: class extends Thing { constructor(text, value) { super('option'); Object.assign(this, { textContent: text, value }); } },
 });

@@ -10,15 +10,15 @@ import {
 import { placeMarks } from './page/faults.js';
 import { buildFields, showFields } from './page/fields.js';
 import { listenToFiles } from './page/files.js';
+import { whenKept } from './page/keeping.js';
 import { forgetAll, showKept } from './page/kept.js';
 import { OUTS } from './page/outs.js';
 import { loadEngine, showMost, solve, stopSolving } from './page/solving.js';
-import { state, textNow } from './page/state.js';
-import { kept } from './page/storage.js';
+import { state } from './page/state.js';
 import { buildViews, notes, tree } from './page/views.js';
+import { beginVisit, drawVisit, openLink, storeVisit } from './page/visit.js';
 import { goBack, leave, showPlace } from './page/walk.js';
 import { fillPrint } from './printing.js';
-import { textOfFragment } from './store.js';
 import { language, say } from './words.js';
 
 const CHANGE_SIGNS = { left: '←', right: '→', up: '↑', down: '↓', mirror: '⇋', turn: '↻' };
@@ -74,11 +74,6 @@ function keyPressed(event) {
   event.preventDefault();
 }
 
-function linkChanged() {
-  const linked = textOfFragment(location.hash);
-  if (linked !== null && linked !== textNow()) takeText(linked);
-}
-
 function listen() {
   const area = element('text');
   area.oninput = typed;
@@ -96,7 +91,9 @@ function listen() {
   element('join').onclick = joinTail;
   addEventListener('keydown', keyPressed);
   addEventListener('beforeprint', fillPrint);
-  addEventListener('hashchange', linkChanged);
+  addEventListener('hashchange', openLink);
+  addEventListener('pagehide', storeVisit);
+  document.addEventListener('visibilitychange', () => document.visibilityState === 'hidden' && storeVisit());
   listenToFiles();
 }
 
@@ -106,13 +103,15 @@ function begin() {
   buildButtons();
   buildFields();
   buildViews({ change, move }, showPlace);
-  element('text').value = textOfFragment(location.hash) ?? kept('pops') ?? partText('example').trimStart();
-  state.beginSteps(textNow());
+  element('text').value = beginVisit();
   state.addFollowers(showProblem, showFields, showContents, showTail, keepText, () => notes.check());
   listen();
   showMost();
+  whenKept(showKept);
   showKept();
+  drawVisit();
   state.follow();
+  openLink();
   loadEngine();
 }
 

@@ -1,11 +1,14 @@
 // @ts-check
-// Links that contain a text, stored texts, files as texts, undo and redo.
+// Links that contain a text, stored texts and visits, files as texts, undo and redo.
 import { blockAt, fieldsOf, menOf, sidesOf, valueOf } from './text.js';
 
 export const MOST_KEPT = 20;
 const MOST_KEPT_LETTERS = 100000;
 const MOST_LINKED_LETTERS = 30000;
 const MOST_STEPS = 200;
+// The most letters of a visit's texts for undo, and of its report.
+const MOST_STEP_LETTERS = 500000;
+const MOST_REPORT_LETTERS = 1000000;
 export const MOST_FILE_BYTES = 1 << 23;
 
 /**
@@ -24,14 +27,15 @@ export function fragmentOf(text) {
 export const textOfFragment = fragment => new URLSearchParams(fragment.slice(1)).get('text');
 
 /**
- * Returns the list of stored texts with this one first, and no text twice.
+ * Returns the list of stored texts with this one first, and no text twice. A tab's text in work replaces the one that was
+ * stored of this tab before.
  * @param {KeptText[]} kept
- * @param {string} text
- * @param {number} time
+ * @param {KeptText} added
  */
-export function withKept(kept, text, time) {
-  if (text.length > MOST_KEPT_LETTERS || !text.trim()) return kept;
-  return [{ text, time }, ...kept.filter(it => it.text !== text)].slice(0, MOST_KEPT);
+export function withKept(kept, added) {
+  if (added.text.length > MOST_KEPT_LETTERS || !added.text.trim()) return kept;
+  const others = kept.filter(it => it.text !== added.text && (!added.tab || it.tab !== added.tab));
+  return [added, ...others].slice(0, MOST_KEPT);
 }
 
 /**
@@ -45,6 +49,37 @@ export function keptOf(written) {
     return list.filter(it => typeof it.text === 'string' && Number.isFinite(it.time)).slice(0, MOST_KEPT);
   } catch {
     return [];
+  }
+}
+
+/**
+ * Writes a visit: the latest texts for undo that fit, and the report if it fits.
+ * @param {Visit} visit
+ */
+export function writtenVisit(visit) {
+  const { texts, place } = visit.steps;
+  let [first, last, room] = [place, place + 1, MOST_STEP_LETTERS - texts[place].length];
+  while (first > 0 && (room -= texts[first - 1].length) >= 0) first--;
+  while (last < texts.length && (room -= texts[last].length) >= 0) last++;
+  const steps = { texts: texts.slice(first, last), place: place - first };
+  const solved = visit.solved && visit.solved.report.length + visit.solved.text.length <= MOST_REPORT_LETTERS ? visit.solved : null;
+  return JSON.stringify({ ...visit, steps, solved });
+}
+
+/**
+ * Reads a stored visit; null for anything else.
+ * @param {string | null} written
+ * @returns {Visit | null}
+ */
+export function visitOf(written) {
+  try {
+    const { steps, number, link, solved = null } = JSON.parse(written ?? '');
+    const isText = (/** @type {unknown} */ it) => typeof it === 'string';
+    const isVisit = steps.texts.every(isText) && isText(steps.texts[steps.place]) && Number.isInteger(number) && isText(link);
+    const isSolved = solved && [solved.text, solved.report].every(isText);
+    return isVisit ? { steps, number, link, solved: isSolved ? solved : null } : null;
+  } catch {
+    return null;
   }
 }
 
@@ -74,10 +109,14 @@ export function textOfBytes(bytes) {
 
 /** Undo and redo of texts. */
 export class Steps {
-  /** @param {string} text */
-  constructor(text) {
-    this.texts = [text];
-    this.place = 0;
+  /**
+   * @param {string} text
+   * @param {{ texts: string[], place: number }} [stored] the texts of an earlier visit; this text follows its last one
+   */
+  constructor(text, stored = { texts: [text], place: 0 }) {
+    this.texts = [...stored.texts];
+    this.place = stored.place;
+    this.add(text);
   }
 
   /** @param {string} text */

@@ -80,8 +80,14 @@ interface ItemTwin extends Given { item: Item; number: number; label: Label; who
 
 // The store.
 
-/** A text that was solved, and when. */
-interface KeptText { text: string; time: number }
+/** A stored text, and when it was stored; whether it came by a link; of which tab it was the text in work. */
+interface KeptText { text: string; time: number; isLinked?: boolean; tab?: string }
+/** The texts for undo and redo, and the place of the text that is shown. */
+interface StoredSteps { texts: string[]; place: number }
+/** A text that was solved, its report, and whether more may follow it. */
+interface StoredReport { text: string; report: string; isBeginning: boolean }
+/** What a reload of the page shows again: the texts, the number of the problem on the board, the link opened last, the report. */
+interface Visit { steps: StoredSteps; number: number; link: string; solved: StoredReport | null }
 
 // The engine and its workers.
 

@@ -62,8 +62,9 @@ const WORDS = {
     linked: 'the link was copied; whoever opens it has this text', linkShown: 'the link is in the address bar',
     linkLong: 'the text is too long for a link: save it as a file',
     faults: 'faults', fault: 'line {line}: fault {number}: {text}', goToLine: 'go to line {line}',
-    kept: 'kept problems', keptWhere: 'The last {most} texts that were solved are kept in this browser’s own storage '
-      + '(localStorage, under “pops.kept” and “pops”), only on this machine. Nothing is sent.',
+    linkOpened: 'the link’s text was opened; the text before it is among the kept problems, and undo brings it back', byLink: 'from a link',
+    kept: 'kept problems', keptWhere: 'The last {most} texts that were solved, replaced or opened by a link are kept in this browser’s own '
+      + 'storage (localStorage and sessionStorage, names that begin with “pops”), only on this machine. Nothing is sent.',
     keptNone: 'none yet', forget: 'forget', forgetAll: 'forget all', keptNot: 'this browser keeps nothing for the page',
     sheet: 'Problems', licence: 'licence:',
     help: 'keys', keys: 'On the board: arrows go from square to square; K Q R B S P G N set a white man, small letters a black '

@@ -141,7 +141,8 @@ def printed(page: Page) -> None:
 
 def stopped(page: Page) -> None:
     """An h#8 that would take years."""
-    page.solve_and_stop("BeginProblem\nPieces White Kd1 Ra1 Bc1 Pa2 Black Ke8 Qb8 Pa7\nStipulation h#8\nEndProblem\n")
+    page.solve_and_stop("BeginProblem\nTitle Stopped\nPieces White Kd1 Ra1 Bc1 Pa2 Black Ke8 Qb8 Pa7\nStipulation h#8\nEndProblem\n")
+    page.holds("Stopped" in page.told("kept-list"), "a text that was stopped is kept")
 
 
 def with_tries(page: Page) -> None:
@@ -311,6 +312,32 @@ def given(page: Page) -> None:
     page.holds(not page.told("kept-list"), "forgotten")
 
 
+def linked(page: Page) -> None:
+    """A link opened beside a problem in work: in the tab of the work and in a new one; undo and solutions after a reload."""
+    browser = page.browser
+    page.open()
+    browser.run("forgetAll()")
+    own = MATE_IN_TWO.replace("Pieces", "Title In work\nPieces")
+    browser.run(f"setText({json.dumps(own)})")
+    page.solve()
+    browser.run("forgetAll()")
+    link = browser.run(f"location.href.split('#')[0] + fragmentOf({json.dumps(MATE_IN_TWO.replace('Pieces', 'Title Linked' + chr(10) + 'Pieces'))})")
+    browser.open(link, READY)
+    page.holds("Title Linked" in page.text(), f"the link's text: {page.text()}")
+    page.holds("In work" in page.told("kept-list") and "from a link" in page.told("kept-list"), f"both are kept: {page.told('kept-list')}")
+    page.picture("linked.png")
+    browser.click("#undo")
+    page.holds(page.text() == own and "1.Qh8-b2" in page.told("tree"), f"undo brings back the text in work: {page.text()}")
+    browser.drag("#h8", "#g8")
+    moved = page.text()
+    browser.run("window.isBefore = true; location.reload()")
+    browser.wait(f"!window.isBefore && {READY}")
+    page.holds(page.text() == moved and "Qg8" in moved, f"a reload keeps what was changed after the link: {page.text()}")
+    page.holds("1.Qh8-b2" in page.told("tree"), "a reload keeps the solutions")
+    browser.click("#undo")
+    page.holds(page.text() == own, f"undo after a reload: {page.text()}")
+
+
 def composed(page: Page) -> None:
     """A man dragged from the palette; a FEN pasted while a solution is stepped through; a move played, and solved from there."""
     browser = page.browser
@@ -394,6 +421,7 @@ LOOKS: list[Callable[[Page], None]] = [
     grown,
     faulty,
     given,
+    linked,
     composed,
     without_engine,
     hostile,

@@ -1,7 +1,7 @@
 // The modules that show the page, with a stand-in for a browser's document.
 import assert from 'node:assert/strict';
 import { test } from 'node:test';
-import { fill, kept, made, paste, send } from '../page_document.mjs';
+import { fill, kept, keptInTab, made, paste, send } from '../page_document.mjs';
 import { EXPLANATIONS } from '../page_imports.mjs';
 
 const TEXT = 'BeginProblem\nPieces White Kg6 Ra1 Black Kg8\nStipulation #1\nEndProblem\n';
@@ -18,15 +18,18 @@ const { changeBoard, endTyping, goSteps, goToProblem, setText, takeFen, takeText
 const { markFaults, unmarkFaults } = await import('../../web/page/faults.js');
 const { fieldChanged } = await import('../../web/page/fields.js');
 const { listenToFiles } = await import('../../web/page/files.js');
-const { forgetAll, keepProblem } = await import('../../web/page/kept.js');
+const { keepProblem, storeText } = await import('../../web/page/keeping.js');
+const { forgetAll } = await import('../../web/page/kept.js');
 const { OUTS } = await import('../../web/page/outs.js');
 const { beginReport, drawGrowth, drawReport, reportGrew } = await import('../../web/page/reporting.js');
 const { mostRefutations, sayDone, showMost, solve } = await import('../../web/page/solving.js');
 const { blockNow, state, textNow } = await import('../../web/page/state.js');
 const { keep, kept: keptValue } = await import('../../web/page/storage.js');
 const views = await import('../../web/page/views.js');
+const { beginVisit, drawVisit, openLink, storeVisit } = await import('../../web/page/visit.js');
 const { leave, showPlace } = await import('../../web/page/walk.js');
 const { fillPrint } = await import('../../web/printing.js');
+const { fragmentOf } = await import('../../web/store.js');
 const { sayFound } = await import('../../web/tree.js');
 const { say } = await import('../../web/words.js');
 await import('../../web/page.js');
@@ -249,6 +252,7 @@ test('line: a move played, made the problem, solved from there', () => {
 });
 
 test('kept: texts that were solved', () => {
+  begin(TEXT);
   forgetAll();
   keepProblem(TEXT);
   assert.equal(JSON.parse(kept.get('pops.kept'))[0].text, TEXT);
@@ -266,4 +270,77 @@ test('outs and printing: nothing without a report, the sheet with one', () => {
   begin(TEXT, REPORT);
   fillPrint();
   assert.equal(element('print').textContent.includes('1.Ra1-a8#'), true);
+});
+
+const keptTexts = () => JSON.parse(kept.get('pops.kept') ?? '[]').map(it => it.text);
+
+test('links: a link\'s text is opened beside the text in work, once', () => {
+  forgetAll();
+  begin(TWO_MOVES);
+  const linked = TEXT.replace('Ra1', 'Ra2');
+  location.hash = fragmentOf(linked);
+  openLink();
+  assert.equal(textNow(), linked);
+  assert.deepEqual(keptTexts(), [linked, TWO_MOVES]);
+  assert.match(noteNow(), /^the link’s text was opened/);
+  assert.match(element('kept-list').children[0].textContent, /from a link/);
+  goSteps(-1);
+  assert.equal(textNow(), TWO_MOVES);
+  openLink();
+  assert.equal(textNow(), TWO_MOVES);
+  location.hash = fragmentOf('6k1/8/6K1/8/8/8/8/R7 w - - 0 1');
+  openLink();
+  assert.equal(textNow(), 'BeginProblem\nPieces White Kg6 Ra1 Black Kg8\nStipulation #2\nEndProblem\n');
+  assert.deepEqual(keptTexts().slice(1), [linked, TWO_MOVES]);
+  location.hash = '';
+  forgetAll();
+});
+
+test('links: the example isn\'t kept, and a text that replaces another keeps it', () => {
+  forgetAll();
+  setText(element('example').textContent);
+  takeText(TWO_MOVES);
+  assert.deepEqual(keptTexts(), []);
+  takeText(TEXT.replace('Ra1', 'Ra3'));
+  assert.deepEqual(keptTexts(), [TWO_MOVES]);
+  forgetAll();
+});
+
+test('visit: texts for undo, the problem and its report survive a reload', () => {
+  begin(TWO_MOVES, TRIES);
+  state.endReport(true);
+  setText(TEXT);
+  setText(TEXT + TEXT);
+  goSteps(-1);
+  storeVisit();
+  setText('another');
+  keptInTab.delete('pops.tab');
+  state.beginReport('');
+  const text = beginVisit();
+  assert.equal(text, TEXT);
+  element('text').value = text;
+  drawVisit();
+  assert.equal(element('tree').textContent.includes('1.Qb1-b6!'), true);
+  assert.deepEqual([state.solved, state.isBeginning, state.steps.has(1)], [TWO_MOVES, false, true]);
+  goSteps(-1);
+  assert.equal(textNow(), TWO_MOVES);
+  state.beginReport(TEXT);
+  state.addReport('problem 1\n#1\n');
+  storeVisit();
+  beginVisit();
+  assert.deepEqual([state.report, state.isBeginning], ['problem 1\n#1\n', true]);
+  state.endReport(true);
+});
+
+test('keeping: a text in work of another tab is kept before it is replaced', () => {
+  forgetAll();
+  for (const other of ['one', 'one more']) {
+    kept.set('pops', other);
+    kept.set('pops.tab', 'another');
+    storeText(TEXT);
+  }
+  assert.deepEqual([keptTexts(), kept.get('pops')], [['one more'], TEXT]);
+  storeText(TWO_MOVES);
+  assert.deepEqual(keptTexts(), ['one more']);
+  forgetAll();
 });

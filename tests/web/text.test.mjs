@@ -3,7 +3,7 @@ import assert from 'node:assert/strict';
 import { test } from 'node:test';
 import { barredAfter, halfAfter, moveBetween, promotes, stipulationAfter, withProblemAfter } from '../../web/play.js';
 import { after, changed, exchanged, fenOf, menOfRanks, placeOf, ranksOf, readFen, squareOf } from '../../web/position.js';
-import { fragmentOf, keptOf, nameOfText, Steps, textOfBytes, textOfFragment, withKept } from '../../web/store.js';
+import { fragmentOf, keptOf, nameOfText, Steps, textOfBytes, textOfFragment, visitOf, withKept, writtenVisit } from '../../web/store.js';
 import { blockAt, blocksOf, fieldsOf, lineAt, menOf, sidesOf, tailOf, valueOf, withField, withMen, withTail, wordsOf } from '../../web/text.js';
 import { language, say, sayMan } from '../../web/words.js';
 
@@ -82,7 +82,8 @@ test('play: what is left to play', () => {
 test('store: links, kept texts, files', () => {
   assert.equal(textOfFragment(fragmentOf('a & b = #')), 'a & b = #');
   assert.equal(fragmentOf('a'.repeat(40000)), null);
-  assert.deepEqual(withKept([{ text: 'a', time: 1 }], 'b', 2), [{ text: 'b', time: 2 }, { text: 'a', time: 1 }]);
+  assert.deepEqual(withKept([{ text: 'a', time: 1 }], { text: 'b', time: 2 }), [{ text: 'b', time: 2 }, { text: 'a', time: 1 }]);
+  assert.deepEqual(withKept([{ text: 'a', time: 1, tab: 't' }], { text: 'b', time: 2, tab: 't' }), [{ text: 'b', time: 2, tab: 't' }]);
   assert.deepEqual(keptOf('{"text": 1}'), []);
   assert.equal(nameOfText(TEXT), 'A b');
   assert.deepEqual(textOfBytes(Uint8Array.of(0xe9)), { text: 'é', isUtf8: false });
@@ -95,4 +96,15 @@ test('store: undo and redo', () => {
   assert.equal(steps.has(-1), false);
   assert.equal(steps.go(1), 'b');
   assert.equal(steps.go(1), null);
+});
+
+test('store: a visit, whose longest parts may be left out', () => {
+  const visit = { steps: { texts: ['a', 'b', 'c'], place: 1 }, number: 2, link: '#x', solved: { text: 'b', report: 'r', isBeginning: true } };
+  assert.deepEqual(visitOf(writtenVisit(visit)), visit);
+  const long = 'x'.repeat(300000);
+  const { steps, solved } = visitOf(writtenVisit({ ...visit, steps: { texts: [`${long}a`, `${long}b`, 'c', 'd'], place: 2 }, solved: { text: 'c', report: 'r'.repeat(1000000), isBeginning: false } }));
+  assert.deepEqual([steps.texts.map(it => it.length), steps.place, solved], [[300001, 1], 1, null]);
+  assert.deepEqual(['', 'x', '{}', '{"steps":{"texts":[1],"place":0},"number":1,"link":""}', null].map(visitOf), [null, null, null, null, null]);
+  const again = new Steps('c', visit.steps);
+  assert.deepEqual([again.texts, again.go(-1), new Steps('b', visit.steps).has(1)], [['a', 'b', 'c'], 'b', true]);
 });

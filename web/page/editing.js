@@ -8,8 +8,8 @@ import {
 } from '../text.js';
 import { say } from '../words.js';
 import { scrollToLine, unmarkFaults } from './faults.js';
+import { keepReplaced, storeNoText, storeText } from './keeping.js';
 import { blockNow, state, textNow } from './state.js';
-import { keep } from './storage.js';
 import { board, note, unchanged } from './views.js';
 import { leave } from './walk.js';
 
@@ -139,12 +139,14 @@ export function takeFen(text) {
 }
 
 /**
- * Takes over a whole text, a text of another program, or a position in FEN.
+ * Takes over a whole text, a text of another program, or a position in FEN. A text that it replaces is kept.
  * @param {string} text
  */
 export function takeText(text) {
   if (takeFen(text)) return;
+  endTyping();
   const made = text.length < LONG_TEXT ? imported(text) : null;
+  keepReplaced(textNow());
   state.choose(1);
   setText(made?.text ?? text);
   element('text').setSelectionRange(0, 0);
@@ -189,7 +191,8 @@ export function joinTail() {
 
 /** Stores the text for the next visit. */
 export function keepText() {
-  if (textNow().length < LONG_TEXT) keep('pops', textNow());
+  if (textNow().length < LONG_TEXT) storeText(textNow());
+  else storeNoText();
 }
 
 /** Takes the FEN that was written in its field. */

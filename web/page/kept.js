@@ -1,23 +1,10 @@
 // @ts-check
-// The list of texts that were solved, kept in the browser's own storage.
+// The list of kept problems.
 import { element, makeButton } from '../elements.js';
-import { keptOf, MOST_KEPT, nameOfText, withKept } from '../store.js';
+import { MOST_KEPT, nameOfText } from '../store.js';
 import { language, say } from '../words.js';
 import { takeText } from './editing.js';
-import { keep, kept } from './storage.js';
-
-function keptList() {
-  return keptOf(kept('pops.kept') ?? '[]');
-}
-
-/**
- * Adds a text that was solved.
- * @param {string} text
- */
-export function keepProblem(text) {
-  keep('pops.kept', JSON.stringify(withKept(keptList(), text, Date.now())));
-  showKept();
-}
+import { keptList, storeList } from './keeping.js';
 
 export function showKept() {
   const list = keptList();
@@ -26,11 +13,8 @@ export function showKept() {
     const line = document.createElement('li');
     const name = nameOfText(it.text);
     const open = makeButton(name, () => takeText(it.text));
-    open.textContent = `${name} · ${new Date(it.time).toLocaleString(language)}`;
-    const forget = makeButton(`${say('forget')}: ${name}`, () => {
-      keep('pops.kept', JSON.stringify(list.filter((_, at) => at !== index)));
-      showKept();
-    });
+    open.textContent = [name, new Date(it.time).toLocaleString(language), ...(it.isLinked ? [say('byLink')] : [])].join(' · ');
+    const forget = makeButton(`${say('forget')}: ${name}`, () => storeList(list.filter((_, at) => at !== index)));
     forget.textContent = '✕';
     line.append(open, forget);
     return line;
@@ -38,6 +22,5 @@ export function showKept() {
 }
 
 export function forgetAll() {
-  keep('pops.kept', null);
-  showKept();
+  storeList(null);
 }

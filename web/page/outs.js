@@ -10,6 +10,7 @@ import { givenOf } from '../twins.js';
 import { say } from '../words.js';
 import { blockNow, state, textNow } from './state.js';
 import { board, note } from './views.js';
+import { ownLink } from './visit.js';
 
 /** @param {string} name @param {string} type @param {string} text */
 function save(name, type, text) {
@@ -62,6 +63,7 @@ async function makeLink() {
     return;
   }
   history.replaceState(null, '', fragment);
+  ownLink(location.hash);
   try {
     await navigator.clipboard.writeText(location.href);
     note(say('linked'));

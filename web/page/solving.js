@@ -7,7 +7,7 @@ import { Solving } from '../solving.js';
 import { sayFound } from '../tree.js';
 import { say } from '../words.js';
 import { endTyping } from './editing.js';
-import { keepProblem } from './kept.js';
+import { keepProblem } from './keeping.js';
 import { beginReport, drawGrowth, reportGrew } from './reporting.js';
 import { state, textNow } from './state.js';
 import { notes } from './views.js';
@@ -45,7 +45,7 @@ function solvingEnded({ status, failed, isStopped }) {
   else if (isStopped) endSolving(say(state.report ? 'stopped' : 'stoppedEmpty', { seconds }));
   else endSolving(sayDone(say(`status${status}`), milliseconds));
   notes.check();
-  if (!failed && !isStopped) keepProblem(state.solved);
+  keepProblem(state.solved);
 }
 
 /**

@@ -23,7 +23,8 @@ class PageState {
     this.solved = '';
     /** The report of that text, or its beginning. */
     this.report = '';
-    /** Whether solving ended before the end of the report. */
+    /** Whether solving has ended, and whether it did before the end of the report. */
+    this.isEnded = true;
     this.isBeginning = false;
     /** @type {Item[]} the items of the report when it was drawn last */
     this.items = [];
@@ -40,11 +41,12 @@ class PageState {
   }
 
   /**
-   * Begins undo and redo with a text.
+   * Begins undo and redo with a text, after the texts of an earlier visit.
    * @param {string} text
+   * @param {StoredSteps} [stored]
    */
-  beginSteps(text) {
-    this.steps = new Steps(text);
+  beginSteps(text, stored) {
+    this.steps = new Steps(text, stored);
   }
 
   /**
@@ -69,6 +71,15 @@ class PageState {
     this.solved = text;
     this.report = '';
     this.isBeginning = false;
+    this.isEnded = false;
+  }
+
+  /**
+   * Takes the report of an earlier visit.
+   * @param {StoredReport} stored
+   */
+  restoreReport({ text, report, isBeginning }) {
+    Object.assign(this, { solved: text, report, isBeginning, isEnded: true });
   }
 
   /**
@@ -85,6 +96,7 @@ class PageState {
    */
   endReport(isWhole) {
     this.isBeginning = !isWhole && this.report !== '';
+    this.isEnded = true;
   }
 
   /** Reads the items of the report as it is now. */

@@ -1,5 +1,5 @@
 // @ts-check
-// The browser's own storage, which some browsers refuse.
+// The browser's own storage, which some browsers refuse: for all visits, and for each tab.
 
 /**
  * Returns a stored value; null if there is none.
@@ -25,5 +25,31 @@ export function keep(key, value) {
     return true;
   } catch {
     return false;
+  }
+}
+
+/**
+ * Returns a value that this tab stored; null if there is none.
+ * @param {string} key
+ */
+export function keptInTab(key) {
+  try {
+    return sessionStorage.getItem(key);
+  } catch {
+    return null;
+  }
+}
+
+/**
+ * Stores a value for as long as this tab is open.
+ * @param {string} key
+ * @param {string} value
+ */
+export function keepInTab(key, value) {
+  try {
+    sessionStorage.removeItem(key);
+    sessionStorage.setItem(key, value);
+  } catch {
+    // (without room a reload finds what localStorage has)
   }
 }
