@@ -3,6 +3,7 @@
 import { showContents } from './contents.js';
 import { element, makeButton, partText } from './elements.js';
 import { makeProblem, move, solveFromHere, togglePlaying } from './line.js';
+import { showAge } from './page/age.js';
 import {
   addProblem, change, changeBoard, fenWritten, goSteps, goToProblem, joinTail, keepText, placed, showProblem,
   showTail, takeText, typed,
@@ -13,7 +14,7 @@ import { listenToFiles } from './page/files.js';
 import { whenKept } from './page/keeping.js';
 import { forgetAll, showKept } from './page/kept.js';
 import { OUTS } from './page/outs.js';
-import { loadEngine, showMost, solve, stopSolving } from './page/solving.js';
+import { loadEngine, showMost, showSaid, solve, stopSolving } from './page/solving.js';
 import { state } from './page/state.js';
 import { buildViews, notes, tree } from './page/views.js';
 import { beginVisit, drawVisit, openLink, storeVisit } from './page/visit.js';
@@ -104,7 +105,7 @@ function begin() {
   buildFields();
   buildViews({ change, move }, showPlace);
   element('text').value = beginVisit();
-  state.addFollowers(showProblem, showFields, showContents, showTail, keepText, () => notes.check());
+  state.addFollowers(showProblem, showFields, showContents, showTail, keepText, showAge, showSaid, () => notes.check());
   listen();
   showMost();
   whenKept(showKept);

@@ -45,9 +45,8 @@ function printedDiagram(first) {
 
 /** @param {PrintedProblem[]} shown */
 function printedLines(shown) {
-  const isSolved = state.isSolved();
   const lines = shown.flatMap(({ number, label, change, asked }, index) => {
-    const item = isSolved ? state.items.find(it => it.number === number) : null;
+    const item = state.isPosedNow(number) ? state.items.find(it => it.number === number) : null;
     const head = label.text ? [[label.text, change || (index ? asked : '')].filter(Boolean).join(' ')] : [];
     return [...head, ...(item?.phases ?? []).flatMap(phase => [phase.kind, ...phase.lines, phase.total ?? say('beginning')])];
   });

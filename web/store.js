@@ -84,11 +84,11 @@ export function visitOf(written) {
 }
 
 /**
- * Returns a name of a text for a list: its title, else its stipulation.
+ * Returns a name of a text, or of one of its problems: its title, else its stipulation and men.
  * @param {string} text
+ * @param {Block | null} [block]
  */
-export function nameOfText(text) {
-  const block = blockAt(text, 0);
+export function nameOfText(text, block = blockAt(text, 0)) {
   if (!block) return text.trim().slice(0, 40);
   const fields = fieldsOf(text, block);
   const said = valueOf(fields, 'title') || `${valueOf(fields, 'stipulation') ?? ''} ${sidesOf(menOf(block).men).trim()}`;

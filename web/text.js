@@ -75,6 +75,12 @@ export const blocksOf = remembered(text => {
 });
 
 /**
+ * Returns what a problem poses: its words without text lines, in small letters.
+ * @param {Block} block
+ */
+export const posedIn = block => block.words.filter(it => !isTextCommand(it.command)).map(it => it.word.toLowerCase()).join(' ');
+
+/**
  * Returns the problem at a place of the text, or the last one before it; null if the text has none.
  * @param {string} text
  * @param {number} place

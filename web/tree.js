@@ -88,11 +88,14 @@ function madeList(tag) {
 
 export class Tree {
   /**
-   * SHOW receives the chosen place or null: the men of the diagram, the moves from there, and the item.
+   * SHOW receives the chosen place or null: the men of the diagram, the moves from there, and the item. ISOLD returns whether an item's
+   * problem was changed since.
    * @param {(place: Place | null) => void} show
+   * @param {(item: Item) => boolean} isOld
    */
-  constructor(show) {
+  constructor(show, isOld) {
     this.showPlace = show;
+    this.isOld = isOld;
     /** @type {Group[]} */
     this.groups = [];
     /** @type {RowPlace | null} */
@@ -177,11 +180,26 @@ export class Tree {
     const box = /** @type {ItemBox} */ (document.createElement('section'));
     box.groups = [];
     box.head = document.createElement('h2');
-    box.append(box.head);
+    box.age = this.line(say('oldItem'));
+    box.append(box.head, box.age);
+    this.markBox(box, item);
     if (item.fault) box.append(fault(/** @type {FaultyItem} */ (item)));
     else if (item.isChecked) box.append(this.line(say('sound')));
     this.growItem(box, item);
     return box;
+  }
+
+  /** Marks the drawn items whose problems were changed since. */
+  markOld() {
+    const { things, drawn } = this.list.filling;
+    for (let at = 0; at < drawn; at++) this.markBox(this.list.children[at], things[at]);
+  }
+
+  /** @param {any} box @param {Item} item */
+  markBox(box, item) {
+    const isOld = this.isOld(item);
+    box.classList.toggle('old', isOld);
+    box.age.hidden = !isOld;
   }
 
   /**

@@ -198,7 +198,7 @@ interface ListBox extends HTMLElement {
   drawMore: (() => void) | null;
 }
 /** The element of an item. */
-interface ItemBox extends HTMLElement { groups: Group[]; head: HTMLElement }
+interface ItemBox extends HTMLElement { groups: Group[]; head: HTMLElement; age: HTMLElement }
 /** A phase as it is drawn. */
 interface Group { item: SoundItem; men: Men; rows: TreeRow[]; list: ListBox; lines: number; total: HTMLElement }
 /** A row with its place in the tree, and its elements once they are drawn. */

@@ -312,6 +312,31 @@ def given(page: Page) -> None:
     page.holds(not page.told("kept-list"), "forgotten")
 
 
+def aged(page: Page) -> None:
+    """Solutions after a man was moved: marked at once, also while the former problem is being solved; as before after undo."""
+    browser = page.browser
+    browser.size(1280, 800)
+    grey = "getComputedStyle(document.querySelector('#tree .move')).color === 'rgb(106, 103, 95)'"
+    page.open(MATE_IN_TWO)
+    page.solve()
+    page.holds(not browser.run(grey) and "not of this" not in page.told("state"), "solutions of this position")
+    browser.drag("#h8", "#g8")
+    shown = browser.run("document.querySelector('#tree section').innerText")
+    page.holds(browser.run(grey) and "Not of this position" in shown, f"marked after a move: {shown}")
+    page.holds(page.told("state").startswith("not of this position: "), page.told("state"))
+    page.picture("aged.png")
+    browser.click("#undo")
+    shown = browser.run("document.querySelector('#tree section').innerText")
+    page.holds(not browser.run(grey) and "Not of this position" not in shown, f"not marked after undo: {shown}")
+    page.open(MATE_IN_TWO.replace("#2", "#9").replace("Pieces", "Title A long one\nPieces").replace("Rc7 ", ""))
+    browser.click("#solve")
+    browser.wait("document.getElementById('state').textContent.startsWith('solving A long one: ')")
+    browser.drag("#h8", "#g8")
+    page.holds(page.told("state").startswith("not of this position: solving A long one: "), page.told("state"))
+    browser.click("#stop")
+    browser.wait(READY)
+
+
 def linked(page: Page) -> None:
     """A link opened beside a problem in work: in the tab of the work and in a new one; undo and solutions after a reload."""
     browser = page.browser
@@ -421,6 +446,7 @@ LOOKS: list[Callable[[Page], None]] = [
     grown,
     faulty,
     given,
+    aged,
     linked,
     composed,
     without_engine,

@@ -14,6 +14,7 @@ const { element, makeButton, madeWith, partText } = await import('../../web/elem
 const { faultBox } = await import('../../web/faults.js');
 const { makeProblem, move, solveFromHere } = await import('../../web/line.js');
 const { Notes } = await import('../../web/notes.js');
+const { showAge } = await import('../../web/page/age.js');
 const { changeBoard, endTyping, goSteps, goToProblem, setText, takeFen, takeText } = await import('../../web/page/editing.js');
 const { markFaults, unmarkFaults } = await import('../../web/page/faults.js');
 const { fieldChanged } = await import('../../web/page/fields.js');
@@ -22,7 +23,7 @@ const { keepProblem, storeText } = await import('../../web/page/keeping.js');
 const { forgetAll } = await import('../../web/page/kept.js');
 const { OUTS } = await import('../../web/page/outs.js');
 const { beginReport, drawGrowth, drawReport, reportGrew } = await import('../../web/page/reporting.js');
-const { mostRefutations, sayDone, showMost, solve } = await import('../../web/page/solving.js');
+const { mostRefutations, sayDone, sayProblem, showMost, solve } = await import('../../web/page/solving.js');
 const { blockNow, state, textNow } = await import('../../web/page/state.js');
 const { keep, kept: keptValue } = await import('../../web/page/storage.js');
 const views = await import('../../web/page/views.js');
@@ -343,4 +344,55 @@ test('keeping: a text in work of another tab is kept before it is replaced', () 
   storeText(TWO_MOVES);
   assert.deepEqual(keptTexts(), ['one more']);
   forgetAll();
+});
+
+const TWO = TWO_MOVES.replace('End', 'Next') + TEXT.slice(TEXT.indexOf('Pieces'));
+const TWO_REPORTS = 'problem 1\n#2\nplay\n1.Qb1-b6!\nsolutions: 1\n\n' + REPORT.replace('problem 1', 'problem 2');
+
+/** Lists whether each problem of the solutions is marked as old. */
+const oldItems = () => views.tree.list.children.map(it => [it.classList.contains('old'), it.children[1].hidden]);
+
+test('age: the solutions of a changed problem are marked at once, and not the others', () => {
+  begin(TWO, TWO_REPORTS);
+  assert.deepEqual(oldItems(), [[false, true], [false, true]]);
+  changeBoard('mirror');
+  assert.deepEqual(oldItems(), [[true, false], [false, true]]);
+  assert.match(views.tree.list.children[0].textContent, /Not of this position/);
+  assert.equal(element('whole').classList.contains('old'), true);
+  reportGrew('');
+  drawGrowth();
+  assert.deepEqual(oldItems(), [[true, false], [false, true]]);
+  drawReport();
+  assert.deepEqual(oldItems(), [[true, false], [false, true]]);
+  goSteps(-1);
+  assert.deepEqual(oldItems(), [[false, true], [false, true]]);
+  element('field-Title').value = 'Another title';
+  fieldChanged('Title');
+  assert.deepEqual(oldItems(), [[false, true], [false, true]]);
+  goToProblem(2);
+  element('field-Stipulation').value = '#3';
+  fieldChanged('Stipulation');
+  assert.deepEqual(oldItems(), [[false, true], [true, false]]);
+  views.tree.go(views.tree.groups[1].rows[0], 0);
+  assert.match(noteNow(), /^position after 1.Ra1-a8#, of the problem before it was changed/);
+  leave();
+});
+
+test('age: the solutions of a text that another one replaced are hidden, until it comes back', () => {
+  begin(TWO, TWO_REPORTS);
+  takeText(TEXT.replace('Ra1', 'Ra5'));
+  assert.equal(element('found').hidden, true);
+  goSteps(-1);
+  assert.deepEqual([element('found').hidden, ...oldItems()], [false, [false, true], [false, true]]);
+  showAge();
+});
+
+test('solving: which problem it is', () => {
+  begin(TWO, TWO_REPORTS.slice(0, 40));
+  assert.equal(sayProblem(), 'problem 1 of 2, #2 White Kh8 Qb1 Black Kf8 Pa7');
+  state.addReport(TWO_REPORTS.slice(40));
+  state.readReport();
+  assert.equal(sayProblem(), 'problem 2 of 2, #1 White Kg6 Ra1 Black Kg8');
+  begin(TEXT.replace('Pieces', 'Title One\nPieces'));
+  assert.equal(sayProblem(), 'One');
 });

@@ -4,7 +4,7 @@ import { test } from 'node:test';
 import { barredAfter, halfAfter, moveBetween, promotes, stipulationAfter, withProblemAfter } from '../../web/play.js';
 import { after, changed, exchanged, fenOf, menOfRanks, placeOf, ranksOf, readFen, squareOf } from '../../web/position.js';
 import { fragmentOf, keptOf, nameOfText, Steps, textOfBytes, textOfFragment, visitOf, withKept, writtenVisit } from '../../web/store.js';
-import { blockAt, blocksOf, fieldsOf, lineAt, menOf, sidesOf, tailOf, valueOf, withField, withMen, withTail, wordsOf } from '../../web/text.js';
+import { blockAt, blocksOf, fieldsOf, lineAt, menOf, posedIn, sidesOf, tailOf, valueOf, withField, withMen, withTail, wordsOf } from '../../web/text.js';
 import { language, say, sayMan } from '../../web/words.js';
 
 const TEXT = 'BeginProblem\nTitle A b\nPieces White Kg6 Ra1 Black Kg8\nStipulation #1\nOption MaxSolutions 3\nEndProblem\n';
@@ -107,4 +107,11 @@ test('store: a visit, whose longest parts may be left out', () => {
   assert.deepEqual(['', 'x', '{}', '{"steps":{"texts":[1],"place":0},"number":1,"link":""}', null].map(visitOf), [null, null, null, null, null]);
   const again = new Steps('c', visit.steps);
   assert.deepEqual([again.texts, again.go(-1), new Steps('b', visit.steps).has(1)], [['a', 'b', 'c'], 'b', true]);
+});
+
+test('text: what a problem poses doesn\'t depend on names, blanks and capitals', () => {
+  const [block] = blocksOf(TEXT);
+  const [other] = blocksOf(TEXT.replace('A b', 'C').replace('Kg6', 'KG6 ').replace('\nStip', '\nRemark d\nStip'));
+  assert.equal(posedIn(block), 'pieces white kg6 ra1 black kg8 stipulation #1 option maxsolutions 3');
+  assert.equal(posedIn(other), posedIn(block));
 });

@@ -147,6 +147,7 @@ export function takeText(text) {
   endTyping();
   const made = text.length < LONG_TEXT ? imported(text) : null;
   keepReplaced(textNow());
+  state.beginSheet();
   state.choose(1);
   setText(made?.text ?? text);
   element('text').setSelectionRange(0, 0);

@@ -33,7 +33,10 @@ function saveSvg() {
 /** @param {(items: Item[]) => void} act */
 function saveItems(act) {
   if (!state.items.length) note(say('nothing'), () => !state.items.length);
-  else act(state.items.filter(item => item.isWhole || item.asked || item.fault));
+  else {
+    act(state.items.filter(item => item.isWhole || item.asked || item.fault));
+    note(state.isCurrent() ? '' : say('savedOld'));
+  }
 }
 
 export const OUTS = {

@@ -2,7 +2,8 @@
 // Draws the report: its text, its solutions and its faults. A growing report is drawn after pauses.
 import { element } from '../elements.js';
 import { menOfRanks } from '../position.js';
-import { blocksOf, menOf } from '../text.js';
+import { menOf } from '../text.js';
+import { showAge } from './age.js';
 import { drawnFault, markFaults } from './faults.js';
 import { state } from './state.js';
 import { tree } from './views.js';
@@ -19,7 +20,7 @@ const drawing = { timer: null, pause: LEAST_PAUSE };
  */
 function diagramMen(item) {
   if (item.ranks.length) return menOfRanks(item.ranks);
-  const block = blocksOf(state.solved)[item.number - 1];
+  const block = state.solvedBlocks[item.number - 1];
   return block ? menOf(block).men : new Map();
 }
 
@@ -30,6 +31,7 @@ export function drawReport() {
   element('report').textContent = state.report;
   element('beginning').hidden = !state.isBeginning;
   tree.draw(state.items, diagramMen, drawnFault);
+  showAge();
   markFaults();
 }
 

@@ -4,6 +4,7 @@ import { UTF8 } from '../codecs.js';
 import { Crew } from '../crew.js';
 import { element, partText } from '../elements.js';
 import { Solving } from '../solving.js';
+import { nameOfText } from '../store.js';
 import { sayFound } from '../tree.js';
 import { say } from '../words.js';
 import { endTyping } from './editing.js';
@@ -18,18 +19,35 @@ const WHOLE_STATUS = 1;
 const MOST_REFUTATIONS = 200;
 // The most letters of a report that the page shows.
 const MOST_REPORT = 1 << 24;
-/** @type {{ engine: WebAssembly.Module | null, solving: Solving | null, clock: ReturnType<typeof setInterval> | undefined, begun: number }} */
-const run = { engine: null, solving: null, clock: undefined, begun: 0 };
+/** @type {{ engine: WebAssembly.Module | null, solving: Solving | null, clock: ReturnType<typeof setInterval> | undefined, begun: number, said: string, isOfReport: boolean }} */
+const run = { engine: null, solving: null, clock: undefined, begun: 0, said: '', isOfReport: false };
 
 const secondsPassed = () => Math.round((performance.now() - run.begun) / 1000);
 
+/**
+ * Says how far solving is, or how it ended.
+ * @param {string} said
+ * @param {boolean} isOfReport
+ */
+function tell(said, isOfReport) {
+  Object.assign(run, { said, isOfReport });
+  showSaid();
+}
+
+/** Shows what was said last, and whether it isn't of the problems on the page any more. */
+export function showSaid() {
+  const isOld = run.isOfReport && !state.isCurrent();
+  element('state').classList.toggle('old', isOld);
+  element('state').textContent = isOld ? say('oldSaid', run) : run.said;
+}
+
 /** @param {string} said */
-function endSolving(said) {
+function endSolving(said, isOfReport = true) {
   run.solving = null;
   clearInterval(run.clock);
   element('solve').disabled = !run.engine;
   element('stop').disabled = true;
-  element('state').textContent = said;
+  tell(said, isOfReport);
 }
 
 /**
@@ -66,8 +84,16 @@ function makeWorker() {
   return worker;
 }
 
+/** Names the problem that is being solved. */
+export function sayProblem() {
+  const { solved, solvedBlocks: { length: all } } = state;
+  const number = state.items.at(-1)?.number ?? 1;
+  const name = nameOfText(solved, state.solvedBlocks[number - 1] ?? null);
+  return all > 1 ? say('problemOf', { number, all, name }) : name;
+}
+
 function tellProgress() {
-  element('state').textContent = say('solving', { seconds: secondsPassed(), ...run.solving?.progress });
+  tell(say('solving', { problem: sayProblem(), seconds: secondsPassed(), ...run.solving?.progress }), true);
 }
 
 /** Returns the most refutations of a try, 1 if none are written; null if the switch for tries is off. */
@@ -103,12 +129,12 @@ export function stopSolving() {
 }
 
 export async function loadEngine() {
-  element('state').textContent = say('loading');
+  tell(say('loading'), false);
   try {
     const bytes = Uint8Array.from(atob(partText('engine').trim()), letter => letter.charCodeAt(0));
     run.engine = await WebAssembly.compile(bytes);
-    endSolving(say('ready'));
+    endSolving(say('ready'), false);
   } catch (fault) {
-    endSolving(say('noEngine', { fault }));
+    endSolving(say('noEngine', { fault }), false);
   }
 }

@@ -4,8 +4,7 @@ import { element } from '../elements.js';
 import { after } from '../position.js';
 import { itemsOf } from '../report.js';
 import { Steps } from '../store.js';
-import { blocksOf } from '../text.js';
-
+import { blocksOf, posedIn } from '../text.js';
 
 class PageState {
   constructor() {
@@ -19,8 +18,13 @@ class PageState {
     this.walked = null;
     /** Whether moving a man on the board plays a move. */
     this.isPlaying = false;
-    /** The text that was solved last. */
+    /** The text that was solved last, and its problems. */
     this.solved = '';
+    /** @type {Block[]} */
+    this.solvedBlocks = [];
+    /** Counts the texts that replaced another as a whole, and says at which count the solved text was shown. */
+    this.sheet = 0;
+    this.solvedSheet = 0;
     /** The report of that text, or its beginning. */
     this.report = '';
     /** Whether solving has ended, and whether it did before the end of the report. */
@@ -68,7 +72,7 @@ class PageState {
    * @param {string} text
    */
   beginReport(text) {
-    this.solved = text;
+    this.takeSolved(text);
     this.report = '';
     this.isBeginning = false;
     this.isEnded = false;
@@ -79,7 +83,18 @@ class PageState {
    * @param {StoredReport} stored
    */
   restoreReport({ text, report, isBeginning }) {
-    Object.assign(this, { solved: text, report, isBeginning, isEnded: true });
+    this.takeSolved(text);
+    Object.assign(this, { report, isBeginning, isEnded: true });
+  }
+
+  /** @param {string} text */
+  takeSolved(text) {
+    Object.assign(this, { solved: text, solvedBlocks: blocksOf(text), solvedSheet: this.sheet });
+  }
+
+  /** Begins another text, which replaces the one before as a whole. */
+  beginSheet() {
+    this.sheet += 1;
   }
 
   /**
@@ -107,6 +122,27 @@ class PageState {
   /** Returns whether the text on the page is the one that was solved. */
   isSolved() {
     return textNow() === this.solved;
+  }
+
+  /**
+   * Returns whether a problem of the solved text is posed the same now.
+   * @param {number} number
+   */
+  isPosedNow(number) {
+    if (this.isSolved()) return true;
+    const [now, then] = [blocksOf(textNow())[number - 1], this.solvedBlocks[number - 1]];
+    return Boolean(now && then) && posedIn(now) === posedIn(then);
+  }
+
+  /** Returns whether the solved problems are those on the page now. */
+  isCurrent() {
+    const { length } = this.solvedBlocks;
+    return this.isSolved() || (length > 0 && blocksOf(textNow()).length === length && this.solvedBlocks.every((_, at) => this.isPosedNow(at + 1)));
+  }
+
+  /** Returns whether another text as a whole has taken the place of the solved one. */
+  isReplaced() {
+    return this.sheet !== this.solvedSheet && !this.isSolved();
   }
 
   /**

@@ -19,7 +19,7 @@ export let notes;
  * @param {(place: Place | null) => void} showPlace shows the position that is chosen in the solutions
  */
 export function buildViews(acts, showPlace) {
-  tree = new Tree(showPlace);
+  tree = new Tree(showPlace, item => !state.isPosedNow(item.number));
   notes = new Notes(element('note'));
   board = new Board({ ...acts, note, check: () => notes.check() });
 }

@@ -18,12 +18,13 @@ export function showPlace(place) {
   element('promotion').hidden = true;
   element('reached').textContent = last ? labelOf(last) : '';
   if (state.walked && last) board.show(state.walked, [last.from, last.to]);
-  // (the report of another text doesn't belong to these problems)
+  // (the report of a problem that was changed since isn't of one of these)
   const item = place?.item;
-  const isOther = item && state.isSolved() && state.number !== item.number;
+  const isNow = !item || state.isPosedNow(item.number);
+  const isOther = item && isNow && state.number !== item.number;
   if (isOther) state.choose(item.number);
   if (isOther || !place) state.follow();
-  if (last) note(say('shown', { move: labelOf(last) }));
+  if (last) note(say(isNow ? 'shown' : 'shownOld', { move: labelOf(last) }));
 }
 
 /** Shows the diagram again. */
