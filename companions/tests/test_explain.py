@@ -60,9 +60,7 @@ class Documents(unittest.TestCase):
         document = (support.REPOSITORY / "docs" / "COMPANIONS.md").read_text("utf-8")
         text = (
             b"BeginProblem\nTitle A mate\nPieces White Kg6 Da1 La2 Bb4 Black Kg8\nStipulation #1\n"
-            b"NextProblem\n\nPieces White Kg6 Ra1 Black Kg8\nStipulation #1\n"
-            b"Option MaxSolutions\nNextProblem\nPieces White Kg6 Ra1 Black Kg8\n"
-            b"Stipulation #1\nEndProblem\n"
+            b"NextProblem\nPieces White Kg6 Ra1 Black Kg8\nStipulation #1\nEndProblem\n"
         )
         said = command(text=text).output.decode().replace("standard input:", "mates.pop:")
         self.assertIn(re.sub("^(?=.)", "    ", said, flags=re.M), document)

@@ -171,11 +171,11 @@ class Published(Case):
         told = self.text(TWINS)
         self.assertEqual(
             told,
-            "1-2. Samuel Loyd & Will Shinkman: A pair\n  The Source 1900, 1st Prize\n"
+            "1. Samuel Loyd & Will Shinkman: A pair\n  The Source 1900, 1st Prize\n"
             "  White Kg6 Ra1, Black Kh8\n  h#1 (2 + 1)\n"
             "  a)\n  Set play\n    1...Ra8#\n  Solution\n    1.Kg8 Ra8#\n"
-            "  b) Move a1 b2\n  1.Kg8 Rb8#\n\n"
-            "Authors\n  Loyd, Samuel: 1-2\n  Shinkman, Will: 1-2\n",
+            "  b) Ra1→b2\n  1.Kg8 Rb8#\n\n"
+            "Authors\n  Loyd, Samuel: 1\n  Shinkman, Will: 1\n",
         )
 
 
@@ -251,8 +251,13 @@ class Lines(unittest.TestCase):
             ],
         )
         self.assertEqual(
-            lines("Kg6 kh8", "#2", "set\nnot possible\nplay\nsolutions: 0\n"),
-            ["Set play:", "not possible", "Solution:", "no solution"],
+            lines("Kg6 kh8", "#2", "set\nnot possible\nplay\nsolutions: 0\n"), ["no solution"]
+        )
+
+    def test_set_play_without_solutions_is_left_out(self) -> None:
+        play = "play\n1.Ra1-a8#\nsolutions: 1\n"
+        self.assertEqual(
+            lines("Kg6 Ra1 kh8", "#1", "set\nsolutions: 0\n" + play), ["1.Ra8#!"]
         )
 
     def test_a_threat_in_several_moves(self) -> None:
@@ -303,12 +308,12 @@ class Forms(Case):
         page = outcome.output.decode()
         for wanted in (
             "<h1>Ours &amp; yours \ue000</h1>",
-            '<h2><a href="#problem-1-2">1-2</a> Samuel Loyd &amp; Will Shinkman</h2>',
+            '<h2><a href="#problem-1">1</a> Samuel Loyd &amp; Will Shinkman</h2>',
             '<p class="title">A pair</p>',
             '<p class="origin">The Source 1900, 1st Prize</p>',
             '<span class="stipulation">h#1</span> <span class="count">2 + 1</span>',
-            '<h3 class="label">b) Move a1 b2</h3>\n<p class="line" style="--level: 0">1.Kg8 Rb8#</p>',
-            '<p>Loyd, Samuel: <a href="#problem-1-2">1-2</a></p>',
+            '<h3 class="label">b) Ra1→b2</h3>\n<p class="line" style="--level: 0">1.Kg8 Rb8#</p>',
+            '<p>Loyd, Samuel: <a href="#problem-1">1</a></p>',
         ):
             self.assertIn(wanted, page)
         self.assertEqual(page.count('<svg class="diagram"'), 1)
@@ -316,13 +321,14 @@ class Forms(Case):
         self.assertEqual(apart.count('<svg class="diagram"'), 2)
 
     def test_a_document_of_latex(self) -> None:
-        text = self.sheet(TWINS, "--to", "latex").output.decode()
+        text = self.sheet(TWINS, "--to", "latex", "--language", "de").output.decode()
         for wanted in (
             "\\usepackage{diagram}\n",
-            "\\specialdiagnum{1-2}\n\\author{Loyd, Samuel; Shinkman, Will}\n\\dedic{A pair}\n"
+            "\\specialdiagnum{1}\n\\author{Loyd, Samuel; Shinkman, Will}\n\\dedic{A pair}\n"
             "\\source{The Source 1900}\n\\award{1st Prize}\n\\pieces[2+1]{wKg6, wTa1, sKh8}\n",
-            "\\textit{Set play}\\newline\n1...Ra8\\#\\newline\n",
-            "Loyd, Samuel \\dotfill\\ 1-2\\par\n",
+            "\\textit{Satzspiel}\\newline\n1...Ta8\\#\\newline\n",
+            "\\twins{b) Ta1$\\rightarrow$b2}\n",
+            "Loyd, Samuel \\dotfill\\ 1\\par\n",
         ):
             self.assertIn(wanted, text)
         figures = self.sheet(WITH_FAIRY_MEN, "--to", "latex", "--figures").output.decode()
@@ -346,6 +352,99 @@ class Forms(Case):
                 self.assertEqual(done.returncode, 0, done.stdout[-2000:])
                 if text is not strange:
                     self.assertNotIn(b"Overfull", done.stdout)
+
+    def test_letters_are_typeset(self) -> None:
+        """Every letter of Latin and of the languages written in Cyrillic, in titles and authors."""
+        if not support.has_latex():
+            print("test_sheet: no LaTeX with the package diagram here: no letters were typeset")
+            return
+        codes = [*range(0xC0, 0x250), *range(0x1E00, 0x1EFA), *range(0x400, 0x460)]
+        letters = [chr(code) for code in codes if chr(code).isalpha()]
+        problem = "Pieces White Kg6 Ra1 Black Kh8\nStipulation h#1\n"
+        rows = ["".join(letters[place : place + 60]) for place in range(0, len(letters), 60)]
+        problems = (f"Title {it}\nAuthor {it[:9]}, {it[9:18]}\n{problem}" for it in rows)
+        text = f"BeginProblem\n{'NextProblem'.join(chr(10) + it for it in problems)}EndProblem\n"
+        page = self.made(text.encode(), "--to", "latex").output
+        for letter in "éŁđшЂţ":
+            self.assertIn(letter, page.decode())
+        for engine in ("latex", "lualatex"):
+            if shutil.which(engine) is None:
+                print(f"test_sheet: no {engine} here: it set no letters")
+                continue
+            source = self.room / f"{engine}.tex"
+            source.write_bytes(page)
+            words = [engine, "-interaction=nonstopmode", "-halt-on-error", source.name]
+            done = subprocess.run(
+                words, cwd=self.room, capture_output=True, timeout=support.PATIENCE
+            )
+            self.assertEqual(done.returncode, 0, done.stdout[-2000:])
+
+    def test_faulty_problems_in_latex(self) -> None:
+        """They are boxes of text among the diagrams, in the language of the sheet."""
+        faulty = TWINS.replace(b"h#1", b"h#99").replace(b"EndProblem", b"NextProblem")
+        text = faulty + OF_THE_MANUAL.partition(b"\n")[2]
+        outcome = self.made(text, "--to", "latex", "--language", "fr")
+        page = outcome.output.decode()
+        self.assertEqual(outcome.status, 1)
+        self.assertIn("\\textbf{1} Samuel Loyd \\& Will Shinkman\\\\\nA pair\\\\\n", page)
+        self.assertIn("\\textbf{ligne 7 : énoncé incorrect}", page)
+        self.assertIn("\\specialdiagnum{2}", page)
+
+    def test_numbers(self) -> None:
+        """Twins alone are 1a and 1b; the first number is given."""
+        text = TWINS.replace(b"EndProblem", b"NextProblem") + OF_THE_MANUAL.partition(b"\n")[2]
+        for words, wanted in (
+            ((), ["1.", "2."]),
+            (("--first-number", "17"), ["17.", "18."]),
+            (("--apart", "--first-number", "17"), ["17a.", "17b.", "18."]),
+        ):
+            told = self.text(text, *words)
+            self.assertEqual(re.findall(r"^\d+\w*\.", told, re.M), wanted)
+
+    def test_twins_in_languages(self) -> None:
+        """A man moved, gone, new, exchanged, in place of another; another stipulation."""
+        first = "Pieces White Kg6 Ra1 Pc4 Black Kh8 Bc3\nStipulation h#2\n"
+        changes = (
+            ("Pieces White Kg6 Rb2 Pc4 Black Kh8 Bc3\nStipulation h#2\n", "Ta1→b2"),
+            ("Pieces White Kg6 Ra1 Black Kh8 Bc3\nStipulation h#3\n", "–Bc4, h#3"),
+            ("Pieces White Kg6 Ra1 Pc4 Black Kh8 Bc3 Qd8\nStipulation h#2\n", "+sDd8"),
+            ("Pieces White Kg6 Rc3 Pc4 Black Kh8 Ba1\nStipulation h#2\n", "Ta1↔Lc3"),
+            ("Pieces White Kg6 Qa1 Pc4 Black Kh8 Bc3\nStipulation h#2\n", "Ta1=D"),
+            ("Pieces White Kg6 Ra1 Bc3 Pc4 Black Kh8\nStipulation h#2\n", "Lc3=wL"),
+        )
+        texts = [f"Title T a)\n{first}"]
+        for letter, (changed, _) in zip("bcdefg", changes):
+            texts.append(f"Title T {letter})\nRemark {letter}) another\n{changed}")
+        text = f"BeginProblem\n{'NextProblem'.join(chr(10) + it for it in texts)}EndProblem\n"
+        told = self.made(text.encode(), "--to", "text", "--language", "de").output.decode()
+        found = re.findall(r"^  ([b-g])\) (.*)$", told, re.M)
+        self.assertEqual([change for _, change in found], [wanted for _, wanted in changes])
+
+    def test_changes_of_the_whole_board_and_duplex(self) -> None:
+        turned = "Remark b) Rotate 90\nPieces White Kg2 Ra1 Black Kh8\nStipulation h#2\n"
+        text = (
+            "BeginProblem\nTitle T a)\nPieces White Kg7 Rh8 Black Ka1\nStipulation h#2\n"
+            f"NextProblem\nTitle T b)\n{turned}NextProblem\nTitle U\n"
+            "Pieces White Kh8 Black Kb2 Ra1\nStipulation h#2\nNextProblem\nTitle U duplex\n"
+            "Pieces White Kb7 Ra8 Black Kh1\nStipulation h#2\nEndProblem\n"
+        )
+        told = self.made(text.encode(), "--to", "text", "--language", "de").output.decode()
+        self.assertIn("  b) Brett um 90° gedreht\n", told)
+        self.assertIn("  duplex Farben umgekehrt\n", told)
+
+    def test_originals(self) -> None:
+        """Three diagrams a row with what makes the twins, all solutions after them."""
+        text = TWINS.replace(b"EndProblem", b"NextProblem") + OF_THE_MANUAL.partition(b"\n")[2]
+        page = self.sheet(text, "--per-row", "3", "--language", "de").output.decode()
+        rows, rest = page.split('<div class="after">')
+        self.assertIn('<div class="row" style="--per-row: 3">', rows)
+        self.assertEqual((rows.count('<svg class="diagram"'), rest.count("<svg")), (2, 0))
+        self.assertIn('<p class="twin">b) Ta1→b2</p>', rows)
+        self.assertNotIn("Kg8", rows)
+        self.assertIn("<h2>Lösungen</h2>", rest)
+        self.assertIn("1.Kg8 Tb8#", rest)
+        for words in (["--per-row", "0"], ["--per-row", "9"], ["--per-row", "3", "--to", "text"]):
+            self.assertEqual(self.sheet(text, *words).status, 2)
 
     def test_a_pdf(self) -> None:
         if shutil.which("chromium") is None:
@@ -446,6 +545,26 @@ class Command(Case):
         latex = self.sheet(TWINS, "--to", "latex", "--report", str(report)).output
         self.assertIn(b"\\end{document}", latex)
 
+    def test_seconds(self) -> None:
+        """What takes too long is shown as far as it went, and says so; the others are whole."""
+        long = "Pieces White Kb1 Pc2e2g2 Black Ke8 Ra8h8 Pa7c7e7g7h7\nStipulation h#7\n"
+        text = TWINS.decode().replace("EndProblem", f"NextProblem\nTitle Long\n{long}EndProblem")
+        outcome = self.made(text.encode(), "--to", "text", "--seconds", "1", "--language", "de")
+        told = outcome.output.decode()
+        self.assertEqual(outcome.status, 1)
+        self.assertIn("1.Kg8 Ta8#", told)
+        self.assertIn("\n2. Long\n", told)
+        self.assertIn("nicht zu Ende gelöst: 1 s\n", told)
+
+    def test_progress(self) -> None:
+        """On a terminal it shows how far it is, and with tries a second time."""
+        with mock.patch("pops_companions.many.progress.Progress._tell") as told:
+            words = ["--to", "text", "--pops-tries", str(self.tries)]
+            self.assertEqual(self.made(OF_THE_MANUAL, *words).status, 0)
+        lines = [call.args[0](1.0) for call in told.call_args_list]
+        self.assertIn("pops-sheet: 1 of 1 problems", lines)
+        self.assertIn("pops-sheet: tries: 1 of 1 problems", lines)
+
     def test_faulty_problems(self) -> None:
         text = OF_THE_MANUAL.replace(b"#2", b"#99")
         outcome = self.sheet(text, "--to", "text")
@@ -463,7 +582,7 @@ class Command(Case):
         self.tries.write_text("#!/bin/sh\nexit 4\n")
         outcome = self.made(OF_THE_MANUAL, "--pops-tries", str(self.tries))
         self.assertEqual((outcome.status, outcome.output), (3, b""))
-        self.assertIn("plain-tries ended with status 4", outcome.error)
+        self.assertIn("pops-tries ended with status 4", outcome.error)
 
 
 if __name__ == "__main__":

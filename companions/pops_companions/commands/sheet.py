@@ -8,7 +8,6 @@ import tempfile
 from pathlib import Path
 from typing import NoReturn, Optional, Union
 
-from pops.engine import Engine
 from pops_companions import command
 from pops_companions.chess.stipulation import Play
 from pops_companions.command import CommandError, Status
@@ -17,20 +16,24 @@ from pops_companions.input.given_source import warn_of_rest
 from pops_companions.input.pieces import cut
 from pops_companions.input.reading import read_piece
 from pops_companions.many.child_process import outcome_of
-from pops_companions.many.program import LOOKED_FOR, MissingError, RunError, find
-from pops_companions.many.tries_program import TRIES_LOOKED_FOR, find_tries
+from pops_companions.many.program import LOOKED_FOR, MissingError, find
+from pops_companions.many.tries_program import TRIES_LOOKED_FOR, TriesProgram, find_tries
 from pops_companions.report.items import AnyItem, Board, HeadlessItem, SoundItem
-from pops_companions.report.reader import ReportError, read_report
+from pops_companions.report.reader import ReportError, read_unfinished_report
 from pops_companions.report.source import is_input, warn_of_names
 from pops_companions.report.tries import TriesItem, read_tries
-from pops_companions.sheet.as_html import as_html
+from pops_companions.sheet.as_html import Layout, as_html
 from pops_companions.sheet.as_latex import as_latex
 from pops_companions.sheet.as_text import as_text
-from pops_companions.sheet.entries import Sheet, board_of
+from pops_companions.sheet.entries import NOT_IN_REPORT, Entry, Sheet, board_of
 from pops_companions.sheet.languages import LANGUAGES
+from pops_companions.sheet.solving import Solving
 from pops_companions.show.twins import groups
 
 NAME = "pops-sheet"
+SECONDS = 60.0
+# The most diagrams of a row.
+_MOST_IN_A_ROW = 8
 FORMS = ("html", "latex", "pdf", "text")
 BROWSERS = ("chromium", "chromium-browser", "google-chrome")
 
@@ -46,6 +49,10 @@ class Settings(argparse.Namespace):
     language: str
     figures: bool
     heading: Optional[str]
+    per_row: Optional[int]
+    first_number: int
+    seconds: float
+    jobs: Optional[int]
     apart: bool
     output: Optional[str]
     pops: Optional[str]
@@ -57,6 +64,13 @@ def _refutations(text: str) -> int:
     if not text.isascii() or not text.isdigit() or int(text) > 200:
         raise argparse.ArgumentTypeError(f"{text!r} is no number from 0 to 200")
     return int(text)
+
+
+def _per_row(text: str) -> int:
+    number = command.number_from_one(text)
+    if number > _MOST_IN_A_ROW:
+        raise argparse.ArgumentTypeError(f"{text!r} is no number from 1 to {_MOST_IN_A_ROW}")
+    return number
 
 
 def _add_forms(parser: argparse.ArgumentParser) -> None:
@@ -71,7 +85,20 @@ def _add_forms(parser: argparse.ArgumentParser) -> None:
     )
     add("--figures", action="store_true", help="figures of the men instead of letters")
     add("--heading", metavar="TEXT", help="the sheet's heading (the name of INPUT)")
-    add("--apart", action="store_true", help="show each twin as a problem of its own")
+    add(
+        "--per-row",
+        type=_per_row,
+        metavar="N",
+        help="N diagrams a row, all solutions after them, as for originals (html and pdf)",
+    )
+    add(
+        "--first-number",
+        type=command.number_from_one,
+        default=1,
+        metavar="N",
+        help="the number of the first problem (1)",
+    )
+    add("--apart", action="store_true", help="show each twin by itself, as 1a, 1b")
     add("-o", "--output", metavar="SHEET", help="the sheet (default: standard output)")
 
 
@@ -85,7 +112,7 @@ def command_line() -> argparse.ArgumentParser:
         "Without pops-tries it shows the defences that pops shows, and no threats and tries.",
         epilog="example: pops-sheet tourney.pop --language de -o sheet.html\n"
         "         pops-sheet tourney.pop --report tourney.report --to latex -o sheet.tex\n"
-        "exit status: 0 if all is well, 1 if a problem is faulty or not in the report, 2 for a\n"
+        "exit status: 0 if all is well, 1 if a problem is faulty or isn't solved to the end, 2 for a\n"
         "mistake in the command line, 3 if a text can't be read, isn't what it should be or can't be written.",
     )
     add = parser.add_argument
@@ -100,6 +127,14 @@ def command_line() -> argparse.ArgumentParser:
         help="show tries with at most N refutations, if pops-tries is run (1)",
     )
     _add_forms(parser)
+    add(
+        "--seconds",
+        type=command.seconds,
+        default=SECONDS,
+        metavar="N",
+        help=f"stop a problem after N seconds ({SECONDS:g}); 0 is no limit",
+    )
+    add("-j", "--jobs", type=command.jobs, metavar="N", help="runs at a time")
     add("--pops", metavar="PROGRAM", help=LOOKED_FOR)
     add("--pops-tries", metavar="PROGRAM", help=TRIES_LOOKED_FOR)
     command.add_encoding(parser)
@@ -112,6 +147,8 @@ def arguments(words: list[str]) -> Settings:
     settings = parser.parse_args(words, Settings())
     if settings.figures and settings.to == "text":
         parser.error("--figures goes with --to html, latex or pdf")
+    if settings.per_row and settings.to not in ("html", "pdf"):
+        parser.error("--per-row goes with --to html or pdf")
     return settings
 
 
@@ -123,44 +160,48 @@ class Texts:
         self.input = _read(settings.input)
         if not any(map(is_input, self.input.split(b"\n"))):
             raise CommandError(Status.DEVICE, f"{settings.input} is no input of pops")
+        self._solving = Solving(NAME, self.input, settings.jobs, settings.seconds or None)
 
     def items(self) -> list[AnyItem]:
         """Returns the items of the report, which has to be that of the input."""
         named = self._settings.report
-        text = _read(named) if named else self._solved(Engine(self._pops()))
         try:
-            return list(read_report(io.BytesIO(text)))
+            if named is None:
+                return self._solving.items(self._pops())
+            return list(read_unfinished_report(io.BytesIO(_read(named))))
         except ReportError as error:
             self._refuse(named or "the output of pops", "no report of pops", error)
 
-    def tries(self) -> dict[int, TriesItem]:
-        """Returns the problems of the text of tries; none without pops-tries."""
+    def tries(self, items: list[AnyItem]) -> dict[int, TriesItem]:
+        """Returns the tries of these items; none without pops-tries."""
         named = self._settings.tries
-        if named is not None:
-            text = _read(named)
-        else:
-            program = self._tries_program()
-            if program is None:
-                message = "pops-tries isn't installed: threats and tries aren't shown"
-                print(f"{NAME}: {message}", file=sys.stderr)
-                return {}
-            text = self._solved(Engine(program, True, self._settings.refutations))
         try:
-            items = list(read_tries(io.BytesIO(text)))
+            if named is None:
+                return self._solved_tries(items)
+            found = list(read_tries(io.BytesIO(_read(named))))
         except ReportError as error:
             self._refuse(named or "the output of pops-tries", "no text of pops-tries", error)
-        return {item.number: item for item in items if isinstance(item, TriesItem)}
+        return {item.number: item for item in found if isinstance(item, TriesItem)}
+
+    def _solved_tries(self, items: list[AnyItem]) -> dict[int, TriesItem]:
+        """Returns what pops-tries shows of the items of battle play."""
+        program = self._tries_program()
+        if program is None:
+            print(f"{NAME}: pops-tries isn't installed: threats and tries aren't shown", file=sys.stderr)
+            return {}
+        seconds = self._settings.seconds or None
+        words = ["--refutations", str(self._settings.refutations)]
+        wanted = [item.number for item in items if is_battle(item) and is_solved(item)]
+        found, late = self._solving.tries(TriesProgram(program, seconds, words), wanted)
+        for number in late:
+            said = f"its tries and threats took longer than {self._settings.seconds:g} s"
+            print(f"{NAME}: problem {number}: {said}", file=sys.stderr)
+        return found
 
     def _pops(self) -> str:
         try:
             return find(self._settings.pops)
         except MissingError as error:
-            raise CommandError(Status.DEVICE, str(error)) from None
-
-    def _solved(self, engine: Engine) -> bytes:
-        try:
-            return engine.solve(self.input).result.text
-        except RunError as error:
             raise CommandError(Status.DEVICE, str(error)) from None
 
     def _tries_program(self) -> Optional[str]:
@@ -189,7 +230,7 @@ def with_missing(items: list[AnyItem], given: list[GivenProblem]) -> list[AnyIte
     for problem in given:
         if problem.number not in found:
             print(f"{NAME}: problem {problem.number} isn't in the report", file=sys.stderr)
-            found[problem.number] = HeadlessItem(problem.number, "not in the report")
+            found[problem.number] = HeadlessItem(problem.number, NOT_IN_REPORT)
     return [item for _, item in sorted(found.items())]
 
 
@@ -246,25 +287,36 @@ def sheet(settings: Settings) -> Status:
     items = texts.items()
     warn_of_rest(NAME, settings.input, texts.input)
     warn_of_names(NAME, settings.report or settings.input, items, settings.encoding)
-    tries = texts.tries() if any(map(is_battle, items)) else {}
+    tries = texts.tries(items) if any(map(is_battle, items)) else {}
     refuse_other_texts(items, tries, given, boards)
     items = with_missing(items, given)
-    language = LANGUAGES[settings.language]
-    made = Sheet(boards, tries, language, settings.encoding)
-    entries = made.entries(groups(iter(items), given, settings.encoding, settings.apart))
-    heading = settings.heading or Path(settings.input).stem
-    if settings.to == "text":
-        written = as_text(entries, language).encode("utf-8", "replace")
-    elif settings.to == "latex":
-        page = as_latex(entries, language, heading, settings.encoding, settings.figures)
-        written = page.encode("utf-8", "replace")
-    else:
-        page = as_html(entries, language, heading, settings.figures)
-        written = pdf_of(page) if settings.to == "pdf" else page.encode("utf-8", "replace")
+    made = Sheet(boards, tries, LANGUAGES[settings.language], settings.encoding)
+    found = groups(iter(items), given, settings.encoding, False)
+    entries = made.entries(found, settings.first_number, settings.apart)
+    written = written_as(settings, list(entries))
     with command.written(settings.output) as target:
         target.write(written)
-    is_whole = all(isinstance(item, SoundItem) for item in items)
-    return Status.GOOD if is_whole else Status.FAULTY
+    return Status.GOOD if all(map(is_solved, items)) else Status.FAULTY
+
+
+def is_solved(item: AnyItem) -> bool:
+    """Returns whether an item is solved to the end."""
+    return isinstance(item, SoundItem) and item.unfinished is None
+
+
+def written_as(settings: Settings, entries: list[Entry]) -> bytes:
+    """Returns the sheet in its form."""
+    language, figures = LANGUAGES[settings.language], settings.figures
+    heading = settings.heading or Path(settings.input).stem
+    if settings.to == "text":
+        page = as_text(entries, language)
+    elif settings.to == "latex":
+        page = as_latex(entries, language, heading, settings.encoding, figures)
+    else:
+        page = as_html(entries, language, Layout(heading, figures, settings.per_row))
+        if settings.to == "pdf":
+            return pdf_of(page)
+    return page.encode("utf-8", "replace")
 
 
 def main(words: list[str]) -> Status:

@@ -2,6 +2,7 @@
 
 import os
 import shutil
+from collections.abc import Sequence
 from pathlib import Path
 from typing import Optional
 
@@ -35,8 +36,8 @@ def find_tries(named: Optional[str], pops: str) -> Optional[str]:
 class TriesProgram(Runs):
     """pops-tries, with the seconds that each of its runs has."""
 
-    def __init__(self, path: str, seconds: Optional[float]):
-        super().__init__("pops-tries", [path])
+    def __init__(self, path: str, seconds: Optional[float], words: Sequence[str] = ()):
+        super().__init__("pops-tries", [path, *words])
         self._seconds = seconds
 
     def text_of(self, problem: bytes) -> Optional[bytes]:

@@ -3,10 +3,12 @@
 import html
 from collections.abc import Iterable, Iterator
 from dataclasses import dataclass
+from typing import NamedTuple, Optional
 
 from pops_companions.chess.men import Kind
 from pops_companions.sheet.entries import Entry, Part, index_of
 from pops_companions.sheet.languages import FIGURES, Language, marked_as
+from pops_companions.sheet.sheet_words import WORDS
 from pops_companions.show import diagram
 from pops_companions.show.page import STYLE
 from pops_companions.show.titles import printable
@@ -18,16 +20,39 @@ h3.block { margin-top: .4em; }
 .index { columns: 16em auto; }
 .index p { margin: 0 0 0 1em; text-indent: -1em; }
 article { break-inside: avoid; }
+.note { font-style: italic; margin: 0; }
+.row { display: grid; gap: 1.5em; grid-template-columns: repeat(var(--per-row), minmax(0, 1fr)); }
+.row article { display: block; margin: 0; padding: 0; border: none; }
+@supports (grid-template-rows: subgrid) {
+  .row article { display: grid; grid-template-columns: minmax(0, 1fr);
+    grid-row: span 2; grid-template-rows: subgrid; row-gap: 0; }
+  .row header { align-self: end; }
+}
+.row .diagram { max-width: 17em; }
+.row .below { max-width: 16em; }
+.row .twin { margin: .1em 0 0 5.7%; }
+.after { break-before: page; columns: 20em auto; column-gap: 2em; }
+.after article { display: block; margin: 0 0 .8em; padding: 0; border: none; }
+@media (max-width: 36em) { .row { grid-template-columns: minmax(0, 1fr); } }
 """
 # A line of many moves may be broken after each.
 _BREAKS = {ord(sign): sign + "<wbr>" for sign in ",/"}
 
 
-def as_html(entries: Iterable[Entry], language: Language, heading: str, figures: bool) -> str:
+class Layout(NamedTuple):
+    """How a page is laid out: figures or letters; with `per_row` diagrams a row, the solutions
+    after them, else each solution beside its diagram."""
+
+    heading: str
+    figures: bool
+    per_row: Optional[int]
+
+
+def as_html(entries: Iterable[Entry], language: Language, layout: Layout) -> str:
     """Returns the page of a sheet, with the index of authors at its end."""
-    marks = marked_as(language, _figures() if figures else {})
-    page = _Page(language, {**marks, **_BREAKS})
-    return page.of(list(entries), html.escape(printable(heading)))
+    marks = marked_as(language, _figures() if layout.figures else {})
+    page = _Page(language, {**marks, **_BREAKS}, layout.per_row)
+    return page.of(list(entries), html.escape(printable(layout.heading)))
 
 
 def _figures() -> dict[Kind, str]:
@@ -44,6 +69,7 @@ class _Page:
 
     language: Language
     marks: dict[int, str]
+    per_row: Optional[int]
 
     def of(self, entries: list[Entry], title: str) -> str:
         return "".join(
@@ -54,55 +80,80 @@ class _Page:
                 f"<title>{title}</title>\n<style>{STYLE}{_STYLE}</style>\n</head>\n<body>\n",
                 diagram.shapes(),
                 f"<h1>{title}</h1>\n",
-                *map(self._article, entries),
+                *(map(self._article, entries) if self.per_row is None else self._rows(entries)),
                 *self._index(entries),
                 "</body>\n</html>\n",
             ]
         )
 
     def _article(self, entry: Entry) -> str:
-        head = "".join(_head(entry, self.language))
+        head = "".join([*self._names(entry), *self._diagram(entry)])
         parts = "".join(line for part in entry.parts for line in self._part(part))
         return (
-            f'<article id="problem-{entry.numbers}">\n<div>\n<header>\n{head}</header>\n</div>\n'
+            f'<article id="problem-{entry.anchor}">\n<div>\n<header>\n{head}</header>\n</div>\n'
             f'<div class="solutions">\n{parts}</div>\n</article>\n'
         )
 
+    def _rows(self, entries: list[Entry]) -> Iterator[str]:
+        """Yields all diagrams, and the solutions after them."""
+        yield f'<div class="row" style="--per-row: {self.per_row}">\n'
+        for entry in entries:
+            twins = "".join(f'<p class="twin">{self._marked(it)}</p>\n' for it in entry.twins)
+            below = twins if entry.board else "".join(map(self._fault, entry.parts))
+            yield f'<article id="problem-{entry.anchor}">\n<header>\n{"".join(self._names(entry))}'
+            yield f'</header>\n<div>\n{"".join(self._diagram(entry))}{below}</div>\n</article>\n'
+        yield f'</div>\n<div class="after">\n<h2>{WORDS[self.language.code].solutions}</h2>\n'
+        for entry in entries:
+            parts = "".join(line for part in entry.parts for line in self._part(part))
+            names = " &amp; ".join(html.escape(person.name) for person in entry.authors)
+            link = f'<a href="#problem-{entry.anchor}">{entry.number}</a>'
+            yield f"<article>\n<h2>{link} {names}</h2>\n{parts}</article>\n"
+        yield "</div>\n"
+
+    def _marked(self, text: str) -> str:
+        return html.escape(text).translate(self.marks)
+
     def _part(self, part: Part) -> Iterator[str]:
         if part.heading:
-            yield f'<h3 class="label">{html.escape(part.heading)}</h3>\n'
-        if part.fault:
-            yield f'<p class="fault">{html.escape(part.fault)}</p>\n'
+            yield f'<h3 class="label">{self._marked(part.heading)}</h3>\n'
+        yield self._fault(part)
         for block in part.blocks:
             if len(part.blocks) > 1:
                 yield f'<h3 class="block">{html.escape(block.heading)}</h3>\n'
             for line in block.lines:
-                text = html.escape(line.text).translate(self.marks)
+                text = self._marked(line.text)
                 yield f'<p class="line" style="--level: {line.level}">{text}</p>\n'
+        if part.note:
+            yield f'<p class="note">{html.escape(part.note)}</p>\n'
+
+    def _fault(self, part: Part) -> str:
+        return f'<p class="fault">{html.escape(part.fault)}</p>\n' if part.fault else ""
 
     def _index(self, entries: list[Entry]) -> Iterator[str]:
         index = index_of(entries)
         if index:
             yield f'<h2>{self.language.authors}</h2>\n<div class="index">\n'
             for name, own in index:
-                links = (f'<a href="#problem-{it.numbers}">{it.numbers}</a>' for it in own)
+                links = (f'<a href="#problem-{it.anchor}">{it.number}</a>' for it in own)
                 yield f"<p>{html.escape(name)}: {', '.join(links)}</p>\n"
             yield "</div>\n"
 
+    def _names(self, entry: Entry) -> Iterator[str]:
+        """Yields what is above a diagram."""
+        names = " &amp; ".join(html.escape(person.name) for person in entry.authors)
+        number = f'<a href="#problem-{entry.anchor}">{entry.number}</a>'
+        yield f"<h2>{number} {names}</h2>\n"
+        for label, text in (("title", entry.title), ("origin", entry.origin)):
+            if text:
+                yield f'<p class="{label}">{html.escape(text)}</p>\n'
 
-def _head(entry: Entry, language: Language) -> Iterator[str]:
-    """Yields what is above and below a diagram, and the diagram."""
-    names = " &amp; ".join(html.escape(person.name) for person in entry.authors)
-    number = f'<a href="#problem-{entry.numbers}">{entry.numbers}</a>'
-    yield f"<h2>{number} {names}</h2>\n"
-    for label, text in (("title", entry.title), ("origin", entry.origin)):
-        if text:
-            yield f'<p class="{label}">{html.escape(text)}</p>\n'
-    if entry.board is not None:
-        yield diagram.diagram(entry.board) + "\n"
-        yield (
-            f'<p class="below"><span class="stipulation">{html.escape(entry.asked)}</span>'
-            f' <span class="count">{entry.count}</span></p>\n'
-        )
-        for name in diagram.fairy_men(entry.board, language.fairy_men):
-            yield f'<p class="fairy">{html.escape(name)}</p>\n'
+    def _diagram(self, entry: Entry) -> Iterator[str]:
+        """Yields a diagram and what is below it."""
+        if entry.board is not None:
+            yield diagram.diagram(entry.board) + "\n"
+            yield (
+                f'<p class="below"><span class="stipulation">{html.escape(entry.asked)}</span>'
+                f' <span class="count">{entry.count}</span></p>\n'
+            )
+            for name in diagram.fairy_men(entry.board, self.language.fairy_men):
+                yield f'<p class="fairy">{html.escape(name)}</p>\n'

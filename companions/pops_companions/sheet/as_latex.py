@@ -4,15 +4,13 @@ texlive-games, texlive-pstricks)."""
 from collections.abc import Iterable
 
 from pops_companions.chess.men import Kind
-from pops_companions.report.items import SoundItem
 from pops_companions.sheet.entries import Entry, Part, index_of
 from pops_companions.sheet.languages import Language, marked_as
+from pops_companions.sheet.latex_letters import letters_of
 from pops_companions.show.latex import Sheet, escaped, latex
 
-_HEAD = r"""\documentclass[a4paper]{article}
-\usepackage[T1]{fontenc}
-\usepackage[utf8]{inputenc}
-\usepackage{diagram}
+_CLASS = "\\documentclass[a4paper]{article}\n"
+_HEAD = r"""\usepackage{diagram}
 \nocomputer
 \setlength{\lineskip}{2ex}
 """
@@ -37,39 +35,54 @@ def as_latex(
 ) -> str:
     """Returns the document of a sheet: diagrams, solutions, and the index of authors.
 
-    Problems that are faulty or not in the report are left out.
+    A problem without a diagram, as a faulty one, is a box of text among the diagrams.
     """
-    all_entries = [entry for entry in entries if isinstance(entry.group.first, SoundItem)]
+    all_entries = list(entries)
     men = {kind: rf"\w{name}{{}}" for kind, name in _FIGURES.items()} if figures else {}
     marks = {**marked_as(language, men), **_BREAKS}
-    parts = [_HEAD, "\\begin{document}\n\\raggedright\n", f"\\section*{{{escaped(heading)}}}\n"]
+    parts = ["\\begin{document}\n\\raggedright\n", f"\\section*{{{escaped(heading)}}}\n"]
     # (the diagrams of a paragraph are set side by side, as many as a line holds)
-    parts += [_diagram(entry, encoding, language, marks) + _BETWEEN for entry in all_entries]
+    parts += [_problem(entry, encoding, language, marks) + _BETWEEN for entry in all_entries]
     parts.append("\n\\putsol\n")
     index = index_of(all_entries)
     if index:
         parts.append(f"\n\\section*{{{escaped(language.authors)}}}\n")
     for name, own in index:
-        numbers = ", ".join(entry.numbers for entry in own)
+        numbers = ", ".join(entry.number for entry in own)
         parts.append(f"{escaped(name)} \\dotfill\\ {numbers}\\par\n")
     parts.append("\\end{document}\n")
-    return "".join(parts)
+    text = "".join(parts)
+    return "".join([_CLASS, letters_of(text), _HEAD, text])
 
 
-def _diagram(entry: Entry, encoding: str, language: Language, marks: dict[int, str]) -> str:
-    assert entry.board is not None
+def _problem(entry: Entry, encoding: str, language: Language, marks: dict[int, str]) -> str:
+    """Returns a diagram with its solution, or a box of text."""
+    if entry.board is None:
+        return _box(entry, marks)
     lines = [line for part in entry.parts for line in _part(part, marks)]
-    sheet = Sheet(entry.numbers, entry.award, lines, language.fairy_men)
-    return latex(entry.group, entry.board, encoding, sheet)
+    twins = [escaped(heading).translate(marks) for heading in entry.twins]
+    own = (entry.number, entry.award, entry.asked, twins, lines, language.fairy_men)
+    return latex(entry.group, entry.board, encoding, Sheet(*own))
+
+
+def _box(entry: Entry, marks: dict[int, str]) -> str:
+    """Returns a problem without a diagram: number, authors, title, source, and its fault."""
+    names = " \\& ".join(escaped(person.name) for person in entry.authors)
+    lines = [rf"\textbf{{{entry.number}}} {names}".rstrip()]
+    lines += [escaped(text) for text in (entry.title, entry.origin) if text]
+    lines += [line for part in entry.parts for line in _part(part, marks)]
+    text = "\\\\\n".join(lines)
+    return f"\\begin{{minipage}}[t]{{.3\\linewidth}}\\raggedright\n{text}\n\\end{{minipage}}\n"
 
 
 def _part(part: Part, marks: dict[int, str]) -> list[str]:
-    lines = [rf"\textbf{{{escaped(part.heading)}}}"] if part.heading else []
-    lines += [escaped(part.fault)] if part.fault else []
+    heading = escaped(part.heading).translate(marks)
+    lines = [rf"\textbf{{{heading}}}"] if heading else []
+    lines += [rf"\textbf{{{escaped(part.fault)}}}"] if part.fault else []
     for block in part.blocks:
         if len(part.blocks) > 1:
             lines.append(rf"\textit{{{escaped(block.heading)}}}")
         for line in block.lines:
             indent = rf"\hspace*{{{line.level}em}}" if line.level else ""
             lines.append(indent + escaped(line.text).translate(marks))
-    return lines
+    return lines + ([rf"\textit{{{escaped(part.note)}}}"] if part.note else [])

@@ -15,7 +15,7 @@ def as_text(entries: Iterable[Entry], language: Language) -> str:
     parts = ["".join(f"{line}\n" for line in _entry(one, language)) for one in all_entries]
     index = index_of(all_entries)
     if index:
-        lines = [f"{name}: {', '.join(it.numbers for it in own)}\n" for name, own in index]
+        lines = [f"{name}: {', '.join(it.number for it in own)}\n" for name, own in index]
         parts.append("".join([f"{language.authors}\n", *(_INDENT + line for line in lines)]))
     return "\n".join(parts)
 
@@ -23,7 +23,7 @@ def as_text(entries: Iterable[Entry], language: Language) -> str:
 def _entry(entry: Entry, language: Language) -> Iterator[str]:
     names = " & ".join(person.name for person in entry.authors)
     title = ": ".join(filter(None, (names, entry.title)))
-    yield f"{entry.numbers}. {title}".rstrip()
+    yield f"{entry.number}. {title}".rstrip()
     if entry.origin:
         yield _INDENT + entry.origin
     if entry.board is not None:
@@ -37,7 +37,7 @@ def _entry(entry: Entry, language: Language) -> Iterator[str]:
 def _part(part: Part, language: Language) -> Iterator[str]:
     marks = marked_as(language, {})
     if part.heading:
-        yield _INDENT + part.heading
+        yield _INDENT + part.heading.translate(marks)
     if part.fault:
         yield _INDENT + part.fault
     for block in part.blocks:
@@ -45,3 +45,5 @@ def _part(part: Part, language: Language) -> Iterator[str]:
             yield f"{_INDENT}{block.heading}"
         for line in block.lines:
             yield _INDENT * (1 + line.level + (len(part.blocks) > 1)) + line.text.translate(marks)
+    if part.note:
+        yield _INDENT + part.note

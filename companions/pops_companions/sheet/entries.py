@@ -1,22 +1,27 @@
 """The problems of a sheet: what is said above and below each diagram, and the solutions."""
 
 import re
-from collections.abc import Iterable, Iterator, Mapping
+from collections.abc import Iterable, Iterator, Mapping, Sequence
 from dataclasses import dataclass
 from typing import Optional
 
 from pops_companions.chess.attacks import Men
 from pops_companions.chess.men import Square
 from pops_companions.input.given import GivenProblem
+from pops_companions.input.reading import FaultKind
 from pops_companions.report.items import AnyItem, Board, FaultyItem, SoundItem
 from pops_companions.report.tries import TriesItem
 from pops_companions.sheet.languages import Language
+from pops_companions.sheet.sheet_words import WORDS, SheetWords
 from pops_companions.sheet.solution import Block, Solution
+from pops_companions.sheet.twin_changes import Placed, change_of
 from pops_companions.show.authors import Person, persons
 from pops_companions.show.diagram import numbers_of_men
 from pops_companions.show.titles import printable, shown
 from pops_companions.show.twins import Group, Twin
 
+# Why a problem has no solution that a report lacks.
+NOT_IN_REPORT = "not in the report"
 # What pops-import makes of an award: `Award 1st Prize`, `award: 1st Prize`,
 # `award.distinction: 1st Prize`.
 _AWARD = re.compile(r"award(?:\.([\w.]+))?:? +(.+)|distinction: +(.+)", re.IGNORECASE)
@@ -24,17 +29,22 @@ _AWARD = re.compile(r"award(?:\.([\w.]+))?:? +(.+)|distinction: +(.+)", re.IGNOR
 
 @dataclass(frozen=True)
 class Part:
-    """The solution of a problem, or of a twin under its heading; a faulty problem has its fault."""
+    """The solution of a problem, or of a twin under its heading; a faulty problem has its fault.
+
+    The men of `heading` are marked as in lines. `note` says that it isn't solved to the end.
+    """
 
     heading: str
     blocks: tuple[Block, ...]
     fault: str = ""
+    note: str = ""
 
 
 @dataclass(frozen=True)
 class Entry:
-    """A problem of a sheet, with its twins."""
+    """A problem of a sheet, with its twins. `number` is `3`, of a twin alone `3b`."""
 
+    number: str
     group: Group
     authors: tuple[Person, ...]
     title: str
@@ -44,10 +54,9 @@ class Entry:
     parts: tuple[Part, ...]
 
     @property
-    def numbers(self) -> str:
-        """As `3`, for twins `3-5`."""
-        first, last = self.group.first.number, self.group.twins[-1].item.number
-        return str(first) if first == last else f"{first}-{last}"
+    def anchor(self) -> str:
+        """The number as part of a link."""
+        return self.number.replace(" ", "-")
 
     @property
     def asked(self) -> str:
@@ -67,6 +76,11 @@ class Entry:
         """Source and award in one line."""
         return ", ".join(filter(None, (self.source, self.award)))
 
+    @property
+    def twins(self) -> list[str]:
+        """What makes the twins, below the diagram: `b) Ra1→b2`."""
+        return [part.heading for part in self.parts[1:]]
+
 
 @dataclass(frozen=True)
 class Sheet:
@@ -77,21 +91,31 @@ class Sheet:
     language: Language
     encoding: str
 
-    def entries(self, groups: Iterable[Group]) -> Iterator[Entry]:
-        """Yields the entries of problems with their twins."""
-        for group in groups:
-            given = group.twins[0].given
-            author = "" if group.author is None else self._text(group.author)
-            source = None if given is None else given.origin
-            yield Entry(
-                group,
-                tuple(persons(author)),
-                printable(group.title or ""),
-                "" if source is None else self._text(source),
-                "" if given is None else self._award(given),
-                self.boards.get(group.first.number),
-                tuple(self._part(twin, group.is_alone) for twin in group.twins),
-            )
+    def entries(self, groups: Iterable[Group], first: int, apart: bool) -> Iterator[Entry]:
+        """Yields the problems of the sheet, numbered from `first`; `apart` numbers twins 1a, 1b."""
+        for number, group in enumerate(groups, start=first):
+            parts = list(self._parts(group))
+            if apart and not group.is_alone:
+                for twin, part in zip(group.twins, parts):
+                    alone = Group(group.title, group.author, (twin,))
+                    yield self._entry(f"{number}{_letter(twin)}", alone, [part])
+            else:
+                yield self._entry(str(number), group, parts)
+
+    def _entry(self, number: str, group: Group, parts: Sequence[Part]) -> Entry:
+        given = group.twins[0].given
+        author = "" if group.author is None else self._text(group.author)
+        origin = None if given is None else given.origin
+        return Entry(
+            number,
+            group,
+            tuple(persons(author)),
+            "" if group.title is None else printable(group.title),
+            "" if origin is None else self._text(origin),
+            "" if given is None else self._award(given),
+            self.boards.get(group.first.number),
+            tuple(parts),
+        )
 
     def _text(self, text: bytes) -> str:
         return printable(shown(text, self.encoding))
@@ -103,16 +127,41 @@ class Sheet:
         parts.sort(key=lambda part: part[0].lower() != "distinction")
         return ", ".join(text for _, text in parts)
 
-    def _part(self, twin: Twin, is_alone: bool) -> Part:
-        heading = "" if is_alone else printable(twin.heading)
-        item: AnyItem = twin.item
+    def _parts(self, group: Group) -> Iterator[Part]:
+        """Yields the solution of each twin."""
+        placed = [Placed(twin, self._men(twin)) for twin in group.twins]
+        words = WORDS[self.language.code]
+        for place, one in enumerate(placed):
+            heading = "" if group.is_alone else one.twin.label.text
+            if place > 0:
+                change = change_of(one, placed[0], placed[place - 1], words)
+                heading = f"{heading} {change}".rstrip()
+            yield self._part(one.twin.item, printable(heading), words)
+
+    def _men(self, twin: Twin) -> Optional[Men]:
+        board = self.boards.get(twin.item.number)
+        return None if board is None else board.men
+
+    def _part(self, item: AnyItem, heading: str, words: SheetWords) -> Part:
         if isinstance(item, FaultyItem):
-            return Part(heading, (), f"line {item.fault.line}: {item.fault.text}")
+            fault = words.faults[FaultKind(item.fault.number)]
+            return Part(heading, (), words.line.format(item.fault.line, fault))
         board = self.boards.get(item.number)
+        note = ""
+        if item.unfinished == NOT_IN_REPORT:
+            note = words.not_in_report
+        elif item.unfinished is not None:
+            note = words.unfinished.format(item.unfinished)
         if not isinstance(item, SoundItem) or board is None:
-            return Part(heading, ())
+            return Part(heading, (), note=note)
         solution = Solution(board.men, item.condition, self.language)
-        return Part(heading, tuple(solution.blocks(item, self.tries.get(item.number))))
+        return Part(heading, tuple(solution.blocks(item, self.tries.get(item.number))), note=note)
+
+
+def _letter(twin: Twin) -> str:
+    """Returns a twin's label as part of a number: `b`, ` duplex`."""
+    text = twin.label.text.replace(")", "")
+    return text if text[:1] != "d" or len(text) == 1 else f" {text}"
 
 
 def board_of(men: Men) -> Board:

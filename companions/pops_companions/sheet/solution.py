@@ -36,7 +36,7 @@ class Solution:
         """Returns the blocks of a problem, by its tries where they are known."""
         phases = {phase.kind: phase for phase in item.phases or ()}
         found: list[Block] = []
-        if PhaseKind.SET in phases:
+        if PhaseKind.SET in phases and phases[PhaseKind.SET].solutions:
             lines = self._phase(phases[PhaseKind.SET])
             found.append(Block(self.language.set_play, lines))
         if tries is not None and tries.total is not None:
@@ -67,10 +67,11 @@ class Solution:
         return (*lines, *self._remark(phase.total))
 
     def _remark(self, total: Optional[Total]) -> list[Line]:
-        """Returns what is to be said of the number of solutions."""
-        if total is not None and total.stopped:
+        """Returns what is to be said of the number of solutions; without a total there may be more.
+        """
+        if total is None or total.stopped:
             return [Line(f"({self.language.stopped})")]
-        return [Line(self.language.no_solution)] if total is not None and not total.count else []
+        return [] if total.count else [Line(self.language.no_solution)]
 
     def _first_move(self, one: FirstMove, sign: str) -> list[Line]:
         variations = Variations(self.condition)

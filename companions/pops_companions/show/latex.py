@@ -28,18 +28,23 @@ _SPECIAL = {
     ">": r"\textgreater{}",
     '"': "''",
     "\ufffd": "?",
+    "→": r"$\rightarrow$",
+    "↔": r"$\leftrightarrow$",
     **{character: "\\" + character for character in "#$%&_{}"},
 }
 
 
 class Sheet(NamedTuple):
-    """What a sheet says of a problem: number, award, the lines of its solution in LaTeX.
+    """What a sheet says of a problem: number, award, what is asked for, and in LaTeX what makes its
+    twins and the lines of its solution.
 
     `fairy_men` are the names of the fairy men.
     """
 
     number: str
     award: str
+    asked: str
+    twins: Sequence[str]
     solution: Sequence[str]
     fairy_men: Mapping[Kind, str]
 
@@ -51,17 +56,10 @@ def latex(group: Group, board: Board, encoding: str, sheet: Optional[Sheet] = No
     `board` is the first one's, whose item isn't faulty. The solution is the report's, or that of a
     sheet.
     """
-    item = group.first
-    assert isinstance(item, SoundItem)
     white, black = numbers_of_men(board)
     lines = [r"\begin{diagram}", *_names(group, encoding, sheet)]
     lines.append(r"\pieces[%d+%d]{%s}" % (white, black, ", ".join(_pieces(board))))
-    lines.append(r"\stipulation{%s}" % escaped(item.stipulation.text))
-    if item.condition is not None:
-        lines.append(r"\condition{%s}" % item.condition.value)
-    if not group.is_alone:
-        changes = [twin.heading for twin in group.twins if twin.change or twin.has_own_diagram]
-        lines.append(r"\twins{%s}" % r"\newline ".join(map(escaped, changes)))
+    lines += _asked(group, sheet)
     fairy = _fairy_men(board, FAIRY_NAMES if sheet is None else sheet.fairy_men)
     if fairy:
         lines.append(r"\piecedefs{%s}" % "; ".join(fairy))
@@ -74,6 +72,23 @@ def latex(group: Group, board: Board, encoding: str, sheet: Optional[Sheet] = No
         lines.append(r"\solution{%s}" % "\\newline\n".join(solution))
     lines.append(r"\end{diagram}")
     return "\n".join(lines) + "\n"
+
+
+def _asked(group: Group, sheet: Optional[Sheet]) -> list[str]:
+    """Returns the lines of stipulation, condition and twins."""
+    if sheet is None:
+        assert isinstance(group.first, SoundItem)
+        changes = [it.heading for it in group.twins if it.change or it.has_own_diagram]
+        asked, twins = group.first.asked, [] if group.is_alone else list(map(escaped, changes))
+    else:
+        asked, twins = sheet.asked, list(sheet.twins)
+    stipulation, _, condition = asked.partition(" ")
+    lines = [r"\stipulation{%s}" % escaped(stipulation)]
+    if condition:
+        lines.append(r"\condition{%s}" % escaped(condition))
+    if twins:
+        lines.append(r"\twins{%s}" % r"\newline ".join(twins))
+    return lines
 
 
 def _names(group: Group, encoding: str, sheet: Optional[Sheet]) -> list[str]:

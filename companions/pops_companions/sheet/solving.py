@@ -1,0 +1,124 @@
+"""The runs of a sheet: each problem by itself, some at a time, each with its seconds."""
+
+import io
+import os
+import threading
+from collections.abc import Sequence
+from concurrent.futures import Future, ThreadPoolExecutor, as_completed
+from dataclasses import replace
+from typing import Optional
+
+from pops_companions.command import CommandError, Status
+from pops_companions.input.pieces import cut
+from pops_companions.many.local import run_locally
+from pops_companions.many.program import Program, RunError
+from pops_companions.many.progress import Progress
+from pops_companions.many.tasks import UNFINISHED, Result, Source, tasks_of
+from pops_companions.many.tries_program import TriesProgram
+from pops_companions.report import lines
+from pops_companions.report.items import AnyItem
+from pops_companions.report.reader import read_unfinished_report
+from pops_companions.report.tries import TriesItem, read_tries
+
+
+class Solving:
+    """Runs of both programs on the problems of a text; on a terminal it shows how far they are."""
+
+    def __init__(self, companion: str, text: bytes, jobs: Optional[int], seconds: Optional[float]):
+        """A problem has `seconds` in each program, if there is a limit."""
+        self._companion = companion
+        self._text = text
+        self._jobs = jobs or len(os.sched_getaffinity(0))
+        self._seconds = seconds
+
+    def items(self, pops: str) -> list[AnyItem]:
+        """Returns the items of the report, also those of problems that took too long."""
+        program = Program(pops, [], self._seconds)
+        tasks = tasks_of([Source(None, self._text)])
+        results: list[Result] = []
+        progress = Progress(self._companion)
+        progress.begin(0, len(tasks))
+
+        def keep(result: Result) -> None:
+            results.append(result)
+            progress.one_more()
+
+        try:
+            failed = run_locally(program, tasks, self._jobs, keep, progress.wait_on)
+        finally:
+            progress.end()
+        for task, reason in failed:
+            raise CommandError(Status.DEVICE, f"{task.shown}: {reason}")
+        results.sort(key=lambda result: result.task.place)
+        report = b"".join(map(_marked, results))
+        return list(read_unfinished_report(io.BytesIO(report)))
+
+    def tries(
+        self, program: TriesProgram, wanted: Sequence[int]
+    ) -> tuple[dict[int, TriesItem], list[int]]:
+        """Returns the tries of these problems by their numbers, and those that took too long."""
+        pieces = {piece.number: piece for piece in cut(self._text)}
+        progress = Progress(f"{self._companion}: tries")
+        progress.begin(0, len(wanted))
+        found: dict[int, TriesItem] = {}
+        late: list[int] = []
+        with ThreadPoolExecutor(self._jobs) as pool:
+            number_of: dict[Future[Optional[bytes]], int] = {}
+            try:
+                for number in wanted:
+                    problem = pieces[number].alone(self._text, False)
+                    number_of[pool.submit(program.text_of, problem)] = number
+                with _Clock(progress):
+                    for future in as_completed(number_of):
+                        _take(future.result(), number_of[future], found, late)
+                        progress.one_more()
+            except RunError as error:
+                program.stop()
+                raise CommandError(Status.DEVICE, str(error)) from None
+            except BaseException:
+                program.stop()
+                raise
+            finally:
+                progress.end()
+        return found, sorted(late)
+
+
+def _take(
+    text: Optional[bytes], number: int, found: dict[int, TriesItem], late: list[int]
+) -> None:
+    """Takes what pops-tries wrote of a problem; None where it took too long."""
+    if text is None:
+        late.append(number)
+        return
+    for item in read_tries(io.BytesIO(text)):
+        if isinstance(item, TriesItem):
+            found[number] = replace(item, number=number)
+
+
+def _marked(result: Result) -> bytes:
+    """Returns a problem's report; that of an unfinished one ends in a line that says so."""
+    if result.status != UNFINISHED:
+        return result.report
+    return result.report + lines.UNFINISHED + b"%g s\n\n" % (result.seconds or 0.0)
+
+
+class _Clock:
+    """Shows on a terminal that time passes."""
+
+    def __init__(self, progress: Progress):
+        self._progress = progress
+        self._ended = threading.Event()
+        self._thread = threading.Thread(target=self._run, daemon=True)
+
+    def __enter__(self) -> None:
+        if self._progress.is_shown:
+            self._thread.start()
+
+    def __exit__(self, *_: object) -> None:
+        self._ended.set()
+        if self._thread.is_alive():
+            self._thread.join()
+
+    def _run(self) -> None:
+        while not self._ended.wait(0.5):
+            self._progress.wait_on()
