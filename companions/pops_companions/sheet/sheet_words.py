@@ -1,4 +1,4 @@
-"""Words of a sheet besides those of solutions: faults, twins, what isn't solved."""
+"""Words of a sheet outside its solutions: faults, twins, what is not solved."""
 
 from collections.abc import Mapping
 from typing import NamedTuple

@@ -32,7 +32,7 @@ class Solving:
         self._seconds = seconds
 
     def items(self, pops: str) -> list[AnyItem]:
-        """Returns the items of the report, also those of problems that took too long."""
+        """Returns the items of the report, also of problems that took too long."""
         program = Program(pops, [], self._seconds)
         tasks = tasks_of([Source(None, self._text)])
         results: list[Result] = []
