@@ -47,6 +47,7 @@ export class Thing {
   }
 
   closest() { return null; }
+  addEventListener(name, act) { this[`on${name}`] = act; }
   focus() { document.activeElement = this; }
   setSelectionRange(from) { this.selectionStart = from; }
   getBoundingClientRect() { return { top: 0, left: 0, width: 1, height: 1 }; }

@@ -36,11 +36,17 @@ export function limitOf(text) {
 }
 
 /**
+ * Divides a report into its items.
+ * @param {string} report
+ */
+export const itemsIn = report => report.match(/[^]+?\n\n/g) ?? [];
+
+/**
  * Reads the items of a report of --check: the text of a faulty item; head and number of half-moves of a sound one.
  * @param {string} report
  */
 export function headsOf(report) {
-  return (report.match(/[^]+?\n\n/g) ?? []).map(text => {
+  return itemsIn(report).map(text => {
     if (!text.endsWith(`\n${SOUND_LINE}`)) return { text, isSound: false, halfMoves: 0 };
     const head = text.slice(0, -SOUND_LINE.length);
     const asked = askedOf(head.slice(head.lastIndexOf('\n', head.length - 2) + 1, -1));

@@ -2,7 +2,7 @@
 // Solves a text by several workers: problem by problem, each phase by parts, several parts at a time. A problem with few
 // half-moves, or with tries, is solved whole; so is a text that the page can't divide into its problems.
 import {
-  afterNumber, headsOf, itemTexts, limitOf, listOf, PhasePiece, Piece, ReportText, solutionsIn, solutionsOf,
+  afterNumber, headsOf, itemsIn, itemTexts, limitOf, listOf, PhasePiece, Piece, ReportText, solutionsIn, solutionsOf,
   SOUND_LINE,
 } from './parts.js';
 
@@ -18,18 +18,19 @@ class CutWrong extends Error {}
 export class Solving {
   /**
    * CHECK and NOBOARD are the settings. REFUTATIONS is the most refutations of a try, or null for a report without tries. A
-   * problem with LEAST half-moves or more is solved by parts. A report is cut once it has more than MOST letters. SAID receives
-   * each new part of the report.
+   * problem with LEAST half-moves or more is solved by parts. A report is cut once it has more than MOST letters. ONLY is the number
+   * of the one problem that is solved, or 0 for all. SAID receives each new part of the report.
    * @param {string} text
-   * @param {{ check?: boolean, noBoard?: boolean, refutations?: number | null, least?: number, most?: number }} settings
+   * @param {{ check?: boolean, noBoard?: boolean, refutations?: number | null, least?: number, most?: number, only?: number }} settings
    * @param {Crew} crew
    * @param {(text: string) => void} said
    */
-  constructor(text, { check = false, noBoard = false, refutations = null, least = LEAST_HALF_MOVES, most = Infinity }, crew, said) {
+  constructor(text, { check = false, noBoard = false, refutations = null, least = LEAST_HALF_MOVES, most = Infinity, only = 0 }, crew, said) {
     this.text = text;
     this.check = check;
     this.noBoard = noBoard;
     this.most = most;
+    this.only = only;
     this.least = refutations === null ? least : Infinity;
     /** @type {Call} the call that solves a problem or a text whole */
     this.wholeCall = refutations === null ? { call: 'report', check: false, noBoard } : { call: 'tries', noBoard, refutations };
@@ -91,20 +92,29 @@ export class Solving {
   async begin() {
     const tested = await this.ask({ call: 'report', check: true, noBoard: this.noBoard }, this.text);
     if (this.check) {
-      this.give(tested.text);
+      this.give(this.chosen(itemsIn(tested.text)).join('') || tested.text);
       this.end({ status: tested.status });
       return;
     }
-    const items = headsOf(tested.text);
-    const texts = itemTexts(this.text);
-    if (tested.status === CUT_STATUS || items.length !== texts.length) throw new CutWrong();
-    this.status = tested.status;
+    const [allItems, allTexts] = [headsOf(tested.text), itemTexts(this.text)];
+    if (tested.status === CUT_STATUS || allItems.length !== allTexts.length) throw new CutWrong();
+    const [items, texts] = [this.chosen(allItems), this.chosen(allTexts)];
+    this.status = this.only ? Number(items.some(it => !it.isSound)) : tested.status;
     this.report = new ReportText(items);
     this.whole = items.filter(it => it.isSound).length;
     this.show();
     for (let index = 0; index < items.length && this.goesOn; index++) {
       if (items[index].isSound) await this.beginItem(index, items[index], texts[index]);
     }
+  }
+
+  /**
+   * Returns the one that is wanted, or all.
+   * @template T
+   * @param {T[]} all
+   */
+  chosen(all) {
+    return this.only ? all.slice(this.only - 1, this.only) : all;
   }
 
   get goesOn() {
@@ -126,7 +136,8 @@ export class Solving {
     for (const task of this.tasks) this.crew.drop(task);
     this.tasks.clear();
     Object.assign(this, { isByOneCall: true, phases: [], found: 0, whole: 1, wholeDone: 0 });
-    const { status, text } = await this.ask(this.wholeCall, this.text);
+    const { status, text: all } = await this.ask(this.wholeCall, this.text);
+    const text = this.only ? this.chosen(itemsIn(all)).join('') : all;
     this.wholeDone = 1;
     if (text.startsWith(this.shown)) this.give(text.slice(this.shown.length));
     else if (status !== CUT_STATUS || !this.shown.startsWith(text)) throw new Error('the report begins in two ways');

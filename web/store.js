@@ -76,7 +76,7 @@ export function visitOf(written) {
     const { steps, number, link, solved = null } = JSON.parse(written ?? '');
     const isText = (/** @type {unknown} */ it) => typeof it === 'string';
     const isVisit = steps.texts.every(isText) && isText(steps.texts[steps.place]) && Number.isInteger(number) && isText(link);
-    const isSolved = solved && [solved.text, solved.report].every(isText);
+    const isSolved = solved && [solved.text, solved.report].every(isText) && Number.isInteger(solved.only);
     return isVisit ? { steps, number, link, solved: isSolved ? solved : null } : null;
   } catch {
     return null;

@@ -102,8 +102,18 @@ export class Tree {
     this.current = null;
     /** @type {(item: Item) => Men} */
     this.start = () => new Map();
+    /** @type {string[]} the paths of rows that are drawn unfolded */
+    this.opened = [];
     this.list = madeList('div');
     element('tree').onkeydown = event => this.key(event);
+  }
+
+  /**
+   * Remembers which rows are unfolded: the next report draws them so.
+   * @param {boolean} isWanted
+   */
+  remember(isWanted) {
+    this.opened = isWanted ? this.groups.flatMap(group => group.rows.flatMap(openPaths)) : [];
   }
 
   clear() {
@@ -233,6 +243,7 @@ export class Tree {
     this.groups.push(group);
     box.groups.push(group);
     this.prepare(rows, null, group);
+    for (const row of rows) keepOpen(row, this.opened);
     this.fill(list, rows, row => this.drawnRow(row));
     return [head, list, group.total];
   }
@@ -260,6 +271,7 @@ export class Tree {
     const last = group.rows.length - 1;
     this.prepare(rows, null, group);
     if (last >= 0 && saidIn(rows[last]) !== saidIn(group.rows[last])) this.replaceRow(group, last, rows[last]);
+    for (const row of rows.slice(last + 1)) keepOpen(row, this.opened);
     group.rows.push(...rows.slice(last + 1));
     group.rows.forEach(row => { row.siblings = group.rows; });
     this.refill(group.list);

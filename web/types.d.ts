@@ -84,8 +84,8 @@ interface ItemTwin extends Given { item: Item; number: number; label: Label; who
 interface KeptText { text: string; time: number; isLinked?: boolean; tab?: string }
 /** The texts for undo and redo, and the place of the text that is shown. */
 interface StoredSteps { texts: string[]; place: number }
-/** A text that was solved, its report, and whether more may follow it. */
-interface StoredReport { text: string; report: string; isBeginning: boolean }
+/** A text that was solved, its report, whether more may follow it, and the number of the one problem that was solved, or 0. */
+interface StoredReport { text: string; report: string; isBeginning: boolean; only: number }
 /** What a reload of the page shows again: the texts, the number of the problem on the board, the link opened last, the report. */
 interface Visit { steps: StoredSteps; number: number; link: string; solved: StoredReport | null }
 
@@ -179,7 +179,7 @@ interface ButtonParent extends HTMLElement { children: HTMLCollectionOf<HTMLElem
 /** The elements of the page with their own types. */
 interface PageElements {
   text: HTMLTextAreaElement; fen: HTMLInputElement; check: HTMLInputElement; tries: HTMLInputElement; refutations: HTMLInputElement; file: HTMLInputElement; problems: HTMLSelectElement;
-  solve: HTMLButtonElement; stop: HTMLButtonElement; undo: HTMLButtonElement; redo: HTMLButtonElement; men: ButtonParent; squares: ButtonParent;
+  solve: HTMLButtonElement; solveThis: HTMLButtonElement; stop: HTMLButtonElement; live: HTMLInputElement; undo: HTMLButtonElement; redo: HTMLButtonElement; men: ButtonParent; squares: ButtonParent;
   gutter: ButtonParent; promotion: ButtonParent; twins: ButtonParent;
 }
 

@@ -39,7 +39,7 @@ const WORDS = {
       + 'before it, after NextProblem, and a comment after Remark.', open: 'Open a file', next: 'Next problem',
     fileTaken: '{name} was read', fileLatin: '{name} isn’t UTF-8: it was read letter by letter, as Windows-1252',
     fileLong: '{name} is longer than 8 MiB: too long for the page', textLong: 'The text would be longer than 8 MiB: too long for the page',
-    solve: 'Solve', stop: 'Stop', check: 'test only', withTries: 'tries and threats', mostRefutations: 'refutations of a try, at most', loading: 'loading', ready: 'ready',
+    solve: 'Solve', solveAll: 'Solve all', solveThis: 'Solve this problem', live: 'solve after each change', liveWaits: '(waits: the last search took {seconds} s)', stop: 'Stop', check: 'test only', withTries: 'tries and threats', mostRefutations: 'refutations of a try, at most', loading: 'loading', ready: 'ready',
     solving: 'solving {problem}: {seconds} s, {done} of {parts} parts, {found} solutions so far', problemOf: 'problem {number} of {all}, {name}',
     oldItem: 'Not of this position: the problem was changed after solving began.', oldSaid: 'not of this position: {said}',
     savedOld: 'what was saved is of the text before it was changed: solve again for the text on the page',
@@ -72,7 +72,7 @@ const WORDS = {
     help: 'keys', keys: 'On the board: arrows go from square to square; K Q R B S P G N set a white man, small letters a black '
       + 'one; Delete removes; Enter picks up a man and puts it down, or places the chosen man. In the solutions: → and ← go a '
       + 'move on and back, ↑ and ↓ to the row above and below, + and − unfold and fold, Escape shows the diagram again. '
-      + 'Everywhere: Ctrl+Z and Ctrl+Y undo and redo, Ctrl+Enter solves.',
+      + 'Everywhere: Ctrl+Z and Ctrl+Y undo and redo, Ctrl+Enter solves this problem, Ctrl+Shift+Enter all.',
   },
 };
 export let language = 'en';

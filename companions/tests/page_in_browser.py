@@ -337,6 +337,39 @@ def aged(page: Page) -> None:
     browser.wait(READY)
 
 
+def live(page: Page) -> None:
+    """One problem of several solved; then after each change of it, unfolded rows staying so; not after a long search."""
+    browser = page.browser
+    browser.size(1280, 800)
+    page.open(MATE_IN_TWO)
+    page.holds(not browser.run("document.getElementById('solveThis').offsetParent"), "one problem has one button")
+    page.open(MATE_IN_TWO.replace("End", "Next") + MATE_IN_TWO.partition("\n")[2])
+    browser.run("goToProblem(2)")
+    browser.click("#solveThis")
+    browser.wait(SOLVED)
+    page.holds(page.told("report").startswith("problem 2\n") and page.told("report").count("problem ") == 1, page.told("report"))
+    browser.click("#solve")
+    browser.wait(SOLVED)
+    page.holds(page.told("report").count("problem ") == 2, page.told("report"))
+    page.open(MATE_IN_TWO)
+    page.solve()
+    browser.click(page.row("1.Qh8-b2", "turn"))
+    browser.click("#live")
+    page.picture("live.png")
+    browser.drag("#a6", "#a5")
+    browser.wait(f"{SOLVED} && state.solved.includes('Pa5')")
+    page.holds("1.Qh8-b2" in page.told("tree") and "not of this" not in page.told("state"), f"solved after a move: {page.told('tree')}")
+    page.holds("1...Ke1-d1" in browser.run("document.getElementById('tree').innerText"), "what was unfolded stays so")
+    browser.run("state.followers.length = 0; setText(textNow().replace('#2', '#9')); liveChanged()")
+    browser.wait("!document.getElementById('stop').disabled && Number(/: ([0-9]+) s/.exec(document.getElementById('state').textContent)?.[1]) >= 1")
+    browser.click("#stop")
+    browser.wait(READY)
+    page.holds("waits: the last search took" in page.told("liveState"), page.told("liveState"))
+    browser.drag("#a5", "#a6")
+    page.holds(browser.run("new Promise(go => setTimeout(() => go(document.getElementById('stop').disabled), 300))"), "no search after a long one")
+    browser.click("#live")
+
+
 def linked(page: Page) -> None:
     """A link opened beside a problem in work: in the tab of the work and in a new one; undo and solutions after a reload."""
     browser = page.browser
@@ -447,6 +480,7 @@ LOOKS: list[Callable[[Page], None]] = [
     faulty,
     given,
     aged,
+    live,
     linked,
     composed,
     without_engine,

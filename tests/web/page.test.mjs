@@ -23,7 +23,8 @@ const { keepProblem, storeText } = await import('../../web/page/keeping.js');
 const { forgetAll } = await import('../../web/page/kept.js');
 const { OUTS } = await import('../../web/page/outs.js');
 const { beginReport, drawGrowth, drawReport, reportGrew } = await import('../../web/page/reporting.js');
-const { mostRefutations, sayDone, sayProblem, showMost, solve } = await import('../../web/page/solving.js');
+const { buildLive, liveChanged, showLive, solveLive } = await import('../../web/page/live.js');
+const { mostRefutations, sayDone, sayProblem, showMost, showSolve, solve, solvingNow } = await import('../../web/page/solving.js');
 const { blockNow, state, textNow } = await import('../../web/page/state.js');
 const { keep, kept: keptValue } = await import('../../web/page/storage.js');
 const views = await import('../../web/page/views.js');
@@ -395,4 +396,30 @@ test('solving: which problem it is', () => {
   assert.equal(sayProblem(), 'problem 2 of 2, #1 White Kg6 Ra1 Black Kg8');
   begin(TEXT.replace('Pieces', 'Title One\nPieces'));
   assert.equal(sayProblem(), 'One');
+});
+
+test('live: the switch is kept, and nothing begins without an engine', () => {
+  begin(TEXT, REPORT);
+  element('live').checked = true;
+  element('live').onchange();
+  assert.equal(kept.get('pops.live'), 'on');
+  changeBoard('mirror');
+  liveChanged();
+  solveLive();
+  assert.deepEqual([solvingNow().isReady, state.solved, element('liveState').textContent], [false, TEXT, '']);
+  element('live').checked = false;
+  buildLive();
+  assert.equal(element('live').checked, true);
+  element('live').checked = false;
+  element('live').onchange();
+  assert.equal(kept.has('pops.live'), false);
+  showLive();
+});
+
+test('solving: one button for one problem, two for several', () => {
+  begin(TEXT);
+  showSolve();
+  assert.deepEqual([element('solve').textContent, element('solveThis').hidden], ['Solve', true]);
+  begin(TWO);
+  assert.deepEqual([element('solve').textContent, element('solveThis').hidden], ['Solve all', false]);
 });

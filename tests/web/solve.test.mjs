@@ -3,7 +3,9 @@ import assert from 'node:assert/strict';
 import { test } from 'node:test';
 import { LETTERS, UTF8 } from '../../web/codecs.js';
 import { solve, solveWith } from '../../web/npm/pops.js';
+import { Crew } from '../../web/crew.js';
 import { solveByWorkers } from '../../web/solve.js';
+import { Solving } from '../../web/solving.js';
 
 const TEXT = 'BeginProblem\nTitle é\nPieces White Kg6 Ra1 Black Kg8\nStipulation #1\nEndProblem\n';
 const HEAD = 'problem 1\ntitle: é\n#1\n';
@@ -95,4 +97,33 @@ test('the package for web pages: a missing engine rejects, each time', async () 
   } finally {
     globalThis.fetch = fetch;
   }
+});
+
+const THREE = 'BeginProblem Stipulation #1\nTitle a\nNextProblem Stipulation #0\nTitle b\nNextProblem Stipulation #1\nTitle c\nEndProblem\n';
+
+/** A worker whose engine solves each problem by its title, and takes problem b for faulty. */
+class TitleWorker extends MadeWorker {
+  answer({ text, check }) {
+    const titles = new TextDecoder().decode(text).match(/Title ./g).map(it => it.at(-1));
+    const items = titles.map((title, at) => (title === 'b' ? `problem ${at + 1}\nline 3: fault 8: bad stipulation\n\n`
+      : `problem ${at + 1}\ntitle: ${title}\n#1\n${check ? 'sound' : `play\n1.R${title}1-${title}8#\nsolutions: 1`}\n\n`));
+    return { status: Number(titles.includes('b')), bytes: new TextEncoder().encode(items.join('')) };
+  }
+}
+
+/** Solves one of the three problems, with these settings. */
+async function solvedOnly(only, settings = {}) {
+  const solving = new Solving(THREE, { only, ...settings }, new Crew(1, () => new TitleWorker(), UTF8), () => {});
+  return { ...await solving.solve(), report: solving.shown };
+}
+
+test('solving: one problem of several keeps its number', async () => {
+  const third = 'problem 3\ntitle: c\n#1\nplay\n1.Rc1-c8#\nsolutions: 1\n\n';
+  assert.deepEqual(await solvedOnly(3), { status: 0, report: third });
+  assert.deepEqual(await solvedOnly(2), { status: 1, report: 'problem 2\nline 3: fault 8: bad stipulation\n\n' });
+  assert.deepEqual(await solvedOnly(3, { check: true }), { status: 1, report: 'problem 3\ntitle: c\n#1\nsound\n\n' });
+  assert.equal((await solvedOnly(0)).report.match(/problem /g).length, 3);
+  const whole = new Solving(THREE, { only: 3 }, new Crew(1, () => new TitleWorker(), UTF8), () => {});
+  whole.begin = () => whole.solveWhole();
+  assert.deepEqual([await whole.solve(), whole.shown], [{ status: 1 }, third]);
 });

@@ -99,10 +99,10 @@ test('store: undo and redo', () => {
 });
 
 test('store: a visit, whose longest parts may be left out', () => {
-  const visit = { steps: { texts: ['a', 'b', 'c'], place: 1 }, number: 2, link: '#x', solved: { text: 'b', report: 'r', isBeginning: true } };
+  const visit = { steps: { texts: ['a', 'b', 'c'], place: 1 }, number: 2, link: '#x', solved: { text: 'b', report: 'r', isBeginning: true, only: 2 } };
   assert.deepEqual(visitOf(writtenVisit(visit)), visit);
   const long = 'x'.repeat(300000);
-  const { steps, solved } = visitOf(writtenVisit({ ...visit, steps: { texts: [`${long}a`, `${long}b`, 'c', 'd'], place: 2 }, solved: { text: 'c', report: 'r'.repeat(1000000), isBeginning: false } }));
+  const { steps, solved } = visitOf(writtenVisit({ ...visit, steps: { texts: [`${long}a`, `${long}b`, 'c', 'd'], place: 2 }, solved: { text: 'c', report: 'r'.repeat(1000000), isBeginning: false, only: 0 } }));
   assert.deepEqual([steps.texts.map(it => it.length), steps.place, solved], [[300001, 1], 1, null]);
   assert.deepEqual(['', 'x', '{}', '{"steps":{"texts":[1],"place":0},"number":1,"link":""}', null].map(visitOf), [null, null, null, null, null]);
   const again = new Steps('c', visit.steps);

@@ -43,9 +43,11 @@ function endDrawing() {
 /**
  * Begins to draw the report of a text.
  * @param {string} text
+ * @param {number} only the number of the one problem that is solved; 0 for all
  */
-export function beginReport(text) {
-  state.beginReport(text);
+export function beginReport(text, only = 0) {
+  tree.remember(state.only === only && state.solvedSheet === state.sheet);
+  state.beginReport(text, only);
   drawing.pause = LEAST_PAUSE;
   drawReport();
 }

@@ -5,12 +5,13 @@ import { Crew } from '../crew.js';
 import { element, partText } from '../elements.js';
 import { Solving } from '../solving.js';
 import { nameOfText } from '../store.js';
+import { blocksOf } from '../text.js';
 import { sayFound } from '../tree.js';
 import { say } from '../words.js';
 import { endTyping } from './editing.js';
 import { keepProblem } from './keeping.js';
 import { beginReport, drawGrowth, reportGrew } from './reporting.js';
-import { state, textNow } from './state.js';
+import { blockNow, state, textNow } from './state.js';
 import { notes } from './views.js';
 import { leave } from './walk.js';
 
@@ -19,8 +20,8 @@ const WHOLE_STATUS = 1;
 const MOST_REFUTATIONS = 200;
 // The most letters of a report that the page shows.
 const MOST_REPORT = 1 << 24;
-/** @type {{ engine: WebAssembly.Module | null, solving: Solving | null, clock: ReturnType<typeof setInterval> | undefined, begun: number, said: string, isOfReport: boolean }} */
-const run = { engine: null, solving: null, clock: undefined, begun: 0, said: '', isOfReport: false };
+/** @type {{ engine: WebAssembly.Module | null, solving: Solving | null, clock: ReturnType<typeof setInterval> | undefined, begun: number, said: string, isOfReport: boolean, isLive: boolean, last: number, asked: string, ended: () => void }} */
+const run = { engine: null, solving: null, clock: undefined, begun: 0, said: '', isOfReport: false, isLive: false, last: 0, asked: '', ended: () => {} };
 
 const secondsPassed = () => Math.round((performance.now() - run.begun) / 1000);
 
@@ -45,7 +46,7 @@ export function showSaid() {
 function endSolving(said, isOfReport = true) {
   run.solving = null;
   clearInterval(run.clock);
-  element('solve').disabled = !run.engine;
+  element('solve').disabled = element('solveThis').disabled = !run.engine;
   element('stop').disabled = true;
   tell(said, isOfReport);
 }
@@ -63,7 +64,10 @@ function solvingEnded({ status, failed, isStopped }) {
   else if (isStopped) endSolving(say(state.report ? 'stopped' : 'stoppedEmpty', { seconds }));
   else endSolving(sayDone(say(`status${status}`), milliseconds));
   notes.check();
-  keepProblem(state.solved);
+  if (!run.isLive) keepProblem(state.solved);
+  // (a search that was stopped soon says nothing of its duration)
+  if (!isStopped || milliseconds > run.last) run.last = milliseconds;
+  run.ended();
 }
 
 /**
@@ -86,8 +90,8 @@ function makeWorker() {
 
 /** Names the problem that is being solved. */
 export function sayProblem() {
-  const { solved, solvedBlocks: { length: all } } = state;
-  const number = state.items.at(-1)?.number ?? 1;
+  const { solved, only, solvedBlocks: { length: all } } = state;
+  const number = only || (state.items.at(-1)?.number ?? 1);
   const name = nameOfText(solved, state.solvedBlocks[number - 1] ?? null);
   return all > 1 ? say('problemOf', { number, all, name }) : name;
 }
@@ -108,16 +112,52 @@ export function showMost() {
   element('most').hidden = !element('tries').checked;
 }
 
-export function solve() {
+/** Shows the button for one problem if there are several. */
+export function showSolve() {
+  const isOne = blocksOf(textNow()).length < 2;
+  element('solveThis').hidden = isOne;
+  element('solve').textContent = say(isOne ? 'solve' : 'solveAll');
+}
+
+const settingsNow = () => ({ check: element('check').checked, refutations: mostRefutations() });
+
+/**
+ * Returns how solving stands: whether it can begin, whether a change began it, how many milliseconds the last search took, and whether
+ * it had the settings of now.
+ */
+export const solvingNow = () => ({
+  isReady: Boolean(run.engine) && !run.solving, isLive: Boolean(run.solving) && run.isLive, last: run.last,
+  isAsNow: run.asked === JSON.stringify(settingsNow()),
+});
+
+/**
+ * Sets what happens whenever solving has ended.
+ * @param {() => void} act
+ */
+export function whenSolved(act) {
+  run.ended = act;
+}
+
+/** Solves the problem on the board alone. */
+export function solveThis() {
+  solve(blockNow()?.number ?? 0);
+}
+
+/**
+ * Solves the text, or one of its problems.
+ * @param {number} only its number; 0 for all
+ * @param {boolean} isLive whether a change of the problem began it
+ */
+export function solve(only = 0, isLive = false) {
   if (!run.engine || run.solving) return;
   endTyping();
   leave();
-  run.begun = performance.now();
-  beginReport(textNow());
-  element('solve').disabled = true;
+  Object.assign(run, { begun: performance.now(), isLive, asked: JSON.stringify(settingsNow()) });
+  beginReport(textNow(), blocksOf(textNow()).length > 1 ? only : 0);
+  element('solve').disabled = element('solveThis').disabled = true;
   element('stop').disabled = false;
   const crew = new Crew(navigator.hardwareConcurrency || 1, makeWorker, UTF8);
-  const settings = { check: element('check').checked, refutations: mostRefutations(), most: MOST_REPORT };
+  const settings = { ...settingsNow(), most: MOST_REPORT, only: state.only };
   run.solving = new Solving(state.solved, settings, crew, reportGrew);
   tellProgress();
   run.clock = setInterval(tellProgress, 1000);

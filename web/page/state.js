@@ -25,6 +25,8 @@ class PageState {
     /** Counts the texts that replaced another as a whole, and says at which count the solved text was shown. */
     this.sheet = 0;
     this.solvedSheet = 0;
+    /** The number of the one problem that was solved; 0 for all. */
+    this.only = 0;
     /** The report of that text, or its beginning. */
     this.report = '';
     /** Whether solving has ended, and whether it did before the end of the report. */
@@ -70,9 +72,10 @@ class PageState {
   /**
    * Begins the report of a text.
    * @param {string} text
+   * @param {number} only the number of the one problem that is solved; 0 for all
    */
-  beginReport(text) {
-    this.takeSolved(text);
+  beginReport(text, only = 0) {
+    this.takeSolved(text, only);
     this.report = '';
     this.isBeginning = false;
     this.isEnded = false;
@@ -82,14 +85,14 @@ class PageState {
    * Takes the report of an earlier visit.
    * @param {StoredReport} stored
    */
-  restoreReport({ text, report, isBeginning }) {
-    this.takeSolved(text);
+  restoreReport({ text, report, isBeginning, only }) {
+    this.takeSolved(text, only);
     Object.assign(this, { report, isBeginning, isEnded: true });
   }
 
-  /** @param {string} text */
-  takeSolved(text) {
-    Object.assign(this, { solved: text, solvedBlocks: blocksOf(text), solvedSheet: this.sheet });
+  /** @param {string} text @param {number} only */
+  takeSolved(text, only) {
+    Object.assign(this, { solved: text, only, solvedBlocks: blocksOf(text), solvedSheet: this.sheet });
   }
 
   /** Begins another text, which replaces the one before as a whole. */
@@ -137,6 +140,7 @@ class PageState {
   /** Returns whether the solved problems are those on the page now. */
   isCurrent() {
     const { length } = this.solvedBlocks;
+    if (this.only) return this.isPosedNow(this.only);
     return this.isSolved() || (length > 0 && blocksOf(textNow()).length === length && this.solvedBlocks.every((_, at) => this.isPosedNow(at + 1)));
   }
 

@@ -17,9 +17,9 @@ let link = '';
 /** Stores this visit, for a reload of this tab and for the next visit. */
 export function storeVisit() {
   endTyping();
-  const { steps, number, solved, report } = state;
+  const { steps, number, solved, report, only } = state;
   const isBeginning = state.isBeginning || !state.isEnded;
-  const written = writtenVisit({ steps, number, link, solved: report ? { text: solved, report, isBeginning } : null });
+  const written = writtenVisit({ steps, number, link, solved: report ? { text: solved, report, isBeginning, only } : null });
   keepInTab('pops.visit', written);
   keep('pops.visit', written);
 }
