@@ -5,6 +5,7 @@ export class Thing {
     Object.assign(this, { tagName: tag.toUpperCase(), children: [], style: {}, dataset: {}, attributes: {}, value: '' });
     Object.assign(this, { hidden: false, disabled: false, scrollTop: 0, own: '', parent: null, selectionStart: 0, options: [] });
     this.names = new Set();
+    this.acts = new Map();
     this.classList = {
       add: name => this.names.add(name),
       remove: name => this.names.delete(name),
@@ -47,7 +48,8 @@ export class Thing {
   }
 
   closest() { return null; }
-  addEventListener(name, act) { this[`on${name}`] = act; }
+  addEventListener(name, act) { this.acts.set(name, [...(this.acts.get(name) ?? []), act]); }
+  dispatchEvent(event) { for (const act of this.acts.get(event.type) ?? []) act(event); }
   focus() { document.activeElement = this; }
   setSelectionRange(from) { this.selectionStart = from; }
   getBoundingClientRect() { return { top: 0, left: 0, width: 1, height: 1 }; }

@@ -3,6 +3,7 @@
 import { madeWith, makeButton } from './elements.js';
 import { characters } from './explain/characters.js';
 import { explaining } from './explain/explaining.js';
+import { mendedProblem } from './mending.js';
 import { lineAt } from './text.js';
 import { say } from './words.js';
 
@@ -30,13 +31,40 @@ function bareLine(text, line) {
 }
 
 /**
+ * Names the page's own switches and fields in advice that names programs.
+ * @param {string} advice
+ */
+export const ownAdvice = advice => advice
+  .replace(/`pops-tries(?: --refutations N)?` shows (.*?)(?=\.|$)/, (_, what) => say('triesShow', { what }))
+  .replace(/`fen2pop [^`]*` makes a problem of it/, () => say('fenMakes'));
+
+/**
+ * Draws the button that corrects a problem, with the first line that it changes; null if nothing can be corrected.
+ * @param {string} text
+ * @param {number} number
+ * @param {(made: { text: string, asksForTries: boolean }) => void} take receives the corrected text
+ */
+function mendingBox(text, number, take) {
+  const made = mendedProblem(text, number);
+  if (!made) return null;
+  const box = document.createElement('div');
+  const button = makeButton(say('correct'), () => take(made));
+  button.textContent = say('correct');
+  const line = drawnLine(bareLine(made.text, made.line));
+  line.className = 'corrected';
+  box.append(line, button);
+  return box;
+}
+
+/**
  * Draws the fault of a problem: with the explanation of its word, or else with the manual's text about the fault.
  * @param {string} text the text of the report
  * @param {{ number: number, fault: { line: number, number: number, text: string } }} item
  * @param {string} general what the manual says
  * @param {(line: number) => void} goToLine
+ * @param {(made: { text: string, asksForTries: boolean }) => void} take receives the corrected text
  */
-export function faultBox(text, item, general, goToLine) {
+export function faultBox(text, item, general, goToLine, take) {
   const { fault } = item;
   const explanation = explaining.explain(text, item);
   const marked = explanation?.marks.length ? explaining.markedLines(text, explanation.marks) : [bareLine(text, fault.line)];
@@ -45,6 +73,8 @@ export function faultBox(text, item, general, goToLine) {
   button.textContent = label;
   const box = document.createElement('div');
   box.className = 'fault';
-  box.append(madeWith('p', say('fault', fault)), ...marked.map(drawnLine), madeWith('p', explanation?.text ?? general), button);
+  const mending = explanation && mendingBox(text, item.number, take);
+  box.append(madeWith('p', say('fault', fault)), ...marked.map(drawnLine), madeWith('p', ownAdvice(explanation?.text ?? general)));
+  box.append(...(mending ? [mending] : []), button);
   return box;
 }

@@ -6,9 +6,9 @@ import { makeProblem, move, solveFromHere, togglePlaying } from './line.js';
 import { showAge } from './page/age.js';
 import {
   addProblem, change, changeBoard, fenWritten, goSteps, goToProblem, joinTail, keepText, placed, showProblem,
-  showTail, takeText, typed,
+  showTail, takeCorrected, takeText, typed,
 } from './page/editing.js';
-import { placeMarks } from './page/faults.js';
+import { placeMarks, whenCorrected } from './page/faults.js';
 import { buildFields, showFields } from './page/fields.js';
 import { listenToFiles } from './page/files.js';
 import { whenKept } from './page/keeping.js';
@@ -16,7 +16,7 @@ import { forgetAll, showKept } from './page/kept.js';
 import { OUTS } from './page/outs.js';
 import { buildLive, liveChanged } from './page/live.js';
 import { loadEngine, showMost, showSaid, showSolve, solve, solveThis, stopSolving } from './page/solving.js';
-import { state } from './page/state.js';
+import { state, textNow } from './page/state.js';
 import { buildViews, notes, tree } from './page/views.js';
 import { beginVisit, drawVisit, openLink, storeVisit } from './page/visit.js';
 import { goBack, leave, showPlace } from './page/walk.js';
@@ -110,6 +110,7 @@ function begin() {
   state.addFollowers(showProblem, showFields, showContents, showTail, keepText, showAge, showSaid, showSolve, liveChanged, () => notes.check());
   listen();
   buildLive();
+  whenCorrected(takeCorrected, () => takeText(textNow()));
   showMost();
   whenKept(showKept);
   showKept();

@@ -27,7 +27,7 @@ const isTextCommand = command => command !== undefined && TEXT_LINES.includes(co
  * @param {(text: string) => T} make
  * @returns {(text: string) => T}
  */
-function remembered(make) {
+export function remembered(make) {
   /** @type {{ text: string, made: T } | null} */
   let last = null;
   return text => {

@@ -65,6 +65,9 @@ const WORDS = {
     linkLong: 'the text is too long for a link: save it as a file',
     faults: 'faults', fault: 'line {line}: fault {number}: {text}', goToLine: 'go to line {line}',
     linkOpened: 'the link’s text was opened; the text before it is among the kept problems, and undo brings it back', byLink: 'from a link',
+    triesShow: 'the switch “tries and threats” of this page shows {what}', fenMakes: 'The field FEN of this page makes a problem of it',
+    correct: 'Correct it', corrected: 'corrected: undo takes it back', correctedTries: 'corrected, and “tries and threats” was switched on', correctLater: 'the text was changed since: solve again first',
+    triesOn: '“tries and threats” was switched on, as the text asks for them', convert: 'Convert the whole text',
     kept: 'kept problems', keptWhere: 'The last {most} texts that were solved, replaced or opened by a link are kept in this browser’s own '
       + 'storage (localStorage and sessionStorage, names that begin with “pops”), only on this machine. Nothing is sent.',
     keptNone: 'none yet', forget: 'forget', forgetAll: 'forget all', keptNot: 'this browser keeps nothing for the page',

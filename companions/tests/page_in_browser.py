@@ -234,9 +234,30 @@ def faulty(page: Page) -> None:
     page.holds("It is the rook in German: write `Ra1`" in page.told("tree"), "the words of pops-explain")
     page.holds(page.browser.run("document.querySelector('#tree mark').textContent") == "Ta1", "the faulty word is marked")
     page.picture("faults.png")
-    page.browser.click("#tree .fault button")
+    page.browser.click("#tree .fault > button")
     selected = page.browser.run("(it => it.value.slice(it.selectionStart, it.selectionEnd))(document.getElementById('text'))")
     page.holds(selected == "Pieces White Kg6 Ta1 Black Kg8", f"the faulty line: {selected}")
+
+
+def corrected(page: Page) -> None:
+    """Options of Popeye left out by one click, which switches tries on; the whole text converted by another."""
+    browser = page.browser
+    browser.size(1280, 800)
+    page.open()
+    text = MATE_IN_TWO.replace("Variation", "Variation Try Threat 2 Intelligent")
+    browser.run(f"setText({json.dumps(text)})")
+    page.solve()
+    page.holds("the switch “tries and threats” of this page shows tries" in page.told("tree"), page.told("tree"))
+    page.picture("corrected.png")
+    browser.click("#tree .fault .corrected + button")
+    page.holds(page.text() == MATE_IN_TWO and browser.run("document.getElementById('tries').checked"), f"corrected: {page.text()}")
+    page.solve()
+    page.holds("1.Qh8-h2?" in page.told("tree"), "tries are shown")
+    browser.click("#undo")
+    page.solve()
+    browser.click("#tree .fault > button:last-child")
+    page.holds("Remark Try left out" in page.text() and "Option Variation\n" in page.text(), f"converted: {page.text()}")
+    browser.click("#tries")
 
 
 def seconds(page: Page, script: str) -> float:
@@ -478,6 +499,7 @@ LOOKS: list[Callable[[Page], None]] = [
     stopped,
     grown,
     faulty,
+    corrected,
     given,
     aged,
     live,

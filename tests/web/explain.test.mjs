@@ -9,6 +9,8 @@ const { explained, FaultCase, quoted } = await import('../../web/explain/case.js
 const { characters } = await import('../../web/explain/characters.js');
 const { endingCauses } = await import('../../web/explain/endings.js');
 const { explaining } = await import('../../web/explain/explaining.js');
+const { mendedProblem } = await import('../../web/mending.js');
+const { ownAdvice } = await import('../../web/faults.js');
 const { EXPLANATIONS } = await import('../../web/explain/explanations.js');
 const { menCauses } = await import('../../web/explain/men.js');
 const { misplacedCauses } = await import('../../web/explain/misplaced.js');
@@ -132,4 +134,39 @@ test('contents: names and twins of a text', () => {
   const contents = contentsOf(text);
   assert.deepEqual(contents.map(it => [it.number, it.title, it.asked]), [[1, 'A a)', '#1'], [2, 'A b)', '#2']]);
   assert.deepEqual(twinsOf(text, contents, 2).map(it => [it.label.text, it.change]), [['a)', ''], ['b)', '#2']]);
+});
+
+/** Writes a mate in two with these options, if any. */
+const withOptions = options => `BeginProblem\nPieces White Kd6 Qh8 Rc7 Black Ke1 Pa6\nStipulation #2\n${options}EndProblem\n`;
+
+test('mending: options of Popeye that change nothing here, with their numbers and alone', () => {
+  for (const [given, wanted, asksForTries] of [
+    ['Option Try\n', '', true], ['Option Variation Try\n', 'Option Variation\n', true], ['Option Threat 2 Variation\n', 'Option Variation\n', true],
+    ['Option Intelligent\nRemark a\n', 'Remark a\n', false], ['Option MoveNumbers SetPlay\n', 'Option SetPlay\n', false],
+    ['Option Variation StartMoveNumber 3 Defence 1 Threat Intelligent\n', 'Option Variation\n', true],
+    ['Option Drohung\n', '', true],
+  ]) {
+    const { text, asksForTries: asks, line } = mendedProblem(withOptions(given), 1);
+    assert.deepEqual([text, asks, line], [withOptions(wanted), asksForTries, 4]);
+  }
+});
+
+test('mending: a byte order mark, letters of another language, a mistyped word; each in its own problem', () => {
+  const good = withOptions('Option Variation\n');
+  assert.deepEqual(mendedProblem(`\ufeff${good}`, 1), { text: good, asksForTries: false, line: 1 });
+  assert.equal(mendedProblem(good.replace('Rc7', 'Tc7'), 1).text, good);
+  assert.equal(mendedProblem(good.replace('Stipulation', 'Stipulatoin'), 1).text, good);
+  const two = text => good.replace('End', 'Next') + text.slice(text.indexOf('Pieces'));
+  const made = mendedProblem(two(withOptions('Option Try Variation\n')), 2);
+  assert.deepEqual([made.text, made.line], [two(good), 8]);
+  assert.equal(mendedProblem(two(good), 1), null);
+  assert.equal(mendedProblem(good.replace('Black Ke1', 'Black'), 1), null);
+});
+
+test('mending: advice names the page\'s own switch and field', () => {
+  const [{ read }] = explaining.faultsOf(withOptions('Option Try\n'));
+  const said = ownAdvice(explaining.explanationOf(withOptions('Option Try\n'), read).text);
+  assert.match(said, /Leave it out: the switch “tries and threats” of this page shows tries with their refutations\.$/);
+  assert.match(ownAdvice('Leave it out: `pops-tries` shows threats.'), /this page shows threats\.$/);
+  assert.equal(ownAdvice('`8/8` is FEN. `fen2pop --stipulation \'#2\' \'8/8\'` makes a problem of it.'), '`8/8` is FEN. The field FEN of this page makes a problem of it.');
 });

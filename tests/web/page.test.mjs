@@ -423,3 +423,34 @@ test('solving: one button for one problem, two for several', () => {
   begin(TWO);
   assert.deepEqual([element('solve').textContent, element('solveThis').hidden], ['Solve all', false]);
 });
+
+test('faults: corrected by a click, which switches tries on if an option asked for them', () => {
+  const text = TEXT.replace('End', 'Option Try Variation\nEnd');
+  const good = TEXT.replace('End', 'Option Variation\nEnd');
+  begin(text, 'problem 1\nline 4: fault 2: misplaced word\n\n');
+  const buttons = element('tree').querySelectorAll('button');
+  const press = name => buttons.find(it => it.textContent === name).onclick();
+  assert.match(element('tree').textContent, /4 \| Option Variation/);
+  element('tries').checked = false;
+  press('Correct it');
+  assert.deepEqual([textNow(), element('tries').checked, element('most').hidden], [good, true, false]);
+  assert.match(noteNow(), /^corrected, and “tries and threats” was switched on/);
+  press('Correct it');
+  assert.match(noteNow(), /^the text was changed since/);
+  goSteps(-1);
+  element('tries').checked = false;
+  press('Convert the whole text');
+  assert.deepEqual([textNow(), element('tries').checked], [good.replace('BeginProblem', 'BeginProblem\nRemark Try left out'), true]);
+  element('tries').checked = false;
+  showMost();
+});
+
+test('files: a text of Popeye pasted into the text box is converted, also with a byte order mark', () => {
+  const popeye = '\ufeffAnfangProblem\nSteine Weiss Kg6 Ta1 Schwarz Kg8\nForderung #1\nEndeProblem\n';
+  begin('');
+  send('paste', { target: element('text'), clipboardData: { getData: () => popeye } });
+  assert.equal(textNow(), TEXT);
+  begin('');
+  takeText(`\ufeff${TEXT}`);
+  assert.equal(textNow(), TEXT);
+});

@@ -7,6 +7,11 @@ import { drafts } from './drafts.js';
 import { popeye } from './popeye.js';
 import { yaml } from './yaml.js';
 
+const TRIES_OPTIONS = ['Try', 'Defence', 'Threat'];
+
+/** @param {string} word */
+const optionOf = word => (vocabulary.unread(word) ?? vocabulary.unread(vocabulary.foreign(word)?.english ?? ''))?.name;
+
 /**
  * Returns whether a text that begins as ours has words that only Popeye reads, or is in another language.
  * @param {string} text
@@ -20,12 +25,13 @@ function isOfPopeye(text) {
 }
 
 /**
- * Returns the problems of a text of another program, and why some were left out; null for any other text. The result's text is null if no
- * problem can be posed.
- * @param {string} text
- * @returns {{ text: string | null, lost: string[] } | null}
+ * Returns the problems of a text of another program, why some were left out, and whether an option asks for tries or threats; null for any
+ * other text. The result's text is null if no problem can be posed.
+ * @param {string} given
+ * @returns {{ text: string | null, lost: string[], asksForTries: boolean } | null}
  */
-export function imported(text) {
+export function imported(given) {
+  const text = given.replace(/^\ufeff/, '');
   const readers = yaml.readersOf(text) ?? (isOfPopeye(text) ? popeye.readersOf(text) : null);
-  return readers && drafts.textOf(readers);
+  return readers && { ...drafts.textOf(readers), asksForTries: TRIES_OPTIONS.some(it => wordsOf(text).some(({ word }) => optionOf(word) === it)) };
 }

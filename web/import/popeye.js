@@ -185,7 +185,7 @@ export const popeye = (() => {
   function leaveOut(word, words, draft) {
     const known = vocabulary.unread(word) ?? vocabulary.unread(vocabulary.foreign(word)?.english ?? '');
     if (!known || MATTERING.includes(known.name)) throw new Unposed(say('importOption', { word }));
-    draft.notes.push(`${known.name} left out: ${known.instead}`);
+    draft.notes.push(`${known.name} left out`);
     if (reading.isNumber(words.peek() ?? '')) words.take();
   }
 

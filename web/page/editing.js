@@ -138,11 +138,33 @@ export function takeFen(text) {
   return true;
 }
 
+/** Switches tries and threats on. */
+function askForTries() {
+  element('tries').checked = true;
+  element('tries').dispatchEvent(new Event('change'));
+}
+
+/**
+ * Takes a text in which faults were corrected; switches tries on if a word that was left out asked for them.
+ * @param {{ text: string, asksForTries: boolean }} made
+ */
+export function takeCorrected({ text, asksForTries }) {
+  endTyping();
+  if (!state.isSolved()) {
+    note(say('correctLater'));
+    return;
+  }
+  setText(text);
+  if (asksForTries) askForTries();
+  note(say(asksForTries ? 'correctedTries' : 'corrected'));
+}
+
 /**
  * Takes over a whole text, a text of another program, or a position in FEN. A text that it replaces is kept.
- * @param {string} text
+ * @param {string} given
  */
-export function takeText(text) {
+export function takeText(given) {
+  const text = given.replace(/^\ufeff/, '');
   if (takeFen(text)) return;
   endTyping();
   const made = text.length < LONG_TEXT ? imported(text) : null;
@@ -151,7 +173,9 @@ export function takeText(text) {
   state.choose(1);
   setText(made?.text ?? text);
   element('text').setSelectionRange(0, 0);
-  if (made) note([say(made.text ? 'imported' : 'importedNone'), ...made.lost].join('. '));
+  if (made?.asksForTries) askForTries();
+  const said = made && [say(made.text ? 'imported' : 'importedNone'), ...(made.asksForTries ? [say('triesOn')] : []), ...made.lost];
+  if (said) note(said.join('. '));
 }
 
 export function addProblem() {

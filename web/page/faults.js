@@ -1,12 +1,17 @@
 // @ts-check
 // The faults of the report: their marks beside the text, and their explanations in the solutions.
-import { element, partText } from '../elements.js';
+import { element, makeButton, partText } from '../elements.js';
 import { faultBox } from '../faults.js';
-import { lineAt } from '../text.js';
+import { imported } from '../import/importing.js';
+import { lineAt, remembered } from '../text.js';
+import { say } from '../words.js';
 import { state, textNow } from './state.js';
 
 const MARKED_FAULTS = 100;
 const LINE_PIXELS = 20;
+const LONGEST_CONVERTED = 100000;
+/** What takes a corrected text, and what converts the text. */
+const corrected = { take: (/** @type {{ text: string, asksForTries: boolean }} */ _) => {}, convert: () => {} };
 
 /** @type {(item: Item) => item is FaultyItem} */
 const hasFault = /** @type {any} */ ((/** @type {Item} */ item) => item.fault !== null);
@@ -45,6 +50,15 @@ export function scrollToLine(line, lead) {
   element('text').scrollTop = Math.max(0, (line - lead) * LINE_PIXELS);
 }
 
+/** Returns whether another program's problems are in a text, which the page can convert. */
+const isOfAnother = remembered(text => text.length < LONGEST_CONVERTED && Boolean(imported(text)?.text));
+
+function convertButton() {
+  const button = makeButton(say('convert'), () => corrected.convert());
+  button.textContent = say('convert');
+  return button;
+}
+
 /** @param {number} line */
 function goToLine(line) {
   const { from, to } = lineAt(textNow(), line);
@@ -54,10 +68,21 @@ function goToLine(line) {
 }
 
 /**
+ * Sets what takes a corrected text, and what converts the text.
+ * @param {(made: { text: string, asksForTries: boolean }) => void} take
+ * @param {() => void} convert
+ */
+export function whenCorrected(take, convert) {
+  Object.assign(corrected, { take, convert });
+}
+
+/**
  * Draws the fault of an item, for the solutions.
  * @param {FaultyItem} item
  */
 export function drawnFault(item) {
   const general = JSON.parse(partText('fault-words'))[item.fault.number] ?? '';
-  return faultBox(state.solved, item, general, goToLine);
+  const box = faultBox(state.solved, item, general, goToLine, made => corrected.take(made));
+  if (isOfAnother(state.solved)) box.append(convertButton());
+  return box;
 }
