@@ -4,7 +4,7 @@
 // tries it uses the program pops-tries.
 //
 // Standard input: a line with { worker, engine } in base64 or { program, parts, tries }, then a line for each text with { text } in
-// base64 and { check, noBoard, refutations, least, workers, stopAfter, seconds }, for the made engine also { breaks, room }: how it
+// base64 and { check, noBoard, refutations, least, workers, stopAfter }, for the made engine also { breaks, room }: how it
 // breaks, and for how many bytes it has room. Standard output: a line for each text, how solving ended and { report }.
 import { spawnSync } from 'node:child_process';
 import { readFileSync } from 'node:fs';
@@ -17,7 +17,8 @@ import { withField } from '../web/text.js';
 const CUT_STATUS = 3;
 const SECONDS_A_TEXT = 1800;
 const SECONDS_OF_THE_PROGRAM = 1800;
-// A text that takes longer without its limit of solutions is solved with it.
+const SECONDS_OF_A_HANG = 5;
+// A text that takes more processor seconds without its limit of solutions is solved with it.
 const SECONDS_WITHOUT_LIMIT = 3;
 // Turns bytes into letters and back, so that any bytes are a text.
 const CODEC = {
@@ -68,15 +69,17 @@ class Program {
     Object.assign(this, { path, kept: new Map() });
   }
 
-  run(words, text, seconds = SECONDS_OF_THE_PROGRAM) {
-    const key = JSON.stringify([words, text]);
+  // The status is null if the program takes more processor seconds than `seconds`.
+  run(words, text, seconds = 'unlimited') {
+    const key = JSON.stringify([words, text, seconds]);
     if (!this.kept.has(key)) this.kept.set(key, this.ran(words, text, seconds));
     return this.kept.get(key);
   }
 
   ran(words, text, seconds) {
-    const done = spawnSync(this.path, words, { input: Buffer.from(text, 'latin1'), maxBuffer: 1 << 28,
-      timeout: seconds * 1000 });
+    const limited = ['-c', `ulimit -t ${seconds}; exec "$@"`, 'sh', this.path, ...words];
+    const done = spawnSync('sh', limited, { input: Buffer.from(text, 'latin1'), maxBuffer: 1 << 28,
+      timeout: SECONDS_OF_THE_PROGRAM * 1000 });
     if (done.error) throw new Error(`${this.path}: ${done.error.message}`);
     return { status: done.status, text: done.stdout.toString('latin1') };
   }
@@ -117,11 +120,8 @@ class MadeEngine {
 
   // Returns the report of a text without its limit of solutions, unless that takes too long.
   withoutLimit(text) {
-    try {
-      return this.program.run(['--no-board'], withField(text, 0, 'MaxSolutions', null), SECONDS_WITHOUT_LIMIT);
-    } catch {
-      return this.program.run(['--no-board'], text);
-    }
+    const whole = this.program.run(['--no-board'], withField(text, 0, 'MaxSolutions', null), SECONDS_WITHOUT_LIMIT);
+    return whole.status === null ? this.program.run(['--no-board'], text) : whole;
   }
 
   // Returns the parts of the phases of a text's first problem, each a list of solutions; null if it is faulty.
@@ -175,14 +175,17 @@ function madeEngine({ program, parts, tries }) {
   return parts ? new EngineOfPrograms(new Program(program), new Program(parts)) : new MadeEngine(new Program(program), new Program(tries));
 }
 
-// A worker with the made engine, which replies after a while; a broken one fails, a hanging one never replies.
+// A worker with the made engine, which replies after a while; a broken one fails, a hanging one says so and never replies.
 class MadeWorker {
-  constructor(engine, draw, { breaks, room = Infinity }) {
-    Object.assign(this, { engine, draw, breaks, room, isEnded: false });
+  constructor(engine, draw, { breaks, room = Infinity, hangs }) {
+    Object.assign(this, { engine, draw, breaks, room, hangs, isEnded: false });
   }
 
   postMessage(data) {
-    if (this.breaks === 'hangs' && data.call === 'part') return;
+    if (this.breaks === 'hangs' && data.call === 'part') {
+      this.hangs();
+      return;
+    }
     setTimeout(() => this.isEnded || this.onmessage(this.answer(data)), this.draw() * 4);
   }
 
@@ -219,12 +222,11 @@ async function solved(make, given) {
   let isLate;
   const late = new Promise(end => { isLate = () => end({ failed: 'no end in time' }); });
   let limit = setTimeout(isLate, SECONDS_A_TEXT * 1000);
+  given.hangs = () => {
+    clearTimeout(limit);
+    limit = setTimeout(isLate, SECONDS_OF_A_HANG * 1000);
+  };
   const solving = new Solving(CODEC.decode(Buffer.from(given.text, 'base64')), given, crew, text => {
-    // (counted from the last piece: on a busy machine the first one may take long)
-    if (given.seconds) {
-      clearTimeout(limit);
-      limit = setTimeout(isLate, given.seconds * 1000);
-    }
     report += text;
     pieces += 1;
     if (pieces === given.stopAfter) solving.stop();

@@ -65,6 +65,10 @@ def answer(words: Sequence[str], text: bytes) -> bytes:
 
 
 def _run(words: Sequence[str], text: bytes) -> "subprocess.CompletedProcess[bytes]":
+    return subprocess.run(list(words), input=text, stdout=subprocess.PIPE)
+
+
+def _run_in_time(words: Sequence[str], text: bytes) -> "subprocess.CompletedProcess[bytes]":
     """Runs a program, with a limit of processor seconds."""
 
     def limited() -> None:
@@ -83,7 +87,7 @@ def _asked(path: str, text: bytes, depth: int) -> Optional[Told]:
         parts[phase] = []
         if count != "0":
             words = [path, "--item", "1", "--phase", phase, "--part", f"1..{count}", *how]
-            whole = _run(words, text)
+            whole = _run_in_time(words, text)
             if whole.returncode < 0:
                 return None
             ends = [0] + [total.end() for total in _TOTAL.finditer(whole.stdout)]
@@ -121,7 +125,7 @@ def _unlimited(text: bytes) -> bytes:
     """The report with all solutions, where that takes no long."""
     open_text, ends = re.subn(rb"End(Problem)?\Z", b"", text)
     assert ends == 1
-    done = _run([os.environ["POPS"]], open_text + _MOST)
+    done = _run_in_time([os.environ["POPS"]], open_text + _MOST)
     return _report(text) if done.returncode < 0 else done.stdout
 
 

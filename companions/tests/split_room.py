@@ -3,7 +3,8 @@
 from pathlib import Path
 
 from pops_companions.many.machines import PROBE
-from tests import parts_told, support
+from tests import parts_told, run_here, support
+from tests.shown_limit import limit_when_shown, shown
 from tests.six_problems import SixProblems
 
 # A helpmate of seven first moves, three of which have most solutions; its set play has nineteen.
@@ -14,13 +15,18 @@ Option SetPlay%s
 EndProblem
 """
 
-# In the place of pops: on the whole problem it is slow, and writes two solutions and no end.
+# In the place of pops: on the whole problem it is slow, and writes two solutions and no end. Nothing
+# of it writes on when it is ended.
 _POPS = """#!/bin/sh
 case "$*" in *--check*) exec {pops} "$@" ;; esac
 text=$(cat)
-case $text in *Pa7*) printf %s "$text" | {pops} | head -n 34; exec sleep 6000 ;; esac
-printf %s "$text" | exec {pops} "$@"
+case $text in *Pa7*) printf %s '{beginning}'; {shown}; exec sleep 6000 ;; esac
+{before}
+exec {pops} "$@" <<END
+$text
+END
 """
+_LINES_OF_THE_BEGINNING = 34
 # In the place of pops-part: it notes each part that it is asked for, and on some does otherwise.
 _POPS_PART = """#!/bin/sh
 case $(cat) in *Pa7*) of=problem ;; *) of=probe ;; esac
@@ -50,9 +56,16 @@ class SplitRoom(SixProblems):
         text = PROBLEM % options
         self.input.write_bytes(text)
         self.wanted = support.run([support.pops(), str(self.input)]).output
-        self.write("stand_in", _POPS.format(pops=support.pops()))
+        self.stand_in_for_pops()
         for name, of in (("problem", text.replace(b"EndProblem\n", b"End")), ("probe", PROBE)):
             self.tell(name, of)
+
+    def stand_in_for_pops(self, before: str = ":") -> None:
+        """Writes a program in the place of pops that does this before it solves another problem."""
+        lines = self.wanted.decode("ascii").splitlines(keepends=True)
+        beginning = "".join(lines[:_LINES_OF_THE_BEGINNING])
+        words = {"pops": support.pops(), "beginning": beginning, "before": before}
+        self.write("stand_in", _POPS.format(**words, shown=shown(self.room)))
 
     def write(self, name: str, text: str) -> str:
         """Writes a program."""
@@ -87,6 +100,11 @@ class SplitRoom(SixProblems):
     def split(self, pops_part: str, *more: str) -> support.Outcome:
         return support.companion("pops-many", *self.words_of_split(pops_part, *more))
 
+    def split_when_shown(self, pops_part: str, *more: str) -> support.Outcome:
+        """Runs it in this process; the whole problem is cut once its first lines are written."""
+        with limit_when_shown(self.room):
+            return run_here.companion("pops-many", *self.words_of_split(pops_part, *more))
+
     def parts(self) -> list[str]:
         """The parts that were asked for, in that order."""
         path = self.room / "parts"
@@ -109,4 +127,5 @@ class SplitRoom(SixProblems):
 
     def files(self) -> list[str]:
         own = {"parts", "runs_on_parts", "lists", "pops_part", "told", "failed", "ssh"}
-        return [name for name in super().files() if name not in own]
+        names = [name for name in super().files() if not name.startswith("shown-")]
+        return [name for name in names if name not in own]

@@ -32,7 +32,7 @@ def output_of(example: str) -> str:
             stdin=subprocess.DEVNULL,
             capture_output=True,
             text=True,
-            timeout=60,
+            timeout=support.PATIENCE,
         )
     assert done.returncode == 0 and done.stderr == "", done.stderr
     return done.stdout

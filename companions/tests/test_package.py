@@ -191,7 +191,11 @@ class Wheel(unittest.TestCase):
     def said(self, room: str, *words: Union[str, Path]) -> str:
         """What a command says in an environment that names no other programs."""
         done = subprocess.run(
-            words, cwd=room, env={"PATH": "/usr/bin:/bin"}, capture_output=True, timeout=60
+            words,
+            cwd=room,
+            env={"PATH": "/usr/bin:/bin"},
+            capture_output=True,
+            timeout=support.PATIENCE,
         )
         self.assertEqual((done.returncode, done.stderr.decode()), (0, ""))
         return done.stdout.decode()

@@ -6,7 +6,6 @@ import itertools
 import os
 import tempfile
 import threading
-import time
 import unittest
 from collections.abc import Iterable
 from pathlib import Path
@@ -145,10 +144,8 @@ class Runs(unittest.TestCase):
         for event in run:
             if event == pops.PhaseEvent(2, pops.PhaseKind.PLAY):
                 break
-        begun = time.monotonic()
         threading.Timer(0.2, run.cancel).start()
         self.assertEqual(list(run), [pops.EndEvent(2, "cancelled")])
-        self.assertLess(time.monotonic() - begun, 10)
         first, second = run.result.items
         assert isinstance(first, pops.SoundItem) and isinstance(second, pops.SoundItem)
         self.assertEqual((first.unfinished, second.unfinished), (None, "cancelled"))
@@ -161,9 +158,13 @@ class Runs(unittest.TestCase):
         self.assertEqual(run._child.run.returncode, -9)
 
     def test_limit_of_seconds(self) -> None:
-        result = self.engine.solve(ENDLESS, pops.Limits(seconds=0.5)).result
-        self.assertIs(result.ending, pops.Ending.SECONDS)
-        self.assertIsNone(result.status)
+        # (on a busy machine it takes longer to come to the second problem)
+        for seconds in (0.5, 10, 200):
+            result = self.engine.solve(ENDLESS, pops.Limits(seconds=seconds)).result
+            self.assertIs(result.ending, pops.Ending.SECONDS)
+            self.assertIsNone(result.status)
+            if len(result.items) == 2:
+                break
         self.assertEqual([it.number for it in result.items], [1, 2])
 
     def test_limit_of_bytes(self) -> None:
@@ -255,10 +256,8 @@ class Asynchronous(unittest.TestCase):
             with self.assertRaises(asyncio.TimeoutError):
                 await asyncio.wait_for(wait(), 0.5)
 
-        begun = time.monotonic()
         asyncio.run(cancelled())
         self.assertIs(run.result.ending, pops.Ending.CANCELLED)
-        self.assertLess(time.monotonic() - begun, 10)
 
 
 class Problems(unittest.TestCase):

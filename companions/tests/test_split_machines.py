@@ -99,6 +99,22 @@ class Fails(Machines):
             "pops-many: machine 2/two left out: pops-part ended with status 127\n",
         )
 
+    def test_a_machine_that_fails_at_its_probe_is_asked_again(self) -> None:
+        once = f'[ "$MACHINE" ] && mkdir {self.room}/failed && kill -9 0'
+        for before_pops, before_part in ((once, ":"), (":", once)):
+            with self.subTest(before_part):
+                self.stand_in_for_pops(f"{before_pops} 2> /dev/null")
+                program = self.pops_part("probe-*", f"{before_part} 2> /dev/null")
+                self.is_solved(self.there(program, logins="one"))
+                (self.room / "failed").rmdir()
+                self.forget()
+
+    def test_a_probe_has_more_time_than_a_problem(self) -> None:
+        self.stand_in_for_pops('if [ "$MACHINE" ]; then sleep 3; fi')
+        outcome = self.there(self.pops_part(), logins="one")
+        self.is_solved(outcome)
+        self.assertEqual(outcome.error, "")
+
     def test_without_a_machine_the_rest_stays_for_resume(self) -> None:
         then = f"touch {self.room}/failed; kill -9 0"
         outcome = self.there(self.pops_part("problem-play-*", then))
@@ -141,7 +157,7 @@ class Limits(Machines):
                 self.is_solved(self.there(program, "--jobs", "8", logins=logins))
                 self.assertEqual(self.parts().count("play-1"), 1)
                 self.assertIn("play-3", self.parts())
-                self.assertEqual(self.left_running(b"6150"), [])
+                wait_for(lambda: not self.left_running(b"6150"))
                 self.forget()
 
     @staticmethod

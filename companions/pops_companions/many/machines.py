@@ -20,10 +20,12 @@ from pops_companions.many.tasks import UNFINISHED, Result, Task, is_whole
 # A longer problem would not fit into a word of a command line; it is solved on this machine.
 _LONGEST_WORD = 60_000
 # A machine that fails so often without a report in between is left out.
-_FAILURES = 2
+FAILURES = 2
 # A problem without a report after this many rounds is given up.
 ROUNDS_WITHOUT_REPORT = 3
 PROBE = b"BeginProblem Pieces White Kg6 Ra1 Black Kg8 Stipulation #1 EndProblem"
+# Only where a machine hangs: the probe takes a moment, but a busy machine may need many times that.
+_SECONDS_OF_A_PROBE = 600
 # The program is $0; the one word after it holds number and text of each problem in turn.
 _SCRIPT = (
     'set -f; set -- $1; while [ $# -gt 1 ]; do printf "%s " "$1"; '
@@ -95,14 +97,32 @@ class Machines:
         self._program = program
         self._parallel = parallel
         self._lock = threading.Lock()
-        limit = _LIMIT.format(seconds=program.seconds) if program.seconds else ""
-        self._script = [_SCRIPT.format(options=" ".join(options), limit=limit), pops]
+
+        def script(seconds: Optional[float]) -> list[str]:
+            limit = _LIMIT.format(seconds=seconds) if seconds else ""
+            return [_SCRIPT.format(options=" ".join(options), limit=limit), pops]
+
+        self._script = script(program.seconds)
+        self._probe = script(program.seconds and max(program.seconds, _SECONDS_OF_A_PROBE))
         named = [name for login in logins for name in login.split(",") if name]
         self.alive = [login for login in dict.fromkeys(named) if self._is_sound(login)]
         self.expect_some()
 
     def _is_sound(self, login: str) -> bool:
         wanted = self._program.report(PROBE)
+        for _ in range(FAILURES):
+            report = self._probed(login)
+            reason = self._parallel.last_error
+            if report == wanted:
+                return True
+            if report is not None:
+                reason = "its pops gives another report"
+                break
+        self._say(f"machine {login} left out: {reason}")
+        return False
+
+    def _probed(self, login: str) -> Optional[bytes]:
+        """Returns what a machine reports of the probe; None where no report came back."""
         answers: dict[int, bytes] = {}
 
         def take(line: bytes) -> None:
@@ -110,12 +130,8 @@ class Machines:
             if answer is not None:
                 answers[answer[0]] = answer[2]
 
-        self._parallel.run([login], self._script, [f"0 {coded(PROBE)}"], take)
-        if answers.get(0) == wanted:
-            return True
-        other = "its pops gives another report"
-        self._say(f"machine {login} left out: {other if answers else self._parallel.last_error}")
-        return False
+        self._parallel.run([login], self._probe, [f"0 {coded(PROBE)}"], take)
+        return answers.get(0)
 
     def expect_some(self) -> None:
         """Raises MachinesError where no machine is left."""
@@ -184,5 +200,5 @@ class Watch:
 
     def note(self, machine: str, well: bool) -> None:
         self._failures[machine] = 0 if well else self._failures.get(machine, 0) + 1
-        if self._failures[machine] >= _FAILURES:
+        if self._failures[machine] >= FAILURES:
             self._machines.leave_out(machine)

@@ -11,6 +11,7 @@ import signal
 import subprocess
 import tempfile
 import threading
+import time
 from collections.abc import Callable, Iterable, Sequence
 from pathlib import Path
 from typing import NamedTuple, Optional
@@ -20,6 +21,9 @@ from pops_companions.many.child_process import ChildProcess, outcome_of
 
 _SECONDS_BETWEEN_LOOKS = 0.3
 _SECONDS_TO_END = 3.0
+# How often jobs that are stopped are looked for, until none is left.
+_LOOKS = 100
+_SECONDS_BETWEEN_KILLS = 0.02
 _SSH = "ssh -o BatchMode=yes -o ConnectTimeout=10 -o ServerAliveInterval=5 -o ServerAliveCountMax=3"
 # Ends a job that isn't to begin, before its login and, on this machine, before its script.
 UNLESS_OVER = '[ ! -e "$PARALLEL_HOME/over-$PARALLEL_SEQ" ] || exit 0; '
@@ -141,13 +145,26 @@ class Parallel:
         for job in jobs:
             (self._room / f"over-{job}").touch()
         marks = {f"{_NUMBER}={job}".encode("ascii") for job in jobs}
+        # (what a process starts meanwhile is seen at the next look)
+        for _ in range(_LOOKS):
+            if not self._kill(marks):
+                return
+            time.sleep(_SECONDS_BETWEEN_KILLS)
+
+    def _kill(self, marks: set[bytes]) -> bool:
+        """Kills the processes with one of these marks; returns whether others may be left."""
+        may_be_left = False
         for process in sessions.members(self._session):
             try:
-                own = Path(f"/proc/{process}/environ").read_bytes().split(b"\0")
-                if not marks.isdisjoint(own):
+                own = Path(f"/proc/{process}/environ").read_bytes()
+                # (one that is about to become another program has no environment)
+                may_be_left |= not own
+                if not marks.isdisjoint(own.split(b"\0")):
+                    may_be_left = True
                     os.kill(process, signal.SIGKILL)
             except OSError:
                 pass
+        return may_be_left
 
     @property
     def last_error(self) -> str:

@@ -234,12 +234,15 @@ class Program(Runs):
         return Result(task, status, task.numbered(report))
 
     def report(self, text: bytes) -> bytes:
-        """Returns the report of one problem."""
-        return self._one(text)[1]
+        """Returns the report of one problem, however long it takes."""
+        return self._of(self.outcome([], text))[1]
 
     def _one(self, text: bytes) -> tuple[int, bytes]:
         """Status and report of a run on one problem; UNFINISHED where its time was over."""
-        run = self.outcome([], text, self.seconds)
+        return self._of(self.outcome([], text, self.seconds))
+
+    def _of(self, run: Outcome) -> tuple[int, bytes]:
+        """Status and report of a run that ended."""
         if run.status in (SOUND, FAULTY) and is_whole(run.output):
             return run.status, run.output
         if not run.in_time:

@@ -12,6 +12,7 @@ from typing import NamedTuple, Optional
 
 from pops_companions.input.pieces import cut
 from pops_companions.many.machines import (
+    FAILURES,
     PROBE,
     ROUNDS_WITHOUT_REPORT,
     Machines,
@@ -187,6 +188,18 @@ class RemoteParts:
         self._machines.expect_some()
 
     def _is_sound(self, login: str, part: Part, wanted: bytes) -> bool:
+        for _ in range(FAILURES):
+            report, reason = self._probed(login, part)
+            if report == wanted:
+                return True
+            if report is not None:
+                reason = "its pops-part gives another report"
+                break
+        self._say(f"machine {login} left out: {reason}")
+        return False
+
+    def _probed(self, login: str, part: Part) -> tuple[Optional[bytes], str]:
+        """Returns a machine's report of a part; None where none came back, with the reason."""
         answers: list[bytes] = []
         reasons: list[str] = []
 
@@ -198,11 +211,8 @@ class RemoteParts:
             reasons.append(reason)
 
         self._hand_out([part], [login], Handling(keep, fail, lambda part: False))
-        if answers == [wanted]:
-            return True
-        reasons.append("its pops-part gives another report" if answers else "no report came back")
-        self._say(f"machine {login} left out: {reasons[0]}")
-        return False
+        report = answers[0] if answers else None
+        return report, reasons[0] if reasons else "no report came back"
 
     def run(
         self,
