@@ -1,7 +1,8 @@
 // @ts-check
 // The solutions as rows that fold, and the walk through their moves. Rows are drawn when they are unfolded, a number at
 // a time. While a report grows, only its last rows change.
-import { element, makeButton } from './elements.js';
+import { comparisonOf } from './compared.js';
+import { element, madeWith, makeButton } from './elements.js';
 import { foundIn, labelOf, rowsOf, triesIn } from './report.js';
 import { say } from './words.js';
 
@@ -38,6 +39,15 @@ const stepsTo = ({ row, index }) => [...stepsAbove(row), ...stepsOf(row).slice(0
  * @returns {string}
  */
 const saidIn = row => `${pathOf(row)}\n${row.below.map(saidIn).join('')}`;
+
+/**
+ * Says what refutes a try, for its folded row; empty for another row.
+ * @param {TreeRow} row
+ */
+function briefOf(row) {
+  const refutations = row.below.find(it => it.word === 'but')?.below ?? [];
+  return refutations.length ? say('butBrief', { moves: refutations.map(it => (it.word ? say(`below-${it.word}`) : labelOf(it.moves[0]))).join(' ') }) : '';
+}
 
 /**
  * Marks the rows on the way to rows that were unfolded; these are drawn unfolded.
@@ -191,6 +201,7 @@ export class Tree {
     box.groups = [];
     box.head = document.createElement('h2');
     box.age = this.line(say('oldItem'));
+    box.compared = this.comparisonBox(box);
     box.append(box.head, box.age);
     this.markBox(box, item);
     if (item.fault) box.append(fault(/** @type {FaultyItem} */ (item)));
@@ -223,6 +234,84 @@ export class Tree {
       if (index < box.groups.length) this.growPhase(box.groups[index], phase, /** @type {SoundItem} */ (item));
       else box.append(...this.drawnPhase(phase, /** @type {SoundItem} */ (item), box));
     });
+    this.growComparison(box, item);
+  }
+
+  /**
+   * Makes the box of phases side by side, which is filled when it is opened.
+   * @param {any} box
+   */
+  comparisonBox(box) {
+    const made = document.createElement('details');
+    made.className = 'compared';
+    made.append(madeWith('summary', say('compared')));
+    made.ontoggle = () => made.open && this.fillComparison(box);
+    return made;
+  }
+
+  /**
+   * Shows the box of phases side by side once there are some.
+   * @param {any} box
+   * @param {Item} item
+   */
+  growComparison(box, item) {
+    if (item.asked?.isHelp || !comparisonOf(this.phasesOf(box))) return;
+    box.append(box.compared);
+    if (box.compared.open) this.fillComparison(box);
+  }
+
+  /** @param {any} box @returns {{ kind: string, rows: TreeRow[] }[]} */
+  phasesOf(box) {
+    return box.groups.map((/** @type {Group} */ group) => ({ kind: group.kind, rows: group.rows }));
+  }
+
+  /** @param {any} box */
+  fillComparison(box) {
+    const made = /** @type {Comparison<TreeRow>} */ (comparisonOf(this.phasesOf(box)));
+    const table = document.createElement('table');
+    const heads = made.columns.map(({ label, row }) => this.comparedCell('th', row ? [row] : [], [label]));
+    table.append(this.tableRow('', heads));
+    if (made.columns.some(it => it.head)) table.append(this.tableRow(say('below-threat'), made.columns.map(({ head }) => this.headCell(head))));
+    for (const { label, cells } of made.rows) {
+      table.append(this.tableRow(label, cells.map(({ rows, said, isChanged }) => this.comparedCell('td', rows, said, isChanged))));
+    }
+    const scroll = document.createElement('div');
+    scroll.append(table);
+    const left = made.left ? [this.line(say('comparedLeft', { count: made.left }))] : [];
+    box.compared.replaceChildren(madeWith('summary', say('compared')), scroll, ...left);
+  }
+
+  /** @param {TreeRow | null} head what a first move threatens, or a word */
+  headCell(head) {
+    if (!head) return madeWith('td', '');
+    if (!head.below.length) return madeWith('td', say(`below-${head.word}`));
+    return this.comparedCell('td', head.below, head.below.map(it => labelOf(it.moves[0])));
+  }
+
+  /** @param {string} label @param {HTMLElement[]} cells */
+  tableRow(label, cells) {
+    const made = document.createElement('tr');
+    made.append(madeWith('th', label), ...cells);
+    return made;
+  }
+
+  /**
+   * Makes a cell whose texts are buttons that go to the rows' positions.
+   * @param {string} tag
+   * @param {TreeRow[]} rows
+   * @param {string[]} said
+   * @param {boolean} isChanged
+   */
+  comparedCell(tag, rows, said, isChanged = false) {
+    const made = madeWith(tag, rows.length ? '' : said.join(' '));
+    made.className = isChanged ? 'changed' : '';
+    made.append(...rows.map((row, at) => {
+      const button = makeButton(said[at] === '!' ? say('refutes', { move: labelOf(row.moves[0]) }) : said[at], () => this.go(row, 0));
+      button.className = 'move';
+      button.textContent = said[at];
+      return button;
+    }));
+    return made;
   }
 
   /** @param {string} text */
@@ -239,7 +328,7 @@ export class Tree {
     const list = madeList('ul');
     list.className = 'top';
     const rows = /** @type {TreeRow[]} */ (rowsOf(phase, item.asked.isHelp));
-    const group = { item, men: this.start(item), rows, list, lines: phase.lines.length, total: this.line(this.totalOf(phase)) };
+    const group = { kind: phase.kind, item, men: this.start(item), rows, list, lines: phase.lines.length, total: this.line(this.totalOf(phase)) };
     this.groups.push(group);
     box.groups.push(group);
     this.prepare(rows, null, group);
@@ -320,6 +409,8 @@ export class Tree {
     row.line = line;
     row.buttons = this.buttonsOf(row);
     line.append(turn, ...row.buttons);
+    const brief = briefOf(row);
+    if (brief) line.append(row.brief = Object.assign(madeWith('span', brief), { className: 'brief' }));
     if (row.below.length && row.wasOpen) this.fold(row, true);
     return line;
   }
@@ -353,6 +444,7 @@ export class Tree {
       this.fill(row.list, row.below, it => this.drawnRow(it));
     }
     if (row.list) row.list.hidden = !isOpen;
+    if (row.brief) row.brief.hidden = isOpen;
     row.turn.textContent = isOpen ? '▾' : '▸';
     row.turn.setAttribute('aria-expanded', String(isOpen));
     row.turn.setAttribute('aria-label', say(isOpen ? 'closeRow' : 'openRow'));

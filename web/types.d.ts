@@ -198,13 +198,19 @@ interface ListBox extends HTMLElement {
   drawMore: (() => void) | null;
 }
 /** The element of an item. */
-interface ItemBox extends HTMLElement { groups: Group[]; head: HTMLElement; age: HTMLElement }
+interface ItemBox extends HTMLElement { groups: Group[]; head: HTMLElement; age: HTMLElement; compared: HTMLDetailsElement }
 /** A phase as it is drawn. */
-interface Group { item: SoundItem; men: Men; rows: TreeRow[]; list: ListBox; lines: number; total: HTMLElement }
+interface Group { kind: string; item: SoundItem; men: Men; rows: TreeRow[]; list: ListBox; lines: number; total: HTMLElement }
+/** A phase or a first move beside others: what it threatens, and the replies to it. */
+interface ComparedColumn<T> { kind: string; label: string; row: T | null; head: T | null; replies: T[]; refutations: T[] }
+/** What White answers to a reply, and whether it is another answer than in the play; `!` if the reply refutes. */
+interface ComparedCell<T> { rows: T[]; said: string[]; isChanged: boolean }
+/** Phases side by side, and the number of tries that are left out. */
+interface Comparison<T> { columns: ComparedColumn<T>[]; rows: { label: string; cells: ComparedCell<T>[] }[]; left: number }
 /** A row with its place in the tree, and its elements once they are drawn. */
 interface TreeRow extends Row {
   below: TreeRow[]; parent: TreeRow | null; group: Group; index: number; siblings: TreeRow[]; wasOpen?: boolean;
-  line?: HTMLElement; list?: ListBox; turn: HTMLElement; buttons: HTMLElement[];
+  line?: HTMLElement; list?: ListBox; turn: HTMLElement; buttons: HTMLElement[]; brief?: HTMLElement;
 }
 /** A move of a row. */
 interface RowPlace { row: TreeRow; index: number }

@@ -20,6 +20,8 @@ LEAST_OF_SOLUTIONS = 120
 LEAST_SIZE = 18
 # The manual's problem: the key is 1.Qh8-b2, and 1.Qh8-h2 fails to 1...Ke1-d1.
 MATE_IN_TWO = "BeginProblem\nPieces White Kd6 Qh8 Rc7 Black Ke1 Pa6\nStipulation #2\nOption Variation\nEndProblem\n"
+# After 1...Kd3 set play mates by 2.Qd4, the play also by another move.
+SET_AND_PLAY = "BeginProblem\nPieces White Ke5 Qf2 Rg2 Bd7 Sh3 Black Kc4 Pb2\nStipulation #2\nOption Variation SetPlay\nEndProblem\n"
 # A page that reads a long text again for each of its words takes hours.
 SECONDS_OF_A_LONG_TEXT = 600
 HOSTILE = "<img src=x onerror='window.ran = 1'><script>window.ran = 1</script>\"'&"
@@ -155,7 +157,8 @@ def with_tries(page: Page) -> None:
     page.solve()
     shown = page.told("tree")
     page.holds(all(it in shown for it in ("1.Qh8-b2!", "1.Qh8-h2?", "1 key, ")), f"a key and a try: {shown}")
-    page.holds("threat" not in shown and "but" not in shown, "the tree with tries begins folded")
+    folded = str(browser.run("document.getElementById('tree').innerText"))
+    page.holds("1.Qh8-h2?… but 1...Ke1-d1!" in folded.replace(" …", "…").replace("\n", ""), f"a folded try shows its refutation: {folded}")
     browser.click(page.row("1.Qh8-h2?", "turn"))
     browser.click(page.row("threat", "turn"))
     browser.click(page.row("but", "turn"))
@@ -182,6 +185,21 @@ def with_tries(page: Page) -> None:
     browser.run(f"takeText({json.dumps(MATE_IN_TWO)})")
     page.solve()
     page.holds("1.Qh8-b2" in page.told("tree") and "!" not in page.told("tree"), "the switch is off")
+
+
+def compared(page: Page) -> None:
+    """Set play, tries and play side by side, with what changes."""
+    browser = page.browser
+    browser.size(1280, 800)
+    page.open(SET_AND_PLAY)
+    browser.click("#tries")
+    page.solve()
+    browser.click("#tree .compared summary")
+    table = browser.run("[...document.querySelectorAll('#tree table tr')].map(it => [...it.children].map(cell => cell.textContent).join('|')).join('\\n')")
+    page.holds("set play" in table.partition("\n")[0], f"side by side: {table}")
+    page.holds(browser.run("document.querySelectorAll('#tree td.changed').length") > 1, f"changed mates are marked: {table}")
+    page.picture("compared.png")
+    browser.click("#tries")
 
 
 # Run in the page: no part of a problem begins while the report is longer than `most` characters.
@@ -496,6 +514,7 @@ LOOKS: list[Callable[[Page], None]] = [
     entered,
     printed,
     with_tries,
+    compared,
     stopped,
     grown,
     faulty,

@@ -9,6 +9,7 @@ const REPORT = 'problem 1\n#1\nplay\n1.Ra1-a8#\nsolutions: 1\n\n';
 const TWO_MOVES = 'BeginProblem\nPieces White Kh8 Qb1 Black Kf8 Pa7\nStipulation #2\nEndProblem\n';
 const TRIES = 'problem 1\n#2\nplay\n1.Qb1-b6!\n  threat\n    2.Qb6-f6#\n  1...a7*b6\nsolutions: 1\ntries\n1.Qb1-b2?\n  zugzwang\n  but\n    1...a7-a5!\ntries: 1\n\n';
 fill({ explanations: EXPLANATIONS, example: TEXT, 'fault-words': '{"8": "what the manual says"}', 'men-shapes': '<svg><defs></defs></svg>', engine: 'AGFzbQEAAAA=' });
+const { comparisonOf } = await import('../../web/compared.js');
 const { Board } = await import('../../web/board.js');
 const { element, makeButton, madeWith, partText } = await import('../../web/elements.js');
 const { faultBox } = await import('../../web/faults.js');
@@ -453,4 +454,43 @@ test('files: a text of Popeye pasted into the text box is converted, also with a
   begin('');
   takeText(`\ufeff${TEXT}`);
   assert.equal(textNow(), TEXT);
+});
+
+const COMPARED = [
+  'problem 1', '#2', 'set', '1...a7-a6', '  2.Qb1-f5#', '1...a7-a5', '  2.Qb1-f1#', 'solutions: 2',
+  'play', '1.Qb1-b6!', '  zugzwang', '  1...a7*b6', '    2.Kh8-h7#', '  1...a7-a5', '    2.Qb6-f2#', '    2.Qb6-f6#', 'solutions: 1',
+  'tries', '1.Qb1-b2?', '  threat', '    2.Qb2-f6#', '  1...a7-a5', '    2.Qb2-f6#', '    2.Qb2-f2#', '  but', '    1...Kf8-e8!', '    1...a7-a6!',
+  '1.Qb1-h1?', '  zugzwang', '  but', '    1...a7-a5!', 'tries: 2', '', ''].join('\n');
+
+test('tree: a folded try shows what refutes it', () => {
+  begin(TWO_MOVES, COMPARED);
+  const briefs = () => views.tree.groups[2].rows.map(row => [row.brief.textContent, Boolean(row.brief.hidden)]);
+  assert.deepEqual(briefs(), [['… but 1...Kf8-e8! 1...a7-a6!', false], ['… but 1...a7-a5!', false]]);
+  views.tree.fold(views.tree.groups[2].rows[0], true);
+  assert.deepEqual(briefs().map(it => it[1]), [true, false]);
+  assert.equal(views.tree.groups[1].rows[0].brief, undefined);
+});
+
+test('tree: set play, tries and play side by side, with what changes', () => {
+  begin(TWO_MOVES, COMPARED);
+  const box = views.tree.list.children[0].children.at(-1);
+  assert.equal(box.tagName, 'DETAILS');
+  box.open = true;
+  box.ontoggle();
+  const rows = box.querySelectorAll('tr').map(tr => tr.children.map(it => it.textContent + (it.className ? '*' : '')));
+  assert.deepEqual(rows, [
+    ['', 'set play', '1.Qb1-b2?', '1.Qb1-b6!'],
+    ['threat', '', '2.Qb2-f6#', 'zugzwang'],
+    ['1...a7*b6', '', '', '2.Kh8-h7#'],
+    ['1...a7-a5', '2.Qb1-f1#*', '2.Qb2-f6#2.Qb2-f2#', '2.Qb6-f2#2.Qb6-f6#*'],
+    ['1...a7-a6', '2.Qb1-f5#', '!', ''],
+    ['1...Kf8-e8', '', '!', ''],
+  ]);
+  assert.match(box.textContent, /not shown: 1 tries/);
+  box.querySelectorAll('button').find(it => it.textContent === '2.Qb6-f2#').onclick();
+  assert.equal(element('reached').textContent, '2.Qb6-f2#');
+  leave();
+  begin(TWO_MOVES, TRIES);
+  assert.equal(views.tree.list.children[0].children.some(it => it.tagName === 'DETAILS'), false);
+  assert.equal(comparisonOf([]), null);
 });

@@ -138,10 +138,18 @@ export function takeFen(text) {
   return true;
 }
 
-/** Switches tries and threats on. */
-function askForTries() {
-  element('tries').checked = true;
-  element('tries').dispatchEvent(new Event('change'));
+/**
+ * Switches tries and threats on if a text that asked for them has problems of direct mates or selfmates. Returns whether it did.
+ * @param {string} text
+ * @param {boolean} asksForTries
+ */
+function askForTries(text, asksForTries) {
+  const isAsked = asksForTries && /stipulation\s+s?[#=]/i.test(text);
+  if (isAsked) {
+    element('tries').checked = true;
+    element('tries').dispatchEvent(new Event('change'));
+  }
+  return isAsked;
 }
 
 /**
@@ -155,8 +163,7 @@ export function takeCorrected({ text, asksForTries }) {
     return;
   }
   setText(text);
-  if (asksForTries) askForTries();
-  note(say(asksForTries ? 'correctedTries' : 'corrected'));
+  note(say(askForTries(text, asksForTries) ? 'correctedTries' : 'corrected'));
 }
 
 /**
@@ -173,9 +180,9 @@ export function takeText(given) {
   state.choose(1);
   setText(made?.text ?? text);
   element('text').setSelectionRange(0, 0);
-  if (made?.asksForTries) askForTries();
-  const said = made && [say(made.text ? 'imported' : 'importedNone'), ...(made.asksForTries ? [say('triesOn')] : []), ...made.lost];
-  if (said) note(said.join('. '));
+  if (!made) return;
+  const isAsked = askForTries(made.text ?? '', made.asksForTries);
+  note([say(made.text ? 'imported' : 'importedNone'), ...(isAsked ? [say('triesOn')] : []), ...made.lost].join('. '));
 }
 
 export function addProblem() {
