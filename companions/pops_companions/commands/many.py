@@ -138,6 +138,23 @@ def refuse_shared(read: Sequence[str], written: Sequence[str]) -> None:
             taken.add(real)
 
 
+def is_cut_unasked(settings: Settings, tasks: Sequence[Task]) -> bool:
+    """Returns whether the run is of one problem alone, which is cut into parts without --split.
+
+    The program of parts has to be of the same build as pops.
+    """
+    others = settings.check or settings.seconds is not None or settings.sshlogin
+    if others or len(tasks) != 1 or tasks[0].piece is None:
+        return False
+    try:
+        pops = Path(find(settings.pops)).resolve()
+        part_program = Path(find_part_program(None, str(pops))).resolve()
+    except MissingError:
+        return False
+    # (in the folder of a release, or in crates/pops/out and crates/pops_part/out)
+    return any(part_program.parents[it] == pops.parents[it] for it in (0, 2))
+
+
 def programs_of(settings: Settings, options: list[str]) -> Programs:
     """Returns the programs on this machine."""
     try:
@@ -196,10 +213,11 @@ class Solving:
     def __init__(self, settings: Settings):
         self._settings = settings
         self._options = ["--check"] * settings.check + ["--no-board"] * settings.no_board
-        self._programs = programs_of(settings, self._options)
         self._progress = Progress(NAME)
         sources = [read_source(name, self._progress) for name in settings.inputs]
         self._tasks = tasks_of(sources)
+        settings.split = settings.split or is_cut_unasked(settings, self._tasks)
+        self._programs = programs_of(settings, self._options)
         self._jobs = settings.jobs or len(os.sched_getaffinity(0))
         if settings.split:
             self._programs.whole.seconds = moment_of(settings, len(self._tasks), self._jobs)

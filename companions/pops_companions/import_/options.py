@@ -16,9 +16,9 @@ _ALL_SHOWN = "all solutions are shown, whatever the defences"
 _SHOWN_OTHERWISE = "the report has its own form"
 # Options that are left out, since the problem is the same without them.
 _LEFT_OUT = {
-    Option.TRY: "tries aren't shown",
-    Option.DEFENCE: "tries aren't shown",
-    Option.THREAT: _ALL_SHOWN,
+    Option.TRY: "pops-tries shows tries",
+    Option.DEFENCE: "pops-tries --refutations N shows tries with up to N refutations",
+    Option.THREAT: "pops-tries shows threats",
     Option.NO_THREAT: "no threat is named, and all defences are shown",
     Option.NON_TRIVIAL: _ALL_SHOWN,
     Option.MAX_FLIGHT_SQUARES: _ALL_SHOWN,

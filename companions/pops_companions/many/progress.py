@@ -2,8 +2,11 @@
 
 import os
 import sys
+import threading
 import time
-from collections.abc import Callable
+from collections.abc import Callable, Iterator
+from contextlib import contextmanager
+from typing import Optional
 
 _SECONDS_BETWEEN = 0.5
 
@@ -28,7 +31,9 @@ class Progress:
         self._name = name
         self._before = self._done = self._total = 0
         self._parts_before = self._parts_left = 0
-        self._is_of_parts = False
+        # Makes the line of the problem in parts that got on last.
+        self._line_of_parts: Optional[Callable[[float], str]] = None
+        self._lock = threading.Lock()
         self._began = self._next = 0.0
         # Whether standard error is a terminal.
         self.is_shown = sys.stderr.isatty()
@@ -49,13 +54,31 @@ class Progress:
         """Counts another problem as done."""
         self._done += 1
         is_last = self._done == self._total
-        if is_last or not self._is_of_parts:
+        if is_last or self._line_of_parts is None:
             self._tell(self.line, is_last)
 
     def wait_on(self) -> None:
-        """Shows that time passes while no problem is done."""
-        if not self._is_of_parts:
-            self._tell(self.line, False)
+        """Shows that time passes while nothing is done."""
+        self._tell(self._line_of_parts or self.line, False)
+
+    @contextmanager
+    def beating(self) -> Iterator[None]:
+        """Shows meanwhile that time passes, without calls of `wait_on`."""
+        ended = threading.Event()
+
+        def beat() -> None:
+            while not ended.wait(_SECONDS_BETWEEN):
+                self.wait_on()
+
+        heart = threading.Thread(target=beat, daemon=True)
+        if self.is_shown:
+            heart.start()
+        try:
+            yield
+        finally:
+            ended.set()
+            if heart.ident is not None:
+                heart.join()
 
     def line(self, seconds: float) -> str:
         """Returns the line after `seconds` of this run."""
@@ -69,7 +92,6 @@ class Progress:
 
     def begin_parts(self, left: int) -> None:
         """Begins to count the `left` parts of all problems in parts."""
-        self._is_of_parts = True
         self._parts_before = self._parts_left = left
         self._began = self._next = time.monotonic()
 
@@ -84,6 +106,7 @@ class Progress:
                 return text
             return self.line_of_parts(problem.partition(" (")[0], tally, found, seconds)
 
+        self._line_of_parts = line
         self._tell(line, False)
 
     def line_of_parts(
@@ -95,22 +118,26 @@ class Progress:
         done = self._parts_before - self._parts_left
         if done > 0 and self._parts_left > 0:
             text += f", about {duration(seconds / done * self._parts_left)} left"
+        elif self._parts_left > 0 and seconds >= 1:
+            text += f", {duration(seconds)} so far"
         return text
 
     def _tell(self, line: Callable[[float], str], is_last: bool) -> None:
         """Writes a line, but where the one before is new."""
-        now = time.monotonic()
-        if self.is_shown and (now >= self._next or is_last):
-            self._next = now + _SECONDS_BETWEEN
-            text = line(now - self._began)
-            _tell("\r" + text.ljust(self._width))
-            self._width = len(text)
+        with self._lock:
+            now = time.monotonic()
+            if self.is_shown and (now >= self._next or is_last):
+                self._next = now + _SECONDS_BETWEEN
+                text = line(now - self._began)
+                _tell("\r" + text.ljust(self._width))
+                self._width = len(text)
 
     def say(self, message: str) -> None:
         """A message of its own line."""
-        cleared = "\r" + " " * self._width + "\r" if self._width else ""
-        self._width = 0
-        _tell(f"{cleared}{self._name}: {message}\n")
+        with self._lock:
+            cleared = "\r" + " " * self._width + "\r" if self._width else ""
+            self._width = 0
+            _tell(f"{cleared}{self._name}: {message}\n")
 
     def end(self) -> None:
         """Ends the line."""

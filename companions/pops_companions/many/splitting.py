@@ -79,6 +79,10 @@ class Splitting:
     def run(self, there: Optional[RemoteParts], jobs: int) -> None:
         """Solves the parts: on other machines where there are any, else here, `jobs` at a time."""
         self._tell()
+        with self._progress.beating():
+            self._run(there, jobs)
+
+    def _run(self, there: Optional[RemoteParts], jobs: int) -> None:
         barred: list[Part] = []
         if there is not None:
             sent = [part for part in self._left() if Machines.takes(part.task)]

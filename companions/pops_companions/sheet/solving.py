@@ -2,7 +2,6 @@
 
 import io
 import os
-import threading
 from collections.abc import Sequence
 from concurrent.futures import Future, ThreadPoolExecutor, as_completed
 from dataclasses import replace
@@ -68,7 +67,7 @@ class Solving:
                 for number in wanted:
                     problem = pieces[number].alone(self._text, False)
                     number_of[pool.submit(program.text_of, problem)] = number
-                with _Clock(progress):
+                with progress.beating():
                     for future in as_completed(number_of):
                         _take(future.result(), number_of[future], found, late)
                         progress.one_more()
@@ -100,25 +99,3 @@ def _marked(result: Result) -> bytes:
     if result.status != UNFINISHED:
         return result.report
     return result.report + lines.UNFINISHED + b"%g s\n\n" % (result.seconds or 0.0)
-
-
-class _Clock:
-    """Shows on a terminal that time passes."""
-
-    def __init__(self, progress: Progress):
-        self._progress = progress
-        self._ended = threading.Event()
-        self._thread = threading.Thread(target=self._run, daemon=True)
-
-    def __enter__(self) -> None:
-        if self._progress.is_shown:
-            self._thread.start()
-
-    def __exit__(self, *_: object) -> None:
-        self._ended.set()
-        if self._thread.is_alive():
-            self._thread.join()
-
-    def _run(self) -> None:
-        while not self._ended.wait(0.5):
-            self._progress.wait_on()
