@@ -1,6 +1,7 @@
 """pops-judge: one sheet of a collection; runs that are stopped, and a program of tries."""
 
 import os
+import re
 import signal
 import subprocess
 import sys
@@ -8,6 +9,8 @@ import tempfile
 import unittest
 from pathlib import Path
 
+from pops_companions.chess.game_counts import impossible_counts
+from pops_companions.chess.men import Man, Square
 from pops_companions.review.work_folder import WorkFolder
 from tests import run_here, support, test_pages, test_sheet, test_soundness
 from tests.shown_limit import limit_when_shown, shown
@@ -68,13 +71,13 @@ class Judging(unittest.TestCase):
         self.assertEqual((outcome.status, outcome.error), (0, ""))
         one, two = self.articles()
         self.assertIn("A & B 1900", one.words)
-        self.assertIn("play\n1.Ra1-a8#\nsolutions: 1", one.words)
-        self.assertIn("play\n1.Kh8-g8 Ra1-a8#\nsolutions: 1", two.words)
+        self.assertIn("1.Ra8#!", "".join(one.words))
+        self.assertIn("1.Kg8 Ra8#", two.words)
         self.assertIn("<h1>Ours &amp; yours</h1>", self.sheet.read_text("utf-8"))
 
     def test_a_problem_that_takes_longer_is_taken_up_again(self) -> None:
         """In its time it shows two keys of one: unsound, whatever is missing."""
-        head = "problem 1\\n#1\\nplay\\n1.Ra1-a8#\\n1.Rb1-b8#\\n"
+        head = "problem 1\\n#1\\nplay\\n1.Ra1-a8#\\n1.Ra1-a7#\\n"
         slow = self.script(
             "slow",
             f"text=$(cat)\ncase $text in *'A mate'*)"
@@ -181,8 +184,7 @@ class Judging(unittest.TestCase):
             (work / name).write_bytes((work / name).read_bytes()[:100])
         self.assertEqual(self.judged("--resume", *words).status, 0)
         (article,) = self.articles()
-        self.assertIn("play\n1.Ra1-a8#\nsolutions: 1", article.words)
-        self.assertIn("tries and threats", article.words)
+        self.assertIn("1.Ra8#!", article.words)
 
     def test_a_kept_text_is_whole(self) -> None:
         folder, path = WorkFolder(self.room), self.room / "tries-1.txt"
@@ -205,16 +207,14 @@ class Judging(unittest.TestCase):
         )
         tries = self.script("tries", f"cat > /dev/null\nprintf '{TRIES_OF_ONE}'\n")
         self.assertEqual(self.judged("--resume", "--pops-tries", tries), (0, outcome.output, ""))
-        self.assertIn("tries and threats", self.articles()[0].words)
+        self.assertIn("1.Ra8#!", self.articles()[0].words)
 
     def test_tries_where_the_program_is(self) -> None:
         tries = self.script("tries", f"cat > /dev/null\nprintf '{TRIES_OF_ONE}'\n")
         outcome = self.judged("--pops-tries", tries)
         self.assertEqual((outcome.status, outcome.error), (0, ""))
         one, two = self.articles()
-        self.assertIn("tries and threats", one.words)
-        self.assertIn("play\n1.Ra1-a8#!\nsolutions: 1\ntries\ntries: 0", one.words)
-        self.assertNotIn("tries and threats", two.words)
+        self.assertIn("1.Ra8#!", one.words)
         missing = self.judged("--pops-tries", "nowhere/tries")
         self.assertEqual(missing.status, 3)
 
@@ -225,8 +225,72 @@ class Judging(unittest.TestCase):
         outcome = self.judged("--pops-tries", self.script("tries", words))
         self.assertEqual((outcome.status, outcome.error), (0, ""))
         (article,) = self.articles()
-        for text in ("1.Qh8-b2: 1 threat", "2 tries with one refutation", "1.Qh8-h2? Ke1-d1!"):
-            self.assertIn(text, "\n".join(article.words))
+        words = "\n".join(article.words)
+        for text in ("1.Qh8-b2: 1 threat", "2 tries with one refutation", "but 1...Kd1!"):
+            self.assertIn(text, words)
+        self.assertEqual(words.count("1.Qh2?"), 1)
+        self.assertEqual(words.count("1.Qb2!"), 1)
+
+    def cells(self) -> list[list[str]]:
+        """The cells of the table's rows but the first two and the last one."""
+        page = self.sheet.read_text("utf-8")
+        head, *rows = re.findall("<tr>(.*?)</tr>", page, re.S)
+        names = ["Verdict", "Keys", "Check, capture", "Short", "Duals", "Threats", "Tries", "Set play"]
+        self.assertEqual(re.findall("<th>(.*?)</th>", head)[2:-1], names)
+        return [re.findall("<td[^>]*>(.*?)</td>", row)[2:-1] for row in rows]
+
+    def test_the_table(self) -> None:
+        """By hand: zugzwang and two tries; smothered mates with check, and with a capture too."""
+        smothered = "Pieces White Kg1 Qc4 Sh6 Black Kh8 Ra8 Pg7h7{}\nStipulation #2\n"
+        help_mate = "Pieces White Kg6 Ra1 Black Kh8\nStipulation h#1\nOption SetPlay\n"
+        morphy = (support.REPOSITORY / "examples" / "morphy_1856.pop").read_text()
+        problems = [smothered.format(""), smothered.format(" Bg8"), help_mate]
+        rest = "".join(f"NextProblem\n{it}" for it in problems) + "EndProblem"
+        self.text.write_text(morphy.replace("EndProblem", rest))
+        self.judged("--pops-tries", str(support.REPOSITORY / "release" / "pops-tries"))
+        cells = [[*row[:4], row[5], row[7]] for row in self.cells()]
+        self.assertEqual(
+            cells,
+            [
+                ["sound", "1", "", "0", "zugzwang", ""],
+                ["sound", "1", "check", "0", "0", ""],
+                ["sound", "1", "check, capture", "0", "0", ""],
+                ["sound", "1", "", "0", "", "1"],
+            ],
+        )
+        self.assertEqual(self.cells()[0][6], "2")
+        _, checks, captures, _ = self.articles()
+        self.assertIn("the key gives check", checks.words)
+        self.assertIn("the key gives check and captures", captures.words)
+        self.assertIn("1.Qxg8+!", "".join(captures.words))
+
+    def test_counts_of_men_that_no_game_has(self) -> None:
+        kings = {"e1": "K", "e8": "k"}
+        pawns = {f"{file}2": "P" for file in "abcdefgh"}
+        for more, wanted in (
+            ({}, []),
+            ({"a3": "P"}, ["White has 9 pawns"]),
+            ({"a3": "Q"}, []),
+            ({"a3": "Q", "b3": "Q", "c3": "Q"}, ["White has 3 queens and 8 pawns"]),
+            ({"a3": "B", "b3": "B"}, []),
+            ({"a3": "B", "c3": "B"}, ["White has 2 bishops on dark squares and 8 pawns"]),
+            ({"b3": "B", "d3": "B"}, ["White has 2 bishops on light squares and 8 pawns"]),
+            ({"a3": "G", "b3": "Q", "c3": "Q"}, []),
+            ({f"{file}3": "S" for file in "abcdefgh"}, ["White has 17 men", "White has 8 knights and 8 pawns"]),
+        ):
+            men = {**kings, **pawns, **more}
+            found = {Square.of_name(it): Man.of_letter(letter) for it, letter in men.items()}
+            self.assertEqual(list(impossible_counts(found)), wanted)
+        black = {"a7": "p", "a3": "q", "b3": "q", "c3": "r", "d3": "r", "e3": "r", "e8": "k"}
+        found = {Square.of_name(it): Man.of_letter(letter) for it, letter in black.items()}
+        self.assertEqual(list(impossible_counts(found)), [])
+
+    def test_a_problem_with_nine_pawns(self) -> None:
+        text = b"BeginProblem\nPieces White Kg6 Ra1 Pa2b2c2d2e2f2g2h2h3 Black Kh8\n"
+        self.text.write_bytes(text + b"Stipulation #1\nEndProblem\n")
+        outcome = self.judged()
+        self.assertEqual(outcome.status, 1 if b"unsound" in outcome.output else 0)
+        self.assertIn("no game has these men: White has 9 pawns", self.articles()[0].words)
 
     def test_twins_have_one_verdict(self) -> None:
         self.text.write_bytes(

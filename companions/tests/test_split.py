@@ -256,7 +256,7 @@ class Texts(unittest.TestCase):
         name = "problem 14 (x.pop, line 3)"
         self.assertEqual(
             progress.line_of_parts(name, (0, 31), 1, 5),
-            f"pops-many: {name}: 0 of 31 parts, 1 solution",
+            f"pops-many: {name}: 0 of 31 parts, 1 solution, 0:05 so far",
         )
         progress.part(name, (10, 31), 3, 30)
         self.assertEqual(

@@ -17,6 +17,7 @@ from pops_companions.review.judgement_text import MOST_LINES, Tally, as_text
 from pops_companions.review.judging_run import Runs, Work
 from pops_companions.review.reading import reviewed_unfinished_report
 from pops_companions.review.sheet import Evidence, sheet
+from pops_companions.sheet.entries import boards_of
 
 NAME = "pops-judge"
 SECONDS = 60.0
@@ -129,8 +130,7 @@ def judge(settings: Settings) -> Status:
         judgements = beside.judgements(items)
         judged = list(judged_groups(judgements, given, settings.encoding, settings.apart))
     heading = settings.heading or Path(settings.collection).stem
-    lines = {number: item.lines for number, item in tries.items()}
-    evidence = Evidence(lines, settings.encoding, most)
+    evidence = Evidence(boards_of(text), tries, settings.encoding, most)
     page = sheet(tally.counted(judged), tally, heading, evidence)
     with command.written(settings.output) as target:
         target.write(page.encode("utf-8", "replace"))

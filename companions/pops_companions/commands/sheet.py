@@ -13,8 +13,6 @@ from pops_companions.chess.stipulation import Play
 from pops_companions.command import CommandError, Status
 from pops_companions.input.given import GivenProblem, given_problems
 from pops_companions.input.given_source import warn_of_rest
-from pops_companions.input.pieces import cut
-from pops_companions.input.reading import read_piece
 from pops_companions.many.child_process import outcome_of
 from pops_companions.many.program import LOOKED_FOR, MissingError, find
 from pops_companions.many.tries_program import TRIES_LOOKED_FOR, TriesProgram, find_tries
@@ -25,7 +23,7 @@ from pops_companions.report.tries import TriesItem, read_tries
 from pops_companions.sheet.as_html import Layout, as_html
 from pops_companions.sheet.as_latex import as_latex
 from pops_companions.sheet.as_text import as_text
-from pops_companions.sheet.entries import NOT_IN_REPORT, Entry, Sheet, board_of
+from pops_companions.sheet.entries import NOT_IN_REPORT, Entry, Sheet, boards_of
 from pops_companions.sheet.languages import LANGUAGES
 from pops_companions.sheet.solving import Solving
 from pops_companions.show.twins import groups
@@ -214,15 +212,6 @@ class Texts:
     def _refuse(self, name: str, why: str, error: ReportError) -> NoReturn:
         raise CommandError(Status.DEVICE, f"{name} is {why}: {error}") from None
 
-    def boards(self) -> dict[int, Board]:
-        """Returns the boards of the problems without a fault, also of those with NoBoard."""
-        readings = ((piece.number, read_piece(self.input, piece)) for piece in cut(self.input))
-        return {
-            number: board_of({square: placed.man for square, placed in reading.men.items()})
-            for number, reading in readings
-            if reading.number is None
-        }
-
 
 def with_missing(items: list[AnyItem], given: list[GivenProblem]) -> list[AnyItem]:
     """Adds the problems that a report lacks, as pops-many leaves them out, and says which."""
@@ -283,7 +272,7 @@ def pdf_of(page: str) -> bytes:
 def sheet(settings: Settings) -> Status:
     """Writes the sheet."""
     texts = Texts(settings)
-    given, boards = given_problems(texts.input), texts.boards()
+    given, boards = given_problems(texts.input), boards_of(texts.input)
     items = texts.items()
     warn_of_rest(NAME, settings.input, texts.input)
     warn_of_names(NAME, settings.report or settings.input, items, settings.encoding)

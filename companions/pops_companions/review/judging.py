@@ -6,6 +6,7 @@ from dataclasses import dataclass, field
 from enum import Enum
 from typing import Optional
 
+from pops_companions.chess.game_counts import impossible_counts
 from pops_companions.chess.men import Kind
 from pops_companions.chess.stipulation import Play, Stipulation
 from pops_companions.input.given import GivenProblem
@@ -53,11 +54,15 @@ class Weight(Enum):
 
 @dataclass(frozen=True)
 class Finding:
-    """Something found, in words, with the moves that show it."""
+    """Something found, in words, with the moves that show it.
+
+    `is_of_solutions` says that the solutions show these moves too.
+    """
 
     weight: Weight
     text: str
     lines: Sequence[str] = ()
+    is_of_solutions: bool = False
 
 
 @dataclass
@@ -82,6 +87,9 @@ class Judgement:
     unprovided_checks: Optional[int] = None
     threats: Optional[int] = None
     tries: Optional[int] = None
+    is_zugzwang: bool = False
+    # What the keys do, as `check` and `capture`.
+    key_traits: tuple[str, ...] = ()
 
     @property
     def verdict(self) -> Verdict:
@@ -99,6 +107,10 @@ class Judgement:
 
     def find(self, weight: Weight, text: str, lines: Sequence[str] = ()) -> None:
         self.findings.append(Finding(weight, text, lines))
+
+    def find_in_solutions(self, weight: Weight, text: str, lines: Sequence[str] = ()) -> None:
+        """Adds a finding whose moves are among the solutions."""
+        self.findings.append(Finding(weight, text, lines, True))
 
 
 def judged(
@@ -121,7 +133,7 @@ def judged(
         judgement.find(Weight.OPEN, f"unfinished: {item.unfinished}")
         return judgement
     judgement.wanted = wanted
-    _warn_of_nightriders(judgement, item)
+    _warn_of_men(judgement, item)
     play = _phase(item, PhaseKind.PLAY)
     if item.unfinished is not None and (play is None or play.total is None):
         _judge_unfinished(judgement, item, play, short)
@@ -130,6 +142,7 @@ def judged(
         judgement.find(Weight.OPEN, "not solved")
         return judgement
     _judge_number(judgement, item.stipulation, play)
+    _judge_keys(judgement, item.stipulation, play)
     _judge_short_solutions(judgement, item.stipulation, play, short)
     if tries is None or tries.total is None:
         _judge_duals(judgement, item.stipulation, play)
@@ -140,10 +153,14 @@ def judged(
     return judgement
 
 
-def _warn_of_nightriders(judgement: Judgement, item: SoundItem) -> None:
-    kinds = set() if item.board is None else {man.kind for man in item.board.men.values()}
+def _warn_of_men(judgement: Judgement, item: SoundItem) -> None:
+    """Notes nightriders without knights, and counts of men that no game can have."""
+    men = {} if item.board is None else item.board.men
+    kinds = {man.kind for man in men.values()}
     if Kind.NIGHTRIDER in kinds and Kind.KNIGHT not in kinds:
         judgement.find(Weight.NOTE, "N is a nightrider here, and there is no knight: knights are S")
+    for text in impossible_counts(men):
+        judgement.find(Weight.NOTE, f"no game has these men: {text}")
 
 
 def _judge_unfinished(
@@ -162,7 +179,7 @@ def _judge_unfinished(
     lines = () if play is None else _texts(play)
     if found > wanted:
         text = f"cooked: at least {counted(found, word)}, {wanted} wanted"
-        judgement.find(Weight.FLAW, text, lines)
+        judgement.find_in_solutions(Weight.FLAW, text, lines)
     is_short = _can_be_short(item.stipulation)
     ending = [node.text for node in solutions if isinstance(node, Node) and _ends(node.move)]
     asked = (*(short or ()), *(text for text in ending if text not in (short or ())))
@@ -173,7 +190,7 @@ def _judge_unfinished(
         judgement.find(Weight.OPEN, f"unfinished: {item.unfinished}")
         return
     so_far = f"at least {counted(found, word)}, {wanted} wanted" if found else f"no {word} so far"
-    judgement.find(Weight.OPEN, f"unfinished: {so_far} ({item.unfinished})", lines)
+    judgement.find_in_solutions(Weight.OPEN, f"unfinished: {so_far} ({item.unfinished})", lines)
 
 
 def missing(number: int) -> Judgement:
@@ -206,15 +223,31 @@ def _judge_number(judgement: Judgement, stipulation: Stipulation, play: Phase) -
     least = "at least " if judgement.stopped else ""
     if found > wanted:
         text = f"cooked: {least}{counted(found, word)}, {wanted} wanted"
-        judgement.find(Weight.FLAW, text, _texts(play))
+        judgement.find_in_solutions(Weight.FLAW, text, _texts(play))
     elif judgement.stopped:
         text = f"stopped: {least}{counted(found, word)}, {wanted} wanted"
-        judgement.find(Weight.OPEN, text, _texts(play))
+        judgement.find_in_solutions(Weight.OPEN, text, _texts(play))
     elif found == 0:
         judgement.find(Weight.FLAW, "no solution")
     elif found < wanted:
         text = f"solutions missing: {counted(found, word)}, {wanted} wanted"
-        judgement.find(Weight.FLAW, text, _texts(play))
+        judgement.find_in_solutions(Weight.FLAW, text, _texts(play))
+
+
+def _judge_keys(judgement: Judgement, stipulation: Stipulation, play: Phase) -> None:
+    """Notes keys that give check or capture; in one move each key ends the problem."""
+    if stipulation.moves == 1:
+        return
+    traits: dict[str, None] = {}
+    for key in _nodes(play):
+        move = key.move
+        found = ["check"] * (move.mark is Mark.CHECK) + ["capture"] * move.capture
+        said = {"check": "gives check", "capture": "captures"}
+        if found:
+            text = " and ".join(said[trait] for trait in found)
+            judgement.find(Weight.NOTE, f"the key {text}", (key.text,))
+        traits.update(dict.fromkeys(found))
+    judgement.key_traits = tuple(traits)
 
 
 def _judge_short_solutions(
@@ -281,17 +314,18 @@ def _judge_tries(judgement: Judgement, tries: TriesItem) -> None:
         move = key.text[:-1]
         if key.menace is Menace.THREAT:
             text = f"{move}: {counted(len(key.threats), 'threat')}"
-            judgement.find(Weight.NOTE, text, (_choices(key.threats),))
+            judgement.find_in_solutions(Weight.NOTE, text, (_choices(key.threats),))
         elif key.menace is not None:
             judgement.find(Weight.NOTE, f"{move}: {key.menace.value}")
     if len(tries.keys) == 1:
         judgement.threats = len(tries.keys[0].threats)
+        judgement.is_zugzwang = tries.keys[0].menace is Menace.ZUGZWANG
     close = [one for one in tries.tries if len(one.refutations) == 1]
     judgement.tries = len(close)
     if close:
         text = ("1 try" if len(close) == 1 else f"{len(close)} tries") + " with one refutation"
         lines = tuple(f"{one.text} {one.refutations[0].move.text}!" for one in close)
-        judgement.find(Weight.NOTE, text, lines)
+        judgement.find_in_solutions(Weight.NOTE, text, lines)
 
 
 def _choices(nodes: tuple[Node, ...]) -> str:
@@ -331,14 +365,14 @@ def _judge_set_play(judgement: Judgement, item: SoundItem, play: Phase) -> None:
     least = "at least " if phase.total.stopped else ""
     if item.stipulation.play is Play.HELP:
         text = f"set play: {least}{counted(phase.total.count, 'solution')}"
-        judgement.find(Weight.NOTE, text, _texts(phase))
+        judgement.find_in_solutions(Weight.NOTE, text, _texts(phase))
         return
     provided = _nodes(phase)
     choices = sum(len(node.below) > 1 for node in provided)
     text = f"set play: {least}{counted(len(provided), 'move')} of Black provided for"
     if choices:
         text += f", {choices} with a choice"
-    judgement.find(Weight.NOTE, text, tuple(map(_with_continuations, provided)))
+    judgement.find_in_solutions(Weight.NOTE, text, tuple(map(_with_continuations, provided)))
     keys = _nodes(play)
     if phase.total.stopped or not any(key.below for key in keys):
         return

@@ -1,20 +1,25 @@
 """A judge's sheet: a page with a verdict for each problem, and the evidence."""
 
 import html
-from collections.abc import Iterable, Mapping, Sequence
+from collections.abc import Callable, Iterable, Mapping, Sequence
+from dataclasses import replace
 from typing import NamedTuple, Optional
 
-from pops_companions.report.items import SoundItem
+from pops_companions.report.items import Board, SoundItem
+from pops_companions.report.tries import TriesItem
 from pops_companions.review.judged_groups import JudgedGroup
 from pops_companions.review.judgement_page import STYLE, finding_text
 from pops_companions.review.judgement_text import Tally, name_of
 from pops_companions.review.judging import Judgement
+from pops_companions.sheet.languages import LANGUAGES, marked_as
+from pops_companions.sheet.solution import Solution
 from pops_companions.show import diagram
 from pops_companions.show.titles import printable, shown
 
 _STYLE = """
-.name { width: auto; }
-.why { white-space: normal; width: 45%; }
+.name { width: 40%; }
+.why { white-space: normal; width: 30%; }
+body { max-width: 70em; }
 summary { cursor: pointer; }
 details pre { margin-top: .3em; }
 .origin { font-size: .9em; margin: 0; }
@@ -23,17 +28,30 @@ details pre { margin-top: .3em; }
 .unsound, .faulty { color: #900; }
 @media print { details:not([open]) { display: none; } }
 """
+_ENGLISH = LANGUAGES["en"]
+_MARKS = marked_as(_ENGLISH, {})
+# What the table says of a problem, of its twins one after the other.
+_COLUMNS: Mapping[str, Callable[[Judgement], str]] = {
+    "Keys": lambda it: _shown(it.solutions) + "+" * (it.solutions is not None and it.stopped),
+    "Check, capture": lambda it: ", ".join(it.key_traits),
+    "Short": lambda it: _shown(it.short_solutions),
+    "Duals": lambda it: _shown(_sum(it.duals_at_the_end, it.duals_earlier)),
+    "Threats": lambda it: "zugzwang" if it.is_zugzwang else _shown(it.threats),
+    "Tries": lambda it: _shown(it.tries),
+    "Set play": lambda it: _shown(it.set_solutions),
+}
 # More lines are folded.
 _LINES_SHOWN = 12
 
 
 class Evidence(NamedTuple):
-    """What is shown next to the judgements: tries by the numbers of their problems.
+    """What is shown next to the judgements: boards and tries by the numbers of their problems.
 
     `most` lines of a finding are shown.
     """
 
-    tries: Mapping[int, Sequence[str]]
+    boards: Mapping[int, Board]
+    tries: Mapping[int, TriesItem]
     encoding: str
     most: Optional[int]
 
@@ -53,7 +71,9 @@ def sheet(judged: Iterable[JudgedGroup], tally: Tally, heading: str, evidence: E
             f"<title>{title}</title>\n<style>{STYLE}{_STYLE}</style>\n</head>\n<body>\n",
             diagram.shapes(),
             f"<h1>{title}</h1>\n<p>{tally.text}</p>\n",
-            "<table>\n<tr><th>No.</th><th>Problem</th><th>Verdict</th><th>Why</th></tr>\n",
+            "<table>\n<tr>",
+            *(f"<th>{name}</th>" for name in ("No.", "Problem", "Verdict", *_COLUMNS, "Why")),
+            "</tr>\n",
             *rows,
             "</table>\n",
             *articles,
@@ -73,9 +93,27 @@ def _row(one: JudgedGroup, evidence: Evidence) -> str:
     reasons = [reason for judgement in one.judgements for reason in judgement.reasons]
     return (
         f'<tr><td><a href="#{_id(one)}">{number}</a></td><td class="name">{name}</td>'
-        f'<td class="{verdict}">{verdict}</td>'
+        f'<td class="{verdict}">{verdict}</td>{_cells(one)}'
         f'<td class="why">{html.escape("; ".join(reasons))}</td></tr>\n'
     )
+
+
+def _cells(one: JudgedGroup) -> str:
+    """Returns the cells of a problem; of twins, what differs is one after the other."""
+    cells = []
+    for value in _COLUMNS.values():
+        values = [value(judgement) for judgement in one.judgements]
+        is_one = len(set(values)) == 1
+        cells.append(values[0] if is_one else " / ".join(it or "–" for it in values))
+    return "".join(f"<td>{html.escape(cell)}</td>" for cell in cells)
+
+
+def _shown(number: Optional[int]) -> str:
+    return "" if number is None else str(number)
+
+
+def _sum(one: Optional[int], other: Optional[int]) -> Optional[int]:
+    return None if one is None or other is None else one + other
 
 
 def _article(one: JudgedGroup, evidence: Evidence) -> str:
@@ -105,18 +143,27 @@ def _of_twins(one: JudgedGroup, evidence: Evidence) -> Iterable[str]:
             text = html.escape(printable(heading))
             yield f'<h3>{text}: <span class="{verdict}">{verdict}</span></h3>\n'
         for finding in judgement.findings:
-            yield finding_text(finding, evidence.most)
-        yield _folded("solutions", solutions_of(judgement))
-        yield _folded("tries and threats", evidence.tries.get(judgement.number, ()))
+            # (the solutions come once, in short notation)
+            lines = () if finding.is_of_solutions else finding.lines
+            yield finding_text(replace(finding, lines=lines), evidence.most)
+        yield _folded("solutions", solutions_of(judgement, evidence))
 
 
-def solutions_of(judgement: Judgement) -> list[str]:
-    """Returns the lines that the report shows of a problem."""
-    item = judgement.item
-    if not isinstance(item, SoundItem):
+def solutions_of(judgement: Judgement, evidence: Evidence) -> list[str]:
+    """Returns set play, tries and keys in short notation, as a sheet of solutions has them."""
+    item, number = judgement.item, judgement.number
+    board = evidence.boards.get(number)
+    if not isinstance(item, SoundItem) or board is None:
         return []
-    phases = item.phases or ()
-    return [line for phase in phases for line in (phase.kind.value, *phase.lines, phase.last_line)]
+    solution = Solution(board.men, item.condition, _ENGLISH)
+    blocks = solution.blocks(item, evidence.tries.get(number))
+    lines: list[str] = []
+    for block in blocks:
+        lines += [block.heading] * (len(blocks) > 1)
+        indent = "  " * (len(blocks) > 1)
+        for line in block.lines:
+            lines.append(indent + "  " * line.level + line.text.translate(_MARKS))
+    return lines
 
 
 def _folded(summary: str, lines: Sequence[str]) -> str:

@@ -8,7 +8,8 @@ from typing import Optional
 from pops_companions.chess.attacks import Men
 from pops_companions.chess.men import Square
 from pops_companions.input.given import GivenProblem
-from pops_companions.input.reading import FaultKind
+from pops_companions.input.pieces import cut
+from pops_companions.input.reading import FaultKind, read_piece
 from pops_companions.report.items import AnyItem, Board, FaultyItem, SoundItem
 from pops_companions.report.tries import TriesItem
 from pops_companions.sheet.languages import Language
@@ -162,6 +163,16 @@ def _letter(twin: Twin) -> str:
     """Returns a twin's label as part of a number: `b`, ` duplex`."""
     text = twin.label.text.replace(")", "")
     return text if text[:1] != "d" or len(text) == 1 else f" {text}"
+
+
+def boards_of(text: bytes) -> dict[int, Board]:
+    """Returns the boards of an input's problems without a fault, also of those with NoBoard."""
+    readings = ((piece.number, read_piece(text, piece)) for piece in cut(text))
+    return {
+        number: board_of({square: placed.man for square, placed in reading.men.items()})
+        for number, reading in readings
+        if reading.number is None
+    }
 
 
 def board_of(men: Men) -> Board:
