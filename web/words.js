@@ -15,6 +15,7 @@ const WORDS = {
     undo: 'undo', redo: 'redo', clear: 'clear', left: 'shift left', right: 'shift right', up: 'shift up',
     down: 'shift down', mirror: 'mirror', turn: 'turn', exchange: 'exchange colours',
     leaves: 'a man would leave the board', held: '{man} {square}: where to? Escape cancels',
+    noGame: '; no game has {men}', allMen: '{colour} men', dark: '{man} on dark squares', light: '{man} on light squares',
     count: 'problem {number} of {all}: {white} + {black} men', none: 'no BeginProblem in the text',
     unknownWord: 'the board has no man for a word of Pieces, and would lose it: {word}',
     shown: 'position after {move}; Escape or “diagram” goes back', shownOld: 'position after {move}, of the problem before it was changed; Escape or “diagram” goes back',

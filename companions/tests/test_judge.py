@@ -267,7 +267,7 @@ class Judging(unittest.TestCase):
     def test_counts_of_men_that_no_game_has(self) -> None:
         kings = {"e1": "K", "e8": "k"}
         pawns = {f"{file}2": "P" for file in "abcdefgh"}
-        for more, wanted in (
+        cases: list[tuple[dict[str, str], list[str]]] = [
             ({}, []),
             ({"a3": "P"}, ["White has 9 pawns"]),
             ({"a3": "Q"}, []),
@@ -276,8 +276,12 @@ class Judging(unittest.TestCase):
             ({"a3": "B", "c3": "B"}, ["White has 2 bishops on dark squares and 8 pawns"]),
             ({"b3": "B", "d3": "B"}, ["White has 2 bishops on light squares and 8 pawns"]),
             ({"a3": "G", "b3": "Q", "c3": "Q"}, []),
-            ({f"{file}3": "S" for file in "abcdefgh"}, ["White has 17 men", "White has 8 knights and 8 pawns"]),
-        ):
+            (
+                {f"{file}3": "S" for file in "abcdefgh"},
+                ["White has 17 men", "White has 8 knights and 8 pawns"],
+            ),
+        ]
+        for more, wanted in cases:
             men = {**kings, **pawns, **more}
             found = {Square.of_name(it): Man.of_letter(letter) for it, letter in men.items()}
             self.assertEqual(list(impossible_counts(found)), wanted)

@@ -2,7 +2,7 @@
 // Changes of the text: by typing, by the board, by a FEN, by undo and redo. All else on the page follows the text.
 import { element } from '../elements.js';
 import { imported } from '../import/importing.js';
-import { changed, countOf, exchanged, readFen } from '../position.js';
+import { changed, countOf, exchanged, impossibleCounts, readFen } from '../position.js';
 import {
   blockAt, blocksOf, fenOfBlock, lineOf, menOf, NEW_PROBLEM, tailOf, withFen, withLine, withMen, withTail,
 } from '../text.js';
@@ -193,6 +193,19 @@ export function addProblem() {
   setText(text);
 }
 
+/**
+ * Says which counts of men no game can have.
+ * @param {Men} men
+ */
+function noGame(men) {
+  const sides = /** @type {[Colour, string][]} */ ([['w', say('white')], ['b', say('black')]]);
+  const counts = sides.flatMap(([side, colour]) => impossibleCounts(men, side).map(([number, kind, shade]) => {
+    const man = kind ? say('man', { colour, kind: say(kind) }) : say('allMen', { colour });
+    return `${number} × ${shade ? say(shade, { man }) : man}`;
+  }));
+  return counts.length ? say('noGame', { men: counts.join(', ') }) : '';
+}
+
 /** Shows the problem's position on the board, its men and its FEN, and the steps that can be undone. */
 export function showProblem() {
   const block = blockNow();
@@ -200,7 +213,7 @@ export function showProblem() {
   if (!state.walked) board.show(men, []);
   const all = blocksOf(textNow()).length;
   element('count').textContent = block
-    ? say('count', { number: block.number, all, white: countOf(men, 'w'), black: countOf(men, 'b') }) : say('none');
+    ? say('count', { number: block.number, all, white: countOf(men, 'w'), black: countOf(men, 'b') }) + noGame(men) : say('none');
   if (document.activeElement !== element('fen')) element('fen').value = block ? fenOfBlock(textNow(), block) : '';
   element('undo').disabled = !state.steps.has(-1);
   element('redo').disabled = !state.steps.has(1);
