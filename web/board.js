@@ -24,6 +24,9 @@ export class Board {
     /** @type {{ man: Man, square: Square | null, x: number, y: number, ghost: HTMLElement | null } | null} */
     this.drag = null;
     this.wasDragged = false;
+    this.isFlipped = false;
+    /** @type {Map<Square, HTMLElement>} */
+    this.squares = new Map();
     this.buildSquares();
     this.buildTools();
     addEventListener('pointermove', event => this.moved(event));
@@ -32,14 +35,39 @@ export class Board {
   }
 
   buildSquares() {
-    for (const rank of '87654321') {
-      const row = document.createElement('div');
-      row.setAttribute('role', 'row');
-      for (const file of FILES) row.append(this.builtSquare(file, rank));
-      element('squares').append(row);
-    }
+    for (const rank of '87654321') for (const file of FILES) this.builtSquare(file, rank);
+    this.flip(false);
     element('a8').tabIndex = 0;
     element('squares').onkeydown = event => this.key(/** @type {KeyboardEvent & { target: HTMLElement }} */ (event));
+  }
+
+  /**
+   * Puts the squares in their rows, as seen by White or by Black.
+   * @param {boolean} isFlipped
+   */
+  flip(isFlipped) {
+    this.isFlipped = isFlipped;
+    const [ranks, files] = isFlipped ? ['12345678', [...FILES].reverse()] : ['87654321', [...FILES]];
+    element('squares').replaceChildren(...[...ranks].map(rank => {
+      const row = document.createElement('div');
+      row.setAttribute('role', 'row');
+      row.append(...files.map(file => this.labelled(file, rank, ranks[7] === rank, files[0] === file)));
+      return row;
+    }));
+  }
+
+  /**
+   * Returns a square, with its file's letter in the lowest row and its rank's number in the left column.
+   * @param {string} file
+   * @param {string} rank
+   * @param {boolean} isLowest
+   * @param {boolean} isLeft
+   */
+  labelled(file, rank, isLowest, isLeft) {
+    const square = /** @type {HTMLElement} */ (this.squares.get(file + rank));
+    square.dataset.file = isLowest ? file : '';
+    square.dataset.rank = isLeft ? rank : '';
+    return square;
   }
 
   /** @param {string} file @param {string} rank */
@@ -47,11 +75,10 @@ export class Board {
     const made = document.createElement('button');
     made.type = 'button';
     made.id = file + rank;
+    this.squares.set(made.id, made);
     made.tabIndex = -1;
     made.setAttribute('role', 'gridcell');
     made.className = (FILES.indexOf(file) + Number(rank)) % 2 ? 'dark' : 'light';
-    if (rank === '1') made.dataset.file = file;
-    if (file === 'a') made.dataset.rank = rank;
     made.onclick = () => this.click(made.id);
     made.onpointerdown = event => this.pressed(made.id, event);
     made.onfocus = () => this.focused(made);
@@ -59,7 +86,6 @@ export class Board {
       event.preventDefault();
       this.set(made.id, null);
     };
-    return made;
   }
 
   buildTools() {
@@ -239,13 +265,13 @@ export class Board {
     const [file, rank] = placeOf(square);
     /** @type {Record<string, [number, number]>} */
     const steps = { ArrowLeft: [-1, 0], ArrowRight: [1, 0], ArrowUp: [0, 1], ArrowDown: [0, -1] };
-    const step = steps[event.key];
+    const step = steps[event.key]?.map(it => (this.isFlipped ? -it : it));
     const kind = event.key.toUpperCase();
     if (step) {
       /** @param {number} number */
       const inside = number => Math.min(7, Math.max(0, number));
       element(squareOf(inside(file + step[0]), inside(rank + step[1]))).focus();
-    } else if (event.key === 'Home' || event.key === 'End') element((event.key === 'Home' ? 'a' : 'h') + square[1]).focus();
+    } else if (event.key === 'Home' || event.key === 'End') element(((event.key === 'Home') !== this.isFlipped ? 'a' : 'h') + square[1]).focus();
     else if (event.key.length === 1 && KINDS.includes(kind)) this.set(square, (event.key === kind ? 'w' : 'b') + kind);
     else if (['Delete', 'Backspace', '.'].includes(event.key)) this.set(square, null);
     else if (event.key === 'Escape' && this.held) this.hold(null);

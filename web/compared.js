@@ -1,5 +1,5 @@
 // @ts-check
-// Set play, tries and play of a problem side by side: what White answers to each reply of Black, and what changes.
+// Set play, tries and play of a problem side by side: White's moves after each reply of Black, and what changes.
 import { labelOf } from './report.js';
 import { say } from './words.js';
 
@@ -21,7 +21,7 @@ const nameOfMove = ({ from, to, promotion, castling }) => castling ?? from + to 
 const nameOfAnswer = ({ kind, to, promotion, castling }) => castling ?? kind + to + (promotion ?? '');
 
 /**
- * Makes a column of a first move: its threat, and the replies with what White answers, or that they refute.
+ * Makes a column of a first move: its threat, and the replies with White's moves, or that they refute.
  * @template {Row} T
  * @param {string} kind
  * @param {string} label
@@ -55,7 +55,7 @@ function cellOf({ replies, refutations }, name) {
 }
 
 /**
- * Marks the cells in which White answers otherwise than in the play, and the play's own then.
+ * Marks the cells in which White moves otherwise than in the play, and the play's own then.
  * @template {Row} T
  * @param {ComparedCell<T>[]} cells
  * @param {ComparedColumn<T>[]} columns

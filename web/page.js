@@ -17,13 +17,14 @@ import { OUTS } from './page/outs.js';
 import { buildLive, liveChanged } from './page/live.js';
 import { loadEngine, showMost, showSaid, showSolve, solve, solveThis, stopSolving } from './page/solving.js';
 import { state, textNow } from './page/state.js';
-import { buildViews, notes, tree } from './page/views.js';
+import { keep, kept } from './page/storage.js';
+import { board, buildViews, notes, tree } from './page/views.js';
 import { beginVisit, drawVisit, openLink, storeVisit } from './page/visit.js';
 import { goBack, leave, showPlace } from './page/walk.js';
 import { fillPrint } from './printing.js';
 import { language, say } from './words.js';
 
-const CHANGE_SIGNS = { left: '←', right: '→', up: '↑', down: '↓', mirror: '⇋', turn: '↻' };
+const CHANGE_SIGNS = { left: '←', right: '→', up: '↑', down: '↓', mirror: '⇋', upright: '⇅', turn: '↻' };
 
 /** @param {string} name @returns {NodeListOf<HTMLElement>} the elements with this attribute */
 const allWith = name => document.querySelectorAll(`[${name}]`);
@@ -48,6 +49,7 @@ function buildButtons() {
   addButton('changes', 'redo', '↷', () => goSteps(1));
   for (const [name, sign] of Object.entries(CHANGE_SIGNS)) addButton('changes', name, sign, () => changeBoard(name));
   for (const name of ['exchange', 'clear']) addButton('changes', name, null, () => changeBoard(name));
+  addButton('changes', 'flip', null, flipBoard);
   addButton('changes', 'playing', null, togglePlaying);
   togglePlaying();
   addButton('line', 'fromHere', null, solveFromHere);
@@ -61,6 +63,13 @@ function buildButtons() {
   reached.id = 'reached';
   element('walk').append(reached);
   for (const [name, act] of Object.entries(OUTS)) addButton('outs', name, null, act);
+}
+
+/** Shows the board from the other side, now and in later visits. */
+function flipBoard() {
+  board.flip(!board.isFlipped);
+  element('flip').setAttribute('aria-pressed', String(board.isFlipped));
+  keep('pops.flipped', board.isFlipped ? 'on' : null);
 }
 
 /** @param {KeyboardEvent} event */
@@ -107,6 +116,7 @@ function begin() {
   buildButtons();
   buildFields();
   buildViews({ change, move }, showPlace);
+  if (kept('pops.flipped')) flipBoard();
   element('text').value = beginVisit();
   state.addFollowers(showProblem, showFields, showContents, showTail, keepText, showAge, showSaid, showSolve, liveChanged, () => notes.check());
   listen();

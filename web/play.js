@@ -88,6 +88,27 @@ export function halfAfter(moves, colour, { isHelp, isHalf }) {
 }
 
 /**
+ * Divides a stipulation into its form, as `h#`, and its number of moves; null for another word.
+ * @param {string} word
+ */
+export function partsOfStipulation(word) {
+  const found = /^([sh]?[#=])([0-9]+(?:\.5)?)$/i.exec(word);
+  return found && { form: found[1].toLowerCase(), moves: found[2] };
+}
+
+/**
+ * Writes a stipulation of a form and a number of moves, 2 without one; only help play has half a move. A form that is a whole word stays.
+ * @param {string} form
+ * @param {string} moves
+ */
+export function stipulationOf(form, moves) {
+  if (!/^[sh]?[#=]$/.test(form)) return form || null;
+  const halves = Math.round(2 * (Number(moves) || 2));
+  const number = form[0] === 'h' ? Math.max(halves, 1) / 2 : Math.max(Math.ceil(halves / 2), 1);
+  return form + Math.min(number, 16);
+}
+
+/**
  * Returns the problem that is left after a half-move: its stipulation, and whether it is set play, with Black to move; null if the
  * play is over.
  * @param {string} stipulation

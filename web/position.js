@@ -29,6 +29,7 @@ const CHANGES = {
   up: (file, rank) => [file, rank + 1],
   down: (file, rank) => [file, rank - 1],
   mirror: (file, rank) => [7 - file, rank],
+  upright: (file, rank) => [file, 7 - rank],
   turn: (file, rank) => [rank, 7 - file],
 };
 

@@ -96,6 +96,16 @@ export function nameOfText(text, block = blockAt(text, 0)) {
 }
 
 /**
+ * Returns a name for a file of a problem with this title: its letters and digits, joined by hyphens; `pops` without any.
+ * @param {string | null} title
+ * @param {string} ending
+ */
+export function fileNameOf(title, ending) {
+  const words = (title ?? '').normalize('NFC').match(/[\p{L}\p{M}\p{N}]+/gu) ?? [];
+  return `${[...words.join('-')].slice(0, 60).join('') || 'pops'}.${ending}`;
+}
+
+/**
  * Decodes a file's bytes, and says whether they were UTF-8; others are read as Windows-1252.
  * @param {Uint8Array} bytes
  */

@@ -203,7 +203,7 @@ interface ItemBox extends HTMLElement { groups: Group[]; head: HTMLElement; age:
 interface Group { kind: string; item: SoundItem; men: Men; rows: TreeRow[]; list: ListBox; lines: number; total: HTMLElement }
 /** A phase or a first move beside others: what it threatens, and the replies to it. */
 interface ComparedColumn<T> { kind: string; label: string; row: T | null; head: T | null; replies: T[]; refutations: T[] }
-/** What White answers to a reply, and whether it is another answer than in the play; `!` if the reply refutes. */
+/** White's moves after a reply, and whether they are others than in the play; `!` if the reply refutes. */
 interface ComparedCell<T> { rows: T[]; said: string[]; isChanged: boolean }
 /** Phases side by side, and the number of tries that are left out. */
 interface Comparison<T> { columns: ComparedColumn<T>[]; rows: { label: string; cells: ComparedCell<T>[] }[]; left: number }

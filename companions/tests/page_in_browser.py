@@ -409,6 +409,41 @@ def live(page: Page) -> None:
     browser.click("#live")
 
 
+# Run in the page: the names of files that would be saved, instead of saving them.
+SAVED = "window.saved = []; HTMLAnchorElement.prototype.click = function () { saved.push(this.download); }"
+
+
+def edited(page: Page) -> None:
+    """The stipulation by choice and number, the board from the other side, mirrored and cleared; files named after the title."""
+    browser = page.browser
+    browser.size(1280, 800)
+    page.open(MATE_IN_TWO.replace("Pieces", "Title Of the page\nPieces"))
+    browser.run("(it => { it.value = 'h#'; it.dispatchEvent(new Event('change')); })(document.getElementById('field-Stipulation'))")
+    browser.run("document.getElementById('field-Moves').select()")
+    browser.call("Input.insertText", text="2.5")
+    browser.key("Tab")
+    page.holds("Stipulation h#2.5\n" in page.text(), f"a stipulation chosen: {page.text()}")
+    browser.run("setText(textNow().replace('h#2.5', '#2'))")
+    top = "document.elementFromPoint(...(it => [it.left + 20, it.top + 20])(document.getElementById('squares').getBoundingClientRect())).id"
+    page.holds(browser.run(top) == "a8", "a8 is at the top left")
+    browser.click("#flip")
+    page.holds(browser.run(top) == "h1", "h1 is at the top left of the flipped board")
+    browser.drag("#h8", "#h7")
+    page.holds("Qh7" in page.text(), f"moved on the flipped board: {page.text()}")
+    page.picture("flipped.png")
+    browser.click("#flip")
+    browser.click("#upright")
+    page.holds("White Kd3 Qh2 Rc2 Black Ke8 Pa3" in page.text(), f"mirrored upright: {page.text()}")
+    browser.run(SAVED)
+    browser.run("OUTS.outText(); OUTS.outSvg()")
+    page.holds(browser.run("saved.join()") == "Of-the-page.pop,Of-the-page.svg", f"files: {browser.run('saved.join()')}")
+    browser.run("OUTS.outLink()")
+    browser.wait("document.getElementById('note').textContent.includes('link')")
+    page.holds("works only here" in page.told("note"), page.told("note"))
+    browser.click("#clear")
+    page.holds(page.text() == "BeginProblem\nStipulation #2\nOption Variation\nEndProblem\n", f"cleared: {page.text()}")
+
+
 def linked(page: Page) -> None:
     """A link opened beside a problem in work: in the tab of the work and in a new one; undo and solutions after a reload."""
     browser = page.browser
@@ -522,6 +557,7 @@ LOOKS: list[Callable[[Page], None]] = [
     given,
     aged,
     live,
+    edited,
     linked,
     composed,
     without_engine,

@@ -494,3 +494,39 @@ test('tree: set play, tries and play side by side, with what changes', () => {
   assert.equal(views.tree.list.children[0].children.some(it => it.tagName === 'DETAILS'), false);
   assert.equal(comparisonOf([]), null);
 });
+
+test('fields: the stipulation is a choice and a number; another word is a choice of its own', () => {
+  begin(TEXT.replace('#1', 'h#2.5'));
+  const shown = () => [element('field-Stipulation').value, element('field-Moves').value, Boolean(element('field-Moves').disabled)];
+  assert.deepEqual(shown(), ['h#', '2.5', false]);
+  element('field-Stipulation').value = '#';
+  element('field-Stipulation').onchange();
+  assert.equal(textNow(), TEXT.replace('#1', '#3'));
+  element('field-Moves').value = '2';
+  element('field-Moves').onchange();
+  assert.equal(textNow(), TEXT.replace('#1', '#2'));
+  setText(TEXT.replace('#1', 'r#2'));
+  assert.deepEqual([...shown(), element('field-Stipulation').children.at(-1).value], ['r#2', '', true, 'r#2']);
+});
+
+test('board: seen from the other side, with its letters and keys', () => {
+  begin(TEXT);
+  const corners = () => { const rows = element('squares').children; return [rows[0].children[0], rows[7].children[7]].map(it => it.id); };
+  assert.deepEqual(corners(), ['a8', 'h1']);
+  element('flip').onclick();
+  assert.deepEqual([...corners(), kept.get('pops.flipped')], ['h1', 'a8', 'on']);
+  assert.deepEqual(['h8', 'a8', 'h1', 'a1'].map(it => [element(it).dataset.file, element(it).dataset.rank]), [['h', '8'], ['a', ''], ['', '1'], ['', '']]);
+  const key = (square, name) => { element('squares').onkeydown({ key: name, target: element(square), preventDefault() {} }); return document.activeElement.id; };
+  assert.deepEqual([key('e4', 'ArrowUp'), key('e4', 'ArrowRight'), key('e4', 'Home')], ['e3', 'd4', 'h4']);
+  assert.equal(textNow(), TEXT);
+  element('flip').onclick();
+  assert.deepEqual([...corners(), key('e4', 'ArrowUp'), key('e4', 'Home'), kept.has('pops.flipped')], ['a8', 'h1', 'e5', 'a4', false]);
+});
+
+test('editing: clear removes title, source and squares of options too, and leaves the author', () => {
+  begin('BeginProblem\nTitle A\nAuthor B\nOrigin C\nPieces White Ke1 Rh1 Black Ke8\nStipulation #2\nOption Variation NoCastling h1\nEndProblem\n');
+  changeBoard('clear');
+  assert.equal(textNow(), 'BeginProblem\nAuthor B\nStipulation #2\nOption Variation\nEndProblem\n');
+  goSteps(-1);
+  assert.match(textNow(), /Title A/);
+});

@@ -1,9 +1,9 @@
 // Texts, positions, and what the page keeps: modules that need no browser.
 import assert from 'node:assert/strict';
 import { test } from 'node:test';
-import { barredAfter, halfAfter, moveBetween, promotes, stipulationAfter, withProblemAfter } from '../../web/play.js';
+import { barredAfter, halfAfter, moveBetween, promotes, stipulationAfter, withProblemAfter, partsOfStipulation, stipulationOf } from '../../web/play.js';
 import { after, changed, exchanged, fenOf, menOfRanks, placeOf, ranksOf, readFen, squareOf } from '../../web/position.js';
-import { fragmentOf, keptOf, nameOfText, Steps, textOfBytes, textOfFragment, visitOf, withKept, writtenVisit } from '../../web/store.js';
+import { fileNameOf, fragmentOf, keptOf, nameOfText, Steps, textOfBytes, textOfFragment, visitOf, withKept, writtenVisit } from '../../web/store.js';
 import { blockAt, blocksOf, fieldsOf, lineAt, menOf, posedIn, sidesOf, tailOf, valueOf, withField, withMen, withTail, wordsOf } from '../../web/text.js';
 import { language, say, sayMan } from '../../web/words.js';
 
@@ -114,4 +114,17 @@ test('text: what a problem poses doesn\'t depend on names, blanks and capitals',
   const [other] = blocksOf(TEXT.replace('A b', 'C').replace('Kg6', 'KG6 ').replace('\nStip', '\nRemark d\nStip'));
   assert.equal(posedIn(block), 'pieces white kg6 ra1 black kg8 stipulation #1 option maxsolutions 3');
   assert.equal(posedIn(other), posedIn(block));
+});
+
+test('play: a stipulation by choice and number', () => {
+  assert.deepEqual(['#2', 'H#2.5', 's=3', '#', 'h#2*', 'r#2'].map(partsOfStipulation), [
+    { form: '#', moves: '2' }, { form: 'h#', moves: '2.5' }, { form: 's=', moves: '3' }, null, null, null]);
+  const made = [['#', '3'], ['#', '2.5'], ['h#', '2.5'], ['h=', '2'], ['s#', ''], ['h#', '0'], ['#', '99'], ['h#2*', ''], ['', '']];
+  assert.deepEqual(made.map(it => stipulationOf(...it)), ['#3', '#3', 'h#2.5', 'h=2', 's#2', 'h#2', '#16', 'h#2*', null]);
+});
+
+test('store: files are named after the title', () => {
+  assert.deepEqual(['A first problem', 'Über “Größe”, 2.', '../../x', '', null].map(it => fileNameOf(it, 'pop')),
+    ['A-first-problem.pop', 'Über-Größe-2.pop', 'x.pop', 'pops.pop', 'pops.pop']);
+  assert.equal(fileNameOf('x'.repeat(100), 'svg').length, 64);
 });

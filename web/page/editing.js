@@ -4,7 +4,7 @@ import { element } from '../elements.js';
 import { imported } from '../import/importing.js';
 import { changed, countOf, exchanged, impossibleCounts, readFen } from '../position.js';
 import {
-  blockAt, blocksOf, fenOfBlock, lineOf, menOf, NEW_PROBLEM, tailOf, withFen, withLine, withMen, withTail,
+  blockAt, blocksOf, fenOfBlock, lineOf, menOf, NEW_PROBLEM, tailOf, withFen, withField, withLine, withMen, withTail,
 } from '../text.js';
 import { say } from '../words.js';
 import { scrollToLine, unmarkFaults } from './faults.js';
@@ -105,9 +105,18 @@ function noteUnknown(word) {
 
 /** @param {string} name */
 export function changeBoard(name) {
-  /** @type {Record<string, (men: Men) => Men>} */
-  const changers = { clear: () => new Map(), exchange: exchanged };
-  change(changers[name] ?? (men => changed(men, name)));
+  if (name === 'clear') clearProblem();
+  else change(name === 'exchange' ? exchanged : men => changed(men, name));
+}
+
+/** Removes all men, and what belongs to the position that was: title, source, and the squares of options. */
+function clearProblem() {
+  endTyping();
+  leave();
+  const { from } = blockMade();
+  let text = withMen(textNow(), from, new Map());
+  for (const name of ['Title', 'Origin', 'EnPassant', 'NoCastling']) text = withField(text, from, name, null);
+  setText(text);
 }
 
 /**

@@ -1,6 +1,7 @@
 // @ts-check
 // The fields of the problem on the board: its names, its stipulation, its condition and its options.
 import { element } from '../elements.js';
+import { partsOfStipulation, stipulationOf } from '../play.js';
 import { CONDITIONS, fieldsOf, FLAGS, isShort, valueOf, VALUES, withField } from '../text.js';
 import { say } from '../words.js';
 import { endTyping, setText } from './editing.js';
@@ -12,6 +13,8 @@ const FIELDS = [
   ['MaxSolutions', 'maxSolutions'], ['EnPassant', 'enPassant'], ['NoCastling', 'noCastling'],
 ];
 
+const FORMS = ['#', 's#', 'h#', '=', 's=', 'h='];
+
 /** @param {string} name @returns {HTMLInputElement} the field, which may be a select */
 const inputOf = name => /** @type {any} */ (element(`field-${name}`));
 
@@ -22,10 +25,37 @@ export function showFields() {
     const input = inputOf(name);
     const said = valueOf(fields, name in fields ? name : name.toLowerCase());
     input.disabled = !block;
-    if (input.type === 'checkbox') input.checked = said !== null;
+    if (name === 'Stipulation') showStipulation(said ?? '', !block);
+    else if (input.type === 'checkbox') input.checked = said !== null;
     else if (name === 'Condition') input.value = CONDITIONS.find(it => said && isShort(said, it)) ?? '';
     else if (document.activeElement !== input) input.value = said ?? '';
   }
+}
+
+/**
+ * Shows a stipulation as choice and number; one that pops doesn't have is a choice of its own.
+ * @param {string} word
+ * @param {boolean} isDisabled
+ */
+function showStipulation(word, isDisabled) {
+  const [form, moves] = [inputOf('Stipulation'), inputOf('Moves')];
+  const parts = partsOfStipulation(word);
+  const own = parts || !word ? [] : [new Option(word, word)];
+  form.replaceChildren(...FORMS.map(it => new Option(say(`form-${it}`), it)), ...own);
+  form.value = parts?.form ?? word;
+  moves.disabled = isDisabled || !parts;
+  moves.step = form.value[0] === 'h' ? '0.5' : '1';
+  if (document.activeElement !== moves) moves.value = parts?.moves ?? '';
+}
+
+/**
+ * Returns what a field has for the text; null removes it.
+ * @param {string} name
+ */
+function valueIn(name) {
+  const input = inputOf(name);
+  if (name === 'Stipulation') return stipulationOf(input.value, inputOf('Moves').value);
+  return input.type === 'checkbox' ? (input.checked ? '' : null) : input.value.trim() || null;
 }
 
 /**
@@ -34,12 +64,8 @@ export function showFields() {
  */
 export function fieldChanged(name) {
   endTyping();
-  const input = inputOf(name);
   const block = blockNow();
-  if (!block) return;
-  const isFlag = input.type === 'checkbox';
-  const value = isFlag ? (input.checked ? '' : null) : input.value.trim() || null;
-  setText(withField(textNow(), block.from, name, value));
+  if (block) setText(withField(textNow(), block.from, name, valueIn(name)));
 }
 
 /** Makes the rows of fields: flags in one, short values in another, and each other field by itself. */
@@ -56,15 +82,24 @@ function builtField(name, word) {
   const isFlag = FLAGS.includes(name);
   const label = document.createElement('label');
   const said = document.createElement('span');
-  const input = document.createElement(name === 'Condition' ? 'select' : 'input');
+  const input = document.createElement(['Condition', 'Stipulation'].includes(name) ? 'select' : 'input');
   input.id = `field-${name}`;
   said.textContent = say(word);
   if (name === 'Condition') input.append(new Option(say('noCondition'), ''), ...CONDITIONS.map(it => new Option(it, it)));
-  else /** @type {HTMLInputElement} */ (input).type = isFlag ? 'checkbox' : 'text';
+  else if (name !== 'Stipulation') /** @type {HTMLInputElement} */ (input).type = isFlag ? 'checkbox' : 'text';
   input.onchange = () => fieldChanged(name);
-  label.append(...(isFlag ? [input, said] : [said, input]));
+  label.append(...(isFlag ? [input, said] : [said, input, ...(name === 'Stipulation' ? [movesField()] : [])]));
   if (!isFlag) label.className = 'field';
   return label;
+}
+
+/** Makes the number of moves, beside the choice of the stipulation. */
+function movesField() {
+  const made = document.createElement('input');
+  Object.assign(made, { id: 'field-Moves', type: 'number', min: '0.5', max: '16' });
+  made.setAttribute('aria-label', say('moves'));
+  made.onchange = () => fieldChanged('Stipulation');
+  return made;
 }
 
 export function buildFields() {

@@ -11,7 +11,7 @@ const PAUSE = 100;
 /** @type {ReturnType<typeof setTimeout> | undefined} runs out when the problem has been the same for a moment */
 let pause;
 
-/** Returns whether the solutions shown are not those of the problem on the board. */
+/** Returns whether the problem on the board isn't solved as it is now. */
 function isWanted() {
   const number = blockNow()?.number;
   if (!number || !element('live').checked) return false;

@@ -4,19 +4,25 @@ import { diagramFile, sheetOf } from '../diagrams.js';
 import { partText } from '../elements.js';
 import { menOfRanks, ranksOf } from '../position.js';
 import { objectOf } from '../report.js';
-import { fragmentOf } from '../store.js';
-import { fieldsOf, valueOf } from '../text.js';
+import { fileNameOf, fragmentOf } from '../store.js';
+import { blockAt, fieldsOf, valueOf } from '../text.js';
 import { givenOf } from '../twins.js';
 import { say } from '../words.js';
 import { blockNow, state, textNow } from './state.js';
 import { board, note } from './views.js';
 import { ownLink } from './visit.js';
 
-/** @param {string} name @param {string} type @param {string} text */
-function save(name, type, text) {
+/**
+ * Saves a file that is named after a problem's title, the text's first without another.
+ * @param {string} ending
+ * @param {string} type
+ * @param {string | Blob} content
+ * @param {Block | null} block
+ */
+function save(ending, type, content, block = blockAt(textNow(), 0)) {
   const link = document.createElement('a');
-  link.href = URL.createObjectURL(new Blob([text], { type }));
-  link.download = name;
+  link.href = URL.createObjectURL(new Blob([content], { type }));
+  link.download = fileNameOf(block && valueOf(fieldsOf(textNow(), block), 'title'), ending);
   link.click();
   setTimeout(() => URL.revokeObjectURL(link.href), 10000);
 }
@@ -27,7 +33,7 @@ function saveSvg() {
   const title = ['title', 'author', 'stipulation'].map(name => valueOf(fields, name)).filter(Boolean).join(', ');
   // Sorts men in the order of a report's board, rank 8 first.
   const men = menOfRanks(ranksOf(board.men));
-  save('pops.svg', 'image/svg+xml', diagramFile(men, title, partText('men-shapes')));
+  save('svg', 'image/svg+xml', diagramFile(men, title, partText('men-shapes')), block);
 }
 
 /** @param {(items: Item[]) => void} act */
@@ -40,12 +46,12 @@ function saveItems(act) {
 }
 
 export const OUTS = {
-  outText: () => save('pops.pop', 'text/plain', textNow()),
-  outReport: () => saveItems(() => save('pops.report', 'text/plain', state.report)),
-  outPage: () => saveItems(items => save('pops.html', 'text/html',
+  outText: () => save('pop', 'text/plain', textNow()),
+  outReport: () => saveItems(() => save('report', 'text/plain', state.report)),
+  outPage: () => saveItems(items => save('html', 'text/html',
     sheetOf(items, say('sheet'), partText('men-shapes'), partText('sheet-style'), givenOf(state.solved)))),
   outSvg: saveSvg,
-  outJson: () => saveItems(items => save('pops.json', 'application/json', jsonOf(items))),
+  outJson: () => saveItems(items => save('json', 'application/json', jsonOf(items))),
   outLink: makeLink,
   outPrint: () => print(),
 };
@@ -59,6 +65,9 @@ function jsonOf(items) {
   return items.map(item => `${JSON.stringify(objectOf(item, given[item.number - 1]))}\n`).join('');
 }
 
+/** Says of a page from disk that its link leads nowhere on another computer. */
+const onlyHere = () => (location.protocol === 'file:' ? say('linkedHere') : '');
+
 async function makeLink() {
   const fragment = fragmentOf(textNow());
   if (!fragment) {
@@ -69,8 +78,8 @@ async function makeLink() {
   ownLink(location.hash);
   try {
     await navigator.clipboard.writeText(location.href);
-    note(say('linked'));
+    note(say('linked') + onlyHere());
   } catch {
-    note(say('linkShown'));
+    note(say('linkShown') + onlyHere());
   }
 }
