@@ -201,6 +201,8 @@ interface ListBox extends HTMLElement {
 interface ItemBox extends HTMLElement { groups: Group[]; head: HTMLElement; age: HTMLElement; compared: HTMLDetailsElement }
 /** A phase as it is drawn. */
 interface Group { kind: string; item: SoundItem; men: Men; rows: TreeRow[]; list: ListBox; lines: number; total: HTMLElement }
+/** A line of a solution in short notation, and how far it is set in. */
+interface ShortLine { text: string; level: number }
 /** A phase or a first move beside others: what it threatens, and the replies to it. */
 interface ComparedColumn<T> { kind: string; label: string; row: T | null; head: T | null; replies: T[]; refutations: T[] }
 /** White's moves after a reply, and whether they are others than in the play; `!` if the reply refutes. */

@@ -1,6 +1,7 @@
 """What `companions/try-browser` does with the page that solves: a problem entered by mouse, solved, folded, walked
 through, stopped, printed; tries and threats; texts pasted and dropped, hostile ones too; no server contacted."""
 
+import base64
 import json
 from collections.abc import Callable
 from pathlib import Path
@@ -444,6 +445,45 @@ def edited(page: Page) -> None:
     page.holds(page.text() == "BeginProblem\nStipulation #2\nOption Variation\nEndProblem\n", f"cleared: {page.text()}")
 
 
+# Run in the page: what it would copy, instead of copying it.
+COPIED = """
+window.copied = null;
+navigator.clipboard.writeText = async text => { copied = text; };
+navigator.clipboard.write = async ([item]) => {
+  const picture = await createImageBitmap(await item.getType('image/png'));
+  const canvas = Object.assign(document.createElement('canvas'), { width: picture.width, height: picture.height });
+  const pen = canvas.getContext('2d');
+  pen.drawImage(picture, 0, 0);
+  const inked = pen.getImageData(0, 0, picture.width, picture.height).data.reduce((sum, it, at) => sum + (at % 4 === 0 && it < 100), 0);
+  copied = { width: picture.width, inked, url: canvas.toDataURL() };
+};
+"""
+
+
+def given_away(page: Page) -> None:
+    """The diagram as a picture, the solution in short notation, LaTeX and YAML."""
+    browser = page.browser
+    page.open(MATE_IN_TWO)
+    browser.run(COPIED)
+    browser.run(SAVED)
+    browser.run("OUTS.outCopyShort()")
+    page.holds("solve first" in page.told("note"), f"no solution to copy: {page.told('note')}")
+    page.solve()
+    browser.run("OUTS.outCopyShort()")
+    browser.wait("copied !== null")
+    page.holds("1.Qb2!" in browser.run("copied") and "1...Kd1,Kf1,a5 2.Rc1#" in browser.run("copied"), f"copied: {browser.run('copied')}")
+    browser.run("copied = null")
+    browser.click("#outCopyDiagram")
+    browser.wait("copied !== null")
+    width, inked = browser.run("[copied.width, copied.inked]")
+    page.holds(width > 700 and inked > 20000, f"a picture {width} wide, {inked} pixels of it dark")
+    if page.pictures is not None:
+        (page.pictures / "diagram.png").write_bytes(base64.b64decode(browser.run("copied.url").partition(",")[2]))
+    browser.run("OUTS.outLatex(); OUTS.outYaml(); OUTS.outPng()")
+    browser.wait("saved.length === 3")
+    page.holds(browser.run("saved.join()") == "pops.tex,pops.yaml,pops.png", f"saved: {browser.run('saved.join()')}")
+
+
 def linked(page: Page) -> None:
     """A link opened beside a problem in work: in the tab of the work and in a new one; undo and solutions after a reload."""
     browser = page.browser
@@ -558,6 +598,7 @@ LOOKS: list[Callable[[Page], None]] = [
     aged,
     live,
     edited,
+    given_away,
     linked,
     composed,
     without_engine,
@@ -583,7 +624,7 @@ def used(browser: Browser, page: Page, one: Callable[[Page], None]) -> list[str]
     for event in browser.events:
         if event["method"] == "Network.requestWillBeSent":
             address = event["params"]["request"]["url"]
-            page.holds(address.startswith(("file:", "blob:")), f"asked for {address[:80]}")
+            page.holds(address.startswith(("file:", "blob:", "data:")), f"asked for {address[:80]}")
         elif event["method"] == "Runtime.exceptionThrown":
             page.wrong.append(f"thrown: {json.dumps(event['params'])[:300]}")
     return page.wrong

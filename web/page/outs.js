@@ -1,11 +1,13 @@
 // @ts-check
-// What the page gives away: files of text, report, diagrams and JSON, links, and the printed sheet.
+// What the page gives away: files of text, report, diagrams and other forms, the clipboard, links, and the printed sheet.
 import { diagramFile, sheetOf } from '../diagrams.js';
 import { partText } from '../elements.js';
+import { latexOf, yamlOf } from '../outputs.js';
 import { menOfRanks, ranksOf } from '../position.js';
 import { objectOf } from '../report.js';
+import { shortText } from '../short.js';
 import { fileNameOf, fragmentOf } from '../store.js';
-import { blockAt, fieldsOf, valueOf } from '../text.js';
+import { blockAt, blocksOf, fieldsOf, menOf, valueOf } from '../text.js';
 import { givenOf } from '../twins.js';
 import { say } from '../words.js';
 import { blockNow, state, textNow } from './state.js';
@@ -27,13 +29,60 @@ function save(ending, type, content, block = blockAt(textNow(), 0)) {
   setTimeout(() => URL.revokeObjectURL(link.href), 10000);
 }
 
-function saveSvg() {
+/** Draws the board with its men. */
+function drawingNow() {
   const block = blockNow();
   const fields = block ? fieldsOf(textNow(), block) : {};
   const title = ['title', 'author', 'stipulation'].map(name => valueOf(fields, name)).filter(Boolean).join(', ');
   // Sorts men in the order of a report's board, rank 8 first.
   const men = menOfRanks(ranksOf(board.men));
-  save('svg', 'image/svg+xml', diagramFile(men, title, partText('men-shapes')), block);
+  return diagramFile(men, title, partText('men-shapes'));
+}
+
+/** Draws the board as a picture. @returns {Promise<Blob>} */
+async function pictureNow() {
+  const image = new Image();
+  image.src = `data:image/svg+xml,${encodeURIComponent(drawingNow())}`;
+  await image.decode();
+  const canvas = document.createElement('canvas');
+  Object.assign(canvas, { width: image.width, height: image.height });
+  const pen = /** @type {CanvasRenderingContext2D} */ (canvas.getContext('2d'));
+  pen.fillStyle = '#fff';
+  pen.fillRect(0, 0, image.width, image.height);
+  pen.drawImage(image, 0, 0);
+  return new Promise((take, refuse) => canvas.toBlob(blob => (blob ? take(blob) : refuse(new Error('no picture'))), 'image/png'));
+}
+
+async function copyDiagram() {
+  try {
+    await navigator.clipboard.write([new ClipboardItem({ 'image/png': pictureNow() })]);
+    note(say('copied'));
+  } catch {
+    note(say('copyNot'));
+  }
+}
+
+/** Returns the solved items that are posed the same now. */
+const itemsNow = () => /** @type {SoundItem[]} */ (state.items.filter(it => it.asked && !it.isChecked && it.phases.length && state.isPosedNow(it.number)));
+
+/** @param {SoundItem} item */
+function shortOf(item) {
+  const block = blocksOf(textNow())[item.number - 1];
+  return shortText(item, item.ranks.length || !block ? menOfRanks(item.ranks) : menOf(block).men);
+}
+
+async function copyShort() {
+  const item = itemsNow().find(it => it.number === blockNow()?.number);
+  if (!item) {
+    note(say('nothing'));
+    return;
+  }
+  try {
+    await navigator.clipboard.writeText(shortOf(item));
+    note(say('copied'));
+  } catch {
+    note(say('copyNot'));
+  }
 }
 
 /** @param {(items: Item[]) => void} act */
@@ -50,8 +99,13 @@ export const OUTS = {
   outReport: () => saveItems(() => save('report', 'text/plain', state.report)),
   outPage: () => saveItems(items => save('html', 'text/html',
     sheetOf(items, say('sheet'), partText('men-shapes'), partText('sheet-style'), givenOf(state.solved)))),
-  outSvg: saveSvg,
+  outSvg: () => save('svg', 'image/svg+xml', drawingNow(), blockNow()),
+  outPng: async () => save('png', 'image/png', await pictureNow(), blockNow()),
   outJson: () => saveItems(items => save('json', 'application/json', jsonOf(items))),
+  outLatex: () => save('tex', 'application/x-tex', latexOf(textNow(), new Map(itemsNow().map(it => [it.number, shortOf(it)])))),
+  outYaml: () => save('yaml', 'application/yaml', yamlOf(textNow(), itemsNow())),
+  outCopyDiagram: copyDiagram,
+  outCopyShort: copyShort,
   outLink: makeLink,
   outPrint: () => print(),
 };

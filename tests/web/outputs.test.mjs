@@ -1,0 +1,79 @@
+// Solutions in short notation, and problems in YAML and LaTeX.
+import assert from 'node:assert/strict';
+import { test } from 'node:test';
+import { makeDocument } from '../page_imports.mjs';
+
+makeDocument();
+const { latexOf, yamlOf } = await import('../../web/outputs.js');
+const { menOfRanks } = await import('../../web/position.js');
+const { itemsOf, movesOf } = await import('../../web/report.js');
+const { shortMove, shortText } = await import('../../web/short.js');
+const { blockAt, menOf } = await import('../../web/text.js');
+
+/** Returns the men of a text, as `White Ke1 Black Ke8`. */
+const menIn = men => menOf(blockAt(`BeginProblem Pieces ${men} EndProblem`, 0)).men;
+const short = (men, move, isHelp = false) => shortMove(menIn(men), movesOf(move, isHelp)[0], false);
+
+test('short: a move names as much of its origin as is needed', () => {
+  assert.equal(short('White Ka1 Sb1f1 Black Kh8', '1.Sb1-d2'), 'Sbd2');
+  assert.equal(short('White Ka1 Sb1b3 Black Kh8', '1.Sb1-d2'), 'S1d2');
+  assert.equal(short('White Ka1 Sb1b3f1 Black Kh8', '1.Sb1-d2'), 'Sb1d2');
+  assert.equal(short('White Ka1 Sb1 Black Kh8', '1.Sb1-d2'), 'Sd2');
+  // The knight on f1 is pinned by the rook.
+  assert.equal(short('White Kh1 Sb1f1 Black Kh8 Ra1', '1.Sb1-d2'), 'Sbd2');
+  assert.equal(short('White Kh1 Sb3f1 Black Kh8 Ra1', '1.Sb3-d2'), 'Sd2');
+});
+
+test('short: captures, castling, promotions, en passant, rebirths', () => {
+  assert.equal(short('White Ka1 Pe5 Black Kh8 Pd5', '1.e5*d6 ep.'), 'exd6 ep.');
+  assert.equal(short('White Ka1 Pb7 Black Kh8 Ra8', '1.b7*a8=Q+'), 'bxa8=Q+');
+  assert.equal(short('White Ke1 Rh1 Black Kh8', '1.0-0'), '0-0');
+  assert.equal(short('White Ka1 Rb1 Black Kh8 Sb8', '1.Rb1*b8[+bSg8]+'), 'Rxb8[+bSg8]+');
+  assert.equal(short('White Ka1 Black Kh8 Pa7', '1.a7-a5', true), 'a5');
+});
+
+const MORPHY = [
+  'problem 1', 'title: Mate in two', '8 kbK.....', '7 pp......', '6 .P......', '5 ........', '4 ........', '3 ........', '2 ........', '1 R.......', '  abcdefgh', '#2',
+  'play', '1.Ra1-a6!', '  zugzwang', '  1...b7*a6', '    2.b6-b7#', '  1...Bb8-h2', '    2.Ra6*a7#', '  1...Bb8-g3', '    2.Ra6*a7#', 'solutions: 1',
+  'tries', '1.Ra1*a7+?', '  check', '  but', '    1...Bb8*a7!', 'tries: 1', '', ''].join('\n');
+const TEXT = 'BeginProblem\nTitle Mate in two\nAuthor Morphy, Paul; Another One\nOrigin Here\nOrigin There\nRemark solutions 1\nRemark "odd" & #1\n'
+  + 'Pieces White Kc8 Ra1 Pb6 Black Ka8 Bb8 Pa7b7\nStipulation #2\nCondition Mad\nOption SetPlay Variation MaxSolutions 3 NoCastling a1 h1\nEndProblem\n';
+
+test('short: tries and keys with their variations', () => {
+  const [item] = itemsOf(MORPHY);
+  assert.equal(shortText(item, menOfRanks(item.ranks)), [
+    'Tries', '  1.Rxa7+?', '    but 1...Bxa7!', 'Solution', '  1.Ra6! zugzwang', '    1...bxa6 2.b7#', '    1...Bh2,Bg3 2.Rxa7#', ''].join('\n'));
+});
+
+test('short: threats, several continuations, longer play, help play, no solution', () => {
+  const head = 'problem 1\n#3\nplay\n';
+  const men = menIn('White Kh1 Qa1 Ra2 Black Kh8 Pa7');
+  const text = (play, from = head) => shortText(itemsOf(from + play)[0], men);
+  assert.equal(text('1.Qa1-b1!\n  threat\n    2.Qb1-b8+\n      2...Kh8-g7\n        3.Ra2-g2#\n  1...a7-a5\n    2.Qb1-b2+\n      2...Kh8-g8\n        3.Qb2-b8#\n        3.Ra2-g2#\nsolutions: 1\n'),
+    '1.Qb1! threat: 2.Qb8+ Kg7 3.Rg2#\n  1...a5 2.Qb2+ Kg8 3.Qb8#/Rg2#\n');
+  assert.equal(text('solutions: 0\n'), 'no solution\n');
+  assert.equal(text('1.Qa1-b1\nsolutions: 1, stopped\n'), '1.Qb1!\n(and perhaps more)\n');
+  assert.equal(text('1.Kh8-g8 Qa1-a3 2.a7-a6 Qa3-f8#\nsolutions: 1\n', 'problem 1\nh#2\nset\n1...Qa1-a3 2.a7-a6 Qa3-f8#\nsolutions: 1\nplay\n'),
+    'Set play\n  1...Qa3 2.a6 Qf8#\nSolution\n  1.Kg8 Qa3 2.a6 Qf8#\n');
+  assert.equal(text('not possible\nplay\n1.Qa1-b1\nsolutions: 1\n', 'problem 1\n#1\nset\n'), '1.Qb1!\n');
+});
+
+test('outputs: YAML', () => {
+  assert.equal(yamlOf(TEXT, itemsOf(MORPHY)), [
+    '---', 'authors:', '  - "Morphy, Paul"', '  - "Another One"', 'title: "Mate in two"', 'source: "Here; There"', 'algebraic:',
+    '  white: [Kc8, Ra1, Pb6]', '  black: [Ka8, Bb8, Pa7, Pb7]', 'stipulation: "#2"', 'conditions: [Madrasi]', 'options:', '  - "SetPlay"', '  - "Variation"',
+    '  - "MaxSolutions 3"', '  - "NoCastling a1 h1"', 'intended-solutions: 1', 'comments:', '  - "\\"odd\\" & #1"', 'solution: |',
+    '  1.Ra1-a6 ! zugzwang.', '      1...b7*a6', '          2.b6-b7 #', '      1...Bb8-h2', '          2.Ra6*a7 #', '      1...Bb8-g3', '          2.Ra6*a7 #', '',
+    '  1.Ra1*a7 + ?', '      but', '          1...Bb8*a7 !', ''].join('\n'));
+  assert.equal(yamlOf(TEXT, []).includes('solution: |'), false);
+});
+
+test('outputs: LaTeX', () => {
+  const made = latexOf(TEXT.replace('Here', '50% {x} Ж_1'), new Map([[1, 'Solution\n  1.Ra6#\n']]));
+  assert.match(made, /^% for pdflatex.*\n\\documentclass\[a4paper\]\{article\}\n/);
+  assert.equal(made.slice(made.indexOf('\\begin{diagram}')), [
+    '\\begin{diagram}', '\\author{Morphy, Paul; {Another One}, {}}', '\\dedic{Mate in two}', '\\source{50\\% \\{x\\} {\\fontencoding{T2A}\\selectfont Ж}\\_1; There}',
+    '\\pieces[3+4]{wKc8, wTa1, wBb6, sKa8, sLb8, sBa7b7}', '\\stipulation{\\#2}', '\\condition{Madrasi}', '\\solution{Solution\\newline', '\\hspace*{1em}1.Ra6\\#}',
+    '\\end{diagram}', '', '\\putsol', '\\end{document}', ''].join('\n'));
+  assert.match(latexOf('BeginProblem\nPieces White Ga1 Nb1 Black Gc1\nStipulation #1\nEndProblem\n', new Map()), /\\piecedefs\{\{ws\}\{DU\}\{Grasshopper\}; \{w\}\{SU\}\{Nightrider\}\}/);
+});

@@ -1,0 +1,141 @@
+// @ts-check
+// The problems of a text in other forms: YAML as of Olive and YACPDB, and LaTeX of the package diagram, as pops-export and
+// pops-diagram write them.
+import { countOf, ranksOf } from './position.js';
+import { blocksOf, CONDITIONS, fieldsOf, FLAGS, isShort, KINDS, menOf, valueOf, VALUES } from './text.js';
+import { givenOf } from './twins.js';
+
+const WANTED = /^solutions ([1-9][0-9]{0,8})$/;
+/** @type {Record<string, string>} the package's letters: an upside-down queen and knight are the fairy men */
+const LATEX_KINDS = { K: 'K', Q: 'D', R: 'T', B: 'L', S: 'S', P: 'B', G: 'DU', N: 'SU' };
+/** @type {Record<string, string>} */
+const FAIRY_NAMES = { G: 'Grasshopper', N: 'Nightrider' };
+/** @type {Record<string, string>} */
+const SPECIAL = { '\\': '\\textbackslash{}', '~': '\\textasciitilde{}', '^': '\\textasciicircum{}', '<': '\\textless{}', '>': '\\textgreater{}', '"': "''" };
+const LATEX_HEAD = '% for pdflatex; the package diagram is in texlive-games\n\\documentclass[a4paper]{article}\n\\usepackage[T2A,T1]{fontenc}\n\\usepackage{diagram}\n\\nocomputer\n\\begin{document}\n\\raggedright\n';
+
+/**
+ * Reads what other forms say of each problem of a text.
+ * @param {string} text
+ */
+function problemsIn(text) {
+  const given = givenOf(text);
+  return blocksOf(text).map(block => {
+    const fields = fieldsOf(text, block);
+    const valued = VALUES.filter(it => valueOf(fields, it)).map(it => `${it} ${valueOf(fields, it)}`);
+    const condition = CONDITIONS.find(it => isShort(valueOf(fields, 'condition') ?? '', it)) ?? null;
+    const names = given[block.number - 1] ?? { title: null, author: null, origin: null, remarks: [] };
+    const authors = (names.author ?? '').split(/\s*;\s*|\s+(?:&|and|und|et)\s+/).filter(Boolean);
+    const options = [...FLAGS.filter(it => it in fields), ...valued];
+    return { ...names, authors, number: block.number, men: menOf(block).men, stipulation: valueOf(fields, 'stipulation') ?? '', condition, options };
+  });
+}
+
+/**
+ * Lists the men of a colour in the order of a report's board.
+ * @param {Men} men
+ * @param {Colour} colour
+ */
+function menInOrder(men, colour) {
+  const rows = ranksOf(men).flatMap((row, rank) => [...row].map((letter, file) => ({ letter, square: 'abcdefgh'[file] + (8 - rank) })));
+  const own = rows.filter(({ square }) => men.get(square)?.[0] === colour);
+  return [...KINDS].map(kind => ({ kind, squares: own.filter(it => it.letter.toUpperCase() === kind).map(it => it.square) })).filter(it => it.squares.length);
+}
+
+/** @param {string} key @param {string[]} texts */
+const yamlList = (key, texts) => (texts.length ? [`${key}:`, ...texts.map(it => `  - ${JSON.stringify(it)}`)] : []);
+
+/**
+ * Writes the lines of a report's phase as Popeye prints moves: keys with `!`, signs after a blank, words after their move.
+ * @param {Phase} phase
+ * @param {boolean} isHelp
+ */
+function popeyeLines(phase, isHelp) {
+  /** @type {string[]} */
+  const lines = [];
+  for (const line of phase.lines) {
+    const text = line.trimStart();
+    const indent = ' '.repeat(2 * (line.length - text.length));
+    if (text === 'threat') lines.push(`${lines.pop()} threat:`);
+    else if (text === 'zugzwang') lines.push(`${lines.pop()} zugzwang.`);
+    else if (text !== 'check') {
+      const isKey = !isHelp && phase.kind === 'play' && !indent && !text.endsWith('!');
+      const said = text.split(' ').map(word => word.replace(/([^ ])([!?])$/, '$1 $2').replace(/([^ ])([#+=])( [!?])?$/, '$1 $2$3'));
+      lines.push(indent + said.join(' ') + (isKey ? ' !' : ''));
+    }
+  }
+  return lines;
+}
+
+/**
+ * Writes the problems of a text in YAML, with the solutions of these items.
+ * @param {string} text
+ * @param {Item[]} items
+ */
+export function yamlOf(text, items) {
+  return problemsIn(text).map(one => {
+    const wanted = one.remarks.map(it => WANTED.exec(it)?.[1]).findLast(Boolean);
+    const sides = Object.entries({ white: 'w', black: 'b' }).map(([name, colour]) => [name, menInOrder(one.men, colour).flatMap(({ kind, squares }) => squares.map(it => kind + it))]);
+    const item = items.find(it => it.number === one.number);
+    const solution = (item?.phases ?? []).map(phase => popeyeLines(phase, Boolean(item?.asked?.isHelp))).filter(it => it.length);
+    const lines = solution.flatMap((phase, at) => [...(at ? [''] : []), ...phase]);
+    return ['---', ...yamlList('authors', one.authors), ...(one.title ? [`title: ${JSON.stringify(one.title)}`] : []),
+      ...(one.origin ? [`source: ${JSON.stringify(one.origin)}`] : []), 'algebraic:',
+      ...sides.filter(([, men]) => men.length).map(([name, men]) => `  ${name}: [${/** @type {string[]} */ (men).join(', ')}]`),
+      `stipulation: ${JSON.stringify(one.stipulation)}`, ...(one.condition ? [`conditions: [${one.condition}]`] : []),
+      ...yamlList('options', one.options), ...(wanted ? [`intended-solutions: ${wanted}`] : []),
+      ...yamlList('comments', one.remarks.filter(it => !WANTED.test(it))), ...(lines.length ? ['solution: |', ...lines.map(it => `  ${it}`.trimEnd())] : []), '',
+    ].join('\n');
+  }).join('');
+}
+
+/**
+ * Makes LaTeX's own characters harmless; Cyrillic has an encoding of its own.
+ * @param {string} text
+ */
+const escapedForLatex = text => text.replace(/[\x00-\x1f\x7f]/g, '?').replace(/[\\~^<>"#$%&_{}]/g, sign => SPECIAL[sign] ?? `\\${sign}`)
+  .replace(/[\u0400-\u04ff](?:[\u0400-\u04ff .-]*[\u0400-\u04ff])?/g, '{\\fontencoding{T2A}\\selectfont $&}');
+
+/**
+ * Writes an author as the package wants it; a name that isn't `Surname, Given` stays as it is.
+ * @param {string} name
+ */
+function latexAuthor(name) {
+  const found = /^(\p{L}[^,\d]*), *(\p{L}[^,\d]*)$/u.exec(name);
+  return found ? `${escapedForLatex(found[1])}, ${escapedForLatex(found[2])}` : `{${escapedForLatex(name)}}, {}`;
+}
+
+/** @param {Men} men */
+function latexMen(men) {
+  return [['w', 'w'], ['b', 's']].flatMap(([colour, letter]) => menInOrder(men, colour).map(({ kind, squares }) => letter + LATEX_KINDS[kind] + squares.join('')));
+}
+
+/** @param {Men} men */
+function latexFairyMen(men) {
+  return Object.entries(FAIRY_NAMES).flatMap(([kind, name]) => {
+    const colours = ['w', 'b'].filter(it => [...men.values()].includes(it + kind)).map(it => (it === 'w' ? 'w' : 's')).join('');
+    return colours ? [`{${colours}}{${LATEX_KINDS[kind]}}{${name}}`] : [];
+  });
+}
+
+/**
+ * Writes the problems of a text as a document of LaTeX, with these solutions by number.
+ * @param {string} text
+ * @param {Map<number, string>} solutions
+ */
+export function latexOf(text, solutions) {
+  const problems = problemsIn(text).map(one => {
+    const lines = (solutions.get(one.number) ?? '').split('\n').filter(Boolean).map(line => {
+      const own = line.trimStart();
+      const depth = (line.length - own.length) / 2;
+      return (depth ? `\\hspace*{${depth}em}` : '') + escapedForLatex(own);
+    });
+    const fairy = latexFairyMen(one.men);
+    return ['\\begin{diagram}', ...(one.authors.length ? [`\\author{${one.authors.map(latexAuthor).join('; ')}}`] : []),
+      ...(one.title ? [`\\dedic{${escapedForLatex(one.title)}}`] : []), ...(one.origin ? [`\\source{${escapedForLatex(one.origin)}}`] : []),
+      `\\pieces[${countOf(one.men, 'w')}+${countOf(one.men, 'b')}]{${latexMen(one.men).join(', ')}}`, `\\stipulation{${escapedForLatex(one.stipulation)}}`,
+      ...(one.condition ? [`\\condition{${one.condition}}`] : []), ...(fairy.length ? [`\\piecedefs{${fairy.join('; ')}}`] : []),
+      ...(lines.length ? [`\\solution{${lines.join('\\newline\n')}}`] : []), '\\end{diagram}', ''].join('\n');
+  });
+  return `${LATEX_HEAD}${problems.join('\\hspace{1em}\n')}\n\\putsol\n\\end{document}\n`;
+}
