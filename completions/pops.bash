@@ -18,8 +18,8 @@ _pops_options() {
         --pops-part --resume --journal --pops --sshlogin --remote-pops --remote-pops-part --ssh'
       ;;
     pops-sheet)
-      own='--report --tries --refutations --to --language --figures --heading --apart --output --pops --pops-tries
-        --encoding'
+      own='--report --tries --refutations --to --language --figures --heading --apart --first-number --per-row --seconds
+        --jobs --output --pops --pops-tries --encoding'
       ;;
     pops-page) own='--output --heading --input --unfinished --apart --encoding' ;;
     pops-diagram) own='--svg --png --latex --output --width --input --apart --encoding' ;;

@@ -16,8 +16,8 @@ const MARKS = { '+': 'check', '#': 'mate' };
 const MOVE = new RegExp('^(?:(0-0-0|0-0)|([KQRBSGN])?([a-h][1-8])([-*])([a-h][1-8])( ep\\.)?(?:=([QRBSGN]))?'
   + '(?:\\[\\+([wb])([QRBSPGN])([a-h][1-8])\\])?)([+#=])?$');
 const HALF = /(?:([1-9][0-9]*)(\.\.\.|\.))?((?:[^ ]+)(?: ep\.[^ ]*)?)/g;
-// The words below a first move: what it threatens, or that it threatens nothing; what refutes it.
-const WORD = /^  (threat|zugzwang|check|but)$/;
+// The words below a first move: what it threatens, or that it threatens nothing; what refutes it, a move or stalemate.
+const WORD = /^(?:  (threat|zugzwang|check|but)|    (stalemate))$/;
 const NO_TRIES = 'no tries in help play';
 const ASKED = /^([sh]?)([#=])([0-9]+)(\.5)?(?: (Circe|Madrasi))?$/;
 
@@ -85,7 +85,7 @@ export function askedOf(line) {
 function solutionOf(line, isHelp) {
   const level = (line.length - line.trimStart().length) / 2;
   const word = isHelp ? null : WORD.exec(line);
-  if (word) return { line, moves: [], level, word: word[1] };
+  if (word) return { line, moves: [], level, word: word[1] ?? word[2] };
   const sign = isHelp ? '' : /[!?]?$/.exec(line)?.[0] ?? '';
   const moves = movesOf(line.slice(0, line.length - sign.length), isHelp);
   if (!moves) return null;

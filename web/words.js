@@ -59,7 +59,7 @@ const WORDS = {
     openRow: 'unfold', closeRow: 'fold', more: '{count} more', set: 'set play', play: 'play', sound: 'no faults in the text',
     impossible: 'not possible', total: 'solutions: {count}', totalStopped: 'solutions: {count}, stopped',
     tries: 'tries', noTries: 'no tries in help play', totalTries: 'tries: {count}', unfinishedTries: 'tries so far: {count}',
-    'below-threat': 'threat', 'below-zugzwang': 'zugzwang', 'below-check': 'check', 'below-but': 'but',
+    'below-threat': 'threat', 'below-zugzwang': 'zugzwang', 'below-check': 'check', 'below-but': 'but', 'below-stalemate': 'stalemate',
     butBrief: '… but {moves}', compared: 'set play, tries and play side by side', comparedLeft: 'not shown: {count} tries, without variations or beyond the first twelve', refutes: '{move} refutes',
     unfinished: 'solutions so far: {count}', item: 'problem {number}', report: 'report',
     outs: 'export', outText: 'Text', outReport: 'Report', outPage: 'Page of diagrams', outSvg: 'SVG', outPng: 'PNG', outJson: 'JSON', outLatex: 'LaTeX', outYaml: 'YAML',

@@ -16,7 +16,7 @@ _DISTRIBUTION = "pops"
 
 
 def number() -> str:
-    """Returns the number of this version, as `1.5.0`."""
+    """Returns the number of this version, as `1.6.0`."""
     return NUMBER or importlib.metadata.version(_DISTRIBUTION)
 
 

@@ -151,7 +151,7 @@ def _kinds(text: str) -> list[str]:
     """What stands in a text of tries, a name for each line that counts."""
     names = [("key", r"1\..*!$"), ("try", r"1\..*\?$"), ("check", "  check")]
     names += [("threat", "  threat"), ("zugzwang", "  zugzwang")]
-    names += [("refutation", r"    1\.\.\..*!$"), ("set", "set$")]
+    names += [("refutation", r"    1\.\.\..*!$"), ("set", "set$"), ("stalemate", "    stalemate")]
     names += [("not possible", "not possible"), ("stopped", ".*, stopped"), ("castling", ".*0-0")]
     names += [("en passant", ".* ep\\."), ("promotion", ".*=[A-Z]"), ("rebirth", r".*\[\+")]
     names += [("defence", r"  1\.\.\..*[^!]$"), ("deep", "      ")]

@@ -3,6 +3,7 @@ through, stopped, printed; tries and threats; texts pasted and dropped, hostile 
 
 import base64
 import json
+import re
 from collections.abc import Callable
 from pathlib import Path
 from typing import Optional
@@ -195,7 +196,7 @@ def compared(page: Page) -> None:
     page.open(SET_AND_PLAY)
     browser.click("#tries")
     page.solve()
-    browser.click("#tree .compared summary")
+    browser.wait("(it => { it.open = true; return it.querySelector('table tr'); })(document.querySelector('#tree .compared'))")
     table = browser.run("[...document.querySelectorAll('#tree table tr')].map(it => [...it.children].map(cell => cell.textContent).join('|')).join('\\n')")
     page.holds("set play" in table.partition("\n")[0], f"side by side: {table}")
     page.holds(browser.run("document.querySelectorAll('#tree td.changed').length") > 1, f"changed mates are marked: {table}")
@@ -543,7 +544,7 @@ def without_engine(page: Page) -> None:
     page.holds(browser.run("document.getElementById('solve').disabled"), "nothing is solved")
     browser.click("#men [data-tool=wQ]")
     browser.click("#b4")
-    page.holds("Qb4" in page.text(), "the board works")
+    page.holds(bool(re.search(r"White .*Q(\w\w)*b4", page.text())), f"the board works: {page.text()}")
     browser.call("Page.removeScriptToEvaluateOnNewDocument", identifier=script)
 
 

@@ -16,7 +16,9 @@ from pops_companions.many.program import MissingError, find_part_program
 
 _TOTAL = re.compile(rb"^solutions: (\d+)(, stopped)?\n", re.MULTILINE)
 _MOST = b"\nOption MaxSolutions 4000000000 End"
-_SECONDS = 2
+# The most processor seconds of a run: few for a problem that perhaps only a limit ends.
+_SECONDS = 600
+_SECONDS_WITH_LIMIT = 2
 
 
 @functools.lru_cache(maxsize=None)
@@ -70,9 +72,10 @@ def _run(words: Sequence[str], text: bytes) -> "subprocess.CompletedProcess[byte
 
 def _run_in_time(words: Sequence[str], text: bytes) -> "subprocess.CompletedProcess[bytes]":
     """Runs a program, with a limit of processor seconds."""
+    seconds = _SECONDS_WITH_LIMIT if b"MaxSolutions" in text else _SECONDS
 
     def limited() -> None:
-        resource.setrlimit(resource.RLIMIT_CPU, (_SECONDS, _SECONDS))
+        resource.setrlimit(resource.RLIMIT_CPU, (seconds, seconds))
         resource.setrlimit(resource.RLIMIT_CORE, (0, 0))
 
     return subprocess.run(list(words), input=text, stdout=subprocess.PIPE, preexec_fn=limited)

@@ -112,9 +112,14 @@ class FirstMove:
         return self.battle.after(self.start, self.move)
 
     @property
-    def is_over(self) -> bool:
-        """The goal is reached at once."""
-        return self.battle.form is Play.DIRECT and self.battle.is_goal(self.after)
+    def has_reply(self) -> bool:
+        return bool(self.battle.moves(self.after))
+
+    @property
+    def is_stalemate(self) -> bool:
+        """Stalemate refutes in a direct mate, and only there."""
+        is_direct_mate = self.battle.form is Play.DIRECT and self.battle.goal is Goal.MATE
+        return is_direct_mate and is_stalemate(self.battle.rules, self.after)
 
     @property
     def is_key(self) -> bool:
@@ -122,11 +127,12 @@ class FirstMove:
 
     @cached_property
     def refutations(self) -> list[Move]:
-        return [] if self.is_over else self.battle.refutations(self.moves, self.after)
+        return self.battle.refutations(self.moves, self.after)
 
     def is_try(self, most: int) -> bool:
-        """No key, but with replies, of which one at least and at most this many refute it."""
-        return not self.is_key and 1 <= len(self.refutations) <= most
+        """No key, but refuted by stalemate, or by one reply at least and at most this many."""
+        number = 1 if self.is_stalemate else len(self.refutations)
+        return not self.is_key and 1 <= number <= most
 
     @cached_property
     def threats(self) -> list[Move]:
@@ -137,16 +143,22 @@ class FirstMove:
 
     @property
     def defences(self) -> list[Move]:
-        """The replies after which no threat is both legal and wins in the threats' length."""
-        threats = self.threats
-        length = self.battle.least(self.moves - 1, self.after.passed) if threats else 0
-        return [it for it in self.battle.moves(self.after) if not self._works(threats, length, it)]
+        """The replies that stop a threat: it becomes illegal, or no longer wins in its length.
 
-    def _works(self, threats: Iterable[Move], length: int, reply: Move) -> bool:
-        """Whether some threat still wins in this length after a reply."""
+        Without threats, all replies.
+        """
+        threats = self.threats
+        replies = list(self.battle.moves(self.after))
+        if not threats:
+            return replies
+        length = self.battle.least(self.moves - 1, self.after.passed)
+        return [it for it in replies if not self._all_work(threats, length, it)]
+
+    def _all_work(self, threats: Iterable[Move], length: int, reply: Move) -> bool:
+        """Whether each threat still wins in this length after a reply."""
         position = self.battle.after(self.after, reply)
         legal = self.battle.moves(position)
-        return any(
+        return all(
             it in legal and self.battle.keeps_win(length, self.battle.after(position, it))
             for it in threats
         )

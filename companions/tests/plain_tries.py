@@ -219,6 +219,8 @@ def _tries(asked: Asked, refutations: int) -> Iterator[str]:
         yield _line(asked, one.start, one.move, 1, 0) + "?"
         yield from _below_first(asked, one)
         yield "  but"
+        if one.is_stalemate:
+            yield "    stalemate"
         for reply in one.refutations:
             yield _line(asked, one.after, reply, 2, 2) + "!"
     yield f"tries: {len(tries)}"
@@ -226,7 +228,7 @@ def _tries(asked: Asked, refutations: int) -> Iterator[str]:
 
 def _below_first(asked: Asked, one: FirstMove) -> Iterator[str]:
     """What is below a first move: check, threats or zugzwang; then the defences that it meets."""
-    if one.is_over:
+    if not one.has_reply:
         return
     threats = one.threats
     if asked.battle.is_check(one.after):

@@ -3,7 +3,7 @@
 `python3 -m tests.published POPS-TRIES FILE..`, called in companions/, prints what agrees, and each
 difference; where the plain solver doesn't agree with pops-tries, a line FAULT. A published try has
 to be one of pops-tries, with just the published refutations. Published texts leave tries out, and
-show replies that meet only some of several threats.
+show replies after which all threats work.
 """
 
 import io
@@ -197,7 +197,7 @@ class _Compared:
             self._differ(what, f"{one.move} {' '.join(one.threats)}; {texts}")
 
     def _compare_replies(self, one: Published, own: FirstMove, after: Position) -> None:
-        """A defence has the published mates; another published reply leaves a threat."""
+        """A defence has the published mates; after another published reply all threats work."""
         ours = {_move(it.move): set(_moves(it.below)) for it in own.defences}
         threats = _moves(own.threats)
         seen: set[Move] = set()
@@ -207,8 +207,8 @@ class _Compared:
                 seen.add(reply)
                 position = self._battle.after(after, reply)
                 mates = ours[reply] if reply in ours else self._mates(position)
-                if reply in ours or mates.intersection(threats):
-                    self._agree("defences" if reply in ours else "replies that leave a threat")
+                if reply in ours or mates.issuperset(threats):
+                    self._agree("defences" if reply in ours else "replies that stop no threat")
                 else:
                     self._differ("a defence that is none", text)
                 self._compare_mates(self._set(replies.mates, position), mates, text)

@@ -6,7 +6,7 @@ them.
 
 The rules of chess say how a move is written and ordered; all else comes from the published text:
 which moves are keys and tries, threats, refutations, defences and continuations. A published reply
-after which a published threat is played isn't a defence.
+after which all published threats are played isn't a defence.
 """
 
 import sys
@@ -78,7 +78,7 @@ class Converted:
         for threat in threats:
             yield f"    2.{self._shown(after.passed, threat)}"
         replies = self._replies(one, after)
-        defences = [it for it in replies if not set(threats).intersection(it[1])]
+        defences = [it for it in replies if not threats or set(threats) - set(it[1])]
         yield from self._shown_replies(after, defences, 1)
 
     def _replies(self, one: Published, position: Position) -> Below:

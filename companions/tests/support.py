@@ -150,7 +150,7 @@ class PlainItem(NamedTuple):
 
 
 def plain_items(report: bytes) -> list[PlainItem]:
-    """The items of a report whose titles are ASCII: parted by the empty lines after them."""
-    blocks = report.decode("ascii").split("\n\n")
+    """The items of a report whose titles are UTF-8: parted by the empty lines after them."""
+    blocks = report.decode("utf-8").split("\n\n")
     assert blocks[-1] == ""
     return [PlainItem(block.split("\n")) for block in blocks[:-1]]

@@ -309,7 +309,9 @@ class Schema(unittest.TestCase):
             path.with_suffix(".tries").read_bytes() for path in support.tries_inputs()
         )
         faulty = b"problem 1\nline 1: fault 1: BeginProblem expected\n\n"
-        texts = tries + faulty + b"problem 1\nh#1\nno tries in help play\n\nproblem 2\n"
+        attempt = b"1.Kb6-a6?\n  but\n    stalemate\n"
+        stalemate = b"problem 1\n#1\nplay\nsolutions: 0\ntries\n%btries: 1\n\n" % attempt
+        texts = tries + faulty + stalemate + b"problem 1\nh#1\nno tries in help play\n\nproblem 2\n"
         found = objects(texts, "--tries", "--unfinished")
         # (tries have no lines of help play)
         self.check(printed_schema("--tries"), found, frozenset({"line"}))

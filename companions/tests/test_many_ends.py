@@ -18,7 +18,7 @@ WAITS = "sleep 6000 & sleep 6001"
 # No run on it ends while a test waits, and none writes a line: a lone knight never mates.
 LONG = b"""BeginProblem
 Pieces White Ke1 Sb1 Black Ke8
-Stipulation h#8
+Stipulation #16
 EndProblem
 """
 

@@ -156,12 +156,23 @@ class Published(unittest.TestCase):
             self.assertEqual(threats[:2], ["    2.Rb5-d5", "    2.Rb5-f5"])
             self.assertTrue(threats[2].startswith("  1..."))
 
-    def test_three_threats_and_one_defence(self) -> None:
+    def test_threats_stopped_in_part(self) -> None:
+        """One defence stops all three threats; the capture, Bg4 and Rh7 leave one or two."""
         text = tries_of(THREE_THREATS, 0)
         self.assertEqual(phase(text, "play")[0], "1.Qb5-f1!")
         found = pairs(phase(text, "play"))
         self.assertEqual(found.pop("threat"), ["2.Qf1-g1#", "2.Qf1-h3#", "2.Rg3-h3#"])
-        self.assertEqual(list(found), ["1...Bf3-g2"])
+        self.assertEqual(
+            list(found), ["1...Kh2*g3", "1...Bf3-g2", "1...Bf3-g4", "1...Rf7-h7"]
+        )
+        self.assertEqual(found["1...Kh2*g3"], ["2.Qf1-f2#", "2.Qf1-h3#"])
+        self.assertEqual(found["1...Rf7-h7"], ["2.Qf1-g1#"])
+
+    def test_stalemate(self) -> None:
+        """In #1 the king stalemates; where stalemate is the goal that is the key."""
+        path = support.REPOSITORY / "tests" / "tries" / "stalemate.pop"
+        wanted = path.with_suffix(".tries").read_text()
+        self.assertEqual(plain_tries(path.read_bytes(), 1).decode(), wanted)
 
     def test_the_try_of_the_manual(self) -> None:
         text = tries_of(MATE_IN_TWO, 1)

@@ -144,11 +144,12 @@ class Published(Case):
         self.assertIn(attempt, told.split("\n\n")[0])
 
     def test_several_threats(self) -> None:
-        """The key threatens three mates, and only one defence parries them all."""
+        """The key threatens three mates; one defence stops all, three stop one or two."""
         told = self.text(SEVERAL_THREATS)
         self.assertEqual(
             told.split("  Solution\n")[1],
-            "    1.Qf1! threat: 2.Qg1#/Qh3#/Rh3#\n      1...Bg2 2.Qxg2#/Rxg2#\n",
+            "    1.Qf1! threat: 2.Qg1#/Qh3#/Rh3#\n      1...Kxg3 2.Qf2#/Qh3#\n"
+            "      1...Bg2 2.Qxg2#/Rxg2#\n      1...Bg4 2.Qg1#/Qf2#/Qg2#\n      1...Rh7 2.Qg1#\n",
         )
 
     def test_the_try_of_the_manual(self) -> None:
@@ -209,6 +210,18 @@ class Lines(unittest.TestCase):
         self.assertEqual(lines("Ke1 Rd1 Rd8 rh8 kh7", "#1 Madrasi", play), ["1.Rd5#!"])
         play = "play\n1.Rb3*d3[+bPd7]#\nsolutions: 1\n"
         self.assertEqual(lines("Ke1 Rb3 pd3 kh7", "#1 Circe", play), ["1.Rxd3[+bPd7]#!"])
+
+    def test_stalemate(self) -> None:
+        """A try that stalemates has nothing but that below it."""
+        play = "play\n1.c7-c8=Q#\n1.c7-c8=R#\nsolutions: 2\n"
+        tries = (
+            "play\n1.c7-c8=Q#!\n1.c7-c8=R#!\nsolutions: 2\n"
+            "tries\n1.Kb6-a6?\n  but\n    stalemate\ntries: 1\n"
+        )
+        self.assertEqual(
+            lines("Kb6 Pc7 ka8", "#1", play, tries),
+            ["Tries:", "1.Ka6?", "  but stalemate", "Solution:", "1.c8=Q#!", "1.c8=R#!"],
+        )
 
     def test_same_continuations_together(self) -> None:
         """The rook needs its file after one defence alone: both defences show it."""

@@ -82,6 +82,20 @@ class Reading(unittest.TestCase):
         self.assertEqual(faulty.fault.number, 11)
         self.assertEqual((help_play.total, help_play.lines), (None, ("no tries in help play",)))
 
+    def test_stalemate(self) -> None:
+        """A try that stalemates has that line alone below it, and its lines are kept."""
+        shown = "1.Kb6-a6?\n  but\n    stalemate\ntries: 1\n\n"
+        text = f"problem 1\n#1\nplay\nsolutions: 0\ntries\n{shown}"
+        (item,) = read(text)
+        assert isinstance(item, TriesItem)
+        (attempt,) = item.tries
+        self.assertTrue(attempt.is_stalemate)
+        self.assertEqual((attempt.menace, attempt.refutations), (None, ()))
+        self.assertEqual("\n".join(item.lines), text.split("#1\n")[1].rstrip("\n"))
+        for wrong in ("  but\n", "    stalemate\n", "  but\n    1...Ka8-b8!\n"):
+            with self.assertRaises(ReportError):
+                read(text.replace("  but\n    stalemate\n", wrong))
+
     def test_stored_texts(self) -> None:
         """The reader takes each stored text whole, with its keys, tries and refutations."""
         for path in support.tries_inputs():
@@ -137,18 +151,20 @@ class Testing(unittest.TestCase):
         return run_here.companion("pops-test", *named, *words, text=report)
 
     def test_duals_only_after_defences(self) -> None:
-        """Seventeen duals come after all replies, one after the only defence."""
+        """Seventeen duals come after all replies, three after the defences."""
         report = support.run([support.pops()], SEVERAL_THREATS).output
         alone = run_here.companion("pops-test", text=report).output.decode()
         self.assertIn("  17 duals at the mate: 17 on move 2\n", alone)
         outcome = self.judged(SEVERAL_THREATS, plain_tries(SEVERAL_THREATS))
         self.assertEqual((outcome.status, outcome.error), (0, ""))
         self.assertEqual(
-            outcome.output.decode().split("\n")[:8],
+            outcome.output.decode().split("\n")[:10],
             [
                 "problem 1: sound: #2",
-                "  1 dual at the mate: 1 on move 2",
+                "  3 duals at the mate: 3 on move 2",
+                "    1.Qb5-f1 Kh2*g3 2.Qf1-f2# | Qf1-h3#",
                 "    1.Qb5-f1 Bf3-g2 2.Qf1*g2# | Rg3*g2#",
+                "    1.Qb5-f1 Bf3-g4 2.Qf1-g1# | Qf1-f2# | Qf1-g2#",
                 "  1.Qb5-f1: 3 threats",
                 "    2.Qf1-g1# | Qf1-h3# | Rg3-h3#",
                 "  2 tries with one refutation",
@@ -158,7 +174,7 @@ class Testing(unittest.TestCase):
         )
         rows = self.judged(SEVERAL_THREATS, plain_tries(SEVERAL_THREATS), "--csv").output.decode()
         (row,) = csv.DictReader(io.StringIO(rows))
-        self.assertEqual((row["threats"], row["tries"], row["duals_at_the_end"]), ("3", "2", "1"))
+        self.assertEqual((row["threats"], row["tries"], row["duals_at_the_end"]), ("3", "2", "3"))
 
     def test_zugzwang_and_what_isnt_shown(self) -> None:
         """Zugzwang is said of the key; without Variation later duals of #3 aren't known."""

@@ -124,7 +124,9 @@ class First:
         self.move = move
         self.after = battle.after(asked.start, move)
         self.is_over = battle.form is Play.DIRECT and battle.is_goal(self.after)
-        self.replies: tuple[Move, ...] = () if self.is_over else battle.moves(self.after)
+        self.replies = battle.moves(self.after)
+        is_direct_mate = battle.form is Play.DIRECT and battle.goal is Goal.MATE
+        self.is_stalemate = is_direct_mate and not self.replies and not self.is_over
         self.met = self._met()
 
     @property
@@ -132,6 +134,11 @@ class First:
         if self._asked.battle.form is Play.DIRECT and (self._asked.moves == 1 or self.is_over):
             return self.is_over
         return bool(self.replies) and all(self.met)
+
+    @property
+    def number(self) -> int:
+        """How many refutations a move has that is no key; stalemate is one."""
+        return 1 if self.is_stalemate else len(self.refutations)
 
     @property
     def refutations(self) -> list[Move]:
@@ -148,7 +155,7 @@ class First:
 
     def below(self) -> Iterator[str]:
         """The lines below it, down to its refutations."""
-        if self.is_over:
+        if not self.replies:
             return
         battle, asker, most = self._asked.battle, self._asker, self._asked.moves - 1
         threats = Answer(0, ())
@@ -162,10 +169,10 @@ class First:
         positions = [battle.after(self.after, it) for it in replies]
         if threats.moves:
             keeping = asker.winning(threats.moves, positions)
-            works = [bool({*threats.firsts} & {*it.firsts}) for it in keeping]
             # (a reply that reaches the goal ends a selfmate: nothing works after it)
-            replies = [reply for reply, it in zip(replies, works) if not it]
-            positions = [position for position, it in zip(positions, works) if not it]
+            stops = [not {*threats.firsts} <= {*it.firsts} for it in keeping]
+            replies = [reply for reply, it in zip(replies, stops) if it]
+            positions = [position for position, it in zip(positions, stops) if it]
         over = [battle.form is Play.SELF and battle.is_goal(it) for it in positions]
         left = [position for position, is_over in zip(positions, over) if not is_over]
         answers = iter(asker.shortest(most, left))
@@ -191,9 +198,10 @@ def tries_by_pops(pops: str, text: bytes, most: int) -> bytes:
     for key in keys:
         lines += [f"1.{battle.shown(asked.start, key.move)}!", *key.below()]
     lines += [f"solutions: {len(keys)}{', stopped' * (len(keys) == asked.limit)}", "tries"]
-    tries = [it for it in firsts if not it.is_key and 1 <= len(it.refutations) <= most]
+    tries = [it for it in firsts if not it.is_key and 1 <= it.number <= most]
     for one in tries:
         lines += [f"1.{battle.shown(asked.start, one.move)}?", *one.below(), "  but"]
+        lines += ["    stalemate"] * one.is_stalemate
         lines += [f"    1...{battle.shown(one.after, it)}!" for it in one.refutations]
     return "".join(f"{it}\n" for it in [*lines, f"tries: {len(tries)}", ""]).encode()
 

@@ -45,6 +45,12 @@ test('report: keys, threats, tries and refutations', () => {
   assert.deepEqual(objectOf(item).phases[2].solutions[0].below[0], { text: 'check', move: null, below: [] });
 });
 
+test('report: a try that stalemates', () => {
+  const [item] = itemsOf('problem 1\n#1\nplay\nsolutions: 0\ntries\n1.Kb6-a6?\n  but\n    stalemate\ntries: 1\n\n');
+  const said = row => [row.word ?? labelOf(row.moves[0]), row.path.length, ...row.below.map(said)];
+  assert.deepEqual(rowsOf(item.phases[1], false).map(said), [['1.Kb6-a6?', 0, ['but', 1, ['stalemate', 1]]]]);
+});
+
 test('report: beginnings of a report with tries, and lines that do not belong there', () => {
   for (let end = 1; end < TRIES.length; end++) assert.equal(itemsOf(TRIES.slice(0, end)).length <= 1, true);
   const phases = text => itemsOf(text)[0].phases.map(it => [it.kind, it.isPossible, it.total]);

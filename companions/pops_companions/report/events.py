@@ -150,6 +150,13 @@ class RefutationEvent:
 
 
 @dataclass(frozen=True)
+class StalemateEvent:
+    """The try before it stalemates, which refutes it."""
+
+    problem: int
+
+
+@dataclass(frozen=True)
 class TriesEvent:
     """The tries begin."""
 
@@ -186,6 +193,7 @@ Event = Union[
     FirstMoveEvent,
     MenaceEvent,
     RefutationEvent,
+    StalemateEvent,
     TriesEvent,
     TriesTotalEvent,
     EndEvent,

@@ -26,6 +26,7 @@ from pops_companions.report.events import (
     PhaseEvent,
     Place,
     RefutationEvent,
+    StalemateEvent,
     TotalEvent,
     TriesEvent,
     TriesTotalEvent,
@@ -47,15 +48,17 @@ from pops_companions.report.reader import Allowed, ReportReader, State, read_eve
 NO_TRIES = "no tries in help play"
 _TRIES = "tries"
 _BUT = "  but"
+_STALEMATE = "    stalemate"
 _TRIES_TOTAL = re.compile(r"tries: ([0-9]{1,18})")
 _NODE = re.compile(r"( *)[0-9]")
 
 
 @dataclass(frozen=True)
 class FirstMove:
-    """A key or a try. A key that reaches the goal at once has no menace and nothing below it.
+    """A key or a try. One after which Black has no reply has no menace and nothing below it.
 
-    `defences` are those that don't refute it; a key has no refutations.
+    `defences` are those that don't refute it; a key has no refutations. A try that stalemates is
+    refuted by that alone.
     """
 
     text: str
@@ -64,6 +67,7 @@ class FirstMove:
     threats: tuple[Node, ...] = ()
     defences: tuple[Node, ...] = ()
     refutations: tuple[Node, ...] = ()
+    is_stalemate: bool = False
 
 
 @dataclass(frozen=True)
@@ -143,6 +147,10 @@ class TriesReader(ReportReader):
     def _menace(self, line: bytes) -> Iterator[Event]:
         text = line.decode("latin-1")
         menace = next((it for it in Menace if text == f"  {it.value}"), None)
+        if menace is None and self._sign is FirstMoveKind.TRY:
+            self._refuse_other(line, _BUT)
+            self._state = self._stalemate
+            return
         if menace is None:
             yield from self._first_move(line)
             return
@@ -183,6 +191,11 @@ class TriesReader(ReportReader):
         move = self._signed_move(text, self._stipulation.first_half + 1, lead, "!")
         yield RefutationEvent(self._number, text.lstrip(" "), move)
 
+    def _stalemate(self, line: bytes) -> Iterator[Event]:
+        self._refuse_other(line, _STALEMATE)
+        self._state = self._first_move
+        yield StalemateEvent(self._number)
+
     def _total(self, line: bytes) -> Iterator[Event]:
         if self._sign is FirstMoveKind.TRY:
             yield from self._total_of_tries(line)
@@ -216,12 +229,14 @@ class _GrowingMove:
     threats: GrowingPhase = field(default_factory=lambda: GrowingPhase(PhaseKind.PLAY))
     defences: GrowingPhase = field(default_factory=lambda: GrowingPhase(PhaseKind.PLAY))
     refutations: list[Node] = field(default_factory=list)
+    is_stalemate: bool = False
 
     def ended(self) -> FirstMove:
         threats, defences = self.threats.nodes, self.defences.nodes
         refutations = tuple(self.refutations)
         text, move = self.first.text, self.first.move
-        return FirstMove(text, move, self.menace, threats, defences, refutations)
+        below = (self.menace, threats, defences, refutations, self.is_stalemate)
+        return FirstMove(text, move, *below)
 
 
 class TriesBuilder:
@@ -252,7 +267,7 @@ class TriesBuilder:
             self._head = event
         elif isinstance(event, FirstMoveEvent):
             self._moves.append(_GrowingMove(event))
-        elif isinstance(event, (MenaceEvent, RefutationEvent)):
+        elif isinstance(event, (MenaceEvent, RefutationEvent, StalemateEvent)):
             self._add_to_move(event)
         elif isinstance(event, (PhaseEvent, NotPossibleEvent, TotalEvent)):
             self._take_of_phase(event)
@@ -260,14 +275,17 @@ class TriesBuilder:
             self._add_node(event)
         return None
 
-    def _add_to_move(self, event: Union[MenaceEvent, RefutationEvent]) -> None:
+    def _add_to_move(self, event: Union[MenaceEvent, RefutationEvent, StalemateEvent]) -> None:
         move = self._moves[-1]
         if isinstance(event, MenaceEvent):
             move.menace = event.menace
             return
         if not move.refutations:
             self._lines.insert(-1, _BUT)
-        move.refutations.append(Node(f"    {event.text}", event.move))
+        if isinstance(event, StalemateEvent):
+            move.is_stalemate = True
+        else:
+            move.refutations.append(Node(f"    {event.text}", event.move))
 
     def _take_of_phase(self, event: Union[PhaseEvent, NotPossibleEvent, TotalEvent]) -> None:
         growing = self._growing
@@ -324,6 +342,8 @@ def lines_of(event: Event) -> list[str]:
         return [f"  {event.menace.value}"]
     if isinstance(event, RefutationEvent):
         return [f"    {event.text}"]
+    if isinstance(event, StalemateEvent):
+        return [_STALEMATE]
     if isinstance(event, TotalEvent):
         return [total_text(event.total)]
     if isinstance(event, TriesEvent):

@@ -320,12 +320,17 @@ def _judge_tries(judgement: Judgement, tries: TriesItem) -> None:
     if len(tries.keys) == 1:
         judgement.threats = len(tries.keys[0].threats)
         judgement.is_zugzwang = tries.keys[0].menace is Menace.ZUGZWANG
-    close = [one for one in tries.tries if len(one.refutations) == 1]
+    close = [one for one in tries.tries if one.is_stalemate or len(one.refutations) == 1]
     judgement.tries = len(close)
     if close:
         text = ("1 try" if len(close) == 1 else f"{len(close)} tries") + " with one refutation"
-        lines = tuple(f"{one.text} {one.refutations[0].move.text}!" for one in close)
+        lines = tuple(f"{one.text} {_refuted(one)}" for one in close)
         judgement.find_in_solutions(Weight.NOTE, text, lines)
+
+
+def _refuted(one: FirstMove) -> str:
+    """Returns what alone refutes a try."""
+    return "stalemate" if one.is_stalemate else f"{one.refutations[0].move.text}!"
 
 
 def _choices(nodes: tuple[Node, ...]) -> str:

@@ -26,6 +26,7 @@ class Language(NamedTuple):
     threat: str
     zugzwang: str
     but: str
+    stalemate: str
     set_play: str
     tries: str
     solution: str
@@ -55,6 +56,7 @@ _ALL = (
         threat="threat:",
         zugzwang="zugzwang",
         but="but",
+        stalemate="stalemate",
         set_play="Set play",
         tries="Tries",
         solution="Solution",
@@ -74,6 +76,7 @@ _ALL = (
         threat="droht:",
         zugzwang="Zugzwang",
         but="aber",
+        stalemate="Patt",
         set_play="Satzspiel",
         tries="Verführungen",
         solution="Lösung",
@@ -93,6 +96,7 @@ _ALL = (
         threat="menace :",
         zugzwang="blocus",
         but="mais",
+        stalemate="pat",
         set_play="Jeu apparent",
         tries="Essais",
         solution="Solution",

@@ -87,11 +87,13 @@ class Solution:
             else:
                 head += f" {self.language.threat}"
         lines += variations.defences(moved, one.defences)
-        lines += self._refutations(moved, one.refutations)
+        lines += self._refutations(moved, one)
         return [Line(head), *(line.set_in() for line in lines)]
 
-    def _refutations(self, men: Men, refutations: Sequence[Node]) -> list[Line]:
-        if not refutations:
+    def _refutations(self, men: Men, one: FirstMove) -> list[Line]:
+        if one.is_stalemate:
+            return [Line(f"{self.language.but} {self.language.stalemate}")]
+        if not one.refutations:
             return []
-        moves = (short(men, it.move, self.condition) + "!" for it in refutations)
+        moves = (short(men, it.move, self.condition) + "!" for it in one.refutations)
         return [Line(f"{self.language.but} {prefix(2)}{', '.join(moves)}")]

@@ -23,6 +23,7 @@ from pops_companions.report.events import (
     PhaseEvent,
     ProblemEvent,
     RefutationEvent,
+    StalemateEvent,
     TotalEvent,
     TriesEvent,
     TriesTotalEvent,
@@ -174,6 +175,7 @@ def _first_move(first: FirstMove) -> Json:
         "threats": [_solution(node) for node in first.threats],
         "defences": [_solution(node) for node in first.defences],
         "refutations": [_solution(node) for node in first.refutations],
+        "stalemate": first.is_stalemate,
     }
 
 
@@ -228,6 +230,7 @@ _EVENT_NAMES: dict[type[Event], str] = {
     FirstMoveEvent: "first_move",
     MenaceEvent: "menace",
     RefutationEvent: "refutation",
+    StalemateEvent: "stalemate",
     TriesEvent: "tries",
     TriesTotalEvent: "tries_total",
     EndEvent: "end",

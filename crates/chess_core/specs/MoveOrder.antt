@@ -5,7 +5,7 @@ use Rattle.chess_core.specs.Position.{kind_number}
 use Rattle.chess_core.specs.Move.{Move}
 use Rattle.chess_core.specs.declared.man.Kind.{Kind}
 
--- one promotion comes before another: none before all, then in the order of kinds
+-- one promotion comes before another: no promotion comes first, then the kinds in order
 abbrev pub promotion_precedes : Option Kind → Option Kind → Bool
 promotion_precedes _ None = false
 promotion_precedes None (Some k) = true

@@ -2,8 +2,9 @@
 ghost use Rattle.std.specs.Prelude.{◌≡◌, ⊤};
 ghost use Rattle.pop_battle.specs.ties.Frames.{unordered};
 
-use chess_core::Move;
+use chess_core::{Move, Squares};
 use chess_rules::{LegalCursor, Moves, Rules, Undo};
+use pop_stipulation::Goal;
 use std::alloc::AllocError;
 use std::marker::Model;
 
@@ -72,6 +73,14 @@ impl<R: Rules> Order<R> {
     }
 }
 
+/// What is known of the lines of help play from a position: those that reach the goal end with the king of the
+/// side to be mated on one of these squares.
+#[derive(Clone, Copy, Debug)]
+pub struct LineEnds {
+    pub goal: Goal,
+    pub squares: Squares,
+}
+
 /// A position on the path from a phase's first position, whose moves are tried in turn. Contracts see the
 /// record `Frame` with the same fields.
 #[derive(Copy)]
@@ -90,6 +99,8 @@ pub struct Frame<R: Rules> {
     /// In a test: the order of the moves, and the stage of `place`.
     pub order: Order<R>,
     pub move_stage: MoveStage,
+    /// In help play: what is known of the lines from here.
+    pub line_ends: Option<LineEnds>,
 }
 
 impl<R: Rules> Model for Frame<R> {
@@ -105,6 +116,7 @@ impl<R: Rules> Model for Frame<R> {
       order = f.order;
       move_stage = f.move_stage;
       known = f.known;
+      line_ends = f.line_ends;
     } };
 
     ghost inverse = { λ v. record {
@@ -115,6 +127,7 @@ impl<R: Rules> Model for Frame<R> {
       order = v.order;
       move_stage = v.move_stage;
       known = v.known;
+      line_ends = v.line_ends;
     } };
 }
 
@@ -145,6 +158,7 @@ impl<R: Rules> Default for Frame<R> {
             order: Order::unordered(),
             move_stage: MoveStage::Others,
             known: None,
+            line_ends: None,
         }
     }
 }

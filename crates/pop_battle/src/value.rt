@@ -235,6 +235,7 @@ fn descend<R: Rules, const N: usize>(
         order,
         move_stage: MoveStage::Killer,
         known,
+        line_ends: None,
         ..top
     });
     None
@@ -315,6 +316,7 @@ pub fn value_of<R: Rules, const N: usize>(
         order,
         move_stage: MoveStage::Killer,
         known,
+        line_ends: None,
         ..Frame::default()
     });
     let mut answer = None;

@@ -35,4 +35,6 @@ pub enum TryEvent {
     But,
     /// A refutation: a reply after which White no longer wins.
     Refutation(Shown),
+    /// The try stalemates, which refutes it.
+    Stalemate,
 }

@@ -1,10 +1,10 @@
 -- How a part begins: its solutions come after its first moves.
-use Rattle.pop_parts.proofs.Words.{Frame, IsLinked, IsPartOpened, IsSound, List, Move, Phase, Posed, Position, RuleSet, Stage, [], ap, cut-at, eqb, events_along, false, get_or, is_help, is_legal, is_part_stopped, is_unstopped, left_of, legal_moves, length, length-append, length-reverse, map, min, nat_tests, nil_from_length, part_events, part_solutions, part_walk, path, path-length, path-more, path_end, path_end-append, path_end-path, path_event, phase_half_moves, phase_start, position_after, refl, reverse, rules, some-taken, suc, take, total, true, walk_count, arith, ℕ, ◌++◌, ◌+◌, ◌-◌, ◌<◌, ◌^◌, ◌∙◌, ◌∷◌, ◌≡◌, ◌≤◌}
+use Rattle.pop_parts.proofs.Words.{Frame, IsLinked, IsPartOpened, IsSound, List, Move, Phase, Posed, Position, RuleSet, Stage, [], ap, cut-at, eqb, events_along, false, get_or, is_help, is_legal, is_unstopped, left_of, legal_moves, length, length-append, length-reverse, map, min, nat_tests, nil_from_length, part_events, part_solutions, part_walk, path, path-length, path-more, path_end, path_end-append, path_end-path, path_event, phase_half_moves, phase_start, position_after, refl, reverse, rules, some-taken, suc, take, total, true, walk_count, arith, ℕ, ◌++◌, ◌+◌, ◌-◌, ◌<◌, ◌^◌, ◌∙◌, ◌∷◌, ◌≡◌, ◌≤◌}
 use Rattle.pop_parts.proofs.Parts.{part_cut}
 use Rattle.pop_parts.specs.ties.Beginnings.{IsSeeking}
 use Rattle.pop_parts.specs.ties.PartsSeen.{are_legal}
-use Rattle.pop_solve.proofs.Opened.{none-left}
-use Rattle.pop_solve.specs.ties.Counts.{Counts, exactly, untried_at}
+use Rattle.pop_solve.proofs.Counting.{counts-if}
+use Rattle.pop_solve.specs.ties.Counts.{Counts, exactly, least_if, untried_at}
 use Rattle.pop_solve.proofs.Solved.{IsCutInto}
 use Rattle.pop_solve.proofs.Walking.{popped}
 use Rattle.pop_solve.specs.ties.Beginnings.{IsBeginning, paths_by}
@@ -46,25 +46,12 @@ none-before n = omega arith
 at-root : (n : ℕ) → 0 < n → eqb (n - 1) 0 ≡ eqb n 1
 at-root n some = grind (arith, nat_tests)
 
--- paths and a total that no limit stopped
-unstopped-paths : (problem : Posed) (phase : Phase) (paths : List (List Move)) (count : ℕ)
-    → is_unstopped (map (path_event problem phase) paths ++ total count false ∷ []) ≡ true
-unstopped-paths problem phase [] count = refl
-unstopped-paths problem phase (x ∷ xs) count = search (rules, unstopped-paths problem phase xs count)
-
--- a part that no limit stops says so
-unstopped : (rule : RuleSet) (problem : Posed) (phase : Phase) (front : List Move) → is_part_stopped rule problem phase front ≡ false
-    → is_unstopped (part_events rule problem phase front) ≡ true
-unfolding part_events
-unstopped rule problem phase front full = rw full (unstopped-paths problem phase _ _)
-
--- after its total a part of help play has tried all its positions
-pub all-opened : (rule : RuleSet) (problem : Posed) (phase : Phase) (front : List Move) (stage : Stage) (frames : List Frame)
-    (opened : ℕ) → IsPartOpened rule problem phase front stage frames opened → opened < 2 ^ 64
-    → is_help problem.stipulation.form ≡ true → is_part_stopped rule problem phase front ≡ false → left_of rule problem stage frames ≡ []
-    → opened ≡ min (part_walk rule problem phase front) (2 ^ 64 - 1)
-all-opened rule problem phase front stage frames opened o fits help full none =
-    let c = rw (none-left rule problem stage frames none) at (o help full).1 in omega (arith, fits, c.most refl, c.least)
+-- a part of help play has tried at most the positions of its walk
+pub most-opened : (rule : RuleSet) (problem : Posed) (phase : Phase) (front : List Move) (stage : Stage) (frames : List Frame)
+    (opened : ℕ) → IsPartOpened rule problem phase front stage frames opened → is_help problem.stipulation.form ≡ true
+    → opened ≤ part_walk rule problem phase front
+unfolding least_if
+most-opened rule problem phase front stage frames opened o help = omega (arith, (o help).most refl)
 
 module _ (rule : RuleSet) (problem : Posed) (sound : IsSound problem) (phase : Phase) (frames : List Frame) (board : Position) (d : ℕ)
     (s : IsSeeking rule (phase_half_moves problem phase) d (phase_start problem phase) (reverse frames) board) (long : length frames ≡ d)
@@ -120,10 +107,8 @@ module _ (rule : RuleSet) (problem : Posed) (sound : IsSound problem) (phase : P
   walk-is = grind (arith, length-append, path-length, size, path_end-append problem.stipulation.goal rule p (path old) m, board-at)
 
   -- the part has begun
-  pub opens-begun : (stage : Stage) (new : List Frame) (opened : ℕ) → left_of rule problem stage new ≡ events_along problem phase 0 come []
-      → (is_help problem.stipulation.form ≡ true
+  pub opens-begun : (stage : Stage) (new : List Frame) (opened : ℕ) → (is_help problem.stipulation.form ≡ true
       → Counts (exactly (walk_count (legal_moves rule) (position_after rule) (h - n) (position_after rule board m))) (untried_at rule problem stage new) 0
       opened)
       → IsPartOpened rule problem phase front stage new opened
-  opens-begun stage new opened left counted help full =
-      (ap is_unstopped (left ∙ events-begun) ∙ unstopped rule problem phase front full, rw walk-is (counted help))
+  opens-begun stage new opened counted help = counts-if false _ _ _ _ (rw walk-is (counted help))

@@ -1,10 +1,9 @@
 -- What a call of `PartSearch::next` returns, and what it counts.
-use Rattle.pop_parts.proofs.Words.{BareEvent, Frame, Gives, IsAtPathOf, IsPartOpened, List, MatchOption, Move, None, Option, Phase, Posed, Position, RuleSet, Some, Stage, [], and_parts, ap, drop, event_of, is_stop, is_unstopped, left_of, not, play_start, refl, slice_get, true, ℕ, ◌≡◌}
+use Rattle.pop_parts.proofs.Words.{BareEvent, Frame, Gives, IsAtPathOf, IsPartOpened, part_walk, false, List, MatchOption, Move, None, Option, Phase, Posed, Position, RuleSet, Some, Stage, [], ap, drop, event_of, is_unstopped, left_of, play_start, refl, slice_get, true, ℕ, ◌&&◌, ◌≡◌}
 use Rattle.pop_events.specs.declared.event.Event.{Event}
 use Rattle.std.specs.Option.{option_map}
-use Rattle.pop_solve.proofs.Counting.{counts_then}
-use Rattle.pop_solve.proofs.Opened.{counts-unstopped}
-use Rattle.pop_solve.specs.ties.Counts.{CountsOn}
+use Rattle.pop_solve.proofs.Counting.{counts_then-if}
+use Rattle.pop_solve.specs.ties.Counts.{CountsOn, exactly, searches_all, untried_at}
 
 module _ (rule : RuleSet) (problem : Posed) (old new : List BareEvent) (board : Position) (depth : ℕ) where
   -- the first event still to come, or none
@@ -24,17 +23,10 @@ module _ (rule : RuleSet) (problem : Posed) (old new : List BareEvent) (board : 
   board-is None g = rw g.0 g.1
   board-is (Some event) g = rw g.left g.stands
 
-  -- no event after it says that a limit stopped the part
-  pub unstopped-on : (found : Option Event) → Returns found → is_unstopped old ≡ true → is_unstopped new ≡ true
-  unstopped-on None g e = rw g.2 refl
-  unstopped-on (Some event) g e = (and_parts (not (is_stop g.bare)) (is_unstopped new) (rw g.left at e)).1
-
 -- the count holds on after a call
-pub opened-on : (rule : RuleSet) (problem : Posed) (phase : Phase) (front : List Move) (stage next : Stage) (frames last : List Frame) (board : Position)
-    (depth before after : ℕ) (found : Option Event)
-    → Returns rule problem (left_of rule problem stage frames) (left_of rule problem next last) board depth found
-    → CountsOn rule problem stage next frames last before after
+pub opened-on : (rule : RuleSet) (problem : Posed) (phase : Phase) (front : List Move) (stage next : Stage) (frames last : List Frame) (before after : ℕ)
+    → CountsOn true rule problem stage next frames last before after
     → IsPartOpened rule problem phase front stage frames before → IsPartOpened rule problem phase front next last after
-opened-on rule problem phase front stage next frames last board depth before after found g x o help full =
-    let so_far = o help full in
-    (unstopped-on rule problem _ _ board depth found g so_far.0, counts_then _ _ _ _ _ _ so_far.1 (counts-unstopped rule problem _ _ _ _ _ _ x so_far.0))
+opened-on rule problem phase front stage next frames last before after x o help =
+    counts_then-if false (searches_all true problem && is_unstopped (left_of rule problem stage frames)) (exactly (part_walk rule problem phase front))
+    (untried_at rule problem stage frames) (untried_at rule problem next last) 0 before after (o help) x

@@ -1,4 +1,5 @@
 -- The walk over first moves: what a step leaves of the lists still to come.
+unfoldable use Rattle.pop_solve.specs.ties.Walk.{AreEnds}
 use Rattle.pop_parts.proofs.Words.{AreKnown, CameFrom, CameFromAt, Frame, IfSome, IsLinked, IsPlaceIn, IsRoomy, IsWalking, IsWellFormed, LegalPlace, List, Move, None, Option, Position, RuleSet, Some, Undo, [], after_well_formed, ap, append-nil, append_assoc, arith, beginnings, chess, drop, is_legal, is_pseudo_legal-from_legal, is_some, length, length-append, length-reverse, map, map-append, map-id, min, moves_after, nil_from_length, path, position, position_after, refl, reverse, rules, slice_get, suc, sym, true, undo_of, walk_work, zero, ℕ, ◌++◌, ◌+◌, ◌-◌, ◌<◌, ◌^◌, ◌∙◌, ◌∷◌, ◌≡◌, ◌≢◌, ◌≤◌}
 use Rattle.std.proofs.Math.Seq.{drop-nil}
 use Rattle.pop_stipulation.specs.declared.stipulation.Goal.{Goal}
@@ -57,7 +58,7 @@ turns-deeper rule h p f next m below undo less e =
 walking-idle : (rule : RuleSet) (h : ℕ) (p : Position) (f : Frame) (next : ℕ) (m : Move) (below : List Frame) (board after : Position)
     → IsWalking rule h p (f ∷ below) board → length below + 1 ≤ h → is_legal rule board m ≡ true → after ≡ position_after rule board m
     → IsWalking rule h p (opened_frame m (undo_of rule board m) 0 ∷ (moved f next ∷ below)) after
-unfolding IsLinked IsRoomy AreKnown position
+unfolding IsLinked IsRoomy AreKnown AreEnds position
 walking-idle rule h p f next m below board after r less lawful e =
     let pseudo = is_pseudo_legal-from_legal rule board m lawful in grind (arith, after_well_formed rule board m r.sound pseudo, pseudo)
 
@@ -180,9 +181,9 @@ no-frames frames e = search (rules, nil_from_length)
 -- before all beginnings
 module _ (rule : RuleSet) (p : Position) (f : Frame) (left : f.left ≡ 0) where
   -- the walk over first moves begins at the root of the phase
-  pub seeking-begun : (h d : ℕ) (board : Position) → f.known ≡ None → 1 ≤ d → d ≤ h → board ≡ p → IsWellFormed board → IsSeeking rule h d p (f ∷ []) board
-  unfolding IsLinked IsRoomy AreKnown position are_idle
-  seeking-begun h d board unknown some room e sound = search rules
+  pub seeking-begun : (h d : ℕ) (board : Position) → f.known ≡ None → f.line_ends ≡ None → 1 ≤ d → d ≤ h → board ≡ p → IsWellFormed board → IsSeeking rule h d p (f ∷ []) board
+  unfolding IsLinked IsRoomy AreKnown AreEnds position are_idle
+  seeking-begun h d board unknown no_ends some room e sound = search rules
 
   -- all beginnings are to come from there
   pub come-begun : (goal : Goal) (d : ℕ) → f.place ≡ 0 → 1 ≤ d → beginnings_to_come goal rule d p (f ∷ []) ≡ beginnings (chess goal rule) d p

@@ -25,7 +25,7 @@ pub use Rattle.pop_solve.proofs.theorems.Lists.{IsPlayable, StandsBefore, never_
 pub use Rattle.pop_solve.proofs.Paths.{cut-at, path-length, path-more, path_end-append, path_end-path, position-more, some-taken}
 pub use Rattle.std.proofs.lemmas.List.{length-drop, take_all}
 pub use Rattle.pop_solve.specs.declared.phases.Stage.{Stage}
-pub use Rattle.pop_parts.specs.ties.PartsSeen.{IsPartOpened, is_part_stopped, part_walk}
+pub use Rattle.pop_parts.specs.ties.PartsSeen.{IsPartOpened, part_walk}
 pub use Rattle.pop_run.proofs.Findings.{IsPrinting, first_shown, printing_breaks_off, printing_goes_on}
 pub use Rattle.chess_rules.specs.Legal.{moves as legal_moves}
 pub use Rattle.chess_rules.specs.Play.{position_after}

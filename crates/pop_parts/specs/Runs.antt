@@ -9,13 +9,13 @@ use Rattle.pop_parts.specs.declared.request.PartRequest.{PartRequest}
 use Rattle.pop_parts.specs.declared.request.Outcome.{Outcome}
 use Rattle.pop_parts.specs.declared.request.Outcome.TheVariants.{OutputFailed}
 
--- The list of the input was written, and its status returned; if the sink failed, a beginning of the list
--- was written.
+-- The list of the input was written, and its status returned; if the sink failed, a beginning of the list,
+-- not all of it, was written.
 abbrev pub Lists : ℕ → Input → Option (List ℕ) → Option (List ℕ) → Bool → Status → Type 0
 Lists depth = RunsBy (parts_line depth)
 
 -- The text of the requested parts was written, and the outcome returned; if the sink failed, a beginning of
--- the text was written.
+-- the text, not all of it, was written.
 abbrev pub Shows : PartRequest → Input → Option (List ℕ) → Option (List ℕ) → Bool → Outcome → Type 0
 Shows request input before now false answer = Appends before now (text_of request input)
     × (answer ≡ outcome_of request input)

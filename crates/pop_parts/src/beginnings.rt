@@ -46,6 +46,7 @@ fn idle<R: Rules>(by: Move, undo: Undo) -> Frame<R>
         order: Order::unordered(),
         move_stage: MoveStage::Others,
         known: None,
+        line_ends: None,
     }
 }
 

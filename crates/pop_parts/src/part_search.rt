@@ -86,13 +86,13 @@ impl<R: Rules, const N: usize> PartSearch<R, N> {
     ghost use Rattle.pop_parts.specs.ties.Beginnings.{IsSeeking};
     ghost use Rattle.pop_solve.specs.ties.Walk.{path};
     ghost use Rattle.pop_parts.specs.PhaseParts.{part_events, part_numbered};
-    ghost use Rattle.pop_parts.specs.ties.PartsSeen.{is_part_stopped, part_walk};
+    ghost use Rattle.pop_parts.specs.ties.PartsSeen.{part_walk};
     ghost use Rattle.pop_solve.specs.ties.Seen.{IsAtPathOf};
 
     /// Returns a search of the part with this number, counted from 1 in the order of moves; `None` if the
     /// phase has fewer parts. `depth` moves, 1 or more, distinguish the parts of help play. `N` must be
     /// more than the half-moves of the play and at most 33, and `R` must be the rules of the problem's
-    /// condition. The killers affect speed only: killers from another part make tests faster.
+    /// condition. The killers affect speed only.
     pub fn of(
         problem: &Problem,
         phase: Phase,
@@ -178,7 +178,7 @@ impl<R: Rules, const N: usize> PartSearch<R, N> {
         // For the proof: the count is below 2^64.
         let _count = self.search_state.opened;
         let mut event = None;
-        advance::<R, N>(
+        advance::<R, N, true>(
             &self.problem,
             &mut self.stage,
             &mut self.board,
@@ -189,7 +189,7 @@ impl<R: Rules, const N: usize> PartSearch<R, N> {
         event
     }
 
-    /// Returns the moves that last decided tests, for the search of another part.
+    /// Returns the search's killers, the moves that last decided tests.
     pub fn into_killers(self) -> Killers<R>
         ensures { result ≡ self.killers }
     {
@@ -197,16 +197,13 @@ impl<R: Rules, const N: usize> PartSearch<R, N> {
         search_state.killers
     }
 
-    /// Returns the number of positions tried so far, up to the greatest u64. Positions before the end of
-    /// the first moves don't count, and a test whether the first moves mate doesn't either. In help play,
-    /// after the last event and if no limit stopped the part, it is the part's walk count.
+    /// Returns the number of positions counted so far, as `PrunedSearch` counts them, up to the greatest u64.
+    /// Positions before the end of the first moves don't count, nor does a test whether the first moves
+    /// mate, nor do tests that only guess killers. In help play it is at most the part's walk count.
     pub fn opened(&self) -> u64
         ensures opened { result ≡ self.now.opened }
-        ensures all { is_help self.now.problem.stipulation.form ≡ true
-            → is_part_stopped R.rule self.now.problem self.now.phase self.now.front ≡ false
-            → self.now.left ≡ []
-            → result ≡ min (part_walk R.rule self.now.problem self.now.phase self.now.front)
-            (2 ^ 64 - 1) }
+        ensures most { is_help self.now.problem.stipulation.form ≡ true
+            → result ≤ part_walk R.rule self.now.problem self.now.phase self.now.front }
     {
         // For the proof: the count is below 2^64.
         let _count = self.search_state.opened;

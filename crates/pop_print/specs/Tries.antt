@@ -4,7 +4,7 @@ use Rattle.std.specs.Prelude.{ℕ, List, ◌++◌, codes, decimal}
 use Rattle.pop_events.specs.Shown.{Shown}
 use Rattle.pop_events.specs.declared.event.Phase.TheVariants.{Play}
 use Rattle.pop_events.specs.declared.try_event.TryEvent.{TryEvent}
-use Rattle.pop_events.specs.declared.try_event.TryEvent.TheVariants.{But, Check, Key, KeyTotal, Keys, NoTries, Node, Refutation, Set, Threat, Tries, Try, TryTotal, Zugzwang}
+use Rattle.pop_events.specs.declared.try_event.TryEvent.TheVariants.{But, Check, Key, KeyTotal, Keys, NoTries, Node, Refutation, Set, Stalemate, Threat, Tries, Try, TryTotal, Zugzwang}
 use Rattle.pop_print.specs.Events.{event_text, node_text, phase_text, prefix_text, total_text}
 use Rattle.pop_print.specs.Moves.{move_text}
 
@@ -32,3 +32,4 @@ try_event_text Zugzwang = codes "  zugzwang\n"
 try_event_text (Node depth half shown) = node_text depth half shown
 try_event_text But = codes "  but\n"
 try_event_text (Refutation shown) = refutation_text shown
+try_event_text Stalemate = codes "    stalemate\n"

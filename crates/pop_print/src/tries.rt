@@ -48,5 +48,6 @@ pub fn print_try_event<W: Sink>(sink: &mut W, event: &TryEvent) -> Result<(), Si
         TryEvent::Node { depth, half, shown } => print_node(sink, *depth, *half, shown, b"\n"),
         TryEvent::But => put_all(sink, b"  but\n"),
         TryEvent::Refutation(shown) => print_node(sink, 2, 2, shown, b"!\n"),
+        TryEvent::Stalemate => put_all(sink, b"    stalemate\n"),
     }
 }

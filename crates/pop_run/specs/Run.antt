@@ -81,7 +81,7 @@ pub record ReadsUpTo (input : Input) (taken : List ℕ) : Type 0 where
   pub stops : EndsWithItem used tokens ⊎ EndsWithInput input used tokens
 
 -- A run writes the texts of the input's items and returns the input's status. If the sink fails, it writes a beginning
--- of these texts and returns `OutputFailed`.
+-- of these texts, not all of them, and returns `OutputFailed`.
 abbrev pub RunsBy : ItemText → Input → Option (List ℕ) → Option (List ℕ) → Bool → Status → Type 0
 RunsBy text input before now false answer = Appends before now (report_by text input)
     × (answer ≡ status input)

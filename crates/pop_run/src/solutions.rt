@@ -12,7 +12,7 @@ use crate::choice::Choice;
 use chess_rules::Rules;
 use pop_input::{Problem, under_condition};
 use pop_print::{print_checked, print_event, print_head};
-use pop_solve::Search;
+use pop_solve::PrunedSearch;
 use pop_text::{Sink, SinkFault, put_all};
 
 // Writes the report of a sound problem: its solutions, or, if problems are only tested, that it is sound.
@@ -81,12 +81,12 @@ fn print_solutions<R: Rules, W: Sink>(sink: &mut W, problem: &Problem) -> Result
 }
 
 // Returns a search with a frame for each half-move of the longest stipulation, 32, and one after the last.
-fn start_search<R: Rules>(problem: &Problem) -> Search<R, 33>
+fn start_search<R: Rules>(problem: &Problem) -> PrunedSearch<R, 33>
     requires { R.rule ≡ rule_of problem.now.condition }
     ensures problem { result.problem ≡ problem.now }
     ensures left { result.left ≡ events R.rule problem.now }
 {
     // For the prover alone: the call shows that the stipulation has at most 32 half-moves.
     let _aim = problem.stipulation();
-    Search::new(problem)
+    PrunedSearch::new(problem)
 }

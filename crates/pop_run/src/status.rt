@@ -11,7 +11,7 @@ pub enum Status {
     Faulty,
     /// The input device failed.
     InputFailed,
-    /// The output can't be written. Only `run` and `report` return it.
+    /// A write failed. Runs return it; a step of a session returns `SinkFault` instead.
     OutputFailed,
 }
 

@@ -1,12 +1,40 @@
 -- How many positions a move and some steps of a walk count.
-use Rattle.pop_solve.proofs.Words.{Battle, Bool, Frame, HasCounted, List, Mate, Move, None, Plan, Position, RuleSet, Some, [], arith, chess, cond, eqb, false, is_followed, is_mating, legal_moves, moves_after, position, position_after, rules, seeks_last, smallest_tree, sum_by-cons, to_open, true, value, walk_after, walk_count, ℕ, ◌+◌, ◌∷◌, ◌≡◌, ◌≤◌, ◌⊎◌}
-use Rattle.pop_solve.specs.ties.Counts.{Counts, CountsMove, CountsWalk, Untried, are_whites, fewest_left, fewest_walked, is_walked_once_by, untried}
+use Rattle.pop_solve.proofs.Words.{Battle, Bool, Frame, HasCounted, List, Mate, Move, None, Plan, Position, RuleSet, Some, [], arith, chess, cond, eqb, false, is_followed, is_mating, legal_moves, moves_after, position, position_after, rules, seeks_last, smallest_tree, sum_by-cons, to_open, true, value, walk_after, walk_count, ℕ, ◌&&◌, ◌+◌, ◌∷◌, ◌≡◌, ◌≤◌, ◌⊎◌}
+use Rattle.pop_solve.specs.ties.Counts.{Counts, CountsMove, Untried, are_whites, fewest_left, fewest_walked, is_walked_once_by, least_if, untried}
 use Rattle.pop_battle.proofs.Boards.{after_start, none_of}
 use Rattle.pop_solve.proofs.GoingOn.{no_zero, ways}
 
 -- two calls, one after the other
 pub counts_then : (a b c : Untried) (x y z : ℕ) → Counts a b x y → Counts b c y z → Counts a c x z
 counts_then a b c x y z first second = search rules
+
+-- what counts all that has to be tried counts what has to be tried if `full`
+pub counts-if : (full : Bool) (a b : Untried) (x y : ℕ) → Counts a b x y → Counts (least_if full a) b x y
+unfolding least_if
+counts-if true a b x y c = search rules
+counts-if false a b x y c = record { once = c.once; most = c.most; least = omega (arith, c.grows); grows = c.grows }
+
+-- where nothing is done, nothing is counted
+pub counts-none : (full : Bool) (a : Untried) (x : ℕ) → Counts (least_if full a) a x x
+counts-none full a x = counts-if full a a x x (search rules)
+
+-- two calls, where something has to be tried only if `full` and `more`
+pub counts_then-if : (full more : Bool) (a b c : Untried) (x y z : ℕ) → Counts (least_if full a) b x y → Counts (least_if more b) c y z
+    → Counts (least_if (full && more) a) c x z
+unfolding least_if
+counts_then-if true true a b c x y z first second = search rules
+counts_then-if true false a b c x y z first second = search (rules, first.grows, second.grows)
+counts_then-if false more a b c x y z first second = search (rules, first.grows, second.grows)
+
+-- the same, where `full` holds of both
+pub counts_then-both : (full : Bool) (a b c : Untried) (x y z : ℕ) → Counts (least_if full a) b x y → Counts (least_if full b) c y z
+    → Counts (least_if full a) c x z
+counts_then-both true a b c x y z first second = counts_then-if true true a b c x y z first second
+counts_then-both false a b c x y z first second = counts_then-if false false a b c x y z first second
+
+-- what some steps of a walk count that passes over nothing that has to be tried
+abbrev pub CountsAll : RuleSet → Plan → ℕ → Position → (old new : List Frame) → (before after : ℕ) → Type 0
+CountsAll rule plan h p old new before after = Counts (untried rule plan h p old) (untried rule plan h p new) before after
 
 -- what is counted, by the ways to play
 pub counts-by : (rule : RuleSet) (plan : Plan) (h : ℕ) (p : Position) (old new : List Frame) (before after : ℕ) → HasCounted before after 0
@@ -15,7 +43,7 @@ pub counts-by : (rule : RuleSet) (plan : Plan) (h : ℕ) (p : Position) (old new
     → ((battle : Battle) → plan.battle ≡ Some battle → HasCounted before (after + fewest_left rule plan h p new) (fewest_left rule plan h p old))
     → ((battle : Battle) → plan.battle ≡ Some battle → plan.variation ≡ false → are_whites battle old ≡ true
     → (are_whites battle new ≡ true) × (after + to_open rule p new ≤ before + to_open rule p old))
-    → CountsWalk rule plan h p old new before after
+    → CountsAll rule plan h p old new before after
 unfolding untried is_walked_once_by
 counts-by rule plan h p old new before after grows help fewest keys = search (rules, ways)
 

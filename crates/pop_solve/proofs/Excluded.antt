@@ -53,10 +53,10 @@ module _ (rule : RuleSet) (problem : Posed) where
   one_event_is_counted bare left before after g h = omega (arith, g.counts, h.counts, g.within)
 
   -- a search before its first event has tried nothing, if no line of moves is walked twice
-  pub nothing_is_opened_at_first : (frames : List Frame) (opened : ℕ) → is_walked_once problem ≡ true
-      → IsOpened rule problem (Before (first_phase problem)) frames opened → opened ≡ 0
+  pub nothing_is_opened_at_first : (prunes : Bool) (frames : List Frame) (opened : ℕ) → is_walked_once problem ≡ true
+      → IsOpened prunes rule problem (Before (first_phase problem)) frames opened → opened ≡ 0
   unfolding least_if untried_at
-  nothing_is_opened_at_first frames opened once o = omega (arith, o.most (search rules))
+  nothing_is_opened_at_first prunes frames opened once o = omega (arith, o.most (search rules))
 
 module _ (rule : RuleSet) (plan : Plan) (p : Position) (place before after : ℕ) (rest : List Move) where
   -- with one half-move left no mate after the cursor is passed over

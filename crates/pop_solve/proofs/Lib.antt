@@ -3,6 +3,8 @@ pub mod Battles
 pub mod Lengths
 pub mod Least
 pub mod GoingOn
+pub mod OutOfReach
+pub mod KingEnds
 pub mod ToCome
 pub mod Counting
 pub mod TopFrame

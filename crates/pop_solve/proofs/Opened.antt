@@ -1,10 +1,10 @@
 -- How many positions a search counts, from stage to stage.
-use Rattle.pop_solve.proofs.Words.{BareEvent, Bool, NotPossible, Set, Before, ◌++◌, After, Frame, HasCounted, IsCountedUpTo, IsSound, List, Phase, Play, Posed, RuleSet, Stage, First, Whole, Within, goes_on, left_of, refl, phase_events, [], arith, cond, drop, eqb, false, first_phase, is_help, is_walked_once, Walk, walk_of, and_parts, is_impossible_phase, is_stop, is_unstopped, min, not, phase_half_moves, phase_start, phase_walk, plan_of, position, rules, suc, to_open, total, true, zero, ℕ, ◌+◌, ◌-◌, ◌<◌, ◌^◌, ◌∷◌, ◌≡◌, ◌≤◌, ◌⊎◌}
-use Rattle.pop_solve.specs.ties.Counts.{Counts, CountsOn, CountsWalk, IsOpened, are_whites, fewest_left, fewest_tried, is_walked_once_by, least_if, none_untried, untried, untried_at, untried_from}
+use Rattle.pop_solve.proofs.Words.{BareEvent, Bool, NotPossible, Set, Before, ◌++◌, After, Frame, HasCounted, IsCountedUpTo, IsSound, List, Phase, Play, Posed, RuleSet, Stage, First, Whole, Within, goes_on, left_of, refl, phase_events, [], arith, cond, drop, eqb, false, first_phase, is_help, is_walked_once, Walk, walk_of, and_parts, is_impossible_phase, is_stop, is_unstopped, min, not, phase_half_moves, phase_start, phase_walk, plan_of, position, rules, suc, to_open, total, true, zero, ℕ, ◌&&◌, ◌+◌, ◌-◌, ◌<◌, ◌^◌, ◌∷◌, ◌≡◌, ◌≤◌, ◌⊎◌}
+use Rattle.pop_solve.specs.ties.Counts.{Counts, CountsOn, CountsWalk, IsOpened, are_whites, fewest_left, fewest_tried, is_walked_once_by, least_if, searches_all, none_untried, untried, untried_at, untried_from}
 use Rattle.pop_solve.specs.Walks.{is_never_stopped, whole_walk}
 use Rattle.pop_battle.proofs.Boards.{after_start}
 use Rattle.pop_solve.proofs.Counting.{walk_count-start}
-use Rattle.pop_solve.proofs.GoingOn.{ways}
+use Rattle.pop_solve.proofs.GoingOn.{cases, ways}
 use Rattle.pop_solve.proofs.Sound.{some_way}
 
 some-event : (xs : List BareEvent) (y : BareEvent) (ys : List BareEvent) → (xs ++ y ∷ ys) ≡ [] → ⊥
@@ -31,17 +31,18 @@ module _ (rule : RuleSet) (problem : Posed) where
     counts-begun old before after full one = search (rules, ways, some_way, after_start, root-open)
 
   -- within a phase
-  module _ (walk : Walk) (count : ℕ) (old new : List Frame) (before after : ℕ)
-      (x : CountsWalk rule (plan_of problem) (phase_half_moves problem walk.phase) (phase_start problem walk.phase) old new before after) where
+  module _ (more : Bool) (walk : Walk) (count : ℕ) (old new : List Frame) (before after : ℕ)
+      (x : CountsWalk more rule (plan_of problem) (phase_half_moves problem walk.phase) (phase_start problem walk.phase) old new before after) where
     -- what a call counts that gives a path
-    pub counts-given : (next : ℕ) (full : Bool) (last : List Frame) → last ≡ new → CountsIf full (Within walk count) (Within walk next) old last before after
+    pub counts-given : (next : ℕ) (full : Bool) (last : List Frame) → last ≡ new
+        → CountsIf (more && full) (Within walk count) (Within walk next) old last before after
     unfolding untried_at least_if
     counts-given next full last kept = rw kept (search rules)
 
     -- what it counts that ends the phase
     pub counts-ended : (stage : Stage) (last : List Frame) (left : List BareEvent) → stage ≡ cond (goes_on walk) (Before Play) After
         → count ≤ problem.max_solutions → (new ≡ []) ⊎ (problem.max_solutions - count ≡ 0)
-        → CountsIf (is_unstopped (total count (eqb count problem.max_solutions) ∷ left)) (Within walk count) stage old last before after
+        → CountsIf (more && is_unstopped (total count (eqb count problem.max_solutions) ∷ left)) (Within walk count) stage old last before after
     unfolding untried_at least_if untried to_open fewest_left
     counts-ended stage last left at most over = search rules
 
@@ -62,21 +63,21 @@ module _ (rule : RuleSet) (problem : Posed) where
   none-left After frames e = refl
 
   -- what a call counts, if no event to come says that the limit stops a phase
-  pub counts-unstopped : (old new : Stage) (frames last : List Frame) (before after : ℕ) → CountsOn rule problem old new frames last before after
+  pub counts-unstopped : (old new : Stage) (frames last : List Frame) (before after : ℕ) → CountsOn false rule problem old new frames last before after
       → is_unstopped (left_of rule problem old frames) ≡ true → Counts (untried_at rule problem old frames) (untried_at rule problem new last) before after
   unfolding least_if
   counts-unstopped old new frames last before after x u = search rules
 
   -- what a count says: at most the walk count, and after the last event all that had to be tried
-  module _ (stage : Stage) (frames : List Frame) (opened : ℕ) (o : IsOpened rule problem stage frames opened) where
+  module _ (prunes : Bool) (stage : Stage) (frames : List Frame) (opened : ℕ) (o : IsOpened prunes rule problem stage frames opened) where
     pub most-opened : is_walked_once problem ≡ true → opened ≤ whole_walk rule problem
     unfolding least_if
     most-opened once = let first : (untried_from rule problem (first_phase problem)).once ≡ true = search rules in omega (arith, o.most first)
 
-    module _ (never : is_never_stopped rule problem ≡ true) (none : left_of rule problem stage frames ≡ []) where
+    module _ (all : searches_all prunes problem ≡ true) (never : is_never_stopped rule problem ≡ true) (none : left_of rule problem stage frames ≡ []) where
       at_the_end : HasCounted 0 opened (untried_from rule problem (first_phase problem)).least
       unfolding least_if
-      at_the_end = let least = rw (never, none-left stage frames none) at o.least in omega (arith, least)
+      at_the_end = let least = rw (all, never, none-left stage frames none) at o.least in omega (arith, least)
 
       pub all-opened : opened < 2 ^ 64 → is_help problem.stipulation.form ≡ true → opened ≡ min (whole_walk rule problem) (2 ^ 64 - 1)
       all-opened fits help =
@@ -89,7 +90,7 @@ module _ (rule : RuleSet) (problem : Posed) where
 
   -- a call that walked again from the phase's first position would count what had been counted before twice
   pub no_second_walk : (old new : Stage) (frames last : List Frame) (before after again : ℕ)
-      → CountsOn rule problem old new frames last before after → (untried_at rule problem old frames).once ≡ true → 0 < before
+      → CountsOn false rule problem old new frames last before after → (untried_at rule problem old frames).once ≡ true → 0 < before
       → before + (untried_at rule problem old frames).most - (untried_at rule problem new last).most ≤ again → after ≡ before + again → ⊥
   unfolding least_if
   no_second_walk old new frames last before after again x once some whole sum = omega (arith, x.most once)
@@ -100,7 +101,8 @@ module _ (rule : RuleSet) (problem : Posed) where
   all-drop (suc k) (x ∷ xs) e = all-drop k xs (and_parts (not (is_stop x)) (is_unstopped xs) e).1
 
   -- the counts hold on after a call
-  pub opened-on : (old new : Stage) (frames last : List Frame) (before after given : ℕ) → IsCountedUpTo rule problem (left_of rule problem old frames) given
-      → CountsOn rule problem old new frames last before after → IsOpened rule problem old frames before → IsOpened rule problem new last after
+  pub opened-on : (prunes : Bool) (old new : Stage) (frames last : List Frame) (before after given : ℕ) → IsCountedUpTo rule problem (left_of rule problem old frames) given
+      → CountsOn prunes rule problem old new frames last before after → IsOpened prunes rule problem old frames before
+      → IsOpened prunes rule problem new last after
   unfolding least_if
-  opened-on old new frames last before after given g x o = search (rules, all-drop)
+  opened-on prunes old new frames last before after given g x o = search (rules, cases (searches_all prunes problem), all-drop)

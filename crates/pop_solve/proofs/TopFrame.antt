@@ -1,11 +1,13 @@
 -- What is still to come from the top frame once it is closed, by its next move, and after moves that are skipped: paths, turns and counts.
-use Rattle.pop_solve.proofs.Words.{Battle, Bool, Frame, GoesTo, List, Mate, Move, None, Plan, Position, RuleSet, Some, Steps, Undo, [], allows_mate, ap, arith, chess, eqb, false, false≢true, is_emitted, is_followed, is_mating, legal_moves, length, length-append, map, moves_after, opened_frame, path, position, position_after, rules, seeks_last, shown_paths, suc, sum_by-append, sum_by-cons, sym, to_come, to_open, true, walk_after, walk_count, walk_length, walk_work, work_after, ℕ, ◌++◌, ◌+◌, ◌-◌, ◌<◌, ◌∙◌, ◌∷◌, ◌≡◌, ◌≤◌, ◌⊎◌}
+use Rattle.pop_solve.proofs.Words.{Battle, Bool, Frame, GoesTo, List, Mate, Move, None, Plan, Position, RuleSet, Some, Steps, Undo, [], allows_mate, ap, arith, chess, eqb, false, refl, false≢true, is_emitted, is_followed, is_mating, legal_moves, length, length-append, map, moves_after, opened_frame, path, position, position_after, rules, seeks_last, shown_paths, suc, sum_by-append, sum_by-cons, sym, to_come, to_open, true, walk_after, walk_count, walk_length, walk_work, work_after, ℕ, ◌++◌, ◌+◌, ◌-◌, ◌<◌, ◌∙◌, ◌∷◌, ◌≡◌, ◌≤◌, ◌⊎◌}
 use Rattle.pop_battle.proofs.Boards.{after_start, each_one}
 use Rattle.pop_battle.specs.ties.Frames.{moved}
-use Rattle.pop_solve.proofs.Counting.{counts-by, counts-help, fewest-skipped, last-open, open-close, walk_count-start}
+use Rattle.pop_solve.proofs.Counting.{CountsAll, counts-by, counts-help, fewest-skipped, last-open, open-close, walk_count-start}
 use Rattle.pop_solve.proofs.GoingOn.{follows-help, no_zero, walk_length-help, walk_length-keys}
 use Rattle.pop_solve.proofs.ToCome.{given_path, is_decided, passed-over, skipped, steps-start, turn, work_after-next}
-use Rattle.pop_solve.specs.ties.Counts.{CountsMove, CountsWalk, are_whites, fewest_for, fewest_left, fewest_walked}
+use Rattle.pop_solve.proofs.OutOfReach.{first-none}
+use Rattle.pop_solve.specs.ties.Counts.{Counts, CountsMove, are_whites, fewest_for, fewest_left, fewest_walked, is_walked_once_by, least_if, untried}
+use Rattle.chess_reach.specs.Lines.{HoldsEnds}
 
 module _ (rule : RuleSet) (plan : Plan) (h : ℕ) (p : Position) (f : Frame) (below : List Frame) where
   -- the position of the top frame
@@ -24,7 +26,7 @@ module _ (rule : RuleSet) (plan : Plan) (h : ℕ) (p : Position) (f : Frame) (be
     fewest-close = search rules
 
     -- a frame without moves counts nothing
-    pub counts-close : (count : ℕ) → CountsWalk rule plan h p (f ∷ below) below count count
+    pub counts-close : (count : ℕ) → CountsAll rule plan h p (f ∷ below) below count count
     unfolding are_whites
     counts-close count =
         let opens = open-close rule p f below none in
@@ -58,6 +60,11 @@ module _ (rule : RuleSet) (plan : Plan) (h : ℕ) (p : Position) (f : Frame) (be
     come-enter undo b =
         let less : h - suc (length below) ≡ k = omega arith in
         simp (fuel, less, left, e, b, after_start, no_zero) (search (rules, turn))
+
+    -- a move after which the goal is out of reach has no path
+    pub come-leave : plan.battle ≡ None → HoldsEnds plan.goal rule t q 0 → to_come rule plan h p (f ∷ below) ≡ to_come rule plan h p (moved f next ∷ below)
+    unfolding to_come position path
+    come-leave help none = rw (fuel, left, e, first-none rule plan help root (suc k) t P m (moves_after rule P next) none) refl
 
     -- passing a move over takes a turn
     pub turns-pass : walk_work rule h p (moved f next ∷ below) < walk_work rule h p (f ∷ below)
@@ -94,7 +101,7 @@ module _ (rule : RuleSet) (plan : Plan) (h : ℕ) (p : Position) (f : Frame) (be
 
     -- what a move that is not followed counts
     pub counts-pass : (before after : ℕ) → is_followed plan.battle (chess plan.goal rule) root t q ≡ false → CountsMove rule plan root t q before after
-        → CountsWalk rule plan h p (f ∷ below) (moved f next ∷ below) before after
+        → CountsAll rule plan h p (f ∷ below) (moved f next ∷ below) before after
     unfolding are_whites
     counts-pass before after b x =
         let tries = tries-pass b in
@@ -103,10 +110,17 @@ module _ (rule : RuleSet) (plan : Plan) (h : ℕ) (p : Position) (f : Frame) (be
         (λ help. absurd (false≢true (sym b ∙ follows-help plan (chess plan.goal rule) root t q help))) (λ battle fought. omega (arith, x.tries, tries))
         (λ battle fought single whites. search (rules, x.keys battle fought single, opens, no_zero))
 
+    -- leaving a move counts nothing, and nothing more than it might have counted is still to come
+    pub counts-leave : (count : ℕ) → plan.battle ≡ None
+        → Counts (least_if false (untried rule plan h p (f ∷ below))) (untried rule plan h p (moved f next ∷ below)) count count
+    unfolding untried is_walked_once_by least_if
+    counts-leave count help = let opens = open-next in rw help
+        (record { once = λ o. refl; most = λ o. omega (arith, opens); least = omega arith; grows = omega arith })
+
     -- what a move that is followed counts
     pub counts-enter : (undo : Undo) (before after : ℕ) → is_followed plan.battle (chess plan.goal rule) root t q ≡ true
         → CountsMove rule plan root t q before after
-        → CountsWalk rule plan h p (f ∷ below) (opened_frame m undo (walk_length plan.battle plan.variation (chess plan.goal rule) t q) ∷
+        → CountsAll rule plan h p (f ∷ below) (opened_frame m undo (walk_length plan.battle plan.variation (chess plan.goal rule) t q) ∷
         (moved f next ∷ below)) before after
     unfolding are_whites to_open position walk_after
     counts-enter undo before after b x =
@@ -159,7 +173,7 @@ module _ (rule : RuleSet) (plan : Plan) (h : ℕ) (p : Position) (f : Frame) (be
         search (rules, same-later fewest, fewest-skipped rule plan P)
 
     -- the skipped moves count one each, if two half-moves are left; otherwise nothing
-    pub counts-skip : CountsWalk rule plan h p (f ∷ below) later before between
+    pub counts-skip : CountsAll rule plan h p (f ∷ below) later before between
     unfolding are_whites to_open position walk_after
     counts-skip = counts-by rule plan h p (f ∷ below) later before between (search rules) (λ help. search (rules, last-open rule P, each))
         (λ battle fought. search (rules, tries-skip battle fought)) (λ battle fought single whites. search (rules, last-open rule P, each))

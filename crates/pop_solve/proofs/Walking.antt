@@ -1,11 +1,14 @@
 -- The outcomes of a step, with frames listed from the bottom up, as the code holds them, and what its calls
 -- return.
-use Rattle.pop_solve.proofs.Words.{all_triples, AreKnown, Bool, CameFrom, CameFromAt, Frame, GoesTo, IfSome, IsNextMate, IsNextOf, IsPlaceIn, IsRoomy, IsWalking, LegalPlace, List, MatchOption, Mate, Option, Plan, Position, RuleSet, [], ap, append-nil, arith, chess, eqb, false, is_followed, is_emitted, walk_length, inl, inr, is_legal, length, length-append, length-reverse, get_or, take, mates_after, nat_tests, moves_after, moves_after-end, position, refl, reverse, reverse-append, rules, seeks_last, suc, sym, true, undo_of, ℕ, ◌++◌, ◌+◌, ◌-◌, ◌<◌, ◌∙◌, ◌∷◌, ◌≡◌, ◌≤◌, ◌⊎◌, Move, position_after, opened_frame, nil_from_length}
+use Rattle.pop_solve.proofs.Words.{None, Some, all_triples, AreKnown, Bool, CameFrom, CameFromAt, Frame, GoesTo, IfSome, IsNextMate, IsNextOf, IsPlaceIn, IsRoomy, IsWalking, LegalPlace, List, MatchOption, Mate, Option, Plan, Position, RuleSet, [], ap, append-nil, arith, chess, eqb, false, is_followed, is_emitted, walk_length, inl, inr, is_legal, length, length-append, length-reverse, get_or, take, mates_after, nat_tests, moves_after, moves_after-end, position, refl, reverse, reverse-append, rules, seeks_last, suc, sym, true, undo_of, ℕ, ◌++◌, ◌+◌, ◌-◌, ◌<◌, ◌∙◌, ◌∷◌, ◌≡◌, ◌≤◌, ◌⊎◌, Move, position_after, opened_frame, nil_from_length}
 use Rattle.std.proofs.lemmas.List.{same_from_push, take_all, take_more}
 use Rattle.pop_battle.specs.ties.Frames.{learned, moved}
-use Rattle.pop_solve.specs.ties.Walk.{MovesOn}
-use Rattle.pop_solve.proofs.GoingOn.{cases}
-use Rattle.pop_solve.proofs.Outcomes.{CameFrom-deep, walking-close, Taken, walking-learned, steps-learned, skips-close, steps-pass, steps-enter, steps-skip, walking-moved}
+use Rattle.chess_reach.specs.Lines.{HoldsEnds}
+use Rattle.pop_solve.specs.ties.Walk.{AreEndsAfter, KeepsEnds, MovesOn, ending}
+use Rattle.pop_solve.proofs.GoingOn.{cases, follows-help, walk_length-help}
+unfoldable use Rattle.pop_solve.specs.ties.Walk.{AreEnds}
+use Rattle.pop_battle.specs.declared.frame.LineEnds.{LineEnds}
+use Rattle.pop_solve.proofs.Outcomes.{CameFrom-deep, walking-close, Taken, walking-learned, steps-ended, steps-learned, skips-close, steps-leave, steps-pass, steps-enter, steps-skip, walking-moved}
 use Rattle.pop_solve.specs.ties.Counts.{CountsMove}
 
 -- a push, and the frames before a frame was taken off, seen from the top
@@ -44,14 +47,14 @@ module _ (rule : RuleSet) (plan : Plan) (h : ℕ) (top : Frame) (old new : List 
   walking_top p board now r e = search (rules, popped)
 
   -- a step that closes the top frame
-  pub close_steps : (board now after : Position) (depth opened count : ℕ) → now ≡ board → depth ≡ length new
+  pub close_steps : (full : Bool) (board now after : Position) (depth opened count : ℕ) → now ≡ board → depth ≡ length new
       → ((top.left ≡ 0) × (count ≡ opened)) ⊎ GoesTo rule plan top.left board top.place [] opened count → (depth ≡ 0 → after ≡ now)
       → ((q : Position) → 0 < depth → CameFromAt rule top now q → after ≡ q) → (p : Position) → IsWalking rule h p (reverse old) board
-      → Taken rule plan h p (reverse old) (reverse new) after opened count false
-  close_steps board now after depth opened count e d none lowest before p r =
+      → Taken full rule plan h p (reverse old) (reverse new) after opened count false
+  close_steps full board now after depth opened count e d none lowest before p r =
       let r2 = walking_top p board now r e in
       rw (popped old new top taken)
-      (search (rules, skips-close rule plan h p top (reverse new) now r2 after opened count (rw (← e, r2.board_at) at none), depth_is))
+      (search (rules, skips-close full rule plan h p top (reverse new) now r2 after opened count (rw (← e, r2.board_at) at none), depth_is))
 
   -- there is room for its half-moves
   pub room_left : (p board : Position) → IsWalking rule h p (reverse old) board → top.left + length new ≤ h
@@ -66,7 +69,16 @@ module _ (rule : RuleSet) (plan : Plan) (h : ℕ) (top : Frame) (old new : List 
   unfolding AreKnown
   top_known p board r = let s = walking_top p board board r refl in rw s.board_at s.known.0
 
-  module _ (place : ℕ) (known : Option LegalPlace) (m : Move) (board now : Position) (depth : ℕ) (mid last : List Frame) (opened between : ℕ)
+  -- what it knows of lines holds of the board's position
+  pub top_ends : (p board now : Position) (k : ℕ) → IsWalking rule h p (reverse old) board → now ≡ board → 0 < top.left → k ≡ top.left - 1
+      → IfSome top.line_ends (λ e. HoldsEnds e.goal rule (k + 1) now e.squares)
+  unfolding AreEnds
+  top_ends p board now k r same some less =
+      let s = walking_top p board now r same in
+      let more : k + 1 ≡ top.left = omega (arith, some, less) in
+      rw (more, s.board_at) s.ends.0
+
+  module _ (place : ℕ) (known : Option LegalPlace) (m : Move) (board now : Position) (depth : ℕ) (mid : List Frame) (opened between : ℕ)
       (at : now ≡ board) (d : depth ≡ length new) (some : (0 < top.left)
       × GoesTo rule plan top.left board top.place (m ∷ moves_after rule board place) opened between × (is_legal rule board m ≡ true))
       (within : IfSome known (IsPlaceIn rule board)) (put : mid ≡ new ++ moved (learned top known) place ∷ []) where
@@ -80,14 +92,14 @@ module _ (rule : RuleSet) (plan : Plan) (h : ℕ) (top : Frame) (old new : List 
     mid_is = popped mid new _ put
 
     -- a step that plays its next move
-    pub enter_steps : (root given : Bool) (after : Position) (opened2 : ℕ) → root ≡ eqb depth 0
+    pub enter_steps : (full root given : Bool) (after : Position) (last : List Frame) (opened2 : ℕ) → root ≡ eqb depth 0
         → (is_followed plan.battle (chess plan.goal rule) root following arrived ≡ false → (given ≡ false) × (after ≡ now) × (last ≡ mid))
         → (is_followed plan.battle (chess plan.goal rule) root following arrived ≡ true
         → (given ≡ is_emitted plan.battle (chess plan.goal rule) following arrived) × (after ≡ arrived)
         × (last ≡ mid ++ opened_frame m (undo_of rule now m) (walk_length plan.battle plan.variation (chess plan.goal rule) following arrived) ∷ []))
         → CountsMove rule plan root following arrived between opened2
-        → (p : Position) → IsWalking rule h p (reverse old) board → Taken rule plan h p (reverse old) (reverse last) after opened opened2 given
-    enter_steps root given after opened2 flag passes enters counts p r =
+        → (p : Position) → IsWalking rule h p (reverse old) board → Taken full rule plan h p (reverse old) (reverse last) after opened opened2 given
+    enter_steps full root given after last opened2 flag passes enters counts p r =
         let left : top.left ≡ suc following = omega (arith, some.0) in
         let f = learned top known in
         let r2 = walking-learned rule h p top known (reverse new) now (walking_top p board now r at) (rw at within) in
@@ -99,17 +111,49 @@ module _ (rule : RuleSet) (plan : Plan) (h : ℕ) (top : Frame) (old new : List 
         elim (cases (is_followed plan.battle (chess plan.goal rule) root following arrived)) [
           | inl passed ↦
               let x = passes passed in
-              let s = steps-pass rule plan h p (moved f g.mid) (reverse new) now r3 place m following left here after between opened2
+              let s = steps-pass full rule plan h p (moved f g.mid) (reverse new) now r3 place m following left here after between opened2
               (rw flag2 passed) x.1 (rw flag2 counts) in
-              rw (popped old new top taken, x.2, mid_is, x.0) (steps-learned rule plan h p top known (reverse new) _ after opened opened2 false
-              (steps-skip rule plan h p f (reverse new) _ opened between g _ after opened2 false s))
+              rw (popped old new top taken, x.2, mid_is, x.0) (steps-learned full rule plan h p top known (reverse new) _ after opened opened2 false
+              (steps-skip full rule plan h p f (reverse new) _ opened between g _ after opened2 false s))
           | inr entered ↦
               let x = enters entered in
-              let s = steps-enter rule plan h p (moved f g.mid) (reverse new) now r3 place m following left here after between opened2 lawful
+              let s = steps-enter full rule plan h p (moved f g.mid) (reverse new) now r3 place m following left here after between opened2 lawful
               (rw flag2 entered) x.1 (rw flag2 counts) in
-              rw (popped old new top taken, x.2, reverse-push mid, mid_is, x.0) (steps-learned rule plan h p top known (reverse new) _ after opened opened2 _
-              (steps-skip rule plan h p f (reverse new) _ opened between g _ after opened2 _ s))
+              rw (popped old new top taken, x.2, reverse-push mid, mid_is, x.0) (steps-learned full rule plan h p top known (reverse new) _ after opened opened2 _
+              (steps-skip full rule plan h p f (reverse new) _ opened between g _ after opened2 _ s))
         ]
+
+    -- a step that leaves its next move
+    pub leave_steps : (full : Bool) (after : Position) → full ≡ false → plan.battle ≡ None → HoldsEnds plan.goal rule following arrived 0 → after ≡ now
+        → (p : Position) → IsWalking rule h p (reverse old) board → Taken full rule plan h p (reverse old) (reverse mid) after opened between false
+    leave_steps full after part help none stays p r =
+        let left : top.left ≡ suc following = omega (arith, some.0) in
+        let f = learned top known in
+        let r2 = walking-learned rule h p top known (reverse new) now (walking_top p board now r at) (rw at within) in
+        let g = rw (← at, r2.board_at) at some.1 in
+        let r3 = walking-moved rule h p f g.mid (reverse new) now now r2 refl in
+        let here : moves_after rule now g.mid ≡ m ∷ moves_after rule now place = rw r2.board_at g.here in
+        let s = steps-leave full rule plan h p (moved f g.mid) (reverse new) now r3 place m following left here after between part help none stays in
+        rw (popped old new top taken, mid_is) (steps-learned full rule plan h p top known (reverse new) _ after opened between false
+        (steps-skip full rule plan h p f (reverse new) _ opened between g _ after between false s))
+
+    -- what is known of the lines from the position that was entered is kept there
+    pub kept_steps : (full root given : Bool) (after : Position) (last kept : List Frame) (opened2 : ℕ) (prunes : Bool) (ends : Option LineEnds)
+        → IfSome ends (λ e. (prunes ≡ true) × AreEndsAfter rule plan following arrived e) → KeepsEnds ends last kept
+        → (is_followed plan.battle (chess plan.goal rule) root following arrived ≡ true
+        → (given ≡ is_emitted plan.battle (chess plan.goal rule) following arrived) × (after ≡ arrived)
+        × (last ≡ mid ++ opened_frame m (undo_of rule now m) (walk_length plan.battle plan.variation (chess plan.goal rule) following arrived) ∷ []))
+        → (p : Position) → Taken full rule plan h p (reverse old) (reverse last) after opened opened2 given
+        → Taken full rule plan h p (reverse old) (reverse kept) after opened opened2 given
+    kept_steps full root given after last kept opened2 prunes None ends k enters p taken = rw k taken
+    kept_steps full root given after last kept opened2 prunes (Some e) ends k enters p taken =
+        let help = ends.1.help in
+        let x = enters (follows-help plan (chess plan.goal rule) root following arrived help) in
+        let t = rw (x.2, reverse-push mid) at taken in
+        let f = opened_frame m (undo_of rule now m) (walk_length plan.battle plan.variation (chess plan.goal rule) following arrived) in
+        let known : HoldsEnds e.goal rule f.left after e.squares =
+        rw (ends.1.same, walk_length-help plan (chess plan.goal rule) following arrived help, x.1) ends.1.ends in
+        rw (k mid f x.2, reverse-push mid) (steps-ended full rule plan h p (reverse old) f (reverse mid) e after opened opened2 given known t)
 
 -- the next mate is the next move where play ends with it
 pub next_mating : (rule : RuleSet) (plan : Plan) (left : ℕ) (p : Position) (place next before after : ℕ) (o : Option Move) → plan.goal ≡ Mate
@@ -145,10 +189,10 @@ pub taken_off : (rule : RuleSet) (plan : Plan) (board : Position) (old mid new :
 taken_off rule plan board old mid new before after o x on e =
     let same = same_from_push on.below new _ x (sym on.stands ∙ e) in (rw same.0 at on.stood, sym same.1)
 
--- a top frame that has moved on has as many half-moves left as before
-pub left_is : (rule : RuleSet) (plan : Plan) (board : Position) (old mid below : List Frame) (before after : ℕ) (o : Option Move)
-    → (on : MovesOn rule plan board old mid before after o) (x : Frame) → old ≡ below ++ x ∷ [] → x.left ≡ on.top.left
-left_is rule plan board old mid below before after o on x e = ap (λ f. f.left) (same_from_push below on.below x on.top (sym e ∙ on.stood)).1
+-- the top frame before it has moved on
+pub top_is : (rule : RuleSet) (plan : Plan) (board : Position) (old mid below : List Frame) (before after : ℕ) (o : Option Move)
+    → (on : MovesOn rule plan board old mid before after o) (x : Frame) → old ≡ below ++ x ∷ [] → x ≡ on.top
+top_is rule plan board old mid below before after o on x e = (same_from_push below on.below x on.top (sym e ∙ on.stood)).1
 
 -- for `step`: what holds of the frame taken off
 pub ruleset top_frame = (top_known, room_left)

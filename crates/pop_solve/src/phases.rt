@@ -5,7 +5,7 @@ ghost use Rattle.chess_core.specs.Position.{Position};
 ghost use Rattle.pop_input.specs.Posed.{IsSound};
 ghost use Rattle.pop_stipulation.specs.Stipulations.{half_moves, is_help};
 ghost use Rattle.pop_solve.specs.Events.{first_phase, moves_shown, play_start, phase_half_moves as half_moves_of_phase, phase_start, phase_half as half_of_phase, event_of, is_impossible_phase, path_event, opening};
-ghost use Rattle.pop_solve.specs.ties.Counts.{CountsOn, CountsWalk};
+ghost use Rattle.pop_solve.specs.ties.Counts.{CountsOn, CountsWalk, tries_all};
 ghost use Rattle.pop_solve.specs.ties.Walk.{IsEnded, IsWalking, path};
 ghost use Rattle.pop_solve.specs.ties.Plans.{goes_on, plan_of, walk_of};
 ghost use Rattle.pop_solve.specs.ties.Phases.{left_of, HoldsAtStage, Walks, Gives};
@@ -125,7 +125,7 @@ fn limit_ends_phase(problem: &Problem, depth: usize, limit: u32) -> bool
 
 /// Walks to the next path to emit, in a phase of which `count` solutions have begun. Returns whether there
 /// is one.
-fn walk_on<R: Rules, const N: usize>(
+fn walk_on<R: Rules, const N: usize, const PRUNES: bool>(
     problem: &Problem,
     walk: Walk,
     count: u32,
@@ -142,13 +142,13 @@ fn walk_on<R: Rules, const N: usize>(
         (phase_start problem.now walk.phase) (problem.now.max_solutions - count)
         (reverse frames.old.items) (reverse frames.new.items)
         board.new result }
-    ensures counts { CountsWalk R.rule walk.plan walk.half_moves
-        (phase_start problem.now walk.phase) (reverse frames.old.items)
+    ensures counts { CountsWalk (tries_all PRUNES walk.plan.battle) R.rule walk.plan
+        walk.half_moves (phase_start problem.now walk.phase) (reverse frames.old.items)
         (reverse frames.new.items) search_state.old.opened search_state.new.opened }
 {
     let limit = still_to_begin(problem, count);
     while !frames.is_empty() && !limit_ends_phase(problem, frames.len(), limit) {
-        if step::<R, N>(walk.plan, walk.half_moves, board, frames, search_state) {
+        if step::<R, N, PRUNES>(walk.plan, walk.half_moves, board, frames, search_state) {
             return true;
         }
     }
@@ -237,7 +237,7 @@ pub fn set_up<R: Rules>(problem: &Problem, phase: Phase, board: &mut Board) -> b
 
 /// Begins a phase with one frame, or finds that the phase is impossible. Returns the next stage.
 #[tactic(auto, unfolding(crate::specs::ties::Phases::HoldsAtStage))]
-fn begin<R: Rules, const N: usize>(
+fn begin<R: Rules, const N: usize, const PRUNES: bool>(
     problem: &Problem,
     phase: Phase,
     board: &mut Board,
@@ -251,8 +251,9 @@ fn begin<R: Rules, const N: usize>(
     ensures standing { HoldsAtStage R.rule problem.now result (reverse frames.new.items) board.new }
     ensures left { left_of R.rule problem.now (Before phase) (reverse frames.old.items)
         ≡ opening phase ∷ left_of R.rule problem.now result (reverse frames.new.items) }
-    ensures counts { CountsOn R.rule problem.now (Before phase) result (reverse frames.old.items)
-        (reverse frames.new.items) search_state.old.opened search_state.new.opened }
+    ensures counts { CountsOn PRUNES R.rule problem.now (Before phase) result
+        (reverse frames.old.items) (reverse frames.new.items) search_state.old.opened
+        search_state.new.opened }
 {
     if !set_up::<R>(problem, phase, board) {
         return Stage::NotPossible;
@@ -349,10 +350,11 @@ fn first_event<R: Rules>(
     (Stage::Within { walk, count }, event)
 }
 
-/// Writes the next event of a search to `event`, or `None` after the last, and updates the stage. Takes
-/// `event` by reference, since each caller would copy a returned event.
+/// Writes the next event of a search to `event`, or `None` after the last, and updates the stage. A search
+/// that prunes (`PRUNES`) doesn't walk below positions of help play from which the goal is out of reach.
+/// Takes `event` by reference, since each caller would copy a returned event.
 #[tactic(auto, unfolding(crate::specs::ties::Phases::HoldsAtStage, crate::specs::ties::Phases::left_of))]
-pub fn advance<R: Rules, const N: usize>(
+pub fn advance<R: Rules, const N: usize, const PRUNES: bool>(
     problem: &Problem,
     stage: &mut Stage,
     board: &mut Board,
@@ -374,12 +376,13 @@ pub fn advance<R: Rules, const N: usize>(
         (left_of R.rule problem.now stage.old (reverse frames.old.items))
         (left_of R.rule problem.now stage.new (reverse frames.new.items))
         event board.new (array_vec_len frames.new)) }
-    ensures counts { CountsOn R.rule problem.now stage.old stage.new (reverse frames.old.items)
-        (reverse frames.new.items) search_state.old.opened search_state.new.opened }
+    ensures counts { CountsOn PRUNES R.rule problem.now stage.old stage.new
+        (reverse frames.old.items) (reverse frames.new.items) search_state.old.opened
+        search_state.new.opened }
 {
     match *stage {
         Stage::Before { phase } => {
-            *stage = begin::<R, N>(problem, phase, board, frames, search_state);
+            *stage = begin::<R, N, PRUNES>(problem, phase, board, frames, search_state);
             *event = Some(Event::Phase(phase));
         }
         Stage::NotPossible => {
@@ -392,7 +395,7 @@ pub fn advance<R: Rules, const N: usize>(
             *event = Some(first);
         }
         Stage::Within { walk, count } => {
-            if walk_on::<R, N>(problem, walk, count, board, frames, search_state) {
+            if walk_on::<R, N, PRUNES>(problem, walk, count, board, frames, search_state) {
                 let count = count_with(problem, frames.len(), count);
                 *stage = Stage::Within { walk, count };
                 *event = Some(event_at::<R>(problem, walk, frames.as_slice(), board));

@@ -25,7 +25,7 @@ pub struct Search<R: Rules, const N: usize> {
 }
 
 impl<R: Rules, const N: usize> Model for Search<R, N> {
-    ghost use Rattle.std.specs.Prelude.{◌≡◌, ◌<◌, ◌≤◌, ◌-◌, ◌^◌, min, length, reverse};
+    ghost use Rattle.std.specs.Prelude.{◌≡◌, ◌<◌, ◌≤◌, ◌-◌, ◌^◌, false, min, length, reverse};
     ghost use Rattle.arrayvec.specs.ArrayVec.{array_vec_len};
     ghost use Rattle.pop_input.specs.Posed.{IsSound};
     ghost use Rattle.pop_stipulation.specs.Stipulations.{half_moves};
@@ -50,7 +50,7 @@ impl<R: Rules, const N: usize> Model for Search<R, N> {
         × HoldsAtStage R.rule s.problem s.stage (reverse s.frames.items) s.board
         × IsCountedUpTo R.rule s.problem
         (left_of R.rule s.problem s.stage (reverse s.frames.items)) s.given
-        × IsOpened R.rule s.problem s.stage (reverse s.frames.items) s.search_state.opened };
+        × IsOpened false R.rule s.problem s.stage (reverse s.frames.items) s.search_state.opened };
 }
 
 impl<R: Rules, const N: usize> Search<R, N> {
@@ -103,7 +103,7 @@ impl<R: Rules, const N: usize> Search<R, N> {
         // For the proof: the count is below 2^64.
         let _count = self.search_state.opened;
         let mut event = None;
-        advance::<R, N>(
+        advance::<R, N, false>(
             &self.problem,
             &mut self.stage,
             &mut self.board,
@@ -138,13 +138,13 @@ impl<R: Rules, const N: usize> Search<R, N> {
         self.given
     }
 
-    /// Returns the number of positions tried so far, with or without a frame, up to the greatest u64 (own).
-    /// A position counts when the search tries its moves; the test whether the goal is reached doesn't
-    /// count.
+    /// Returns the number of positions counted so far, up to the greatest u64 (own). A position counts when
+    /// the search tries its moves, with or without a frame, or decides it without playing the move that
+    /// leads there; the test whether the goal is reached doesn't count.
     ///
-    /// Direct mates try the last moves of both sides without frames, selfmates White's last move. Selfmates
-    /// and help play decide some positions before the last half-move without playing the move that leads
-    /// there. All these positions count.
+    /// Direct mates try the last moves of both sides without frames, selfmates White's last move. Direct
+    /// mates decide Black's last move and the position after it together if the king keeps a flight: both
+    /// count. Selfmates and help play decide some positions before the last half-move.
     ///
     /// In help play, and if only keys are shown, the number is at most the walk count, which counts each
     /// list of moves once. After the last event, if no limit stopped a phase, it is the walk count in help

@@ -8,10 +8,11 @@ ghost use Rattle.chess_rules.specs.ties.Places.{IsPlaceIn, moves_after};
 ghost use Rattle.pop_battle.specs.ties.Calls.{Evaluates, Restores};
 ghost use Rattle.pop_battle.specs.ties.Frames.{CameFrom, CameFromAt, Frame as Level, opened_frame};
 ghost use Rattle.pop_battle.specs.ties.Passing.{IsNextMatable};
-ghost use Rattle.pop_solve.specs.ties.Counts.{CountsMove, CountsWalk};
+ghost use Rattle.pop_solve.specs.ties.Counts.{CountsMove, CountsWalk, tries_all};
 ghost use Rattle.pop_solve.specs.ties.Walk.{Battle, IsWellFormed, Mate, Position, attacker_to_move, chess, is_for_mate, value, MovesOn, fewest_half_moves, least_length_from, shown_length, is_followed, is_emitted, walk_length, IsMatedAtLast, IsNextOf, IsWalking, seeks_last, Steps};
 
 use crate::plan::Plan;
+use crate::reach::{is_out_of_reach, keep_line_ends, line_ends_after};
 use arrayvec::ArrayVec;
 use chess_core::{Board, Move};
 use chess_mates::next_mate;
@@ -272,6 +273,7 @@ pub(crate) fn enter<R: Rules, const N: usize>(
         order: Order::unordered(),
         move_stage: MoveStage::Others,
         known: None,
+        line_ends: None,
     });
     search_state.opened = opened_after(search_state.opened, tried, tested);
     is_emitted::<R>(plan, left, board)
@@ -433,9 +435,10 @@ fn next_of_top<R: Rules, const N: usize>(
 }
 
 /// Takes one step of the walk: plays the next move of the top frame, or closes the frame. Returns whether
-/// the path to the new top frame is emitted.
+/// the path to the new top frame is emitted. If the walk prunes, it doesn't follow a move of help play after
+/// which the goal is out of reach.
 #[tactic(auto, using(crate::proofs::Walking::top_frame))]
-pub fn step<R: Rules, const N: usize>(
+pub fn step<R: Rules, const N: usize, const PRUNES: bool>(
     plan: Plan,
     half_moves: usize,
     board: &mut Board,
@@ -453,17 +456,25 @@ pub fn step<R: Rules, const N: usize>(
         board.new result }
     ensures counts { (p : Position) → IsWalking R.rule half_moves p (reverse frames.old.items)
         board.old
-        → CountsWalk R.rule plan half_moves p (reverse frames.old.items)
-        (reverse frames.new.items) search_state.old.opened search_state.new.opened }
+        → CountsWalk (tries_all PRUNES plan.battle) R.rule plan half_moves p
+        (reverse frames.old.items) (reverse frames.new.items) search_state.old.opened
+        search_state.new.opened }
 {
     let depth = frames.len() - 1;
     let top = top_of(frames);
     let left = top.left;
+    let known = top.line_ends;
     let Some(by) = next_of_top::<R, N>(plan, board, frames, search_state) else {
         if let Some(top) = frames.pop() {
             step_back::<R>(depth, top, board);
         }
         return false;
     };
-    enter::<R, N>(plan, left - 1, by, board, frames, search_state)
+    let ends = line_ends_after::<R, PRUNES>(plan, left - 1, by, known, board);
+    if is_out_of_reach(ends) {
+        return false;
+    }
+    let emitted = enter::<R, N>(plan, left - 1, by, board, frames, search_state);
+    keep_line_ends::<R, N>(ends, frames);
+    emitted
 }

@@ -255,8 +255,8 @@ impl Scanner {
         }
     }
 
-    /// Uses the plain words at the front of the window: whole words that don't begin like a text word or a closing
-    /// word. Never calls the source.
+    /// Uses plain words at the front of the window, whole words that don't begin like a text word or a closing word:
+    /// all of them, but that is for speed only, and no clause says that any is used. Never calls the source.
     pub fn skip_plain(&mut self)
         ensures { Skips self.old self.new }
     {

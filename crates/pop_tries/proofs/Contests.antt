@@ -1,6 +1,6 @@
 -- What the values of positions mean for a contest.
 use Rattle.pop_tries.proofs.Words.{IsWellFormed, Game, List, Move, [], ◌∷◌, cases_lt, false≢true, inl, inr, legal_moves, Battle, Bool, Direct, Goal, Position, RuleSet, Selfmate, and_parts, arith, chess, false, is_goal_reached, is_in_set_play, is_try, keeps_win, length, list_any, nat_le, nat_tests, not, refl, refutations, rules, suc, sym, true, wins_in, zero, ℕ, ◌&&◌, ◌+◌, ◌-◌, ◌<◌, ◌∙◌, ◌≡◌, ◌≤◌, half_moves}
-unfoldable use Rattle.pop_tries.proofs.Words.{self_wins, wins}
+unfoldable use Rattle.pop_tries.proofs.Words.{is_lost, self_wins, wins}
 unfoldable use Rattle.pop_battle.specs.ties.Values.{value}
 unfoldable use Rattle.chess_rules.specs.Legal.{is_mate, is_stalemate}
 unfoldable use Rattle.chess_core.specs.WellFormed.{is_en_passant_square_right}
@@ -13,8 +13,12 @@ use Rattle.pop_solve.proofs.Battles.{value-self_wins, value-wins}
 use Rattle.pop_solve.proofs.Solved.{halves-form}
 use Rattle.pop_solve.proofs.Trees.{halves, keeps-value}
 use Rattle.pop_tries.specs.declared.contest.Contest.{Contest}
-use Rattle.pop_tries.proofs.theorems.Refutations.{key_has_no_refutation}
+use Rattle.pop_tries.proofs.theorems.Refutations.{counted_by_replies, counted_once, key_has_no_refutation, no_key_is_a_try, no_refutation_is_key}
 use Rattle.pop_tries.specs.ties.Contests.{IsContest, IsThreatLength, game_in, moves_of}
+use Rattle.pop_tries.specs.ties.FirstMoves.{is_refuted_by_stalemate}
+use Rattle.chess_attacks.specs.Attacks.{in_check}
+use Rattle.std.proofs.lemmas.List.{nil_from_length}
+use Rattle.pop_tries.proofs.Words.{can_move, cond, eqb, refutation_count}
 use Rattle.pop_tries.proofs.Words.{chess_passing, filter, has_threat, is_defence, position_after, works}
 use Rattle.chess_core.specs.Position.{other}
 use Rattle.chess_core.specs.declared.man.Colour.{Colour}
@@ -118,6 +122,47 @@ none_pass : (ms : List Move) → is_nil ms ≡ true → (test : Move → Bool) �
 none_pass [] e test = refl
 none_pass (m ∷ ms) e test = absurd (false≢true e)
 
+-- a list of moves without any, and one with some
+nil_without_reply : (ms : List Move) → not (eqb (length ms) 0) ≡ false → is_nil ms ≡ true
+nil_without_reply [] e = refl
+nil_without_reply (m ∷ ms) e = grind (arith, nat_tests)
+
+not_nil_with_reply : (ms : List Move) → not (eqb (length ms) 0) ≡ true → is_nil ms ≡ false
+not_nil_with_reply [] e = absurd (false≢true e)
+not_nil_with_reply (m ∷ ms) e = refl
+
+-- whether there is a legal move, as the board's test and as the game says it
+pub has_reply : (ms : List Move) → not (is_nil ms) ≡ not (eqb (length ms) 0)
+has_reply [] = refl
+has_reply (m ∷ ms) = grind (arith, nat_tests)
+
+and_false : (b : Bool) → (b && false) ≡ false
+and_false true = refl
+and_false false = refl
+
+-- tests of a number of refutations
+few_by_count : (all most count : ℕ) → count ≡ min all (most + 1) → 1 ≤ all → (not false && (nat_le 1 all && nat_le all most)) ≡ nat_le count most
+few_by_count all most count e some = grind (arith, nat_tests)
+
+never : (key : Bool) (count : ℕ) → (not key && (nat_le 1 count && nat_le count 0)) ≡ false
+never key count = grind (arith, nat_tests)
+
+untried : (key : Bool) (count most : ℕ) → count ≡ 0 → (not key && (nat_le 1 count && nat_le count most)) ≡ false
+untried key count most e = grind (arith, nat_tests)
+
+-- without a reply: a try, or not, by whether Black is in check
+tried_by_check : (checked : Bool) (count most : ℕ) → count ≡ 0 → 1 ≤ most
+    → (not (checked && true) && (nat_le 1 (cond (true && (not false && not checked)) 1 count) && nat_le (cond (true && (not false && not checked)) 1 count) most))
+    ≡ (not checked && true)
+tried_by_check true count most e some = refl
+tried_by_check false count most e some = grind (arith, nat_tests)
+
+untried_by_check : (checked : Bool) (count most : ℕ) → count ≡ 0
+    → (not (not checked && true) && (nat_le 1 (cond (true && (not false && not checked)) 1 count) && nat_le (cond (true && (not false && not checked)) 1 count) most))
+    ≡ false
+untried_by_check true count most e = rw e refl
+untried_by_check false count most e = refl
+
 -- a first move of chess leads to q
 module _ (battle : Battle) (goal : Goal) (rule : RuleSet) (n : ℕ) (q : Position) where
   key_unrefuted : keeps_win battle (chess goal rule) n q ≡ true → refutations battle (chess goal rule) n q ≡ []
@@ -135,17 +180,76 @@ module _ (battle : Battle) (goal : Goal) (rule : RuleSet) (n : ℕ) (q : Positio
       by false e = e
       by true e = absurd (omega (arith, some, ap length (key_unrefuted e)))
 
-  -- a try, by its refutations counted up to one more than are allowed
-  pub try_by_count : (most count : ℕ) → count ≡ min (length (refutations battle (chess goal rule) n q)) (most + 1)
-      → is_try battle (chess goal rule) n most q ≡ (nat_le 1 count && nat_le count most)
-  try_by_count most count e = elim (cases_lt 0 (length (refutations battle (chess goal rule) n q))) [
-    | inl some ↦ rw (refuted_is_no_key (omega (arith, some))) (grind (arith, nat_tests))
-    | inr none ↦ grind (arith, nat_tests)
-  ]
+  abbrev refuting : ℕ
+  refuting = length (refutations battle (chess goal rule) n q)
 
-  -- without refutations there is no try
-  pub try_by_none : (most : ℕ) → most ≡ 0 → is_try battle (chess goal rule) n most q ≡ false
-  try_by_none most e = grind (arith, nat_tests)
+  -- where a reply refutes there is a reply
+  reply_where_refuted : 1 ≤ refuting → can_move (chess goal rule) q ≡ true
+  reply_where_refuted some =
+      let all : 1 ≤ length (legal_moves rule q) = omega (arith, counted_once battle (chess goal rule) n q, some) in grind (arith, nat_tests)
+
+  -- a try, by its refutations counted up to one more than are allowed
+  pub try_by_count : (most count : ℕ) → count ≡ min refuting (most + 1) → eqb count 0 ≡ false
+      → is_try battle (chess goal rule) n (chess_passing rule) most q ≡ nat_le count most
+  try_by_count most count e nonzero =
+      let counted : 1 ≤ count = grind (arith, nat_tests) in
+      let some : 1 ≤ refuting = omega (arith, e, counted) in
+      rw (
+        refuted_is_no_key some,
+        counted_by_replies battle (chess goal rule) n q (chess_passing rule) (reply_where_refuted some),
+      ) (few_by_count refuting most count e some)
+
+  -- where no refutation may be there is no try
+  pub try_by_none : (most : ℕ) → most ≡ 0 → is_try battle (chess goal rule) n (chess_passing rule) most q ≡ false
+  try_by_none most e = rw e (never (keeps_win battle (chess goal rule) n q) (refutation_count battle (chess goal rule) n (chess_passing rule) q))
+
+-- a first move after which no reply refutes, and one refutation at least is allowed
+module _ (rule : RuleSet) (n most : ℕ) (q : Position) (allowed : 1 ≤ most) where
+  -- Black has a reply: it is a key
+  key_where_replied : (battle : Battle) (goal : Goal) → length (refutations battle (chess goal rule) n q) ≡ 0 → can_move (chess goal rule) q ≡ true
+      → is_try battle (chess goal rule) n (chess_passing rule) most q ≡ false
+  key_where_replied battle goal none some = no_key_is_a_try battle (chess goal rule) n q (chess_passing rule) most
+      (no_refutation_is_key battle (chess goal rule) n q some (nil_from_length _ none))
+
+  -- Black has no reply: White wins if the goal is reached
+  won_without_reply : (game : Game Position Move) (j : ℕ) → can_move game q ≡ false → is_lost game j q ≡ game.goal q
+  unfolding is_lost
+  won_without_reply game zero none = refl
+  won_without_reply game (suc j) none = grind arith
+
+  try_without_reply : (battle : Battle) (goal : Goal) → length (refutations battle (chess goal rule) n q) ≡ 0 → can_move (chess goal rule) q ≡ false
+      → is_try battle (chess goal rule) n (chess_passing rule) most q ≡ is_refuted_by_stalemate battle goal rule q
+  unfolding is_mate is_stalemate
+  try_without_reply Direct Mate zero_of none =
+      rw (won_without_reply (chess Mate rule) (n - 1) none, none, nil_without_reply (legal_moves rule q) none)
+      (tried_by_check (in_check rule q.men q.turn) (length (refutations Direct (chess Mate rule) n q)) most zero_of allowed)
+  try_without_reply Direct Stalemate zero_of none =
+      rw (won_without_reply (chess Stalemate rule) (n - 1) none, none, nil_without_reply (legal_moves rule q) none)
+      (untried_by_check (in_check rule q.men q.turn) (length (refutations Direct (chess Stalemate rule) n q)) most zero_of)
+  try_without_reply Selfmate goal zero_of none =
+      untried (keeps_win Selfmate (chess goal rule) n q) (length (refutations Selfmate (chess goal rule) n q)) most zero_of
+
+  pub try_by_stalemate : (battle : Battle) (goal : Goal) → length (refutations battle (chess goal rule) n q) ≡ 0
+      → is_try battle (chess goal rule) n (chess_passing rule) most q ≡ is_refuted_by_stalemate battle goal rule q
+  unfolding is_stalemate
+  try_by_stalemate battle goal none = by (can_move (chess goal rule) q) refl
+    where
+      no_stalemate : (battle : Battle) (goal : Goal) → can_move (chess goal rule) q ≡ true → is_refuted_by_stalemate battle goal rule q ≡ false
+      no_stalemate Direct Mate some = rw (not_nil_with_reply (legal_moves rule q) some) (and_false (not (in_check rule q.men q.turn)))
+      no_stalemate Direct Stalemate some = refl
+      no_stalemate Selfmate goal some = refl
+
+      by : (b : Bool) → can_move (chess goal rule) q ≡ b
+          → is_try battle (chess goal rule) n (chess_passing rule) most q ≡ is_refuted_by_stalemate battle goal rule q
+      by true some = key_where_replied battle goal none some ∙ sym (no_stalemate battle goal some)
+      by false e = try_without_reply battle goal none e
+
+-- In a direct mate a first move that stalemates is a try.
+pub stalemate_refutes : (rule : RuleSet) (n most : ℕ) (q : Position) → is_stalemate rule q ≡ true → 1 ≤ most
+    → is_try Direct (chess Mate rule) n (chess_passing rule) most q ≡ true
+stalemate_refutes rule n most q h allowed =
+    try_by_stalemate rule n most q allowed Direct Mate
+    (ap length (none_pass (legal_moves rule q) (no_moves_at_goal Stalemate rule q h) _)) ∙ h
 
 -- the value after a move that begins a win
 pub kept_by_value : (battle : Battle) (game : Game Position Move) (length : ℕ) (q : Position) → attacker_to_move battle length ≡ true → 1 ≤ length
@@ -164,12 +268,12 @@ pub unpassed : (q board : Position) (crossed : Option ℕ) → board ≡ set_sta
     → record (record board { turn = other board.turn }) { crossed = crossed } ≡ q
 unpassed q board crossed same e = rw (same, e, other_twice q.turn) refl
 
--- a defence, by whether one of the moves that win if Black passes works after the reply
+-- a defence, by whether one of the moves that win if Black passes doesn't work after the reply
 pub defence_by_loop : (rule : RuleSet) (contest : Contest) (q : Position) (length : ℕ) (d : Move) → IsThreatLength rule contest q length
     → is_defence contest.battle (game_in rule contest) contest.stipulation.n (chess_passing rule) q d
-    ≡ not (list_any (works contest.battle (game_in rule contest) contest.stipulation.n (chess_passing rule) (moves_of length) (position_after rule q d))
+    ≡ list_any (λ t. not (works contest.battle (game_in rule contest) contest.stipulation.n (chess_passing rule) (moves_of length) (position_after rule q d) t))
     (filter (λ m. keeps_win contest.battle (game_in rule contest) (moves_of length) (position_after rule (set_start q) m))
-    (legal_moves rule (set_start q))))
+    (legal_moves rule (set_start q)))
 defence_by_loop rule contest q length d t = rw (t.threat, t.least) refl
 
 -- where White threatens nothing each reply is a defence
@@ -197,5 +301,16 @@ pub ruleset passing = (passed_by_value, no_win_at_goal, no_win_in_short)
 -- for the test of a defence
 pub ruleset defending = (passed_well_formed, defence_by_loop, defence_without_threat, playing)
 
+-- for the test of a try: without a refutation counted, there is none
+uncounted : (all most : ℕ) (count : ℕ) → count ≡ min all (most + 1) → eqb count 0 ≡ true → all ≡ 0
+uncounted all most count e zero_of = grind (arith, nat_tests)
+
+pub try_unrefuted : (battle : Battle) (goal : Goal) (rule : RuleSet) (n : ℕ) (q : Position) (most count : ℕ)
+    → count ≡ min (length (refutations battle (chess goal rule) n q)) (most + 1) → eqb count 0 ≡ true → eqb most 0 ≡ false
+    → is_try battle (chess goal rule) n (chess_passing rule) most q ≡ is_refuted_by_stalemate battle goal rule q
+try_unrefuted battle goal rule n q most count e zero_of some =
+    let allowed : 1 ≤ most = grind (arith, nat_tests) in
+    try_by_stalemate rule n most q allowed battle goal (uncounted _ most count e zero_of)
+
 -- for the test of a try
-pub ruleset trying = (try_by_count, try_by_none)
+pub ruleset trying = (try_by_count, try_by_none, try_unrefuted)

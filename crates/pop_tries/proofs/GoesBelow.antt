@@ -5,21 +5,23 @@ use Rattle.std.proofs.lemmas.List.{length-reverse, nil_from_length}
 use Rattle.chess_core.specs.Undo.{Undo}
 use Rattle.chess_rules.specs.ties.Games.{RestoresPosition, WasPlayed}
 use Rattle.pop_battle.specs.ties.Frames.{CameBy, Frame}
-use Rattle.pop_events.specs.Shown.{Shown}
+use Rattle.pop_events.specs.Shown.{Shown, shown_move}
 use Rattle.pop_solve.proofs.Events.{room-length}
 use Rattle.pop_solve.proofs.Sound.{in_range}
 use Rattle.pop_solve.specs.Events.{last_shown}
 use Rattle.pop_solve.specs.ties.Walk.{IsRoomy}
-use Rattle.pop_tries.specs.Shown.{shown_below_first}
+use Rattle.pop_tries.specs.Shown.{shown_below_first, try_event_of}
 use Rattle.pop_tries.specs.declared.contest.Contest.{Contest}
-use Rattle.pop_events.specs.declared.try_event.TryEvent.TheVariants.{Node}
+use Rattle.pop_events.specs.declared.try_event.TryEvent.TheVariants.{Key, Node, Try}
+use Rattle.pop_tries.specs.declared.first_moves.Group.{Group}
+use Rattle.pop_tries.specs.declared.first_moves.Group.TheVariants.{Keys, Tries}
 use Rattle.pop_tries.specs.declared.below.Base.{Base}
 use Rattle.pop_tries.specs.declared.below.Base.TheVariants.{Passed, Reply}
 use Rattle.pop_tries.specs.declared.stage.First.{First}
 use Rattle.pop_tries.specs.declared.stage.Task.{Task}
 use Rattle.pop_tries.specs.ties.Contests.{IsThreat, Keeps, game_in}
 use Rattle.pop_tries.specs.ties.FirstMoves.{is_shown}
-use Rattle.pop_tries.specs.ties.Searching.{IsAnswered, IsBare, IsWalkedBelow, after_first, event_of_faced}
+use Rattle.pop_tries.specs.ties.Searching.{IsAnswered, IsBare, IsWalkedBelow, after_first, event_of_faced, event_of_first, first_event}
 use Rattle.pop_tries.specs.ties.Starts.{base_position, shown_line}
 use Rattle.pop_tries.proofs.StepsBelow.{last_below}
 
@@ -74,6 +76,12 @@ module _ (goal : Goal) (rule : RuleSet) (problem : Posed) (first : Move) (line :
       let e2 : depth ≡ length (by ∷ line) = omega (arith, e) in
       let f2 : half ≡ length (by ∷ line) + 1 = omega (arith, f) in
       rw (e2, f2, g, last_below goal rule (position_after rule (play_start problem) first) by line some) refl
+
+-- a first move of a group, as it is shown
+pub first_shown : (rule : RuleSet) (problem : Posed) (group : Group) (m : Move) (shown : Shown)
+    → shown ≡ shown_move problem.stipulation.goal rule (play_start problem) m → event_of_first group shown ≡ try_event_of rule problem (first_event group m)
+first_shown rule problem Keys m shown e = ap Key e
+first_shown rule problem (Tries most) m shown e = ap Try e
 
 -- what Black faces where White threatens nothing
 pub faced_shown : (goal : Goal) (rule : RuleSet) (q : Position) (checked : Bool)

@@ -1,4 +1,5 @@
 -- How a search for tries begins, and its steps in set play.
+unfoldable use Rattle.pop_solve.specs.ties.Walk.{AreEnds}
 use Rattle.pop_tries.proofs.Words.{IsSound, List, Posed, Position, RuleSet, Set, [], ap, arith, false, flat_map, length, length-append, refl, rules, set_event, take, true, ℕ, ◌++◌, ◌∙◌, ◌∷◌, ◌≡◌, ◌≤◌}
 unfoldable use Rattle.pop_tries.proofs.Words.{phase_events}
 use Rattle.pop_battle.specs.ties.Frames.{Frame}
@@ -59,18 +60,18 @@ none_after rule problem After frames board h e = h.0
 
 -- a new frame at p is a walk from p
 walks_from : (rule : RuleSet) (h : ℕ) (p board : Position) (f : Frame) → IsWellFormed p → board ≡ p → f.left ≤ h → f.known ≡ None
-    → IsWalking rule h p (f ∷ []) board
-unfolding IsLinked IsRoomy AreKnown position
-walks_from rule h p board f well same room none = grind (arith, well, same, room, none)
+    → f.line_ends ≡ None → IsWalking rule h p (f ∷ []) board
+unfolding IsLinked IsRoomy AreKnown AreEnds position
+walks_from rule h p board f well same room none no_ends = grind (arith, well, same, room, none, no_ends)
 
 -- set play begins with one frame
 module _ (rule : RuleSet) (problem : Posed) (s : IsSound problem) (was items : List Frame) (f : Frame) (empty : was ≡ []) (one : items ≡ was ++ f ∷ [])
     (left : f.left ≡ phase_half_moves problem Set) where
-  pub walk_begins : (board : Position) → board ≡ phase_start problem Set → f.known ≡ None
+  pub walk_begins : (board : Position) → board ≡ phase_start problem Set → f.known ≡ None → f.line_ends ≡ None
       → IsWalking rule (phase_half_moves problem Set) (phase_start problem Set) (reverse items) board
-  walk_begins board at none =
+  walk_begins board at none no_ends =
       rw (one, empty) (walks_from rule (phase_half_moves problem Set) (phase_start problem Set) board f (start_sound problem s Set) at
-      (omega (arith, left)) none)
+      (omega (arith, left)) none no_ends)
 
   pub paths_begin : f.place ≡ 0 → IsCutInto (is_help problem.stipulation.form) problem.max_solutions (phase_paths rule problem Set (reverse items))
       (solutions rule problem Set)

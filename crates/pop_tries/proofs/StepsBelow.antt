@@ -1,5 +1,5 @@
 -- What the steps of a search for tries below a first move leave to come.
-use Rattle.pop_tries.proofs.Words.{Below, Bool, List, Move, Position, RuleSet, [], ap, arith, below, below_reply, but, chess_passing, check, cond, false, filter, game_of, half_moves, has_threat, length, map, position_after, refl, refutation, reply, threat, threatened, true, zugzwang, ℕ, ◌-◌, ◌++◌, ◌∙◌, ◌∷◌, ◌≡◌, ◌≤◌}
+use Rattle.pop_tries.proofs.Words.{Below, Bool, can_move, stalemate, List, Move, Position, RuleSet, [], ap, arith, below, below_reply, but, chess_passing, check, cond, false, filter, game_of, half_moves, has_threat, length, map, position_after, refl, refutation, reply, threat, threatened, true, zugzwang, ℕ, ◌-◌, ◌++◌, ◌∙◌, ◌∷◌, ◌≡◌, ◌≤◌}
 unfoldable use Rattle.pop_tries.proofs.Words.{below_first}
 use Rattle.chess_attacks.specs.Attacks.{in_check}
 use Rattle.chess_core.specs.Undo.{Undo}
@@ -14,7 +14,7 @@ use Rattle.pop_tries.specs.Tries.{reply_nodes}
 use Rattle.pop_tries.specs.declared.stage.First.{First}
 use Rattle.pop_tries.specs.declared.stage.Played.{Played}
 use Rattle.pop_tries.specs.declared.stage.Task.{Task}
-use Rattle.pop_tries.specs.declared.stage.TriesStage.TheVariants.{But, Faced, FirstMove, Refutation, Reply, Threats, BelowReply}
+use Rattle.pop_tries.specs.declared.stage.TriesStage.TheVariants.{But, Faced, FirstMove, Refutation, Reply, Stalemate, Threats, BelowReply}
 use Rattle.pop_tries.specs.ties.Contests.{IsContest}
 use Rattle.pop_tries.specs.ties.FirstMoves.{is_shown}
 use Rattle.pop_tries.specs.ties.Searching.{after_first, below_and_after, contest_of, refutations_after, replies_after, shown_after, walk_left}
@@ -30,10 +30,10 @@ pub last_below : (goal : Goal) (rule : RuleSet) (q : Position) (d : Move) (line 
 last_below goal rule q d [] some = absurd (omega (arith, some))
 last_below goal rule q d (m ∷ line) some = refl
 
--- what is shown below a first move: whether the goal is reached, whether Black is in check, whether White threatens,
--- the paths below the threats, and those below the replies
+-- what is shown below a first move: whether Black has a reply, whether he is in check, whether White threatens, the
+-- paths below the threats, and those below the replies
 abbrev laid_out : Bool → Bool → Bool → List (List Move) → List (List Move) → List (Below Move)
-laid_out g c t paths replies = cond g [] (cond c check (cond t threat zugzwang) ∷ (map threatened (cond t paths []) ++ map reply replies))
+laid_out r c t paths replies = cond r (cond c check (cond t threat zugzwang) ∷ (map threatened (cond t paths []) ++ map reply replies)) []
 
 module _ {A : Type 0} (rule : RuleSet) (task : Task) (fit : IsContest (contest_of task)) (first : First A) where
   abbrev q : Position
@@ -44,10 +44,10 @@ module _ {A : Type 0} (rule : RuleSet) (task : Task) (fit : IsContest (contest_o
       (half_moves task.problem.stipulation - 1) q ≡ replies_after rule task q 0
   all_replies = replies_come rule task.problem task.battle fit q
 
-  -- the goal is reached
-  pub shown_at_goal : (game_of rule task.problem).goal q ≡ true → shown_after rule task first.by ≡ []
+  -- Black has no reply
+  pub shown_without_reply : can_move (game_of rule task.problem) q ≡ false → shown_after rule task first.by ≡ []
   unfolding below_first
-  shown_at_goal e = rw e refl
+  shown_without_reply e = rw e refl
 
   -- the paths below the threats
   abbrev pub threat_paths : List (List Move)
@@ -55,14 +55,14 @@ module _ {A : Type 0} (rule : RuleSet) (task : Task) (fit : IsContest (contest_o
       (half_moves task.problem.stipulation - 1 - 1) (set_start q)
 
   -- White threatens nothing: Black is in check or in zugzwang
-  pub shown_without_threats : (game_of rule task.problem).goal q ≡ false
+  pub shown_without_threats : can_move (game_of rule task.problem) q ≡ true
       → has_threat task.battle (game_of rule task.problem) task.problem.stipulation.n (chess_passing rule) q ≡ false
       → shown_after rule task first.by ≡ cond (in_check rule q.men q.turn) check zugzwang ∷ map reply (replies_after rule task q 0)
   unfolding below_first
   shown_without_threats e h = λ i. laid_out (e i) (in_check rule q.men q.turn) (h i) threat_paths (all_replies i)
 
   -- White threatens
-  pub shown_with_threats : (game_of rule task.problem).goal q ≡ false
+  pub shown_with_threats : can_move (game_of rule task.problem) q ≡ true
       → has_threat task.battle (game_of rule task.problem) task.problem.stipulation.n (chess_passing rule) q ≡ true
       → shown_after rule task first.by ≡ threat ∷ (map threatened threat_paths ++ map reply (replies_after rule task q 0))
   unfolding below_first
@@ -119,10 +119,22 @@ module _ {A : Type 0} (rule : RuleSet) (task : Task) (fit : IsContest (contest_o
   threats_over place crossed items frames z e = rw (e, z) refl
 
   -- the refutations begin
-  pub refutations_begin : (place : ℕ) (items frames : List Frame) → place ≡ 0
+  pub refutations_begin : (place : ℕ) (items frames : List Frame) → place ≡ 0 → can_move (game_of rule task.problem) q ≡ true
       → left_of rule task (But first) items ≡ below first.by but ∷ left_of rule task (Refutation first place) frames
   unfolding left_of
-  refutations_begin place items frames e = rw (e, after_start rule q) refl
+  refutations_begin place items frames e some = rw (e, some, after_start rule q) refl
+
+  -- without a reply it is stalemate
+  pub stalemate_begins : (items frames : List Frame) → can_move (game_of rule task.problem) q ≡ false
+      → left_of rule task (But first) items ≡ below first.by but ∷ left_of rule task (Stalemate first) frames
+  unfolding left_of
+  stalemate_begins items frames none = rw none refl
+
+  -- after that the next first move follows
+  pub stalemate_over : (items frames : List Frame)
+      → left_of rule task (Stalemate first) items ≡ below first.by stalemate ∷ left_of rule task (FirstMove first.firsts) frames
+  unfolding left_of
+  stalemate_over items frames = refl
 
   -- the next refutation
   pub refutation_found : (place next : ℕ) (by : Move) (items frames : List Frame)
@@ -152,7 +164,7 @@ module _ {A : Type 0} (rule : RuleSet) (task : Task) (fit : IsContest (contest_o
   unfolding left_of
   faced_with crossed items frames paths e w = rw (e, w) refl
 
-  -- where the goal is reached
-  pub faced_at_goal : (items : List Frame) → shown_after rule task first.by ≡ [] → left_of rule task (Faced first) items ≡ below_and_after rule task first []
+  -- where Black has no reply
+  pub faced_without_reply : (items : List Frame) → shown_after rule task first.by ≡ [] → left_of rule task (Faced first) items ≡ below_and_after rule task first []
   unfolding left_of
-  faced_at_goal items e = rw e refl
+  faced_without_reply items e = rw e refl

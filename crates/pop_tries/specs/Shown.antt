@@ -9,10 +9,10 @@ use Rattle.pop_events.specs.Shown.{shown_move}
 use Rattle.pop_input.specs.Posed.{Posed}
 use Rattle.pop_solve.specs.Events.{event_of, last_shown, play_start}
 use Rattle.pop_stipulation.specs.declared.stipulation.Goal.{Goal}
-use Rattle.pop_tries.specs.Tries.{Below, but, check, refutation, reply, threat, threatened, zugzwang}
+use Rattle.pop_tries.specs.Tries.{Below, but, check, refutation, reply, stalemate, threat, threatened, zugzwang}
 use Rattle.pop_tries.specs.Events.{BareTryEvent, attempt, below, key, key_total, keys, no_tries, set_event, tries, try_total}
 use Rattle.pop_events.specs.declared.try_event.TryEvent.{TryEvent}
-use Rattle.pop_events.specs.declared.try_event.TryEvent.TheVariants.{NoTries, Set, Keys, Key, KeyTotal, Tries, Try, TryTotal, Check, Threat, Zugzwang, Node, But, Refutation}
+use Rattle.pop_events.specs.declared.try_event.TryEvent.TheVariants.{NoTries, Set, Keys, Key, KeyTotal, Tries, Try, TryTotal, Check, Threat, Zugzwang, Node, But, Refutation, Stalemate}
 
 -- what is shown below a first move that leads to q: a reply has one move above it, and a threat two, since
 -- Black has passed
@@ -26,6 +26,7 @@ shown_below_first goal rule q (reply path) =
     Node (length path) (length path + 1) (last_shown goal rule q path)
 shown_below_first goal rule q but = But
 shown_below_first goal rule q (refutation d) = Refutation (shown_move goal rule q d)
+shown_below_first goal rule q stalemate = Stalemate
 
 -- an event as it is shown
 abbrev pub try_event_of : RuleSet → Posed → BareTryEvent → TryEvent

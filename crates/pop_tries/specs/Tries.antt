@@ -1,11 +1,15 @@
--- Refutations, tries and threats of a battle problem, for any game. Refutation, try, threat, zugzwang and
--- defence are terms of the Codex for Chess Composition; the Popeye manual shows tries and threats by its
--- options Try and Threat. That a try has at least one refutation and at most a given number, and which
--- defences are shown, are own rules.
+-- Refutations, tries and threats of a battle problem, for any game. The words refutation, try, threat,
+-- zugzwang and defence are used as in the Codex for Chess Composition; the Popeye manual shows tries and threats
+-- by its options Try and Threat. Own readings: a try has at least one refutation and at most a given number;
+-- in a direct mate stalemate refutes by itself; a threat is a move, that is origin, arrival and promotion, of
+-- least length; a reply that stops one of several threats is a defence; zugzwang is that White threatens
+-- nothing, even if Black's only move refutes; in one move there is no threat, and each reply that the goal
+-- leaves refutes.
 use Rattle.pop_stipulation.specs.declared.stipulation.Battle.{Battle}
-use Rattle.pop_battle.specs.Game.{Game}
+use Rattle.pop_stipulation.specs.declared.stipulation.Battle.TheVariants.{Direct, Selfmate}
+use Rattle.pop_battle.specs.Game.{Game, can_move}
 use Rattle.pop_solve.specs.Tree.{best_moves, continuations, is_in_set_play, keeps_win, least_moves, node, wins_in}
-use Rattle.std.specs.Prelude.{ℕ, ◌-◌, nat_le, Bool, not, ◌&&◌, if◌then◌else◌, List, [], ◌∷◌, ◌++◌, map, length}
+use Rattle.std.specs.Prelude.{ℕ, ◌-◌, nat_le, Bool, true, false, not, ◌&&◌, ◌||◌, if◌then◌else◌, List, [], ◌∷◌, ◌++◌, map, length}
 use Rattle.std.specs.List.{filter, flat_map, list_any}
 
 -- what threats need besides a game: the position after the side to move has passed, whether that side is in
@@ -27,9 +31,14 @@ pub data Below (M : Type 0) : Type 0 where
   threatened : List M → Below M
   -- a defence, or a node below it: the moves after the first move
   reply : List M → Below M
-  -- refutations follow
+  -- refutations follow, or stalemate as the only one
   but : Below M
   refutation : M → Below M
+  stalemate : Below M
+
+abbrev pub is_direct : Battle → Bool
+is_direct Direct = true
+is_direct Selfmate = false
 
 -- a first move leads to q, with Black to move
 module _ {P M : Type 0} (battle : Battle) (game : Game P M) (n : ℕ) where
@@ -37,14 +46,10 @@ module _ {P M : Type 0} (battle : Battle) (game : Game P M) (n : ℕ) where
   abbrev pub refutations : P → List M
   refutations q = filter (λ d. not (is_in_set_play battle game n (game.after q d))) (game.moves q)
 
-  -- the refutations, as they are shown
+  -- the refutations, as they are shown; without a reply it is stalemate
   abbrev pub shown_refutations : P → List (Below M)
-  shown_refutations q = but ∷ map refutation (refutations q)
-
-  -- the first move is a try: no key, with at least one refutation and at most `most`
-  abbrev pub is_try : ℕ → P → Bool
-  is_try most q = not (keeps_win battle game n q)
-      && (nat_le 1 (length (refutations q)) && nat_le (length (refutations q)) most)
+  shown_refutations q =
+      but ∷ (if can_move game q then map refutation (refutations q) else stalemate ∷ [])
 
   -- the nodes below a reply that leads to r, with h half-moves left, as in set play: the continuations of
   -- least length, with the nodes below them if variations are shown
@@ -53,6 +58,19 @@ module _ {P M : Type 0} (battle : Battle) (game : Game P M) (n : ℕ) where
       else (if game.goal r then [] else map (λ m. m ∷ []) (best_moves battle game n r))
 
   module _ (passing : Passing P M) where
+    -- in direct play Black has no reply and isn't in check: stalemate, if that isn't the goal
+    abbrev pub stalemates : P → Bool
+    stalemates q = is_direct battle && (not (can_move game q) && not (passing.is_checked q))
+
+    -- how many refutations a first move has that is no key; stalemate is one
+    abbrev pub refutation_count : P → ℕ
+    refutation_count q = if stalemates q then 1 else length (refutations q)
+
+    -- the first move is a try: no key, with at least one refutation and at most `most`
+    abbrev pub is_try : ℕ → P → Bool
+    is_try most q = not (keeps_win battle game n q)
+        && (nat_le 1 (refutation_count q) && nat_le (refutation_count q) most)
+
     -- White threatens: Black isn't in check, and if Black passes White wins with one move less
     abbrev pub has_threat : P → Bool
     has_threat q = not (passing.is_checked q) && wins_in battle game (n - 1) (passing.passed q)
@@ -65,10 +83,13 @@ module _ {P M : Type 0} (battle : Battle) (game : Game P M) (n : ℕ) where
     abbrev pub works : ℕ → P → M → Bool
     works k r t = passing.is_legal r t && keeps_win battle game k (game.after r t)
 
-    -- the reply d is a defence: after it no threat works within the least length that it had
+    -- the reply d stops the threat t: after it t doesn't work within the least length that it had
+    abbrev pub stops : P → M → M → Bool
+    stops q d t = not (works (least_moves battle game n (passing.passed q)) (game.after q d) t)
+
+    -- the reply d is a defence: White threatens nothing, or it stops a threat, perhaps not all
     abbrev pub is_defence : P → M → Bool
-    is_defence q d = not (list_any
-        (works (least_moves battle game n (passing.passed q)) (game.after q d)) (threats q))
+    is_defence q d = not (has_threat q) || list_any (stops q d) (threats q)
 
     -- the replies shown: the defences that don't refute
     abbrev pub shown_replies : P → List M
@@ -89,8 +110,8 @@ module _ {P M : Type 0} (battle : Battle) (game : Game P M) (n : ℕ) where
     reply_nodes variation h q = flat_map
         (λ d. node d (below_reply variation (h - 1) (game.after q d))) (shown_replies q)
 
-    -- what is shown below a first move, with h half-moves left after it: nothing if it reaches the goal
+    -- what is shown below a first move, with h half-moves left after it: nothing if Black has no reply
     unfoldable pub below_first : Bool → ℕ → P → List (Below M)
-    below_first variation h q = if game.goal q then []
-        else faced q ∷ map threatened (threat_nodes variation h q)
-        ++ map reply (reply_nodes variation h q)
+    below_first variation h q = if can_move game q
+        then faced q ∷ map threatened (threat_nodes variation h q)
+        ++ map reply (reply_nodes variation h q) else []

@@ -82,7 +82,7 @@ pub fn walk_on<R: Rules, const N: usize>(
         (reverse frames.old.items) (reverse frames.new.items) board.new result }
 {
     while !frames.is_empty() {
-        if step::<R, N>(walk.plan, walk.half_moves, board, frames, search_state) {
+        if step::<R, N, true>(walk.plan, walk.half_moves, board, frames, search_state) {
             return true;
         }
     }

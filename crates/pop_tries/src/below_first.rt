@@ -9,11 +9,12 @@ ghost use Rattle.pop_solve.specs.ties.Plans.{plan_of};
 ghost use Rattle.pop_solve.specs.ties.Walk.{IsWalking};
 ghost use Rattle.pop_tries.specs.ties.Starts.{base_position, ShowsBelow};
 ghost use Rattle.chess_core.specs.Position.{Position};
+ghost use Rattle.pop_battle.specs.Game.{can_move};
 ghost use Rattle.pop_battle.specs.ties.Frames.{CameBy};
 ghost use Rattle.pop_solve.specs.Events.{game_of};
 ghost use Rattle.pop_stipulation.specs.Stipulations.{half_moves};
 ghost use Rattle.pop_events.specs.declared.try_event.TryEvent.TheVariants.{Node};
-ghost use Rattle.pop_tries.specs.declared.stage.TriesStage.TheVariants.{BelowReply, But, Faced, FirstMove, Refutation, Reply, Threats};
+ghost use Rattle.pop_tries.specs.declared.stage.TriesStage.TheVariants.{BelowReply, But, Faced, FirstMove, Refutation, Reply, Stalemate, Threats};
 ghost use Rattle.pop_tries.specs.ties.Contests.{IsContest, IsThreat};
 ghost use Rattle.pop_tries.specs.ties.Searching.{after_first, below_and_after, contest_of, event_of_faced, left_of, Goes, HoldsAt, IsFirst, IsWalkedBelow, MayStep, rank, ShowsNode};
 
@@ -26,8 +27,7 @@ use arrayvec::ArrayVec;
 use chess_core::board::Board;
 use chess_core::man::Move;
 use chess_core::square::Square;
-use chess_rules::{Moves, Rules, Undo, in_check, play, unplay};
-use pop_battle::chess::reaches_goal;
+use chess_rules::{Moves, Rules, Undo, has_legal_move, in_check, play, unplay};
 use pop_battle::frame::Frame;
 use pop_battle::search_state::SearchState;
 use pop_events::TryEvent;
@@ -62,7 +62,7 @@ fn end_replies<R: Rules>(task: &Task, first: First<R>, board: &mut Board) -> Tri
     }
 }
 
-/// Finds what Black faces after a first move: check, a threat or zugzwang; nothing if the goal is reached.
+/// Finds what Black faces after a first move: check, a threat or zugzwang; nothing if he has no reply.
 #[tactic(auto, unfolding(crate::specs::ties::Searching::HoldsAt, crate::specs::ties::Searching::rank))]
 pub(crate) fn face<R: Rules, const N: usize>(
     task: &Task,
@@ -75,7 +75,7 @@ pub(crate) fn face<R: Rules, const N: usize>(
     ensures { Goes R.rule task.now (Faced first) frames.old.items result.stage
         frames.new.items board.new result.event }
 {
-    if reaches_goal::<R>(task.problem.stipulation().goal, board) {
+    if !has_legal_move::<R>(board) {
         return Step {
             stage: end_replies(task, first, board),
             event: None,
@@ -120,8 +120,8 @@ fn begin_threats<R: Rules, const N: usize>(
     requires threat { IsThreat R.rule (contest_of task.now) (after_first R.rule task.now first.by)
         first.threat }
     requires some { is_some first.threat ≡ true }
-    requires goal { (game_of R.rule task.now.problem).goal
-        (after_first R.rule task.now first.by) ≡ false }
+    requires reply { can_move (game_of R.rule task.now.problem)
+        (after_first R.rule task.now first.by) ≡ true }
     ensures { Goes R.rule task.now (Faced first) frames.old.items result.stage
         frames.new.items board.new result.event }
 {
@@ -314,24 +314,48 @@ pub(crate) fn walk_reply<R: Rules, const N: usize>(
     }
 }
 
-/// Begins the refutations of a try.
+/// Begins the refutations of a try; without a reply it is stalemate.
 #[tactic(auto, unfolding(crate::specs::ties::Searching::HoldsAt, crate::specs::ties::Searching::rank))]
 pub(crate) fn begin_refutations<R: Rules, const N: usize>(
     task: &Task,
     first: First<R>,
-    board: &Board,
+    board: &mut Board,
     frames: &ArrayVec<Frame<R>, N>,
 ) -> Step<R>
-    requires holds { HoldsAt R.rule task.now (But first) frames.now.items board.now }
+    requires holds { HoldsAt R.rule task.now (But first) frames.now.items board.old }
     ensures { Goes R.rule task.now (But first) frames.now.items result.stage
-        frames.now.items board.now result.event }
+        frames.now.items board.new result.event }
 {
+    if !has_legal_move::<R>(board) {
+        return Step {
+            stage: TriesStage::Stalemate { first },
+            event: Some(TryEvent::But),
+        };
+    }
     Step {
         stage: TriesStage::Refutation {
             first,
             place: Moves::start(),
         },
         event: Some(TryEvent::But),
+    }
+}
+
+/// Shows that a try stalemates, and takes it back.
+#[tactic(auto, unfolding(crate::specs::ties::Searching::HoldsAt, crate::specs::ties::Searching::rank))]
+pub(crate) fn end_stalemate<R: Rules, const N: usize>(
+    task: &Task,
+    first: First<R>,
+    board: &mut Board,
+    frames: &ArrayVec<Frame<R>, N>,
+) -> Step<R>
+    requires holds { HoldsAt R.rule task.now (Stalemate first) frames.now.items board.old }
+    ensures { Goes R.rule task.now (Stalemate first) frames.now.items result.stage
+        frames.now.items board.new result.event }
+{
+    Step {
+        stage: end_first(first, board),
+        event: Some(TryEvent::Stalemate),
     }
 }
 

@@ -22,8 +22,8 @@ pub mod stage;
 pub mod threats;
 
 pub use laws::{
-    each_first_move_is_shown, each_is_key_or_try_or_has_more, keys_have_no_refutations,
-    no_event_comes_twice, refutations_are_defences,
+    each_is_key_or_try_or_has_more, first_moves_are_keys_or_tries, keys_have_no_refutations,
+    no_event_comes_twice, refutations_are_defences, stalemate_refutes,
 };
 pub use pop_events::TryEvent;
 pub use search::TriesSearch;

@@ -1,21 +1,24 @@
 //! Keys, tries and refutations: tests of first moves and of the replies to them.
 ghost use Rattle.std.specs.Prelude.{◌≡◌, ◌+◌, ◌≤◌, not, min, true, length};
 ghost use Rattle.arrayvec.specs.ArrayVec.{array_vec_len};
+ghost use Rattle.chess_core.specs.WellFormed.{IsWellFormed};
 ghost use Rattle.chess_rules.specs.Legal.{is_legal};
 ghost use Rattle.pop_solve.specs.Tree.{is_in_set_play, keeps_win};
+ghost use Rattle.pop_tries.specs.Events.{chess_passing};
 ghost use Rattle.pop_tries.specs.Tries.{is_try, refutations};
 ghost use Rattle.pop_tries.specs.ties.Contests.{IsReady, Keeps, game_in};
-ghost use Rattle.pop_tries.specs.ties.FirstMoves.{refutes};
+ghost use Rattle.pop_tries.specs.ties.FirstMoves.{is_refuted_by_stalemate, refutes};
 
 use crate::contest::Contest;
 use arrayvec::ArrayVec;
 use chess_core::board::Board;
 use chess_core::man::Move;
-use chess_rules::{Moves, Rules, play, unplay};
+use chess_rules::{Moves, Rules, is_stalemate, play, unplay};
 use pop_battle::chess::next_move;
 use pop_battle::frame::Frame;
 use pop_battle::search_state::SearchState;
 use pop_battle::value::value_of;
+use pop_stipulation::{Battle, Goal};
 
 /// Returns whether the first move that led to the board's position is a key.
 #[tactic(auto, using(crate::proofs::Contests::key_by_value))]
@@ -104,8 +107,22 @@ fn count_refutations<R: Rules, const N: usize>(
     count
 }
 
+/// Returns whether the first move that led to the board's position stalemates, which refutes it in a direct
+/// mate alone.
+fn is_refuted_by_stalemate<R: Rules>(contest: Contest, board: &mut Board) -> bool
+    requires well_formed { IsWellFormed board.old }
+    ensures refuted { result ≡ is_refuted_by_stalemate contest.battle contest.stipulation.goal
+        R.rule board.old }
+    ensures unchanged { board.new ≡ board.old }
+{
+    match (contest.battle, contest.stipulation.goal) {
+        (Battle::Direct, Goal::Mate) => is_stalemate::<R>(board),
+        (Battle::Direct, Goal::Stalemate) | (Battle::Selfmate, _) => false,
+    }
+}
+
 /// Returns whether the first move that led to the board's position is a try with at most `most` refutations.
-/// A refuted move is no key, so the number of refutations decides.
+/// A refuted move is no key, so the number of refutations decides, or stalemate where no reply refutes.
 #[tactic(auto, using(crate::proofs::Contests::trying))]
 pub fn is_try<R: Rules, const N: usize>(
     contest: Contest,
@@ -117,12 +134,15 @@ pub fn is_try<R: Rules, const N: usize>(
     requires ready { IsReady contest board.old (array_vec_len frames.old) N }
     requires few { most ≤ 200 }
     ensures tried { result ≡ is_try contest.battle (game_in R.rule contest) contest.stipulation.n
-        most board.old }
+        (chess_passing R.rule) most board.old }
     ensures rest { Keeps board.old board.new frames.old.items frames.new.items }
 {
     if most == 0 {
         return false;
     }
     let count = count_refutations::<R, N>(contest, most, board, frames, search_state);
-    1 <= count && count <= most
+    if count == 0 {
+        return is_refuted_by_stalemate::<R>(contest, board);
+    }
+    count <= most
 }

@@ -6,7 +6,7 @@ ghost use Rattle.pop_tries.specs.Shown.{try_event_of};
 ghost use Rattle.pop_tries.specs.ties.Searching.{first_stage, is_over, IsOf, left_of, Goes, HoldsAt, MayStep};
 
 use crate::below_first::{
-    begin_refutations, face, find_refutation, find_reply, walk_reply, walk_threats,
+    begin_refutations, end_stalemate, face, find_refutation, find_reply, walk_reply, walk_threats,
 };
 use crate::first_moves::Group;
 use crate::group::{begin_group, find_first};
@@ -158,6 +158,7 @@ fn take_step<R: Rules, const N: usize>(
         TriesStage::Refutation { first, place } => {
             find_refutation(task, first, place, board, frames, search_state)
         }
+        TriesStage::Stalemate { first } => end_stalemate(task, first, board, frames),
         TriesStage::Over => Step { stage, event: None },
     }
 }

@@ -69,7 +69,7 @@ pub(crate) fn walk_set_play<R: Rules, const N: usize>(
 {
     let mut stage = stage;
     let mut event = None;
-    advance::<R, N>(
+    advance::<R, N, true>(
         &task.problem,
         &mut stage,
         board,

@@ -152,6 +152,10 @@ pub enum TriesStage<R: Rules> {
         first: First<R>,
         place: Moves<R>,
     },
+    /// That the first move stalemates, which refutes it.
+    Stalemate {
+        first: First<R>,
+    },
     /// Nothing.
     Over,
 }

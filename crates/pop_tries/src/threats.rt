@@ -197,12 +197,12 @@ pub fn is_defence<R: Rules, const N: usize>(
             let undo = play::<R>(board, by);
             let still = works::<R, N>(contest, length, place, board, frames, search_state);
             unplay::<R>(board, by, undo);
-            if still {
-                return false;
+            if !still {
+                return true;
             }
             crossed = pass(board);
         }
     }
     unpass(board, crossed);
-    true
+    false
 }

@@ -1,5 +1,5 @@
 -- What a call has shown: all bytes that it writes, or the first of them that fill the output.
-use Rattle.std.proofs.Common.{Bool, List, Some, [], ap, ap₂, arith, false, length, refl, sym, take, true, ℕ, ◌∙◌, ◌≡◌, ◌≢◌}
+use Rattle.std.proofs.Common.{Bool, List, Some, [], ap, ap₂, arith, false, length, length-append, refl, sym, take, true, ℕ, ◌<◌, ◌↔◌, ◌∙◌, ◌≡◌, ◌≢◌, ◌≤◌}
 use Rattle.std.proofs.Math.Seq.{take-append_seam}
 use Rattle.pop_text.specs.Bytes.{Begins}
 use Rattle.pop_input.specs.Blocks.{Entry}
@@ -41,10 +41,28 @@ module _ (Ending : Type 0) (number : Ending → ℕ) (Does : List ℕ → Bool �
   filled false ending reported does full other over = absurd (other (sym (ap number (all shown ending does).1) ∙ sym reported ∙ over))
   filled true ending reported does full other over = full refl
 
+  longer : (cut : Bool) (ending : Ending) → answer ≡ number ending → Does shown cut ending → (cut ≡ true → length shown ≡ room)
+      → number well ≢ number cut_short → answer ≡ number cut_short → room < length bytes
+  longer false ending reported does full other over = absurd (other (sym (ap number (all shown ending does).1) ∙ sym reported ∙ over))
+  longer true ending reported does full other over = let begun = (some shown ending does).0 in
+      omega (arith, full refl, ap length begun.taken, ap length begun.whole, length-append begun.front begun.rest, begun.more)
+
+  over_where_longer : (cut : Bool) (ending : Ending) → answer ≡ number ending → Does shown cut ending → length shown ≤ room
+      → room < length bytes → answer ≡ number cut_short
+  over_where_longer false ending reported does fits more = absurd (omega (arith, ap length (all shown ending does).0, fits, more))
+  over_where_longer true ending reported does fits more = reported ∙ ap number (some shown ending does).1
+
   -- a call whose result says that it is cut has filled the output
   room_is_full : Fills Ending number Does shown answer → number well ≢ number cut_short → answer ≡ number cut_short
       → length shown ≡ room
   room_is_full f other over = filled f.cut f.ending f.reported f.does f.full other over
+
+  -- a call is cut exactly if it writes more bytes than the output has
+  cut_exactly : Fills Ending number Does shown answer → number well ≢ number cut_short → (answer ≡ number cut_short) ↔ (room < length bytes)
+  cut_exactly f other = (
+    λ over. longer f.cut f.ending f.reported f.does f.full other over,
+    λ more. over_where_longer f.cut f.ending f.reported f.does f.fits more,
+  )
 
   -- a call that isn't cut has shown all
   shown_whole : Fills Ending number Does shown answer → answer ≢ number cut_short → (shown ≡ bytes) × (answer ≡ number well)
@@ -66,6 +84,11 @@ module _ (items : ItemText) (text shown : List ℕ) (answer : ℕ) (f : ShowsIte
   items_first over = shown_first _ _ _ (report_by items (whole_input text)) (status (whole_input text)) OutputFailed (λ now ending does. does)
       (λ now ending does. does) _ _ f (other_number (entries_in (whole_input text))) over
 
+  -- texts of items are cut exactly if they are longer than the output
+  pub items_cut : (answer ≡ status_number OutputFailed) ↔ (room < length (report_by items (whole_input text)))
+  items_cut = cut_exactly _ _ _ (report_by items (whole_input text)) (status (whole_input text)) OutputFailed (λ now ending does. does)
+      (λ now ending does. does) _ _ f (other_number (entries_in (whole_input text)))
+
   -- texts of items that are cut have filled the output
   pub items_full : answer ≡ status_number OutputFailed → length shown ≡ room
   items_full over = room_is_full _ _ _ (report_by items (whole_input text)) (status (whole_input text)) OutputFailed (λ now ending does. does)
@@ -82,6 +105,11 @@ module _ (request : PartRequest) (text shown : List ℕ) (answer : ℕ) (f : Sho
   pub part_first : answer ≡ outcome_number PartsCut → shown ≡ take room (text_of request (whole_input text))
   part_first over = shown_first _ _ _ (text_of request (whole_input text)) (outcome_of request (whole_input text)) PartsCut (λ now ending does. does)
       (λ now ending does. does) _ _ f (other_outcome request text) over
+
+  -- a part is cut exactly if its text is longer than the output
+  pub part_cut : (answer ≡ outcome_number PartsCut) ↔ (room < length (text_of request (whole_input text)))
+  part_cut = cut_exactly _ _ _ (text_of request (whole_input text)) (outcome_of request (whole_input text)) PartsCut (λ now ending does. does)
+      (λ now ending does. does) _ _ f (other_outcome request text)
 
   -- a part that is cut has filled the output
   pub part_full : answer ≡ outcome_number PartsCut → length shown ≡ room

@@ -1,5 +1,5 @@
 -- What the calls of the page return (own).
-use Rattle.std.specs.Prelude.{◌≡◌, ℕ, ◌^◌, ◌==◌, min, List, [], length, Some, Bool, true, false, if◌then◌else◌}
+use Rattle.std.specs.Prelude.{◌≡◌, ◌≤◌, ℕ, ◌^◌, ◌==◌, min, List, [], length, Some, Bool, true, false, if◌then◌else◌}
 use Rattle.pop_text.specs.Words.{Input, Clean}
 use Rattle.pop_events.specs.declared.event.Phase.{Phase}
 use Rattle.pop_events.specs.declared.event.Phase.TheVariants.{Set, Play}
@@ -68,18 +68,19 @@ part_of set_play depth number = record {
   depth = depth_of depth;
 }
 
--- A call that writes to memory: `shown` is what it writes, and the result is the number of its ending. If the text is
--- cut, `shown` fills the output.
+-- A call that writes to memory: `shown` is what it writes, at most `room` bytes, and the result is the number of its
+-- ending. If the text is cut, `shown` has as many bytes as fit.
 pub record Fills (Ending : Type 0) (number : Ending → ℕ)
     (Does : List ℕ → Bool → Ending → Type 0) (shown : List ℕ) (answer : ℕ) : Type 0 where
   pub cut : Bool
   pub ending : Ending
   pub reported : answer ≡ number ending
   pub does : Does shown cut ending
+  pub fits : length shown ≤ room
   pub full : cut ≡ true → length shown ≡ room
 
 -- The bytes are the joined texts of the items, and the result is the number of the text's status. Or the bytes are a
--- beginning of these texts that fills the output, and the result is the number of a failed output.
+-- beginning of these texts, as many bytes as fit and not all, and the result is the number of a failed output.
 abbrev pub ShowsItems : ItemText → List ℕ → List ℕ → ℕ → Type 0
 ShowsItems item_text text shown answer = Fills Status status_number
     (λ bytes cut ending. RunsBy item_text (whole_input text) (Some []) (Some bytes) cut ending)
@@ -102,8 +103,8 @@ ShowsTries no_board refutations = ShowsItems
 abbrev pub Lists : ℕ → List ℕ → List ℕ → ℕ → Type 0
 Lists depth = ShowsItems (parts_line depth)
 
--- The bytes are the text of the parts, and the result is the number of the outcome; or they are a beginning of the text
--- that fills the output, and the result is the number of a failed output.
+-- The bytes are the text of the parts, and the result is the number of the outcome; or they are a beginning of the
+-- text, as many bytes as fit and not all, and the result is the number of a failed output.
 abbrev pub ShowsParts : PartRequest → List ℕ → List ℕ → ℕ → Type 0
 ShowsParts request text shown answer = Fills Outcome outcome_number
     (λ bytes cut ending. PartsRun request (whole_input text) (Some []) (Some bytes) cut ending)

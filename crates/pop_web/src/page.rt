@@ -170,6 +170,7 @@ fn refuse(written: &mut usize) -> u32
 fn copy_out(sink: &MemorySink<ROOM>, output: &mut [u8]) -> usize
     requires { room ≤ length output.old }
     ensures text { take result output.new ≡ sink.now.taken }
+    ensures fits { length (take result output.new) ≤ room }
     ensures full { 0 < sink.now.failures → length (take result output.new) ≡ room }
     ensures inside { result ≤ length output.new }
     ensures room { length output.new ≡ length output.old }

@@ -12,7 +12,7 @@ use pop_input::item::Item;
 use pop_input::problem::Problem;
 use pop_input::reader::Reader;
 use pop_print::print_event;
-use pop_solve::search::Search;
+use pop_solve::{PrunedSearch, Search};
 use pop_text::trial_sink::TrialSink;
 use pop_text::trial_source::TrialSource;
 
@@ -56,6 +56,23 @@ pub(crate) fn half_moves(problem: &Problem) -> usize
     ensures most { result ≤ 32 }
 {
     problem.stipulation().half_moves()
+}
+
+/// Runs a search that prunes to its end. Returns the text of its events, and what `opened` returns after them.
+fn run_pruned<R: Rules>(problem: &Problem) -> (ArrayVec<u8, 4096>, u64)
+    requires { R.rule ≡ rule_of problem.now.condition }
+{
+    // For the proof: the stipulation of a problem that was read has at most 32 half-moves.
+    let _half_moves = half_moves(problem);
+    let mut search = PrunedSearch::<R, 33>::new(problem);
+    let mut text = ArrayVec::new();
+    for _event in 0..ALL {
+        let Some(event) = search.next() else {
+            break;
+        };
+        add_event(&event, &mut text);
+    }
+    (text, search.opened())
 }
 
 /// Runs a search up to `most` events, and then calls it three more times.
@@ -131,8 +148,8 @@ impl Given {
     }
 }
 
-/// Returns whether searches under the problem's rules return the row's events: one to its end, one with
-/// just enough frames, and one dropped after each number of events.
+/// Returns whether searches under the problem's rules return the row's events: one to its end, one that
+/// prunes, one with just enough frames, and one dropped after each number of events.
 fn is_searched_under<R: Rules>(problem: &Problem, row: &Row) -> bool
     requires { R.rule ≡ rule_of problem.now.condition }
 {
@@ -142,7 +159,10 @@ fn is_searched_under<R: Rules>(problem: &Problem, row: &Row) -> bool
         return false;
     };
     let (least, most) = row.opened.unwrap_or((0, u64::MAX));
+    let (text, opened) = run_pruned::<R>(problem);
     let right = whole.ends(row.events)
+        && text.as_slice() == row.events
+        && opened <= whole.opened
         && whole.deepest <= half_moves + 1
         && least <= whole.opened
         && whole.opened <= most
@@ -171,15 +191,16 @@ pub(crate) fn is_searched(row: &Row) -> bool {
     }
 }
 
-/// Returns whether a search returns the text of the plain solver.
+/// Returns whether a search and one that prunes return the text of the plain solver.
 fn agrees_under<R: Rules>(problem: &Problem) -> bool
     requires { R.rule ≡ rule_of problem.now.condition }
 {
     // For the proof: the stipulation of a problem that was read has at most 32 half-moves.
     let _half_moves = half_moves(problem);
     let given = run::<R, 33>(problem, ALL);
+    let pruned = run_pruned::<R>(problem);
     let plain = solve::<R>(problem);
-    given.text.as_slice() == plain.as_slice()
+    given.text.as_slice() == plain.as_slice() && pruned.0.as_slice() == plain.as_slice()
 }
 
 /// Returns the problem with these men, stipulation and options, or `None` if it isn't sound.

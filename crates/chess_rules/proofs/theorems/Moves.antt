@@ -16,7 +16,7 @@ abbrev pub Precedes : Move → Move → Type 0
 Precedes m n = precedes m n ≡ true
 
 -- m precedes n exactly if its origin is lower; or the origins are equal and its arrival is lower; or both
--- are equal and its promotion comes first.
+-- are equal and its promotion comes before the other's.
 pub precedes_by_parts : (m n : Move)
     → Precedes m n ↔ ((m.from < n.from) ⊎ ((m.from ≡ n.from) × ((m.to < n.to) ⊎ ((m.to ≡ n.to) × (promotion_precedes m.promo n.promo ≡ true)))))
 precedes_by_parts m n = by_parts m.from n.from m.to n.to (promotion_precedes m.promo n.promo)

@@ -15,8 +15,9 @@ use chess_attacks::Rules;
 use chess_attacks::words::{pop_first, squares_from};
 use chess_core::{Board, Move, Square, Squares};
 
-/// A filter over the legal moves of a position, by arrival squares. The moves that it takes fail a test;
-/// it leaves all moves that pass, and perhaps others. `fits` says to which positions the filter belongs.
+/// A filter over the legal moves of a position, by arrival squares, which saves the time of trying them.
+/// The moves that it takes fail a test; it leaves all moves that pass, and perhaps others. `fits` says to
+/// which positions the filter belongs.
 pub trait FilteredMoves {
     ghost use Rattle.std.specs.Prelude.{Bool, ◌≡◌, IfSome};
     ghost use Rattle.chess_core.specs.Position.{Position};
@@ -56,7 +57,7 @@ pub trait FilteredMoves {
 /// The outcome of a search for the next legal move that a filter leaves.
 #[derive(Clone, Copy)]
 pub struct Filtered {
-    /// The first legal move that the filter leaves, if there is one.
+    /// A legal move, if the filter leaves one: each one before it fails the filter's test.
     pub found: Option<Move>,
     /// The number of legal moves before `found`, or of all legal moves after the start of the search if
     /// there is none.

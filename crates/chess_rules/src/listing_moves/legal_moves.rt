@@ -186,8 +186,9 @@ impl<R: Rules> LegalCursor<R> {
         None
     }
 
-    /// Returns whether the filter takes a legal move of a man on one of `origins`; `false` says nothing
-    /// about other men. Cursor and filter must belong to the board's position. The board is unchanged.
+    /// Returns `true` only if some legal move fails the filter's test; `false` says nothing. Looks for a move
+    /// that the filter takes, of a man on one of `origins`: these affect speed only. Cursor and filter must
+    /// belong to the board's position. The board is unchanged.
     pub fn has_filtered<S: FilteredMoves>(
         &self,
         filter_moves: &mut S,
@@ -204,10 +205,11 @@ impl<R: Rules> LegalCursor<R> {
         some_filtered::<R, S>(board, self.known(), filter_moves, origins)
     }
 
-    /// Returns the next legal move after the cursor that the filter leaves, with the number of legal
-    /// moves before it, and moves the cursor to it. The moves before it fail the filter's test. If there
-    /// is none, returns the number of all legal moves after the cursor, and moves the cursor to the end.
-    /// Cursor and filter must belong to the board's position. The board is unchanged.
+    /// Returns a legal move after the cursor, with the number of legal moves before it, and moves the cursor
+    /// to it. The moves before it fail the filter's test. It is the first move that the filter leaves, but
+    /// that is for speed only: no clause says that a filter takes any move. If it takes all moves after the
+    /// cursor, returns their number, and moves the cursor to the end; all of them fail the test. Cursor and
+    /// filter must belong to the board's position. The board is unchanged.
     #[tactic(auto, using(crate::proofs::listing_moves::Filtering::next_filtered))]
     pub fn next_filtered<S: FilteredMoves>(
         &mut self,

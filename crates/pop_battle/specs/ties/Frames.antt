@@ -21,6 +21,7 @@ use Rattle.pop_battle.specs.ties.Values.{decides, attacker_to_move, join, joined
 use Rattle.pop_battle.specs.declared.frame.MoveStage.{MoveStage}
 use Rattle.pop_battle.specs.declared.frame.MoveStage.TheVariants.{Killer, Earlier, Aimed, Others}
 use Rattle.pop_battle.specs.declared.frame.Early.{Early}
+use Rattle.pop_battle.specs.declared.frame.LineEnds.{LineEnds}
 use Rattle.pop_battle.specs.declared.frame.Early.TheVariants.{AimedMoves, NoMoves}
 
 -- how a test orders the moves of a position: two killers, which may be illegal moves, and which moves come
@@ -36,7 +37,7 @@ unordered = record { killer = 0; earlier = 0; early = NoMoves }
 
 -- a frame: the cursor up to which the moves of its position have been tried, the move that led there and
 -- what takes it back, and the half-moves to try there; in a test the order of the moves and the stage of
--- the cursor; and what is known of the position's legal moves
+-- the cursor; what is known of the position's legal moves; and in help play what is known of the lines from it
 pub record Frame : Type 0 where
   pub place : ℕ
   pub by : Move
@@ -45,6 +46,7 @@ pub record Frame : Type 0 where
   pub order : Order
   pub move_stage : MoveStage
   pub known : Option LegalPlace
+  pub line_ends : Option LineEnds
 
 -- a frame of no position
 abbrev pub no_frame : Frame
@@ -56,6 +58,7 @@ no_frame = record {
   order = unordered;
   move_stage = Others;
   known = None;
+  line_ends = None;
 }
 
 -- the frame with its cursor moved
@@ -304,6 +307,7 @@ opened_frame by undo left = record {
   order = unordered;
   move_stage = Others;
   known = None;
+  line_ends = None;
 }
 
 -- the frame of a position that a move of a test has reached: its killer is tried first
@@ -316,6 +320,7 @@ tested_frame order by undo left known = record {
   order = order;
   move_stage = Killer;
   known = known;
+  line_ends = None;
 }
 
 -- one frame of a test was added, which knows at most its own position

@@ -8,13 +8,10 @@ use Rattle.chess_attacks.specs.RuleSet.{RuleSet}
 use Rattle.pop_input.specs.Posed.{Posed}
 use Rattle.pop_stipulation.specs.Stipulations.{is_help}
 use Rattle.pop_solve.specs.Events.{BareEvent, Path, phase_half_moves, phase_start}
-use Rattle.pop_solve.specs.Walks.{is_unstopped}
 use Rattle.pop_solve.specs.declared.phases.Stage.{Stage}
-use Rattle.pop_solve.specs.ties.Counts.{Counts, exactly, untried_at}
-use Rattle.pop_solve.specs.ties.Phases.{left_of}
+use Rattle.pop_solve.specs.ties.Counts.{Counts, exactly, least_if, untried_at}
 use Rattle.pop_battle.specs.ties.Frames.{Frame}
 use Rattle.pop_battle.specs.Game.{path_end}
-use Rattle.pop_parts.specs.PhaseParts.{part_count}
 use Rattle.pop_events.specs.declared.event.Phase.{Phase}
 use Rattle.pop_battle.specs.declared.killers.Killers.{Killers}
 use Rattle.pop_battle.specs.Walks.{walk_count}
@@ -46,19 +43,12 @@ part_walk rule problem phase front =
     (phase_half_moves problem phase - length front)
     (path_end (position_after rule) (phase_start problem phase) front)
 
--- the limit of solutions stopped the part
-abbrev pub is_part_stopped : RuleSet → Posed → Phase → Path → Bool
-is_part_stopped rule problem phase front =
-    part_count rule problem phase front == problem.max_solutions
-
--- in help play, if no limit stops the part, no event to come says that one does, and exactly the positions
--- of its walk that aren't still to be tried have counted
+-- in help play at most the positions of the part's walk that aren't still to be tried have counted
 abbrev pub IsPartOpened : RuleSet → Posed → Phase → Path → Stage → List Frame → ℕ → Type 0
 IsPartOpened rule problem phase front stage frames opened =
-    is_help problem.stipulation.form ≡ true → is_part_stopped rule problem phase front ≡ false
-    → (is_unstopped (left_of rule problem stage frames) ≡ true)
-    × Counts (exactly (part_walk rule problem phase front)) (untried_at rule problem stage frames)
-    0 opened
+    is_help problem.stipulation.form ≡ true
+    → Counts (least_if false (exactly (part_walk rule problem phase front)))
+    (untried_at rule problem stage frames) 0 opened
 
 -- each of the moves, played from p on, is legal
 unfoldable pub are_legal : RuleSet → Position → Path → Bool

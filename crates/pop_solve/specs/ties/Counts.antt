@@ -14,7 +14,7 @@ use Rattle.pop_battle.specs.Walks.{walk_count}
 use Rattle.pop_battle.specs.ties.Counts.{HasCounted, smallest_tree}
 use Rattle.pop_battle.specs.ties.Frames.{Frame, position, to_open}
 use Rattle.pop_battle.specs.ties.Values.{attacker_to_move}
-use Rattle.pop_stipulation.specs.Stipulations.{is_help}
+use Rattle.pop_stipulation.specs.Stipulations.{battle_of, is_help}
 use Rattle.pop_stipulation.specs.declared.stipulation.Battle.{Battle}
 use Rattle.pop_events.specs.declared.event.Phase.{Phase}
 use Rattle.pop_events.specs.declared.event.Phase.TheVariants.{Play}
@@ -115,11 +115,15 @@ untried rule plan h p frames = record {
       else fewest_left rule plan h p frames;
 }
 
--- what some steps of a walk count
-abbrev pub CountsWalk : RuleSet → Plan → ℕ → Position → (old new : List Frame) → (before after : ℕ)
-    → Type 0
-CountsWalk rule plan h p old new before after =
-    Counts (untried rule plan h p old) (untried rule plan h p new) before after
+-- the walk tries all positions that have to be tried: it doesn't prune, or it walks a battle
+abbrev pub tries_all : Bool → Option Battle → Bool
+tries_all prunes battle = not (prunes && is_none battle)
+
+-- what some steps of a walk count; nothing has to be tried unless `full`
+abbrev pub CountsWalk : Bool → RuleSet → Plan → ℕ → Position → (old new : List Frame)
+    → (before after : ℕ) → Type 0
+CountsWalk full rule plan h p old new before after =
+    Counts (least_if full (untried rule plan h p old)) (untried rule plan h p new) before after
 
 -- the fewest positions that have to be tried to show a phase of a battle: the first position; for each of
 -- White's moves and each first move the positions of a smallest tree that decides it; for any other shown
@@ -160,16 +164,21 @@ untried_at rule problem (First walk) frames = untried_within rule problem walk f
 untried_at rule problem (Within walk count) frames = untried_within rule problem walk frames
 untried_at rule problem After frames = none_untried
 
--- what a call counts; nothing has to be tried if an event still to come says that the limit stops a phase
-abbrev pub CountsOn : RuleSet → Posed → (old new : Stage) → (frames last : List Frame)
+-- the search of the problem tries all positions that have to be tried
+abbrev pub searches_all : Bool → Posed → Bool
+searches_all prunes problem = tries_all prunes (battle_of problem.stipulation.form)
+
+-- what a call counts; nothing has to be tried if an event still to come says that the limit stops a phase,
+-- or in help play if the search prunes
+abbrev pub CountsOn : Bool → RuleSet → Posed → (old new : Stage) → (frames last : List Frame)
     → (before after : ℕ) → Type 0
-CountsOn rule problem old new frames last before after =
-    Counts (least_if (is_unstopped (left_of rule problem old frames))
+CountsOn prunes rule problem old new frames last before after =
+    Counts (least_if (searches_all prunes problem && is_unstopped (left_of rule problem old frames))
     (untried_at rule problem old frames)) (untried_at rule problem new last) before after
 
 -- the count so far
-abbrev pub IsOpened : RuleSet → Posed → Stage → List Frame → ℕ → Type 0
-IsOpened rule problem stage frames opened =
-    Counts (least_if (is_never_stopped rule problem)
+abbrev pub IsOpened : Bool → RuleSet → Posed → Stage → List Frame → ℕ → Type 0
+IsOpened prunes rule problem stage frames opened =
+    Counts (least_if (searches_all prunes problem && is_never_stopped rule problem)
     (untried_from rule problem (first_phase problem)))
     (untried_at rule problem stage frames) 0 opened

@@ -6,19 +6,23 @@ pub use Rattle.pop_stipulation.specs.declared.stipulation.Goal.TheVariants.{Mate
 use Rattle.std.specs.Prelude.{◌≡◌, ℕ, zero, suc, ◌+◌, ◌-◌, ◌/◌, ◌≤◌, ◌<◌, ◌==◌, Bool, true, false, not, ◌&&◌, ◌||◌, if◌then◌else◌, List, [], ◌∷◌, ◌++◌, map, length, filter, Option, Some, None, IfSome, MatchOption, ◌⊎◌}
 use Rattle.std.specs.List.{flat_map}
 pub use Rattle.chess_core.specs.Position.{Position}
+use Rattle.chess_core.specs.Position.{king_square}
 use Rattle.chess_core.specs.declared.man.Move.{Move}
 pub use Rattle.chess_core.specs.WellFormed.{IsWellFormed}
+use Rattle.chess_reach.specs.Lines.{HoldsEnds}
 use Rattle.chess_rules.specs.Play.{position_after}
 use Rattle.chess_rules.specs.ties.Places.{IsPlaceIn, LegalPlace, moves_after}
 use Rattle.chess_flights.specs.ties.Mates.{is_mating}
 use Rattle.chess_rules.specs.Legal.{is_legal, is_mate}
-use Rattle.chess_attacks.specs.RuleSet.{RuleSet}
+use Rattle.chess_attacks.specs.RuleSet.{RuleSet, captures_are_reborn}
+use Rattle.std.specs.Int.{bit_at}
 use Rattle.pop_battle.specs.Game.{Game}
 pub use Rattle.pop_battle.specs.ties.Values.{attacker_to_move, value}
 pub use Rattle.pop_battle.specs.Chess.{chess}
 pub use Rattle.pop_battle.specs.ties.Frames.{Frame}
 use Rattle.pop_battle.specs.ties.Frames.{AreKnown, learned, moved, position, IsLinked, work_after, left_at_top}
 use Rattle.pop_battle.specs.ties.Passing.{CannotBeMated, Passes}
+use Rattle.pop_battle.specs.declared.frame.LineEnds.{LineEnds}
 use Rattle.pop_solve.specs.declared.plan.Plan.{Plan}
 pub use Rattle.pop_battle.specs.ties.Marks.{is_for_mate}
 
@@ -93,12 +97,25 @@ unfoldable pub IsRoomy : ℕ → List Frame → Type 0
 IsRoomy h [] = Unit {0}
 IsRoomy h (f ∷ below) = (f.left + length below ≤ h) × IsRoomy h below
 
+-- what is known of the lines from each frame's position is right
+unfoldable pub AreEnds : RuleSet → Position → List Frame → Type 0
+AreEnds rule p [] = Unit {0}
+AreEnds rule p (f ∷ below) =
+    IfSome f.line_ends
+    (λ e. HoldsEnds e.goal rule f.left (position rule p (f ∷ below)) e.squares)
+    × AreEnds rule p below
+
+-- the frame with what is known of the lines from its position
+abbrev pub ending : Frame → LineEnds → Frame
+ending f e = record f { line_ends = Some e }
+
 -- the board has the position of the top frame of a walk
 pub record IsWalking (rule : RuleSet) (h : ℕ) (p : Position) (frames : List Frame)
     (board : Position) : Type 0 where
   pub linked : IsLinked rule p frames
   pub roomy : IsRoomy h frames
   pub known : AreKnown rule p frames
+  pub ends : AreEnds rule p frames
   pub sound : IsWellFormed board
   pub board_at : board ≡ position rule p frames
 
@@ -129,6 +146,27 @@ HaveNoPaths rule plan left p before after over =
     × (left ≡ 1) × (filter (is_mating rule p) over ≡ []))))
     ⊎ ((plan.battle ≡ None) × (plan.goal ≡ Mate) × (left ≡ 2)
     × CannotBeMated rule p before after over)
+
+-- after a move of help play to q, with t half-moves left, lines that reach the goal end on these squares
+pub record AreEndsAfter (rule : RuleSet) (plan : Plan) (t : ℕ) (q : Position) (e : LineEnds) : Type 0
+  where
+    pub help : plan.battle ≡ None
+    pub some : 0 < t
+    pub ends : HoldsEnds plan.goal rule t q e.squares
+    pub same : e.goal ≡ plan.goal
+
+-- after a move the mover's king is on none of these squares; no man is reborn
+pub record IsKingOff (rule : RuleSet) (p : Position) (m : Move) (w : ℕ) : Type 0 where
+  pub none_reborn : captures_are_reborn rule ≡ false
+  pub king : ℕ
+  pub at : king_square p.men p.turn ≡ Some king
+  pub off : bit_at w (if m.from == king then m.to else king) ≡ 0
+
+-- if something is known of the lines from the top frame, it is kept there
+abbrev pub KeepsEnds : Option LineEnds → (old new : List Frame) → Type 0
+KeepsEnds ends old new = MatchOption ends (new ≡ old)
+    (λ e. (below : List Frame) (top : Frame) → old ≡ below ++ top ∷ []
+    → new ≡ below ++ ending top e ∷ [])
 
 -- from `place` on, the walk skips only moves without paths; the moves `rest` come after them
 abbrev pub GoesTo : RuleSet → Plan → ℕ → Position → ℕ → List Move → (before after : ℕ) → Type 0

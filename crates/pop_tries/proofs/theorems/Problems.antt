@@ -1,5 +1,5 @@
--- The keys and tries of a problem, under every set of rules: their order, that with many refutations all
--- first moves are shown, and that no event comes twice.
+-- The keys and tries of a problem, under every set of rules: their order, that with many refutations each
+-- first move is a key or a try, and that no event comes twice.
 use Rattle.pop_tries.proofs.Words.{AllPairs, AllPairs-filter, Battle, Below, Bool, Contains, Contains-append_left, Goal, Some, battle_of, half_moves, eqb, ◌-◌, IsWellFormed, List, Move, Play, Posed, Position, Precedes, RuleSet, [], after_well_formed, ap, arith, attempt, attempt_events, below, can_move, chess, chess_passing, cond, false, false≢true, filter, flat_map, from_filter, from_flat_map, from_map, game_of, in_cases, in_filter, inl, inr, is_defence, is_pseudo_legal-from_legal, is_try, keeps_win, key, key_events, key_moves, key_total, keys, legal_moves, length, length-map, map, moves_are_the_legal_moves, moves_differ, moves_in_order, none_in_nil, pairs_flat_map, pairs_front, pairs_map, pairs_nil, pairs_of, play_events, play_start, position_after, refl, refutations, set_event, shown_below, shown_refutations, subst, sym, take, take-append-drop, drop, tries, true, try_moves, try_total, no_tries, BareTryEvent, ℕ, ◌++◌, ◌∙◌, ◌∷◌, ◌≡◌, ◌≢◌, ◌≤◌, ◌⊎◌}
 unfoldable use Rattle.pop_solve.proofs.Words.{solutions}
 use Rattle.pop_tries.proofs.theorems.Refutations.{each_is_key_or_try, no_key_is_a_try, refutations_are, tries_are}
@@ -56,13 +56,13 @@ module _ (battle : Battle) (rule : RuleSet) (problem : Posed) where
 
     -- With as many refutations as Black has replies, each first move is a key or a try, if it doesn't reach
     -- the goal and Black has a reply.
-    pub each_first_move_is_shown : (m : Move) → Contains (legal_moves rule (play_start problem)) m
+    pub first_moves_are_keys_or_tries : (m : Move) → Contains (legal_moves rule (play_start problem)) m
         → (game_of rule problem).goal (position_after rule (play_start problem) m) ≡ false
         → can_move (game_of rule problem) (position_after rule (play_start problem) m) ≡ true
         → length (legal_moves rule (position_after rule (play_start problem) m)) ≤ most
         → Contains (key_moves battle rule problem) m ⊎ Contains (try_moves battle rule problem most) m
-    each_first_move_is_shown m c unmet some large =
-        elim (each_is_key_or_try battle (game_of rule problem) problem.stipulation.n (position_after rule (play_start problem) m) most large unmet some) [
+    first_moves_are_keys_or_tries m c unmet some large =
+        elim (each_is_key_or_try battle (game_of rule problem) problem.stipulation.n (position_after rule (play_start problem) m) (chess_passing rule) most large unmet some) [
           | inl a ↦ inl (in_filter _ (legal_moves rule (play_start problem)) m c a)
           | inr b ↦ inr (in_filter _ (legal_moves rule (play_start problem)) m c b)
         ]
@@ -72,9 +72,11 @@ module _ (battle : Battle) (rule : RuleSet) (problem : Posed) where
     keys_are_no_tries m a b =
         let won = (from_filter (λ m. keeps_win battle (game_of rule problem) problem.stipulation.n (position_after rule (play_start problem) m))
         (legal_moves rule (play_start problem)) m a).1 in
-        let tried = (from_filter (λ m. is_try battle (game_of rule problem) problem.stipulation.n most (position_after rule (play_start problem) m))
+        let tried = (from_filter (λ m. is_try battle (game_of rule problem) problem.stipulation.n (chess_passing rule) most
+        (position_after rule (play_start problem) m))
         (legal_moves rule (play_start problem)) m b).1 in
-        let none = no_key_is_a_try battle (game_of rule problem) problem.stipulation.n (position_after rule (play_start problem) m) most won in
+        let none = no_key_is_a_try battle (game_of rule problem) problem.stipulation.n (position_after rule (play_start problem) m) (chess_passing rule)
+        most won in
         false≢true (sym none ∙ tried)
 
   -- all that is shown below a try
@@ -140,7 +142,7 @@ module _ (battle : Battle) (rule : RuleSet) (problem : Posed) where
       λ m c. (from_filter _ (legal_moves rule (play_start problem)) m (from_take problem.max_solutions (key_moves battle rule problem) m c)).1 in
       let lost : (m : Move) → Contains attempts m
       → keeps_win battle (game_of rule problem) problem.stipulation.n (position_after rule (play_start problem) m) ≡ false =
-      λ m c. ((tries_are battle (game_of rule problem) problem.stipulation.n (position_after rule (play_start problem) m) most).0
+      λ m c. ((tries_are battle (game_of rule problem) problem.stipulation.n (position_after rule (play_start problem) m) (chess_passing rule) most).0
       (from_filter _ (legal_moves rule (play_start problem)) m c).1).0 in
       let last = one rank 5 (try_total (length attempts)) [] refl (pairs_nil (λ x y. x ≢ y), λ x c. absurd (none_in_nil x c)) in
       let ending = flat_map (attempt_events battle rule problem) attempts ++ try_total (length attempts) ∷ [] in

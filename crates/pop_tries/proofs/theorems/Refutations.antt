@@ -1,5 +1,5 @@
 -- Refutations, keys and tries, for any game.
-use Rattle.pop_tries.proofs.Words.{Battle, Bool, Contains, Direct, Game, List, Selfmate, [], and_parts, arith, can_move, cases_lt, eqb, every_move, false, false≢true, filter, from_filter, in_filter, inl, inr, is_in_set_play, is_lost, is_self_lost, is_try, keeps_win, length, list_all, nat_tests, not, refl, refutations, suc, sym, true, wins, zero, ℕ, ◌+◌, ◌-◌, ◌<◌, ◌↔◌, ◌∙◌, ◌∷◌, ◌≡◌, ◌≤◌, ◌⊎◌}
+use Rattle.pop_tries.proofs.Words.{Battle, Bool, Contains, Passing, cond, is_direct, nat_le, refutation_count, ◌&&◌, Direct, Game, List, Selfmate, [], and_parts, arith, can_move, cases_lt, eqb, every_move, false, false≢true, filter, from_filter, in_filter, inl, inr, is_in_set_play, is_lost, is_self_lost, is_try, keeps_win, length, list_all, nat_tests, not, refl, refutations, suc, sym, true, wins, zero, ℕ, ◌+◌, ◌-◌, ◌<◌, ◌↔◌, ◌∙◌, ◌∷◌, ◌≡◌, ◌≤◌, ◌⊎◌}
 
 module _ {X : Type 0} (test : X → Bool) where
   parted : (xs : List X) → length (filter test xs) + length (filter (λ x. not (test x)) xs) ≡ length xs
@@ -29,6 +29,13 @@ module _ {P M : Type 0} (game : Game P M) where
   unfolding is_lost wins
   lost_where_answered zero q some h = absurd (false≢true (sym (not_all_fail (game.moves q) some) ∙ h))
   lost_where_answered (suc j) q some h = grind arith
+
+-- no key, and with a number of refutations
+tried : (key : Bool) (count most : ℕ) → ((not key && (nat_le 1 count && nat_le count most)) ≡ true) ↔ ((key ≡ false) × (1 ≤ count) × (count ≤ most))
+tried key count most = (
+  λ h. grind (arith, nat_tests, and_parts),
+  λ h. grind (arith, nat_tests, and_parts),
+)
 
 -- a first move leads to q
 module _ {P M : Type 0} (battle : Battle) (game : Game P M) (n : ℕ) (q : P) where
@@ -88,23 +95,29 @@ module _ {P M : Type 0} (battle : Battle) (game : Game P M) (n : ℕ) (q : P) wh
       → (keeps_win battle game n q ≡ true) ↔ (refutations battle game n q ≡ [])
   keys_are_without_refutations unmet some = (key_has_no_refutation unmet, no_refutation_is_key some)
 
-  -- A move is a try exactly if it is no key, and has at least one refutation and at most `most`.
-  pub tries_are : (most : ℕ) → (is_try battle game n most q ≡ true)
-      ↔ ((keeps_win battle game n q ≡ false) × (1 ≤ length (refutations battle game n q)) × (length (refutations battle game n q) ≤ most))
-  tries_are most = (
-    λ h. grind (arith, nat_tests, and_parts),
-    λ h. grind (arith, nat_tests, and_parts),
-  )
+  module _ (passing : Passing P M) where
+    -- A move is a try exactly if it is no key, and has at least one refutation and at most `most`.
+    pub tries_are : (most : ℕ) → (is_try battle game n passing most q ≡ true)
+        ↔ ((keeps_win battle game n q ≡ false) × (1 ≤ refutation_count battle game n passing q) × (refutation_count battle game n passing q ≤ most))
+    tries_are most = tried (keeps_win battle game n q) (refutation_count battle game n passing q) most
 
-  -- A try for some number of refutations is one for any greater number.
-  pub tries_stay : (most more : ℕ) → most ≤ more → is_try battle game n most q ≡ true → is_try battle game n more q ≡ true
-  tries_stay most more le h =
-      let w = (tries_are most).0 h in
-      (tries_are more).1 (w.0, w.1, omega (arith, le, w.2))
+    -- A try for some number of refutations is one for any greater number.
+    pub tries_stay : (most more : ℕ) → most ≤ more → is_try battle game n passing most q ≡ true → is_try battle game n passing more q ≡ true
+    tries_stay most more le h =
+        let w = (tries_are most).0 h in
+        (tries_are more).1 (w.0, w.1, omega (arith, le, w.2))
 
-  -- No key is a try.
-  pub no_key_is_a_try : (most : ℕ) → keeps_win battle game n q ≡ true → is_try battle game n most q ≡ false
-  no_key_is_a_try most h = grind arith
+    -- No key is a try.
+    pub no_key_is_a_try : (most : ℕ) → keeps_win battle game n q ≡ true → is_try battle game n passing most q ≡ false
+    no_key_is_a_try most h = rw h refl
+
+    -- Where Black has a reply the refuting replies are counted.
+    pub counted_by_replies : can_move game q ≡ true → refutation_count battle game n passing q ≡ length (refutations battle game n q)
+    counted_by_replies some = rw some (by (is_direct battle))
+      where
+        by : (b : Bool) → cond (b && (not true && not (passing.is_checked q))) 1 (length (refutations battle game n q)) ≡ length (refutations battle game n q)
+        by true = refl
+        by false = refl
 
   some_refutation : game.goal q ≡ false → can_move game q ≡ true → keeps_win battle game n q ≡ false → 1 ≤ length (refutations battle game n q)
   some_refutation unmet some h = by (refutations battle game n q) refl
@@ -115,22 +128,24 @@ module _ {P M : Type 0} (battle : Battle) (game : Game P M) (n : ℕ) (q : P) wh
 
   -- If Black has a reply and the goal isn't reached, a first move is a key, or a try with at most `most`
   -- refutations, or has more of them.
-  pub each_is_key_or_try_or_has_more : (most : ℕ) → game.goal q ≡ false → can_move game q ≡ true
-      → (keeps_win battle game n q ≡ true) ⊎ ((is_try battle game n most q ≡ true) ⊎ (most < length (refutations battle game n q)))
-  each_is_key_or_try_or_has_more most unmet some = by (keeps_win battle game n q) refl
+  pub each_is_key_or_try_or_has_more : (passing : Passing P M) (most : ℕ) → game.goal q ≡ false → can_move game q ≡ true
+      → (keeps_win battle game n q ≡ true) ⊎ ((is_try battle game n passing most q ≡ true) ⊎ (most < length (refutations battle game n q)))
+  each_is_key_or_try_or_has_more passing most unmet some = by (keeps_win battle game n q) refl
     where
       by : (b : Bool) → keeps_win battle game n q ≡ b
-          → (keeps_win battle game n q ≡ true) ⊎ ((is_try battle game n most q ≡ true) ⊎ (most < length (refutations battle game n q)))
+          → (keeps_win battle game n q ≡ true) ⊎ ((is_try battle game n passing most q ≡ true) ⊎ (most < length (refutations battle game n q)))
       by true e = inl e
       by false e = elim (cases_lt most (length (refutations battle game n q))) [
         | inl more ↦ inr (inr more)
-        | inr few ↦ inr (inl ((tries_are most).1 (e, some_refutation unmet some e, few)))
+        | inr few ↦
+            let count = counted_by_replies passing some in
+            inr (inl ((tries_are passing most).1 (e, omega (arith, count, some_refutation unmet some e), omega (arith, count, few))))
       ]
 
   -- With as many refutations as Black has replies, each of these first moves is a key or a try.
-  pub each_is_key_or_try : (most : ℕ) → length (game.moves q) ≤ most → game.goal q ≡ false → can_move game q ≡ true
-      → (keeps_win battle game n q ≡ true) ⊎ (is_try battle game n most q ≡ true)
-  each_is_key_or_try most large unmet some = elim (each_is_key_or_try_or_has_more most unmet some) [
+  pub each_is_key_or_try : (passing : Passing P M) (most : ℕ) → length (game.moves q) ≤ most → game.goal q ≡ false → can_move game q ≡ true
+      → (keeps_win battle game n q ≡ true) ⊎ (is_try battle game n passing most q ≡ true)
+  each_is_key_or_try passing most large unmet some = elim (each_is_key_or_try_or_has_more passing most unmet some) [
     | inl a ↦ inl a
     | inr (inl b) ↦ inr b
     | inr (inr c) ↦ absurd (omega (arith, c, counted_once, large))

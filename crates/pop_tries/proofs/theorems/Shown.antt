@@ -1,6 +1,6 @@
 -- What is shown below a first move, for any game: which threats and replies, in which order, and that
 -- nothing comes twice.
-use Rattle.pop_tries.proofs.Words.{AllPairs, Battle, Below, Bool, Contains, Game, List, Passing, [], ap, arith, below_first, below_reply, best_moves, Contains-append_cases, in_cases, but, check, cond, faced, false, filter_agree, flat_map, from_map, has_threat, in_map, inl, inr, is_defence, is_in_set_play, map, none_in_nil, pairs_append, pairs_later, pairs_map, pairs_of, pairs_weaker, refl, refutation, refutations, reply, reply_nodes, set_tree, shown_refutations, shown_replies, suc, sym, subst, threat, threat_nodes, threatened, threats, true, zugzwang, AllPairs-filter, node, ℕ, ◌&&◌, ◌++◌, ◌-◌, ◌↔◌, ◌∙◌, ◌∷◌, ◌≡◌, ◌≢◌, ◌≤◌}
+use Rattle.pop_tries.proofs.Words.{AllPairs, Battle, Below, Bool, can_move, stalemate, Contains, Game, List, Passing, [], ap, arith, below_first, below_reply, best_moves, Contains-append_cases, in_cases, but, check, cond, faced, false, filter_agree, flat_map, from_map, has_threat, in_map, inl, inr, is_defence, is_in_set_play, map, none_in_nil, pairs_append, pairs_later, pairs_map, pairs_of, pairs_weaker, refl, refutation, refutations, reply, reply_nodes, set_tree, shown_refutations, shown_replies, suc, sym, subst, threat, threat_nodes, threatened, threats, true, zugzwang, AllPairs-filter, node, ℕ, ◌&&◌, ◌++◌, ◌-◌, ◌↔◌, ◌∙◌, ◌∷◌, ◌≡◌, ◌≢◌, ◌≤◌}
 use Rattle.pop_battle.proofs.Words.{append_assoc}
 use Rattle.pop_tries.proofs.Words.{pairs_nil, ◌+◌}
 use Rattle.pop_solve.proofs.Nodes.{HoldsOfTrees, deeper_are, in_order, roots_are, set_tree_paths, singles_hold, trees_hold, unless}
@@ -108,23 +108,34 @@ module _ {P M : Type 0} (battle : Battle) (game : Game P M) (n : ℕ) (passing :
   part (reply path) = 2
   part but = 3
   part (refutation d) = 4
+  part stalemate = 4
 
   part_of_map : {X : Type 0} (f : X → Below M) (k : ℕ) → ((x : X) → part (f x) ≡ k) → (xs : List X) (y : Below M) → Contains (map f xs) y → part y ≡ k
   part_of_map f k all xs y c = let w = from_map f xs y c in ap part (sym w.2) ∙ all w.0
 
-  differ : (w : Below M) → part w ≡ 0 → (ts rs : List (List M)) (ds : List M) → AllPairs (λ a b. a ≢ b) ts → AllPairs (λ a b. a ≢ b) rs
-      → AllPairs (λ a b. a ≢ b) ds → AllPairs (λ a b. a ≢ b) ((w ∷ map threatened ts ++ map reply rs) ++ (but ∷ map refutation ds))
-  differ w first ts rs ds a b c =
-      let refuted : Rising part 3 (but ∷ map refutation ds) = one part 3 but (map refutation ds) refl (
-        pairs_map (λ a b. a ≢ b) (λ a b. a ≢ b) refutation ds (λ x y ne same. ne (grind arith)) c,
-        λ y s. omega (arith, part_of_map refutation 4 (λ x. refl) ds y s),
-      ) in
-      let replied : Rising part 2 (map reply rs ++ (but ∷ map refutation ds)) = rising part 2 (map reply rs) (but ∷ map refutation ds)
+  differ : (w : Below M) → part w ≡ 0 → (ts rs : List (List M)) (ends : List (Below M)) → AllPairs (λ a b. a ≢ b) ts → AllPairs (λ a b. a ≢ b) rs
+      → Rising part 4 ends → AllPairs (λ a b. a ≢ b) ((w ∷ map threatened ts ++ map reply rs) ++ (but ∷ ends))
+  differ w first ts rs ends a b c =
+      let refuted : Rising part 3 (but ∷ ends) = one part 3 but ends refl c in
+      let replied : Rising part 2 (map reply rs ++ (but ∷ ends)) = rising part 2 (map reply rs) (but ∷ ends)
       (pairs_map (λ a b. a ≢ b) (λ a b. a ≢ b) reply rs (λ x y ne same. ne (grind arith)) b) (part_of_map reply 2 (λ x. refl) rs) refuted in
-      subst (AllPairs (λ a b. a ≢ b)) (ap (λ l. w ∷ l) (sym (append_assoc (map threatened ts) (map reply rs) (but ∷ map refutation ds))))
-      (one part 0 w (map threatened ts ++ (map reply rs ++ (but ∷ map refutation ds))) first
-      (rising part 1 (map threatened ts) (map reply rs ++ (but ∷ map refutation ds))
+      subst (AllPairs (λ a b. a ≢ b)) (ap (λ l. w ∷ l) (sym (append_assoc (map threatened ts) (map reply rs) (but ∷ ends))))
+      (one part 0 w (map threatened ts ++ (map reply rs ++ (but ∷ ends))) first
+      (rising part 1 (map threatened ts) (map reply rs ++ (but ∷ ends))
       (pairs_map (λ a b. a ≢ b) (λ a b. a ≢ b) threatened ts (λ x y ne same. ne (grind arith)) a) (part_of_map threatened 1 (λ x. refl) ts) replied)).0
+
+  refuted_ends : (ds : List M) → AllPairs (λ a b. a ≢ b) ds → Rising part 4 (map refutation ds)
+  refuted_ends ds c = (
+    pairs_map (λ a b. a ≢ b) (λ a b. a ≢ b) refutation ds (λ x y ne same. ne (grind arith)) c,
+    λ y s. omega (arith, part_of_map refutation 4 (λ x. refl) ds y s),
+  )
+
+  stalemate_ends : Rising part 4 (stalemate ∷ [])
+  stalemate_ends = one part 4 stalemate [] refl (pairs_nil (λ a b. a ≢ b), λ x c. absurd (none_in_nil x c))
+
+  ends_rise : (b : Bool) (ds : List M) → AllPairs (λ a b. a ≢ b) ds → Rising part 4 (cond b (map refutation ds) (stalemate ∷ []))
+  ends_rise true ds c = refuted_ends ds c
+  ends_rise false ds c = stalemate_ends
 
   first_part : part (faced battle game n passing q) ≡ 0
   first_part = grind arith
@@ -138,17 +149,17 @@ module _ {P M : Type 0} (battle : Battle) (game : Game P M) (n : ℕ) (passing :
       let order = λ (p : P). apart_moves p in
       let strict = never_before_itself {M = M} (λ m n. m ≢ n) (λ m ne. ne refl) in
       let all = differ (faced battle game n passing q) first_part (threat_nodes battle game n passing variation h q)
-      (reply_nodes battle game n passing variation h q) (refutations battle game n q)
+      (reply_nodes battle game n passing variation h q) (cond (can_move game q) (map refutation (refutations battle game n q)) (stalemate ∷ []))
       (pairs_weaker _ _ _ strict (threats_in_order (λ m n. m ≢ n) order)) (pairs_weaker _ _ _ strict (replies_in_order (λ m n. m ≢ n) order))
-      (AllPairs-filter (λ a b. a ≢ b) _ (game.moves q) (apart_moves q)) in
-      by (game.goal q) all
+      (ends_rise (can_move game q) (refutations battle game n q) (AllPairs-filter (λ a b. a ≢ b) _ (game.moves q) (apart_moves q))) in
+      by (can_move game q) all
     where
       by : (b : Bool) → AllPairs (λ a b. a ≢ b) ((faced battle game n passing q ∷ map threatened (threat_nodes battle game n passing variation h q)
           ++ map reply (reply_nodes battle game n passing variation h q)) ++ shown_refutations battle game n q)
-          → AllPairs (λ a b. a ≢ b) (cond b [] (faced battle game n passing q ∷ map threatened (threat_nodes battle game n passing variation h q)
-          ++ map reply (reply_nodes battle game n passing variation h q)) ++ shown_refutations battle game n q)
-      by false all = all
-      by true all = pairs_back (λ a b. a ≢ b) (faced battle game n passing q ∷ map threatened (threat_nodes battle game n passing variation h q)
+          → AllPairs (λ a b. a ≢ b) (cond b (faced battle game n passing q ∷ map threatened (threat_nodes battle game n passing variation h q)
+          ++ map reply (reply_nodes battle game n passing variation h q)) [] ++ shown_refutations battle game n q)
+      by true all = all
+      by false all = pairs_back (λ a b. a ≢ b) (faced battle game n passing q ∷ map threatened (threat_nodes battle game n passing variation h q)
           ++ map reply (reply_nodes battle game n passing variation h q)) (shown_refutations battle game n q) all
 
 -- If White threatens nothing, in check or zugzwang, below a first move stands what set play from

@@ -1,5 +1,5 @@
 -- Threats and the defences against them, for any game.
-use Rattle.pop_tries.proofs.Words.{Battle, Bool, Contains, Direct, Game, Passing, Selfmate, and_parts, ap, arith, best_moves, cases_lt, false, false≢true, from_filter, has_threat, in_filter, inl, inr, is_defence, is_in_set_play, keeps_win, least_moves, list_any, none_in_nil, not, refl, refutations, rules, subst, sym, threats, true, wins_in, works, ℕ, ◌-◌, ◌↔◌, ◌∙◌, ◌≡◌, ◌≤◌}
+use Rattle.pop_tries.proofs.Words.{Battle, Bool, Contains, Direct, Game, Passing, Selfmate, and_parts, ap, arith, best_moves, cases_lt, false, false≢true, from_filter, has_threat, in_filter, inl, inr, is_defence, is_in_set_play, keeps_win, least_moves, list_any, none_in_nil, not, refl, refutations, rules, subst, sym, threats, true, wins_in, works, ℕ, ◌-◌, ◌||◌, ◌↔◌, ◌∙◌, ◌≡◌, ◌≤◌}
 use Rattle.pop_solve.proofs.Nodes.{any_from_element, element_from_any}
 use Rattle.pop_solve.proofs.theorems.Lengths.{least_is_one, no_win_in_none, wins_by_a_move, wins_exactly_from_least, wins_in_more}
 use Rattle.pop_solve.proofs.theorems.Trees.{IsBest, some_best_where_won}
@@ -68,25 +68,23 @@ module _ {P M : Type 0} (battle : Battle) (game : Game P M) (n : ℕ) (passing :
   abbrev works_after : M → M → Bool
   works_after d t = works battle game n passing threat_length (game.after q d) t
 
-  none_works : (d : M) → is_defence battle game n passing q d ≡ true → (t : M) → Contains (threats battle game n passing q) t → (b : Bool)
-      → works_after d t ≡ b → works_after d t ≡ false
-  none_works d h t c false e = e
-  none_works d h t c true e =
-      let any = any_from_element (works_after d) (threats battle game n passing q) t c e in
-      absurd (false≢true (sym (ap not any) ∙ h))
+  fails : (b : Bool) → not b ≡ true → b ≡ false
+  fails false e = refl
+  fails true e = absurd (false≢true e)
 
-  defended : (d : M) → ((t : M) → Contains (threats battle game n passing q) t → works_after d t ≡ false) → (b : Bool)
-      → list_any (works_after d) (threats battle game n passing q) ≡ b → is_defence battle game n passing q d ≡ true
-  defended d none false e = rw e refl
-  defended d none true e =
-      let w = element_from_any (works_after d) (threats battle game n passing q) e in
-      absurd (false≢true (sym (none w.0 w.1.0) ∙ w.1.1))
+  -- where White threatens, a defence is a reply that stops a threat
+  stopping : (d : M) → has_threat battle game n passing q ≡ true
+      → is_defence battle game n passing q d ≡ list_any (λ t. not (works_after d t)) (threats battle game n passing q)
+  stopping d h = ap (λ b. not b || list_any (λ t. not (works_after d t)) (threats battle game n passing q)) h
 
-  -- A reply is a defence exactly if no threat works after it: none is both legal there and wins within the
-  -- least length that it had.
-  pub defences_are : (d : M)
-      → (is_defence battle game n passing q d ≡ true) ↔ ((t : M) → Contains (threats battle game n passing q) t → works_after d t ≡ false)
-  defences_are d = (λ h t c. none_works d h t c (works_after d t) refl, λ none. defended d none _ refl)
+  -- Where White threatens, a reply is a defence exactly if after it some threat doesn't work: it is illegal
+  -- there, or doesn't win within the least length that it had.
+  pub defences_are : (d : M) → has_threat battle game n passing q ≡ true → (is_defence battle game n passing q d ≡ true)
+      ↔ ((t : M) × Contains (threats battle game n passing q) t × (works_after d t ≡ false))
+  defences_are d h = (
+    λ e. let w = element_from_any (λ t. not (works_after d t)) (threats battle game n passing q) (sym (stopping d h) ∙ e) in (w.0, w.1.0, fails _ w.1.1),
+    λ w. stopping d h ∙ any_from_element (λ t. not (works_after d t)) (threats battle game n passing q) w.0 w.1 (ap not w.2),
+  )
 
   -- White wins within n - 1 moves where a move works within k of them.
   wins_where_works : (k : ℕ) (r : P) (t : M) → 1 ≤ k → k ≤ n - 1 → ((m : M) → passing.is_legal r m ≡ true → Contains (game.moves r) m)
@@ -111,7 +109,7 @@ module _ {P M : Type 0} (battle : Battle) (game : Game P M) (n : ℕ) (passing :
   -- Each refutation is a defence, if only moves of a position are legal in it.
   pub refutations_are_defences : (d : M) → ((m : M) → passing.is_legal (game.after q d) m ≡ true → Contains (game.moves (game.after q d)) m)
       → Contains (refutations battle game n q) d → is_defence battle game n passing q d ≡ true
-  refutations_are_defences d legal c = (defences_are d).1 (λ t among. by t among (works_after d t) refl)
+  refutations_are_defences d legal c = cases (has_threat battle game n passing q) refl
     where
       by : (t : M) → Contains (threats battle game n passing q) t → (b : Bool) → works_after d t ≡ b → works_after d t ≡ false
       by t among false e = e
@@ -120,3 +118,7 @@ module _ {P M : Type 0} (battle : Battle) (game : Game P M) (n : ℕ) (passing :
           let within = (wins_exactly_from_least game battle n (n - 1) (passing.passed q) (won_if_passed h)).0 (has_threat_is.0 h).1 in
           let won = wins_where_works threat_length (game.after q d) t (at_least_one h) within legal e in
           absurd (false≢true (sym ((refutations_are battle game n q d).0 c).1 ∙ answered_where_won battle (game.after q d) won))
+
+      cases : (b : Bool) → has_threat battle game n passing q ≡ b → is_defence battle game n passing q d ≡ true
+      cases false none = each_is_defence_where_nothing_threatens d none
+      cases true h = let w = some_threat h in (defences_are d h).1 (w.0, w.1, by w.0 w.1 (works_after d w.0) refl)

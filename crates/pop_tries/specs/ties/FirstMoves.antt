@@ -1,12 +1,16 @@
 -- The groups of first moves that a search shows, and the replies shown below one (own).
-use Rattle.std.specs.Prelude.{◌≡◌, ◌≤◌, ◌&&◌, ℕ, Bool, not, true, List, [], ◌∷◌, filter, Option, MatchOption}
+use Rattle.std.specs.Prelude.{◌≡◌, ◌≤◌, ◌&&◌, ℕ, Bool, not, true, false, List, [], ◌∷◌, filter, Option, MatchOption}
 use Rattle.chess_core.specs.Position.{Position}
 use Rattle.chess_core.specs.declared.man.Move.{Move}
 use Rattle.chess_attacks.specs.RuleSet.{RuleSet}
-use Rattle.chess_rules.specs.Legal.{is_legal}
+use Rattle.chess_rules.specs.Legal.{is_legal, is_stalemate}
 use Rattle.chess_rules.specs.Play.{position_after}
 use Rattle.chess_rules.specs.ties.Places.{moves_after}
 use Rattle.pop_solve.specs.Tree.{is_in_set_play, keeps_win}
+use Rattle.pop_stipulation.specs.declared.stipulation.Battle.{Battle}
+use Rattle.pop_stipulation.specs.declared.stipulation.Battle.TheVariants.{Direct, Selfmate}
+use Rattle.pop_stipulation.specs.declared.stipulation.Goal.{Goal}
+use Rattle.pop_stipulation.specs.declared.stipulation.Goal.TheVariants.{Mate, Stalemate}
 use Rattle.pop_tries.specs.Events.{chess_passing}
 use Rattle.pop_tries.specs.Tries.{is_defence, is_try}
 use Rattle.pop_tries.specs.declared.contest.Contest.{Contest}
@@ -19,12 +23,18 @@ abbrev pub belongs : RuleSet → Contest → Group → Position → Bool
 belongs rule contest Keys q =
     keeps_win contest.battle (game_in rule contest) contest.stipulation.n q
 belongs rule contest (Tries most) q =
-    is_try contest.battle (game_in rule contest) contest.stipulation.n most q
+    is_try contest.battle (game_in rule contest) contest.stipulation.n (chess_passing rule) most q
 
 -- the first moves of a group after a place in the order of the moves of p
 abbrev pub firsts_after : RuleSet → Contest → Group → Position → ℕ → List Move
 firsts_after rule contest group p place =
     filter (λ m. belongs rule contest group (position_after rule p m)) (moves_after rule p place)
+
+-- the first move that leads to q is refuted by stalemate
+abbrev pub is_refuted_by_stalemate : Battle → Goal → RuleSet → Position → Bool
+is_refuted_by_stalemate Direct Mate rule q = is_stalemate rule q
+is_refuted_by_stalemate Direct Stalemate rule q = false
+is_refuted_by_stalemate Selfmate goal rule q = false
 
 -- tries have at most 200 refutations
 abbrev pub IsFew : Group → Type 0

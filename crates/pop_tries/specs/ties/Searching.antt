@@ -20,7 +20,7 @@ use Rattle.pop_solve.specs.Tree.{node}
 use Rattle.pop_solve.specs.ties.Phases.{HoldsAtStage, left_of as set_play_left}
 use Rattle.pop_solve.specs.ties.Plans.{plan_of}
 use Rattle.pop_solve.specs.ties.Walk.{IsWalking, to_come}
-use Rattle.pop_tries.specs.Tries.{Below, below_reply, refutation, reply, shown_refutations, threatened}
+use Rattle.pop_tries.specs.Tries.{Below, below_reply, refutation, reply, shown_refutations, stalemate, threatened}
 use Rattle.pop_tries.specs.Events.{BareTryEvent, attempt, below, events_of_tries, key, key_total, keys, no_tries, play_events, set_event, shown_below, tries, try_total}
 use Rattle.pop_tries.specs.Shown.{try_event_of}
 use Rattle.pop_tries.specs.ties.Contests.{IsContest, IsThreat}
@@ -37,7 +37,7 @@ use Rattle.pop_tries.specs.declared.stage.First.{First}
 use Rattle.pop_tries.specs.declared.stage.Firsts.{Firsts}
 use Rattle.pop_tries.specs.declared.stage.Task.{Task}
 use Rattle.pop_tries.specs.declared.stage.TriesStage.{TriesStage}
-use Rattle.pop_tries.specs.declared.stage.TriesStage.TheVariants.{NoTries, SetPlay, Impossible, Within, Beginning, FirstMove, Faced, Threats, Reply, BelowReply, But, Refutation, Over}
+use Rattle.pop_tries.specs.declared.stage.TriesStage.TheVariants.{NoTries, SetPlay, Impossible, Within, Beginning, FirstMove, Faced, Threats, Reply, BelowReply, But, Refutation, Stalemate, Over}
 
 -- what contracts see of a search for tries: the problem, the most refutations of a try, and the events
 -- still to come
@@ -100,6 +100,7 @@ is_over (Reply first place) = false
 is_over (BelowReply first played) = false
 is_over (But first) = false
 is_over (Refutation first place) = false
+is_over (Stalemate first) = false
 is_over Over = true
 
 -- the walk below a first move from a position
@@ -235,6 +236,7 @@ module _ (rule : RuleSet) (task : Task) where
   left_of (Refutation first place) items = map (below first.by)
       (map refutation (refutations_after (after_first first.by) place))
       ++ group_left first.firsts
+  left_of (Stalemate first) items = below first.by stalemate ∷ group_left first.firsts
   left_of Over items = []
 
   -- a place among the first moves of a group: counts fit
@@ -290,6 +292,8 @@ module _ (rule : RuleSet) (task : Task) where
       × IsBare (after_first first.by) items board × IsFirst first
   HoldsAt (Refutation first place) items board = IsContest (contest_of task)
       × IsBare (after_first first.by) items board × IsFirst first
+  HoldsAt (Stalemate first) items board = IsContest (contest_of task)
+      × IsBare (after_first first.by) items board × IsFirst first
   HoldsAt Over items board = Unit {0}
 
   -- an event is the next one still to come, as it is shown; without an event nothing has changed
@@ -324,6 +328,7 @@ rank (Reply first place) = 1
 rank (BelowReply first played) = 2
 rank (But first) = 0
 rank (Refutation first place) = 1
+rank (Stalemate first) = 0
 rank Over = 0
 
 -- what a step of a search for tries leaves

@@ -46,7 +46,7 @@ returns-then-walk_on g c =
       standing = search (rules, events.room-given, w);
       gives = rw c.in-Within.is (events.found-gives g.R.Rules.rule c.args.problem.now walk _ _ deep w.walking _ _ w _ (search rules) _ (search rules) _
           (search rules));
-      counts = rw c.in-Within.is (opened.counts-given g.R.Rules.rule c.args.problem.now walk _ _ _ _ _
+      counts = rw c.in-Within.is (opened.counts-given g.R.Rules.rule c.args.problem.now _ walk _ _ _ _ _
           (rw (plan, half_moves) at c.walk_on.ensures.counts) _ _ _ (search rules));
     }
 
@@ -62,7 +62,7 @@ returns-else-walk_on g c =
       standing = search rules;
       gives = rw c.in-Within.is (events.ended-gives g.R.Rules.rule c.args.problem.now walk _ _ _ _ w _ c.end.ensures.stage _ _ c.total.ensures _ _);
       counts = rw (c.in-Within.is, events.left-ended g.R.Rules.rule c.args.problem.now walk _ _ _ _ w) (opened.counts-ended g.R.Rules.rule
-          c.args.problem.now walk _ _ _ _ _ (rw (plan, half_moves) at c.walk_on.ensures.counts) _ _
+          c.args.problem.now _ walk _ _ _ _ _ (rw (plan, half_moves) at c.walk_on.ensures.counts) _ _
           (events_after g.R.Rules.rule c.args.problem.now walk) c.end.ensures.stage
           stands.1 (w.over refl));
     }

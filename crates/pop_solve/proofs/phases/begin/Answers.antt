@@ -1,3 +1,4 @@
+unfoldable use Rattle.pop_solve.specs.ties.Walk.{AreEnds}
 use Rattle.pop_solve.proofs.Words.{ap, Walk, HoldsAtStage, rules, left_of, phase_events, IsLinked, IsRoomy, AreKnown, position}
 use Rattle.pop_solve.proofs.Walking as walking
 use Rattle.pop_solve.proofs.Events as events
@@ -13,7 +14,7 @@ unfolding left_of phase_events
 returns-then-not-set_up-clause-left g c = search rules
 
 pub returns-clause-standing : goal.returns-clause-standing
-unfolding HoldsAtStage IsLinked IsRoomy AreKnown position
+unfolding HoldsAtStage IsLinked IsRoomy AreKnown AreEnds position
 returns-clause-standing g c = search (rules, walking.reverse-push, start_sound)
 
 pub returns-clause-left : goal.returns-clause-left

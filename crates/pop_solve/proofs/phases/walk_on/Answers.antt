@@ -1,11 +1,14 @@
-use Rattle.pop_solve.proofs.Words.{arith, inl, inr, length, length-reverse, nat_tests, rules, sym, ◌<◌, ◌∙◌, ◌≡◌}
-use Rattle.pop_solve.proofs.Counting.{counts_then}
+use Rattle.pop_solve.proofs.Words.{arith, inl, inr, length, length-reverse, nat_tests, refl, rules, sym, ◌<◌, ◌∙◌, ◌≡◌}
+use Rattle.pop_solve.proofs.Counting.{counts-none, counts_then-both}
 use Rattle.pop_solve.proofs.Kept as kept
 use Rattle.pop_solve.proofs.phases.walk_on.Goals as goal
 
+pub loop-frames-init : goal.loop-frames-init
+loop-frames-init g c = (c.requires.walking, refl, counts-none _ _ _)
+
 pub loop-frames-preserved : goal.loop-frames-preserved
 loop-frames-preserved g c =
-    let counts = counts_then _ _ _ _ _ _ c.loop-frames.invariant.2 (c.step.ensures.counts _ c.loop-frames.invariant.0) in
+    let counts = counts_then-both _ _ _ _ _ _ _ c.loop-frames.invariant.2 (c.step.ensures.counts _ c.loop-frames.invariant.0) in
     search (rules, c.step.ensures.steps, counts)
 
 pub returns-then-step : goal.returns-then-step
@@ -17,7 +20,7 @@ returns-then-step g c =
     (omega (arith, l, some))
     (rw (c.requires.plan, l, ← c.len.ensures.value)
     (sym c.limit_ends_phase.ensures ∙ c.if-not-limit_ends_phase.true)) in
-    let counts = counts_then _ _ _ _ _ _ c.loop-frames.invariant.2 (c.step.ensures.counts _ c.loop-frames.invariant.0) in
+    let counts = counts_then-both _ _ _ _ _ _ _ c.loop-frames.invariant.2 (c.step.ensures.counts _ c.loop-frames.invariant.0) in
     search (rules, w, s, counts, c.still_to_begin-limit.ensures)
 
 pub returns-else-not-limit_ends_phase : goal.returns-else-not-limit_ends_phase

@@ -1,3 +1,4 @@
+unfoldable use Rattle.pop_solve.specs.ties.Walk.{AreEnds}
 use Rattle.pop_tries.proofs.Words.{rules}
 unfoldable use Rattle.pop_battle.specs.ties.Frames.{AreKnown, IsLinked, position}
 unfoldable use Rattle.pop_solve.specs.ties.Walk.{IsRoomy}
@@ -7,7 +8,7 @@ use Rattle.pop_tries.proofs.Starts.{shows_below}
 use Rattle.pop_tries.proofs.below.open_walk.Goals as goal
 
 pub returns-clause-walking : goal.returns-clause-walking
-unfolding IsLinked IsRoomy AreKnown position
+unfolding IsLinked IsRoomy AreKnown AreEnds position
 returns-clause-walking g c = search (rules, reverse-push, walk_length-most)
 
 pub returns-clause-come : goal.returns-clause-come

@@ -26,5 +26,5 @@ returns g c =
     with_event rule task _ _ _ _ _
     (h.0, record { first_is = h.2; threat = c.requires.threat; walking = walking }, rw h.1.board_at at c.pass-crossed.ensures.crossed) _ _
     (steps.faced_with rule task h.0 first c.pass-crossed.result c.args.frames.now.items c.open_walk.new.frames.items
-    (steps.threat_paths rule task h.0 first) (steps.shown_with_threats rule task h.0 first c.requires.goal has)
+    (steps.threat_paths rule task h.0 first) (steps.shown_with_threats rule task h.0 first c.requires.reply has)
     (steps.all_threats rule task h.0 first c.open_walk.new.frames.items has come)) refl

@@ -5,20 +5,21 @@ use Rattle.pop_tries.proofs.Goings.{with_event, without_event}
 use Rattle.pop_tries.proofs.StepsBelow as steps
 use Rattle.pop_tries.proofs.GoesBelow as goes
 use Rattle.std.specs.Prelude.{is_some}
+use Rattle.pop_tries.proofs.Contests.{has_reply}
 use Rattle.pop_tries.specs.declared.stage.TriesStage.TheVariants.{Faced, Reply}
 use Rattle.pop_tries.specs.declared.stage.First.{First}
 use Rattle.pop_tries.proofs.below_first.face.Goals as goal
 
-pub returns-then-reaches_goal : goal.returns-then-reaches_goal
+pub returns-then-not-has_legal_move : goal.returns-then-not-has_legal_move
 unfolding HoldsAt rank
-returns-then-reaches_goal g c =
+returns-then-not-has_legal_move g c =
     let h = c.requires.holds in
     let rule = g.R.Rules.rule in
     let task = c.args.task.now in
     let first = c.args.first in
-    let met = rw (c.stipulation.ensures.stipulation, h.1.board_at) at (sym c.reaches_goal.ensures.reached ∙ c.if-reaches_goal.true) in
+    let none = rw h.1.board_at at (sym (has_reply _) ∙ (sym c.has_legal_move.ensures.answer ∙ c.if-not-has_legal_move.true)) in
     rw h.1.none (without_event rule task _ _ _ _ _ c.end_replies.ensures.holds
-    (steps.faced_at_goal rule task h.0 first [] (steps.shown_at_goal rule task h.0 first met) ∙ c.end_replies.ensures.left)
+    (steps.faced_without_reply rule task h.0 first [] (steps.shown_without_reply rule task h.0 first none) ∙ c.end_replies.ensures.left)
     (omega (arith, c.end_replies.ensures.rank)))
 
 pub returns-then-is_some : goal.returns-then-is_some
@@ -40,10 +41,10 @@ returns g c =
       threat = c.threat_length-threat.result;
     } in
     let keeps = c.threat_length-threat.ensures.rest in
-    let at = keeps.board ∙ (c.reaches_goal.ensures.unchanged ∙ h.1.board_at) in
-    let t = rw (c.contest.ensures, c.reaches_goal.ensures.unchanged, h.1.board_at) at c.threat_length-threat.ensures.threat in
+    let at = keeps.board ∙ (c.has_legal_move.ensures.board ∙ h.1.board_at) in
+    let t = rw (c.contest.ensures, c.has_legal_move.ensures.board, h.1.board_at) at c.threat_length-threat.ensures.threat in
     let none : is_some c.threat_length-threat.result ≡ false = search rules in
-    let unmet = rw (c.stipulation.ensures.stipulation, h.1.board_at) at (sym c.reaches_goal.ensures.reached ∙ c.if-reaches_goal.false) in
+    let some = rw h.1.board_at at (sym (has_reply _) ∙ (sym c.has_legal_move.ensures.answer ∙ c.if-not-has_legal_move.false)) in
     let no = goes.no_threat_is rule (contest_of task) (after_first rule task first.by) first.threat none t in
     let checked = rw (c.turn.ensures, at) at c.in_check-checked.ensures in
     let holds : HoldsAt rule task (Reply first c.start.result) c.threat_length-threat.new.frames.items c.threat_length-threat.new.board = (
@@ -56,5 +57,5 @@ returns g c =
     ) in
     with_event rule task (Faced c.args.first) _ _ _ _ holds _ _
     (steps.faced_without rule task h.0 first c.start.result c.args.frames.now.items c.threat_length-threat.new.frames.items _ c.start.ensures
-    (steps.shown_without_threats rule task h.0 first unmet no))
+    (steps.shown_without_threats rule task h.0 first some no))
     (c.faced_event.ensures ∙ ap event_of_faced checked ∙ goes.faced_shown task.problem.stipulation.goal rule (after_first rule task first.by) _)

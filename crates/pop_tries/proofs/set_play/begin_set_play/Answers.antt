@@ -21,7 +21,7 @@ returns g c =
     grind (arith, c.set_up.ensures.possible, c.if-not-set_up.false) in
     let at : c.set_up.new.board ≡ phase_start c.args.task.now.problem Set = grind (arith, c.set_up.ensures.board, c.if-not-set_up.false) in
     let walks = walk_begins g.R.Rules.rule c.args.task.now.problem c.requires.is_task.sound _ _ _ c.requires.holds.1.none c.push-2.ensures.items
-    (search rules) c.set_up.new.board at (search rules) in
+    (search rules) c.set_up.new.board at (search rules) (search rules) in
     let cut = paths_begin g.R.Rules.rule c.args.task.now.problem c.requires.is_task.sound _ _ _ c.requires.holds.1.none c.push-2.ensures.items
     (search rules) (search rules) in
     with_event g.R.Rules.rule c.args.task.now _ _ _ _ _ (c.requires.holds.0, (walks, omega arith, search rules))

@@ -1,4 +1,4 @@
-use Rattle.pop_tries.proofs.Words.{ap, is_pseudo_legal-from_legal, keeps_win, not, position_after, rules, sym, works, ◌∙◌, ◌≡◌}
+use Rattle.pop_tries.proofs.Words.{is_pseudo_legal-from_legal, keeps_win, not, position_after, rules, sym, works, ◌∙◌, ◌≡◌}
 use Rattle.pop_battle.specs.Chess.{set_start}
 use Rattle.pop_tries.specs.Events.{chess_passing}
 use Rattle.pop_tries.specs.ties.Contests.{game_in, moves_of}
@@ -25,8 +25,8 @@ unplay-requires g c =
       undo = rw back at c.play-undo.ensures.undo;
     }
 
-pub returns-then-still-clause-defence : goal.returns-then-still-clause-defence
-returns-then-still-clause-defence g c =
+pub returns-then-not-still-clause-defence : goal.returns-then-not-still-clause-defence
+returns-then-not-still-clause-defence g c =
     let t = rw c.in-Some.is at c.requires.threat in
     let next = rw c.loop-tried.invariant.0 at c.in-Some-next_move.ensures.next in
     let on = placed g.R.Rules.rule (set_start c.args.board.now) _ _ (passed_well_formed c.args.board.now c.requires.well_formed) next.1
@@ -34,9 +34,9 @@ returns-then-still-clause-defence g c =
     let back : c.unpass.new.board ≡ c.args.board.now = c.unpass.ensures.before c.args.board.now (search rules) c.loop-tried.invariant.1 in
     let there = found (λ m. keeps_win c.args.contest.battle (game_in g.R.Rules.rule c.args.contest) (moves_of c.in-Some.length)
     (position_after g.R.Rules.rule (set_start c.args.board.now) m)) c.in-Some-next_move.tried _ _ next.0
-    (works c.args.contest.battle (game_in g.R.Rules.rule c.args.contest) c.args.contest.stipulation.n (chess_passing g.R.Rules.rule) (moves_of c.in-Some.length)
-    (position_after g.R.Rules.rule c.args.board.now c.args.by)) _ (search rules) (search (rules, back, on.2)) c.loop-tried.invariant.5 in
-    sym (defence_by_loop g.R.Rules.rule c.args.contest c.args.board.now c.in-Some.length c.args.by t ∙ ap not there)
+    (λ t. not (works c.args.contest.battle (game_in g.R.Rules.rule c.args.contest) c.args.contest.stipulation.n (chess_passing g.R.Rules.rule)
+    (moves_of c.in-Some.length) (position_after g.R.Rules.rule c.args.board.now c.args.by) t)) _ (search rules) (search (rules, back, on.2)) c.loop-tried.invariant.5 in
+    sym (defence_by_loop g.R.Rules.rule c.args.contest c.args.board.now c.in-Some.length c.args.by t ∙ there)
 
 pub loop-tried-preserved-then-wins_by : goal.loop-tried-preserved-then-wins_by
 loop-tried-preserved-then-wins_by g c =
@@ -49,8 +49,8 @@ loop-tried-preserved-then-wins_by g c =
     (rw back at c.play-undo.ensures.undo) in
     let none = not_there (λ m. keeps_win c.args.contest.battle (game_in g.R.Rules.rule c.args.contest) (moves_of c.in-Some.length)
     (position_after g.R.Rules.rule (set_start c.args.board.now) m)) c.in-Some-next_move.tried _ _ next.0
-    (works c.args.contest.battle (game_in g.R.Rules.rule c.args.contest) c.args.contest.stipulation.n (chess_passing g.R.Rules.rule) (moves_of c.in-Some.length)
-    (position_after g.R.Rules.rule c.args.board.now c.args.by)) _ (search rules) (search (rules, back, on.2)) c.loop-tried.invariant.5 in
+    (λ t. not (works c.args.contest.battle (game_in g.R.Rules.rule c.args.contest) c.args.contest.stipulation.n (chess_passing g.R.Rules.rule)
+    (moves_of c.in-Some.length) (position_after g.R.Rules.rule c.args.board.now c.args.by) t)) _ (search rules) (search (rules, back, on.2)) c.loop-tried.invariant.5 in
     (search (rules, home), search (rules, home), search rules, search rules, c.in-Some.is, none)
 
 pub loop-tried-preserved : goal.loop-tried-preserved
@@ -58,12 +58,12 @@ loop-tried-preserved g c =
     let next = rw c.loop-tried.invariant.0 at c.in-Some-next_move.ensures.next in
     let none = not_asked (λ m. keeps_win c.args.contest.battle (game_in g.R.Rules.rule c.args.contest) (moves_of c.in-Some.length)
     (position_after g.R.Rules.rule (set_start c.args.board.now) m)) c.in-Some-next_move.tried _ _ next.0
-    (works c.args.contest.battle (game_in g.R.Rules.rule c.args.contest) c.args.contest.stipulation.n (chess_passing g.R.Rules.rule) (moves_of c.in-Some.length)
-    (position_after g.R.Rules.rule c.args.board.now c.args.by)) _ (search rules) c.loop-tried.invariant.5 in
+    (λ t. not (works c.args.contest.battle (game_in g.R.Rules.rule c.args.contest) c.args.contest.stipulation.n (chess_passing g.R.Rules.rule)
+    (moves_of c.in-Some.length) (position_after g.R.Rules.rule c.args.board.now c.args.by) t)) _ (search rules) c.loop-tried.invariant.5 in
     (search rules, search rules, search rules, search rules, c.in-Some.is, none)
 
-pub returns-then-still-clause-rest : goal.returns-then-still-clause-rest
-returns-then-still-clause-rest g c =
+pub returns-then-not-still-clause-rest : goal.returns-then-not-still-clause-rest
+returns-then-not-still-clause-rest g c =
     let back : c.unpass.new.board ≡ c.args.board.now = c.unpass.ensures.before c.args.board.now (search rules) c.loop-tried.invariant.1 in
     record {
       board = c.unplay.ensures.before c.args.board.now c.requires.well_formed (is_pseudo_legal-from_legal _ _ _ c.requires.legal)

@@ -1,4 +1,4 @@
-use Rattle.pop_tries.proofs.Words.{filter, keeps_win, legal_moves, length, list_any, position_after, works, ◌≡◌}
+use Rattle.pop_tries.proofs.Words.{filter, keeps_win, legal_moves, length, list_any, not, position_after, works, ◌≡◌}
 use Rattle.pop_battle.specs.Chess.{set_start}
 use Rattle.pop_tries.specs.Events.{chess_passing}
 use Rattle.pop_tries.specs.ties.Contests.{game_in, moves_of}
@@ -6,16 +6,16 @@ use Rattle.std.specs.Prelude.{IfSome, Some}
 use Rattle.chess_rules.specs.ties.Places.{IsPlaceIn, moves_after}
 use Rattle.pop_tries.proofs.threats.is_defence.Given as goal
 
--- Black has passed; whether a threat works after the reply depends on the threats still to come
+-- Black has passed; whether the reply stops a threat depends on the threats still to come
 abbrev pub invariant-loop-tried : goal.invariant-loop-tried
 invariant-loop-tried g l = (l.board ≡ set_start l.fn.board) × (l.crossed ≡ l.fn.board.crossed) × (l.frames.items ≡ l.fn.frames.items)
     × IfSome l.known (λ k. IsPlaceIn g.R.Rules.rule (set_start l.fn.board) k) × (l.fn.threat ≡ Some l.length)
-    × (list_any (works l.fn.contest.battle (game_in g.R.Rules.rule l.fn.contest) l.fn.contest.stipulation.n (chess_passing g.R.Rules.rule) (moves_of l.length)
-    (position_after g.R.Rules.rule l.fn.board l.fn.by))
+    × (list_any (λ t. not (works l.fn.contest.battle (game_in g.R.Rules.rule l.fn.contest) l.fn.contest.stipulation.n (chess_passing g.R.Rules.rule)
+    (moves_of l.length) (position_after g.R.Rules.rule l.fn.board l.fn.by) t))
     (filter (λ m. keeps_win l.fn.contest.battle (game_in g.R.Rules.rule l.fn.contest) (moves_of l.length)
     (position_after g.R.Rules.rule (set_start l.fn.board) m)) (moves_after g.R.Rules.rule (set_start l.fn.board) l.place))
-    ≡ list_any (works l.fn.contest.battle (game_in g.R.Rules.rule l.fn.contest) l.fn.contest.stipulation.n (chess_passing g.R.Rules.rule) (moves_of l.length)
-    (position_after g.R.Rules.rule l.fn.board l.fn.by))
+    ≡ list_any (λ t. not (works l.fn.contest.battle (game_in g.R.Rules.rule l.fn.contest) l.fn.contest.stipulation.n (chess_passing g.R.Rules.rule)
+    (moves_of l.length) (position_after g.R.Rules.rule l.fn.board l.fn.by) t))
     (filter (λ m. keeps_win l.fn.contest.battle (game_in g.R.Rules.rule l.fn.contest) (moves_of l.length)
     (position_after g.R.Rules.rule (set_start l.fn.board) m)) (legal_moves g.R.Rules.rule (set_start l.fn.board))))
 

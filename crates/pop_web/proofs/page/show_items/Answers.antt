@@ -7,4 +7,4 @@ returns-clause-shows g c enough =
     let text = same_Some _ _ c.new-source.ensures in
     let empty = c.new-sink.ensures in
     call_is_shown _ _ _ _ _ _ _ _ (rw (text, empty) at c.run_with-status.ensures.headline) c.copy_out.ensures.text
-    c.copy_out.ensures.full c.status_number.ensures
+    c.copy_out.ensures.fits c.copy_out.ensures.full c.status_number.ensures

@@ -17,7 +17,7 @@ invariant_of-result g c =
       c.begin_after-stage.ensures.standing,
       rw c.front_of-front.ensures (part.opens-begun g.R.Rules.rule
           c.args.problem.now c.requires.sound c.args.phase _ _ _ s.1 s.2 c.requires.«open» _ c.requires.legal c.requires.battle _ _ _
-          c.begin_after-stage.ensures.left c.begin_after-stage.ensures.counts),
+          c.begin_after-stage.ensures.counts),
     )
 
 pub returns-clause-left : goal.returns-clause-left

@@ -6,7 +6,7 @@ invariant_of-self g c = (
   c.self.invariant.0,
   c.self.invariant.1,
   c.advance.ensures.standing,
-  events.opened-on g.R.Rules.rule _ _ _ _ _ _ _ _ _ _ _ _ c.advance.ensures.gives c.advance.ensures.counts c.self.invariant.3,
+  events.opened-on g.R.Rules.rule _ _ _ _ _ _ _ _ _ c.advance.ensures.counts c.self.invariant.3,
 )
 
 pub returns-clause-event : goal.returns-clause-event

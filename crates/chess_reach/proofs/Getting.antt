@@ -1,0 +1,132 @@
+-- How far a man gets: a superset, move by move.
+use Rattle.chess_attacks.proofs.Chess.{Black, Bool, Colour, Gait, Hopper, Kind, Leaper, List, Man, Option, Rider, gait_of, goes_by, hops, kind_steps, Pawn, Step, White, [], all_at, along, arith, bit_and, bit_at, bit_not, bit_or, cases_Bool, false, false≢true, first_of_and, forward, inl, inr, is_advance, is_square, leaps, list_any, not, on_left, on_right, or_cases, or_left, or_right, pawn_capture_steps, queen_steps, rank_of, reaches_as, refl, rides, rules, second_of_and, subst, suc, sym, true, w64, word, word_has, zero, ℕ, ◌&&◌, ◌<◌, ◌==◌, ◌||◌, ◌∙◌, ◌∷◌, ◌≡◌}
+use Rattle.std.specs.Prelude.{◌⊎◌}
+use Rattle.chess_attacks.specs.ties.Lines.{AreReached}
+use Rattle.chess_core.specs.Position.{same_kind}
+use Rattle.chess_core.proofs.Boards.{along-is}
+use Rattle.chess_rules.specs.Legal.{second_rank}
+use Rattle.chess_reach.proofs.Bitboards.{on_both}
+unfoldable use Rattle.chess_reach.specs.Reach.{Gets, goes, guards, pawn_goes}
+use Rattle.chess_reach.specs.Reach.{without_hops}
+use Rattle.chess_reach.specs.ties.Ways.{steps_to}
+
+-- two tests agree
+abbrev agree : Bool → Bool → Bool
+agree a b = (a && b) || (not a && not b)
+
+agree_is : (a b : Bool) → agree a b ≡ true → a ≡ b
+agree_is a b h = grind arith
+
+-- the ranks from which pawns make a double step
+pub second_ranks : (s : ℕ) → s < 64 → ((bit_at 65280 s == 1) ≡ (rank_of s == 2)) × ((bit_at 71776119061217280 s == 1) ≡ (rank_of s == 7))
+second_ranks s small = (
+  agree_is _ _ (all_at (λ s. agree (bit_at 65280 s == 1) (rank_of s == 2)) 0 64 s refl (omega arith) (omega (arith, small))),
+  agree_is _ _ (all_at (λ s. agree (bit_at 71776119061217280 s == 1) (rank_of s == 7)) 0 64 s refl (omega arith) (omega (arith, small))),
+)
+
+-- the ranks on which pawns promote
+pub last_ranks : (s : ℕ) → s < 64 → ((bit_at 18374686479671623680 s == 1) ≡ (rank_of s == 8)) × ((bit_at 255 s == 1) ≡ (rank_of s == 1))
+last_ranks s small = (
+  agree_is _ _ (all_at (λ s. agree (bit_at 18374686479671623680 s == 1) (rank_of s == 8)) 0 64 s refl (omega arith) (omega (arith, small))),
+  agree_is _ _ (all_at (λ s. agree (bit_at 255 s == 1) (rank_of s == 1)) 0 64 s refl (omega arith) (omega (arith, small))),
+)
+
+one_ahead : (c : Colour) (s t : ℕ) → is_square (along s (forward c) 1) t ≡ true → list_any (leaps s t) queen_steps ≡ true
+unfolding leaps
+one_ahead White s t h = search (rules, or_left, or_right)
+one_ahead Black s t h = search (rules, or_left, or_right)
+
+-- tests of a step or a double step
+ahead_of : (a b r : Bool) → (a || (r && b)) ≡ true → (a || b) ≡ true
+ahead_of a b r h = grind arith
+
+single : (a b r : Bool) → r ≡ false → (a || (r && b)) ≡ true → a ≡ true
+single a b r off h = grind arith
+
+step_or_capture : (a b g : Bool) → ((a || b) || g) ≡ true → ((a || b) ≡ true) ⊎ (g ≡ true)
+step_or_capture a b g h = or_cases (a || b) g h
+
+-- a pawn on its second rank steps to the squares ahead
+pub steps_ahead : (c : Colour) (s t w : ℕ) → w ≡ word (is_advance c s) → t < 64 → steps_to c s t ≡ true → (bit_at w t == 1) ≡ true
+steps_ahead c s t w h small go =
+    word_has (is_advance c s) w t h small ∙ ahead_of (is_square (along s (forward c) 1) t) (is_square (along s (forward c) 2) t) (rank_of s == second_rank c) go
+
+-- another pawn steps to the square right ahead
+pub step_ahead : (c : Colour) (s t w k : ℕ) → w ≡ word (is_advance c s) → k ≡ word (λ t. list_any (leaps s t) queen_steps) → t < 64
+    → (rank_of s == second_rank c) ≡ false → steps_to c s t ≡ true → (bit_at (bit_and w k) t == 1) ≡ true
+step_ahead c s t w k h i small off go =
+    let one = single (is_square (along s (forward c) 1) t) (is_square (along s (forward c) 2) t) (rank_of s == second_rank c) off go in
+    on_both w k t (word_has (is_advance c s) w t h small ∙ or_left (is_square (along s (forward c) 1) t) (is_square (along s (forward c) 2) t) one)
+    (word_has (λ t. list_any (leaps s t) queen_steps) k t i small ∙ one_ahead c s t one)
+
+pawn_guards : (c : Colour) (s t : ℕ) → guards c Pawn s t ≡ list_any (leaps s t) (pawn_capture_steps c)
+unfolding guards reaches_as
+pawn_guards c s t = refl
+
+-- a pawn goes by a step or by a capture
+pub goes_pawn : (c : Colour) (s t w k : ℕ) → (steps_to c s t ≡ true → (bit_at w t == 1) ≡ true) → k ≡ word (λ t. list_any (leaps s t) (pawn_capture_steps c)) → t < 64
+    → pawn_goes c s t ≡ true → (bit_at (bit_or w k) t == 1) ≡ true
+unfolding pawn_goes
+goes_pawn c s t w k steps captures small go =
+    elim (step_or_capture (is_square (along s (forward c) 1) t) (rank_of s == second_rank c && is_square (along s (forward c) 2) t) (guards c Pawn s t) go) [
+      | inl step ↦ on_left w k t (steps step)
+      | inr takes ↦ on_right w k t (word_has (λ t. list_any (leaps s t) (pawn_capture_steps c)) k t captures small ∙ sym (pawn_guards c s t) ∙ takes)
+    ]
+
+-- every square is one of all
+pub all_on : (t : ℕ) → t < 64 → (bit_at (bit_not w64 0) t == 1) ≡ true
+all_on t small = all_at (λ t. bit_at (bit_not w64 0) t == 1) 0 64 t refl (omega arith) (omega (arith, small))
+
+-- for words that are joined: the first has what it reached
+pub reached_left : (x : Man) (s a b : ℕ) → AreReached x s a → AreReached x s (bit_or a b)
+reached_left x s a b h = record { inside = λ men t small r. on_left a b t (h.inside men t small r) }
+
+-- the second has
+pub reached_right : (x : Man) (s a b : ℕ) → AreReached x s b → AreReached x s (bit_or a b)
+reached_right x s a b h = record { inside = λ men t small r. on_right a b t (h.inside men t small r) }
+
+some_passes : {X Q : Type 0} (test : X → Bool) (xs : List X) → ((x : X) → test x ≡ true → Q) → list_any test xs ≡ true → Q
+some_passes test [] give h = absurd (false≢true h)
+some_passes test (x ∷ xs) give h = grind (arith, or_cases (test x) (list_any test xs) h, give x, some_passes test xs give)
+
+stays_on_board : (s : ℕ) (d : Step) (k t : ℕ) → is_square (along s d k) t ≡ true → t < 64
+stays_on_board s d k t h = (along-is s d k t h).small
+
+goes_on_board : (g : Gait) (men : List (Option Man)) (s t : ℕ) (d : Step) → goes_by g men s t d ≡ true → t < 64
+unfolding leaps rides hops
+goes_on_board Leaper men s t d h = stays_on_board s d 1 t h
+goes_on_board Rider men s t d h = search (rules, some_passes, stays_on_board)
+goes_on_board Hopper men s t d h = search (rules, some_passes, stays_on_board)
+
+-- what a man guards is on the board
+pub guards_small : (c : Colour) (k : Kind) (s t : ℕ) → guards c k s t ≡ true → t < 64
+unfolding guards reaches_as
+guards_small c k s t h = some_passes (goes_by (gait_of (without_hops k)) [] s t) (kind_steps c (without_hops k)) (λ d. goes_on_board (gait_of (without_hops k)) [] s t d) h
+
+pawn_small : (c : Colour) (s t : ℕ) → pawn_goes c s t ≡ true → t < 64
+unfolding pawn_goes
+pawn_small c s t h = search (rules, or_cases, second_of_and, stays_on_board, guards_small)
+
+-- where a man goes is on the board
+pub goes_small : (allowed : Kind → Bool) (c : Colour) (k : Kind) (s : ℕ) (j : Kind) (t : ℕ) → goes allowed c k s j t ≡ true → t < 64
+unfolding goes
+goes_small allowed c k s j t h = elim (cases_Bool (same_kind k Pawn)) [
+  | inl y ↦ pawn_small c s t (grind (arith, first_of_and, y))
+  | inr n ↦ guards_small c k s t (grind (arith, first_of_and, n))
+]
+
+-- where a man gets is on the board
+pub gets_small : (allowed : Kind → Bool) (c : Colour) (n : ℕ) (k : Kind) (s : ℕ) (j : Kind) (t : ℕ) → s < 64 → Gets allowed c n k s j t → t < 64
+unfolding Gets
+gets_small allowed c zero k s j t small (same, there) = subst (λ x. x < 64) there small
+gets_small allowed c (suc n) k s j t small (i, q, go, rest) = gets_small allowed c n i q j t (goes_small allowed c k s i q go) rest
+
+-- the last move of a way
+pub gets_last : (allowed : Kind → Bool) (c : Colour) (n : ℕ) (k : Kind) (s : ℕ) (j : Kind) (t : ℕ) → Gets allowed c (suc n) k s j t
+    → (i : Kind) × (q : ℕ) × Gets allowed c n k s i q × (goes allowed c i q j t ≡ true)
+unfolding Gets
+gets_last allowed c zero k s j t (i, q, go, (same, there)) =
+    (k, s, (refl, refl), subst (λ x. goes allowed c k s x t ≡ true) same (subst (λ x. goes allowed c k s i x ≡ true) there go))
+gets_last allowed c (suc n) k s j t (i, q, go, rest) =
+    let (a, b, before, last) = gets_last allowed c n i q j t rest in
+    (a, b, (i, q, go, before), last)

@@ -1,0 +1,122 @@
+-- What a legal move that doesn't castle does to the men, where captured men aren't reborn.
+use Rattle.chess_reach.proofs.Chess.{Colour, IsWellFormed, King, Kind, List, Man, Move, None, Option, Pawn, Position, RuleSet, Some, and_from, and_parts, arith, arriving_man, becomes, capture_square, captured_man, captures_are_reborn, cases_Bool, cond-false, cond-true, eq-eqb, false, false≢true, goes, guards, is_castling, is_pawn_capture, is_pawn_step, is_promotion_right, is_pseudo_legal, is_some, is_square, man_on, may_promote, moved_men, if◌then◌else◌, not-true, ne_eqb, is_arrival_free, same_colour-refl, rank_of, last_rank, ◌==◌, or_cases, or_left, or_right, pawn_goes, position_after, position_after_by, reaches, reborn_square, refl, same_colour, same_kind, same_kind-true, sym, true, ℕ, ◌&&◌, ◌∙◌, ◌≡◌, ◌≢◌, ◌⊎◌}
+use Rattle.chess_attacks.proofs.rays.Ends.{square_is}
+use Rattle.chess_attacks.proofs.rays.OnSquares.{on_board}
+use Rattle.chess_reach.proofs.EmptyBoard.{guards_reached}
+use Rattle.chess_reach.proofs.OneMove.{IsGone}
+use Rattle.chess_rules.proofs.Chess.{can_castle, may_castle, rebirth_at}
+use Rattle.chess_rules.proofs.legality.Blocking.{arriving_colour, simple_after}
+use Rattle.chess_rules.proofs.legality.Seeing.{kept_now, left_now, there_now}
+use Rattle.chess_rules.proofs.listing_moves.TripleNumbers.{made_is_triple}
+use Rattle.chess_rules.proofs.making_moves.Fits.{arrived, pawn_is_no_king, taken}
+use Rattle.chess_rules.proofs.making_moves.Plays.{none_from_is_some}
+use Rattle.chess_rules.proofs.making_moves.Pseudo.{IsMade, made, ways}
+
+-- nobody is reborn
+rebirth_none : (o : Option Man) (s : Option ℕ) (men : List (Option Man)) → rebirth_at false men o s ≡ None
+rebirth_none None s men = refl
+rebirth_none (Some y) None men = refl
+rebirth_none (Some y) (Some s) men = refl
+
+pub reborn_none : (rule : RuleSet) (p : Position) (x : Man) (m : Move) → captures_are_reborn rule ≡ false → reborn_square rule p x m ≡ None
+unfolding reborn_square
+reborn_none rule p x m none_reborn = rw none_reborn (rebirth_none (captured_man p x m) (capture_square p x m) (moved_men p x m))
+
+-- a man reaches a square only where it guards it
+pub guards_from : (men : List (Option Man)) (x : Man) (s t : ℕ) → man_on men s ≡ Some x → reaches men s t ≡ true → guards x.colour x.kind s t ≡ true
+unfolding reaches
+guards_from men x s t here h = guards_reached men x.colour x.kind s t (rw here at h)
+
+-- no pawn becomes a king
+promoted_is_no_king : (p : Position) (j : Kind) → may_promote p j ≡ true → same_kind j King ≡ false
+promoted_is_no_king p j h = grind (arith, false≢true)
+
+-- a king stays a king, and no other man becomes one
+pub king_kept : (p : Position) (x : Man) (m : Move) (r : Option Kind) → is_promotion_right p x m r ≡ true
+    → same_kind (arriving_man x r).kind King ≡ same_kind x.kind King
+king_kept p x m None right = refl
+king_kept p x m (Some j) right = grind (arith, and_parts, pawn_is_no_king, promoted_is_no_king p j)
+
+enemy_is : (c d : Colour) (z w : Man) → z ≡ w → c ≡ d → same_colour w.colour d ≡ false → same_kind w.kind King ≡ false
+    → (same_colour z.colour c ≡ false) × (same_kind z.kind King ≡ false)
+enemy_is c d z w same mine enemy mortal = rw (same, mine) (enemy, mortal)
+
+-- the kind that arrives
+becomes_right : (p : Position) (x : Man) (m : Move) (r : Option Kind) → is_promotion_right p x m r ≡ true
+    → becomes (may_promote p) x.colour x.kind m.to (arriving_man x r).kind ≡ true
+becomes_right p x m None right = cond-false (same_kind x.kind Pawn && rank_of m.to == last_rank x.colour) _ _ (not-true _ right) ∙ eq-eqb _ _ refl
+becomes_right p x m (Some j) right = let h = and_parts _ _ right in cond-true (same_kind x.kind Pawn && rank_of m.to == last_rank x.colour) _ _ h.0 ∙ h.1
+
+module _ (rule : RuleSet) (p : Position) (x : Man) (m : Move) (well : IsWellFormed p) (may : is_pseudo_legal rule p m ≡ true)
+    (here : man_on p.men m.from ≡ Some x)
+    (plain : is_castling x m ≡ false) where
+  is_made : IsMade rule p x m
+  is_made = made rule p m x may here
+
+  pawn_way : (same_kind x.kind Pawn ≡ true) × ((is_pawn_capture p m ≡ true) ⊎ (is_pawn_step p x m ≡ true)) → pawn_goes x.colour m.from m.to ≡ true
+  unfolding pawn_goes
+  pawn_way h = grind (arith, or_cases, or_left, or_right, and_parts, and_from, same_kind-true x.kind Pawn, guards_from p.men x m.from m.to here)
+
+  piece_way : (same_kind x.kind Pawn ≡ false) × ((reaches p.men m.from m.to ≡ true) ⊎ (can_castle rule p x m ≡ true))
+      → guards x.colour x.kind m.from m.to ≡ true
+  unfolding can_castle may_castle
+  piece_way h = grind (arith, guards_from p.men x m.from m.to here, and_parts, plain)
+
+  -- the way of the man
+  way_goes : (if same_kind x.kind Pawn then pawn_goes x.colour m.from m.to else guards x.colour x.kind m.from m.to) ≡ true
+  unfolding pawn_goes
+  way_goes = grind (arith, ways rule p x m is_made.can_go, pawn_way, piece_way)
+
+  man_goes : goes (may_promote p) x.colour x.kind m.from (arriving_man x m.promo).kind m.to ≡ true
+  unfolding goes
+  man_goes = and_from _ _ way_goes (becomes_right p x m m.promo is_made.promotion)
+
+  free_arrival : is_square (capture_square p x m) m.to ≡ false → man_on p.men m.to ≡ None
+  unfolding capture_square
+  free_arrival h = grind (arith, none_from_is_some, cases_Bool (is_some (man_on p.men m.to)), eq-eqb)
+
+  apart : m.from ≢ m.to
+  apart same =
+      let stands : man_on p.men m.to ≡ Some x = rw same at here in
+      let arrival : is_arrival_free p.turn (Some x) ≡ true = rw stands at is_made.arrival in
+      let mine : same_colour x.colour p.turn ≡ true = rw is_made.mine (same_colour-refl p.turn) in
+      grind (arith, and_parts, not-true)
+
+  captured_is : (s : ℕ) (z : Man) → capture_square p x m ≡ Some s → man_on p.men s ≡ Some z
+      → (same_colour z.colour x.colour ≡ false) × (same_kind z.kind King ≡ false)
+  captured_is s z at stands =
+      let t = taken rule p x m s well is_made at in
+      let z_is : z ≡ t.man = let h : Some z ≡ Some t.man = sym stands ∙ t.there in cc in
+      enemy_is x.colour p.turn z t.man z_is is_made.mine t.enemy t.mortal
+
+  module _ (none_reborn : captures_are_reborn rule ≡ false) where
+    -- the men after the move
+    men_after : (position_after rule p m).men ≡ arrived p x m
+    men_after = simple_after rule p x m here plain (λ reborn. absurd (false≢true (sym none_reborn ∙ reborn)))
+
+    kinds_after : (position_after rule p m).in_diagram ≡ p.in_diagram
+    unfolding position_after position_after_by
+    kinds_after = rw here refl
+
+    -- what the move does
+    pub is_gone : IsGone p (position_after rule p m) x (arriving_man x m.promo) m.from m.to (capture_square p x m)
+    is_gone =
+        let small = (made_is_triple rule p m well.size may).1 in
+        record {
+          from = on_board p.men m.from x well.size here;
+          to = small;
+          apart = apart;
+          here = here;
+          there = rw men_after (there_now p.men m.from (capture_square p x m) m.to (arriving_man x m.promo) (omega (arith, small, well.size)));
+          colour = arriving_colour x m.promo;
+          king = king_kept p x m m.promo is_made.promotion;
+          left = rw men_after (left_now p.men m.from (capture_square p x m) m.to (arriving_man x m.promo) m.from apart
+              (or_left _ _ (eq-eqb m.from m.from refl)));
+          cleared = λ s at ne. rw men_after (left_now p.men m.from (capture_square p x m) m.to (arriving_man x m.promo) s ne (or_right (m.from == s) _ at));
+          others = λ s na nb ne. rw men_after (kept_now p.men m.from (capture_square p x m) m.to (arriving_man x m.promo) s nb
+              (grind (arith, ne_eqb m.from s)));
+          captured = λ s z at stands. captured_is s z (square_is (capture_square p x m) s at) stands;
+          free = free_arrival;
+          goes = man_goes;
+          kinds = kinds_after;
+        }

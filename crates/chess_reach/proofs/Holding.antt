@@ -1,0 +1,156 @@
+-- What the search for a plan keeps.
+use Rattle.chess_attacks.proofs.Chess.{List, Man, Option, and_from, and_right, ap, arith, bit_at, cases_Bool, cases_eq, cond-false, cond-true, false, inl, inr, length, other, range_with_len, refl, subst, suc, sym, true, zero, ℕ, ◌&&◌, ◌+◌, ◌-◌, ◌<◌, ◌==◌, ◌∙◌, ◌≡◌, ◌≢◌, ◌≤◌, if◌then◌else◌}
+unfoldable use Rattle.chess_attacks.proofs.Chess.{squares}
+use Rattle.std.proofs.Common.{slice_set}
+use Rattle.std.specs.List.{sum_by}
+use Rattle.std.proofs.lemmas.List.{get_or-set_other, get_or-set_same}
+use Rattle.std.proofs.lemmas.List.Sums.{sum_by-cons}
+use Rattle.chess_reach.specs.Plans.{Ends}
+use Rattle.chess_reach.specs.declared.hold.Place.{Place}
+use Rattle.chess_reach.specs.declared.hold.Quest.{Quest}
+use Rattle.chess_reach.specs.ties.Guards.{guard_at, is_blocker}
+use Rattle.chess_reach.specs.ties.Hold.{Holds, IsIn, end_at, place_at}
+unfoldable use Rattle.chess_reach.specs.ties.Hold.{blocked, unpaid}
+use Rattle.chess_reach.specs.ties.Ways.{nowhere}
+
+-- where no number has more, the sum isn't more
+pub sum_within : (f g : ℕ → ℕ) (a n : ℕ) → ((j : ℕ) → j < a + n → g j ≤ f j) → sum_by g (range_with_len a n) ≤ sum_by f (range_with_len a n)
+sum_within f g a zero each = omega arith
+sum_within f g a (suc n) each =
+    omega (
+      arith,
+      sum_by-cons f a (range_with_len (a + 1) n),
+      sum_by-cons g a (range_with_len (a + 1) n),
+      each a (omega arith),
+      sum_within f g (a + 1) n (λ j lt. each j (omega (arith, lt))),
+    )
+
+-- where one has less by d, the sum is less by d
+pub sum_less : (f g : ℕ → ℕ) (a n i d : ℕ) → a ≤ i → i < a + n → ((j : ℕ) → j < a + n → g j ≤ f j) → g i + d ≤ f i
+    → sum_by g (range_with_len a n) + d ≤ sum_by f (range_with_len a n)
+sum_less f g a zero i d low high each here = absurd (omega (arith, low, high))
+sum_less f g a (suc n) i d low high each here = elim (cases_eq i a) [
+  | inl same ↦ omega (
+    arith,
+    sum_by-cons f a (range_with_len (a + 1) n),
+    sum_by-cons g a (range_with_len (a + 1) n),
+    subst (λ j. g j + d ≤ f j) same here,
+    sum_within f g (a + 1) n (λ j lt. each j (omega (arith, lt))),
+  )
+  | inr off ↦ omega (
+    arith,
+    sum_by-cons f a (range_with_len (a + 1) n),
+    sum_by-cons g a (range_with_len (a + 1) n),
+    each a (omega arith),
+    sum_less f g (a + 1) n i d (omega (arith, low, off)) (omega (arith, high)) (λ j lt. each j (omega (arith, lt))) here,
+  )
+]
+
+-- one number is at most the sum
+pub one_within : (f : ℕ → ℕ) (a n i : ℕ) → a ≤ i → i < a + n → f i ≤ sum_by f (range_with_len a n)
+one_within f a n i low high = omega (arith, sum_less f (λ _. 0) a n i (f i) low high (λ j lt. omega arith) (omega arith))
+
+module _ (q : Quest) (men : List (Option Man)) (ends : Ends) where
+  -- a guard has no more moves left than all together
+  pub one_spare : (places : List Place) (ours i : ℕ) → unpaid q places ends ≤ ours → i < q.count
+      → (end_at q ends i).moves ≤ (place_at places i).moves + ours
+  unfolding unpaid
+  one_spare places ours i all lt =
+      omega (arith, all, one_within (λ j. (end_at q ends j).moves - (place_at places j).moves) 0 q.count i (omega arith) (omega (arith, lt)))
+
+  -- a guard's place is narrowed, and its moves are paid
+  pub placed : (places : List Place) (w ours theirs i : ℕ) (p : Place) → Holds q men places w ours theirs ends → i < q.count → i < length places
+      → IsIn (guard_at q.guards i) p (end_at q ends i) → (place_at places i).moves ≤ p.moves
+      → Holds q men (slice_set places i p) w (ours - (p.moves - (place_at places i).moves)) theirs ends
+  unfolding unpaid
+  placed places w ours theirs i p h lt room inside more = record {
+    guards = h.guards;
+    blockers = h.blockers;
+    few = h.few;
+    inside = λ j jlt. elim (cases_eq j i) [
+      | inl same ↦ subst (λ x. IsIn (guard_at q.guards j) x (end_at q ends j)) (sym (at_same j same)) (subst (λ k. IsIn (guard_at q.guards k) p (end_at q ends k)) (sym same) inside)
+      | inr off ↦ subst (λ x. IsIn (guard_at q.guards j) x (end_at q ends j)) (sym (at_other j off)) (h.inside j jlt)
+    ];
+    paid = omega (arith, h.paid, less);
+    blocking = h.blocking;
+    holds = h.holds;
+  }
+    where
+      at_same : (j : ℕ) → j ≡ i → place_at (slice_set places i p) j ≡ p
+      at_same j same = ap (λ k. place_at (slice_set places i p) k) same ∙ get_or-set_same places i p (record { squares = nowhere; moves = 0 }) room
+
+      at_other : (j : ℕ) → j ≢ i → place_at (slice_set places i p) j ≡ place_at places j
+      at_other j off = get_or-set_other places i j p (record { squares = nowhere; moves = 0 }) off
+
+      spent : (j : ℕ) → (end_at q ends j).moves - (place_at (slice_set places i p) j).moves ≤ (end_at q ends j).moves - (place_at places j).moves
+      spent j = elim (cases_eq j i) [
+        | inl same ↦ omega (arith, ap (λ (x : Place). x.moves) (at_same j same), more, ap (λ k. (place_at places k).moves) same)
+        | inr off ↦ omega (arith, ap (λ (x : Place). x.moves) (at_other j off))
+      ]
+
+      less : sum_by (λ j. (end_at q ends j).moves - (place_at (slice_set places i p) j).moves) (range_with_len 0 q.count) + (p.moves - (place_at places i).moves)
+          ≤ sum_by (λ j. (end_at q ends j).moves - (place_at places j).moves) (range_with_len 0 q.count)
+      less = sum_less _ _ 0 q.count i (p.moves - (place_at places i).moves) (omega arith) (omega (arith, lt)) (λ j jlt. spent j)
+          (omega (arith, ap (λ (x : Place). x.moves) (at_same i refl), more, inside.paid))
+
+  -- fewer squares are held
+  pub fewer_held : (places : List Place) (w r ours theirs : ℕ) → Holds q men places w ours theirs ends
+      → ((t : ℕ) → (bit_at r t == 1) ≡ true → (bit_at w t == 1) ≡ true) → Holds q men places r ours theirs ends
+  unfolding blocked squares
+  fewer_held places w r ours theirs h inside = record {
+    guards = h.guards;
+    blockers = h.blockers;
+    few = h.few;
+    inside = h.inside;
+    paid = h.paid;
+    blocking = omega (arith, h.blocking, sum_within (spends w) (spends r) 0 64 (λ s lt. fewer_spent s));
+    holds = λ t small on. h.holds t small (inside t on);
+  }
+    where
+      spends : ℕ → ℕ → ℕ
+      spends v s = if is_blocker men (other q.colour) s && (bit_at v (ends s).square == 1) then (ends s).moves else 0
+
+      fewer_spent : (s : ℕ) → spends r s ≤ spends w s
+      fewer_spent s = grind (arith, inside (ends s).square, cases_Bool (bit_at r (ends s).square == 1))
+
+  -- a blocker has at most the moves of all
+  pub block_spare : (places : List Place) (w ours theirs s : ℕ) → Holds q men places w ours theirs ends → s < 64 → is_blocker men (other q.colour) s ≡ true
+      → (bit_at w (ends s).square == 1) ≡ true → (ends s).moves ≤ theirs
+  unfolding blocked squares
+  block_spare places w ours theirs s h small blocker on =
+      let f : ℕ → ℕ = λ s. if is_blocker men (other q.colour) s && (bit_at w (ends s).square == 1) then (ends s).moves else 0 in
+      omega (
+        arith,
+        h.blocking,
+        one_within f 0 64 s (omega arith) (omega (arith, small)),
+        cond-true (is_blocker men (other q.colour) s && (bit_at w (ends s).square == 1)) (ends s).moves 0 (and_from _ _ blocker on),
+      )
+
+  -- a blocker ends on a square, and its moves are paid
+  pub block_paid : (places : List Place) (w r ours theirs z s price : ℕ) → Holds q men places w ours theirs ends → (bit_at w z == 1) ≡ true
+      → (bit_at r z == 1) ≡ false → ((t : ℕ) → (bit_at r t == 1) ≡ true → (bit_at w t == 1) ≡ true) → s < 64
+      → is_blocker men (other q.colour) s ≡ true → (ends s).square ≡ z → price ≤ (ends s).moves → Holds q men places r ours (theirs - price) ends
+  unfolding blocked squares
+  block_paid places w r ours theirs z s price h on off inside small blocker there cheap = record {
+    guards = h.guards;
+    blockers = h.blockers;
+    few = h.few;
+    inside = h.inside;
+    paid = h.paid;
+    blocking = omega (arith, h.blocking, sum_less (spends w) (spends r) 0 64 s price (omega arith) (omega (arith, small)) (λ j lt. fewer_spent j) here);
+    holds = λ t low at. h.holds t low (inside t at);
+  }
+    where
+      spends : ℕ → ℕ → ℕ
+      spends v s = if is_blocker men (other q.colour) s && (bit_at v (ends s).square == 1) then (ends s).moves else 0
+
+      fewer_spent : (s : ℕ) → spends r s ≤ spends w s
+      fewer_spent s = grind (arith, inside (ends s).square, cases_Bool (bit_at r (ends s).square == 1))
+
+      here : spends r s + price ≤ spends w s
+      here =
+          let before = cond-true (is_blocker men (other q.colour) s && (bit_at w (ends s).square == 1)) (ends s).moves 0
+          (and_from _ _ blocker (ap (λ t. bit_at w t == 1) there ∙ on)) in
+          let after = cond-false (is_blocker men (other q.colour) s && (bit_at r (ends s).square == 1)) (ends s).moves 0
+          (and_right _ _ (ap (λ t. bit_at r t == 1) there ∙ off)) in
+          omega (arith, before, after, cheap)

@@ -1,0 +1,21 @@
+pub mod Chess
+pub mod EmptyBoard
+pub mod Sums
+pub mod OneMove
+pub mod Gone
+pub mod Picture
+pub mod Castling
+pub mod Lines
+pub mod KingMoves
+pub mod LineEnds
+mod Bitboards
+mod Parts
+mod Getting
+mod Chains
+mod Holding
+mod Guarding
+mod Trying
+mod Blocking
+mod Listing
+mod Planning
+pub mod theorems

@@ -1,0 +1,192 @@
+-- A line that reaches the goal has a plan at its start.
+use Rattle.chess_reach.proofs.Chess.{Bool, Colour, Ends, IsPlan, IsWellFormed, King, List, Man, Move, None, Option, Position, RuleSet, Some, [], and_parts, ap, arith, arriving_man, capture_square, captures_are_reborn, cases_Bool, eq-eqb, eqb-true, false, false_from_ne_true, false≢true, has_unmoved, if◌then◌else◌, in_check, inl, inr, is_castling, is_legal, is_man, is_pseudo_legal, king_square, length, man_on, ne_eqb, not-true, other, position_after, position_after_by, refl, subst, suc, sym, true, unmoved_after, ℕ, ◌%◌, ◌+◌, ◌/◌, ◌==◌, ◌∙◌, ◌∷◌, ◌≡◌, ◌≢◌, ◌≤◌}
+use Rattle.chess_core.specs.declared.man.Unmoved.{Unmoved}
+use Rattle.chess_reach.proofs.Castling.{castled_home, castled_right, king_castled, other_castling, own_castling}
+use Rattle.chess_reach.proofs.Gone.{is_gone, reborn_none}
+use Rattle.chess_reach.proofs.OneMove.{king_goes, other_step, own_step, stays}
+use Rattle.chess_reach.proofs.Picture.{picture}
+use Rattle.chess_reach.specs.Plans.{king_home, saved_moves}
+use Rattle.chess_reach.specs.Lines.{IsLegalLine, line_end, mover, reaches_goal}
+use Rattle.chess_rules.proofs.Chess.{corner, has_unmoved-parts, unmoved_without_at, without_unmoved}
+use Rattle.chess_rules.proofs.legality.Blocking.{other_twice}
+use Rattle.chess_rules.proofs.listing_moves.Calls.{is_pseudo_legal-from_legal}
+use Rattle.chess_rules.proofs.making_moves.Pseudo.{made}
+use Rattle.chess_rules.proofs.making_moves.Stays.{after_well_formed, maker}
+use Rattle.pop_stipulation.specs.declared.stipulation.Goal.{Goal}
+
+-- rights that are left were there
+right_left : (u : Unmoved) (o : Option ℕ) (s : ℕ) → has_unmoved (unmoved_without_at u o) s ≡ true → has_unmoved u s ≡ true
+right_left u None s h = h
+right_left u (Some t) s h = (has_unmoved-parts u t s h).1
+
+right_without : (u : Unmoved) (b : Bool) (t s : ℕ) → has_unmoved (if b then without_unmoved u t else u) s ≡ true → has_unmoved u s ≡ true
+right_without u b t s h = elim (cases_Bool b) [
+  | inl passes ↦ (has_unmoved-parts u t s (rw passes at h)).1
+  | inr fails ↦ rw fails at h
+]
+
+-- the sides move in turn
+pub turn_shift : (c t : Colour) (h : ℕ) → t ≡ mover c (suc h) → other t ≡ mover c h
+turn_shift c t h turn = elim (cases_Bool (h % 2 == 1)) [
+  | inl odd ↦
+      let even : (suc h % 2 == 1) ≡ false = ne_eqb (suc h % 2) 1 (λ e. omega (arith, e, eqb-true (h % 2) 1 odd)) in
+      rw (turn, odd, even) (other_twice c)
+  | inr even ↦
+      let not_odd : h % 2 ≢ 1 = λ e. false≢true (sym even ∙ eq-eqb (h % 2) 1 e) in
+      let odd : (suc h % 2 == 1) ≡ true = eq-eqb (suc h % 2) 1 (omega (arith, not_odd)) in
+      rw (turn, even, odd) refl
+]
+
+-- the last half-move is c's
+last_mover : (c : Colour) (h : ℕ) → h ≡ 0 → mover c (suc h) ≡ c
+last_mover c h e = rw e refl
+
+-- more moves are enough too
+plan_more : (goal : Goal) (p : Position) (c : Colour) (n o i j k : ℕ) (ends : Ends) → IsPlan goal p c n o k ends → n ≤ i → o ≤ j → IsPlan goal p c i j k ends
+plan_more goal p c n o i j k ends plan more_ours more_theirs = record {
+  gets = plan.gets;
+  ours = omega (arith, plan.ours);
+  theirs = omega (arith, plan.theirs);
+  king = plan.king;
+  apart = plan.apart;
+  around = plan.around;
+  check = plan.check;
+}
+
+module _ (rule : RuleSet) (p : Position) (m : Move) (well : IsWellFormed p) (legal : is_legal rule p m ≡ true) where
+  pub may : is_pseudo_legal rule p m ≡ true
+  may = is_pseudo_legal-from_legal rule p m legal
+
+  abbrev pub man : Man
+  man = (maker rule p m may).0
+
+  pub here : man_on p.men m.from ≡ Some man
+  here = (maker rule p m may).1
+
+  pub turn_after : (position_after rule p m).turn ≡ other p.turn
+  unfolding position_after position_after_by
+  turn_after = rw here refl
+
+  -- the side that has moved isn't in check
+  safe_after : in_check rule (position_after rule p m).men p.turn ≡ false
+  unfolding is_legal
+  safe_after = not-true _ (and_parts _ _ legal).1
+
+  module _ (none_reborn : captures_are_reborn rule ≡ false) where
+    -- what is left of the castling rights
+    right_before : (s : ℕ) → has_unmoved (position_after rule p m).unmoved s ≡ true → (s ≢ m.from) × (has_unmoved p.unmoved s ≡ true)
+    unfolding position_after position_after_by unmoved_after
+    right_before s h =
+        let u = without_unmoved (without_unmoved p.unmoved m.from) m.to in
+        let left = unmoved_without_at u (capture_square p man m) in
+        let after : has_unmoved (if is_castling man m then without_unmoved left (corner m) else left) s ≡ true = rw
+        (here, reborn_none rule p man m none_reborn) at h in
+        let v = right_left u (capture_square p man m) s (right_without left (is_castling man m) (corner m) s after) in
+        has_unmoved-parts p.unmoved m.from s (has_unmoved-parts (without_unmoved p.unmoved m.from) m.to s v).1
+
+    saves_no_more : (c : Colour) → saved_moves (position_after rule p m) c ≤ saved_moves p c
+    saves_no_more c = elim (cases_Bool (has_unmoved (position_after rule p m).unmoved (king_home c))) [
+      | inl h ↦ rw (h, (right_before (king_home c) h).1) (omega arith)
+      | inr h ↦ rw h (omega arith)
+    ]
+
+    -- who castles saves these moves, and no more later
+    saves_now : (c : Colour) → is_castling man m ≡ true → man.colour ≡ c → (saved_moves (position_after rule p m) c ≡ 0) × (saved_moves p c ≡ 2)
+    saves_now c castling mine =
+        let home : m.from ≡ king_home c = castled_home rule p man m well may here castling none_reborn ∙ ap king_home mine in
+        let lost : has_unmoved (position_after rule p m).unmoved (king_home c) ≡ false = false_from_ne_true _
+        (λ h. (right_before (king_home c) h).0 (sym home)) in
+        let right : has_unmoved p.unmoved (king_home c) ≡ true = subst (λ (s : ℕ). has_unmoved p.unmoved s ≡ true) home
+        (castled_right rule p man m well may here castling none_reborn) in
+        (rw lost refl, rw right refl)
+
+    -- a plan after a move of the mating side is one before it, with a move more
+    pub own_move : (goal : Goal) (c : Colour) (n o k : ℕ) (ends : Ends) → p.turn ≡ c
+        → IsPlan goal (position_after rule p m) c (n + saved_moves (position_after rule p m) c) (o + saved_moves (position_after rule p m) (other c)) k ends
+        → (before : Ends) × IsPlan goal p c (suc n + saved_moves p c) (o + saved_moves p (other c)) k before
+    own_move goal c n o k ends turn plan =
+        let q = position_after rule p m in
+        let mine : man.colour ≡ c = (made rule p m man may here).mine ∙ turn in
+        let i = n + saved_moves (position_after rule p m) c in
+        let j = o + saved_moves (position_after rule p m) (other c) in
+        elim (cases_Bool (is_castling man m)) [
+          | inl castling ↦
+              let r = own_castling rule p man m well may here castling none_reborn goal c i j k ends mine plan in
+              let now = saves_now c castling mine in
+              (r.0, plan_more goal p c _ _ _ _ k r.0 r.1 (omega (arith, now.0, now.1)) (omega (arith, saves_no_more (other c))))
+          | inr plain ↦
+              let r = own_step p q man (arriving_man man m.promo) m.from m.to (capture_square p man m)
+              (is_gone rule p man m well may here plain none_reborn) ends
+              goal c i j k mine plan in
+              (r.0, plan_more goal p c _ _ _ _ k r.0 r.1 (omega (arith, saves_no_more c)) (omega (arith, saves_no_more (other c))))
+        ]
+
+    -- likewise of the other side
+    pub other_move : (goal : Goal) (c : Colour) (n o k : ℕ) (ends : Ends) → p.turn ≡ other c
+        → IsPlan goal (position_after rule p m) c (n + saved_moves (position_after rule p m) c) (o + saved_moves (position_after rule p m) (other c)) k ends
+        → (before : Ends) × IsPlan goal p c (n + saved_moves p c) (suc o + saved_moves p (other c)) k before
+    other_move goal c n o k ends turn plan =
+        let q = position_after rule p m in
+        let theirs : man.colour ≡ other c = (made rule p m man may here).mine ∙ turn in
+        let i = n + saved_moves (position_after rule p m) c in
+        let j = o + saved_moves (position_after rule p m) (other c) in
+        elim (cases_Bool (is_castling man m)) [
+          | inl castling ↦
+              let r = other_castling rule p man m well may here castling none_reborn goal c i j k ends theirs plan in
+              let now = saves_now (other c) castling theirs in
+              (r.0, plan_more goal p c _ _ _ _ k r.0 r.1 (omega (arith, saves_no_more c)) (omega (arith, now.0, now.1)))
+          | inr plain ↦
+              let r = other_step p q man (arriving_man man m.promo) m.from m.to (capture_square p man m)
+              (is_gone rule p man m well may here plain none_reborn) ends
+              goal c i j k theirs plan in
+              (r.0, plan_more goal p c _ _ _ _ k r.0 r.1 (omega (arith, saves_no_more c)) (omega (arith, saves_no_more (other c))))
+        ]
+
+    -- no king is lost
+    pub king_after : (c : Colour) (s : ℕ) → is_man (man_on p.men s) c King ≡ true → (r : ℕ) × (is_man (man_on (position_after rule p m).men r) c King ≡ true)
+    king_after c s king = elim (cases_Bool (is_castling man m)) [
+      | inl castling ↦ king_castled rule p man m well may here castling none_reborn c s king
+      | inr plain ↦
+          let r = king_goes p (position_after rule p m) man (arriving_man man m.promo) m.from m.to (capture_square p man m)
+          (is_gone rule p man m well may here plain none_reborn) (stays p.men) c s king in
+          (r.0, r.1)
+    ]
+
+module _ (rule : RuleSet) (none_reborn : captures_are_reborn rule ≡ false) (c : Colour) where
+  -- no king is lost along a line
+  pub king_along : (line : List Move) (p : Position) (s : ℕ) → IsWellFormed p → IsLegalLine rule p line → is_man (man_on p.men s) c King ≡ true
+      → (r : ℕ) × (is_man (man_on (line_end rule p line).men r) c King ≡ true)
+  unfolding line_end IsLegalLine
+  king_along [] p s well legal king = (s, king)
+  king_along (m ∷ line) p s well legal king =
+      let r = king_after rule p m well legal.0 none_reborn c s king in
+      king_along line (position_after rule p m) r.0 (after_well_formed rule p m well (is_pseudo_legal-from_legal rule p m legal.0)) legal.1 r.1
+
+  module _ (goal : Goal) (k : ℕ) where
+    -- a line that reaches the goal has a plan at its start
+    pub line_plan : (line : List Move) (p : Position) → IsWellFormed p → IsLegalLine rule p line
+        → reaches_goal goal rule (line_end rule p line) ≡ true → p.turn ≡ mover c (length line)
+        → king_square (line_end rule p line).men (other c) ≡ Some k → (length line ≡ 0 → in_check rule p.men c ≡ false)
+        → (ends : Ends) × IsPlan goal p c ((length line + 1) / 2 + saved_moves p c) (length line / 2 + saved_moves p (other c)) k ends
+    unfolding line_end IsLegalLine
+    line_plan [] p well legal reaches turn king safe = (
+      stays p.men,
+      plan_more goal p c 0 0 _ _ k (stays p.men) (picture rule p c k well turn none_reborn (safe refl) king goal reaches) (omega arith)
+          (omega arith),
+    )
+    line_plan (m ∷ line) p well legal reaches turn king safe =
+        let rest = line_plan line (position_after rule p m) (after_well_formed rule p m well (is_pseudo_legal-from_legal rule p m legal.0)) legal.1
+        reaches (turn_after rule p m well legal.0 ∙ turn_shift c p.turn (length line) turn) king
+        (λ e. subst (λ (d : Colour). in_check rule (position_after rule p m).men d ≡ false) (turn ∙ last_mover c (length line) e)
+        (safe_after rule p m well legal.0)) in
+        elim (cases_Bool (suc (length line) % 2 == 1)) [
+          | inl odd ↦
+              let own : p.turn ≡ c = turn ∙ rw odd refl in
+              let plan = own_move rule p m well legal.0 none_reborn goal c ((length line + 1) / 2) (length line / 2) k rest.0 own rest.1 in
+              (plan.0, plan_more goal p c _ _ _ _ k plan.0 plan.1 (let odd_is = eqb-true (suc (length line) % 2) 1 odd in omega (arith, odd_is)) (omega arith))
+          | inr even ↦
+              let others : p.turn ≡ other c = turn ∙ rw even refl in
+              let plan = other_move rule p m well legal.0 none_reborn goal c ((length line + 1) / 2) (length line / 2) k rest.0 others rest.1 in
+              let not_odd : suc (length line) % 2 ≢ 1 = λ e. false≢true (sym even ∙ eq-eqb (suc (length line) % 2) 1 e) in
+              (plan.0, plan_more goal p c _ _ _ _ k plan.0 plan.1 (omega arith) (omega (arith, not_odd)))
+        ]

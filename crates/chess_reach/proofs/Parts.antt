@@ -1,0 +1,61 @@
+-- The squares where a man can be, part by part.
+use Rattle.chess_attacks.proofs.Basics.{Bool, ap, arith, bit_and, bit_at, bit_not, bit_or, false, if◌then◌else◌, not, one_shl, true, w64, ℕ, ◌%◌, ◌&&◌, ◌*◌, ◌<◌, ◌==◌, ◌^◌, ◌∙◌, ◌≡◌}
+use Rattle.chess_attacks.proofs.Bits.{on_left, on_right}
+use Rattle.std.proofs.lemmas.Nat.Bits.{bit_at-pow_same}
+use Rattle.chess_core.specs.Position.{same_kind}
+use Rattle.chess_core.specs.declared.man.Kind.{Kind}
+use Rattle.chess_core.specs.declared.man.Kind.TheVariants.{Knight, Pawn}
+use Rattle.chess_reach.proofs.Bitboards.{denied_on, on_both, some_on}
+use Rattle.chess_reach.specs.ties.Whereabouts.{has}
+
+-- of three bitboards the one that two tests choose
+abbrev chosen : Bool → Bool → ℕ → ℕ → ℕ → ℕ
+chosen p r a q n = if p then (if r then n else q) else a
+
+chosen_both : (p r : Bool) (a q n b s m : ℕ) → chosen p r (bit_and a b) (bit_and q s) (bit_and n m) ≡ bit_and (chosen p r a q n) (chosen p r b s m)
+chosen_both p r a q n b s m = grind arith
+
+chosen_off : (p r : Bool) (a q n b s m : ℕ) → chosen p r (bit_and a (bit_not w64 b)) (bit_and q (bit_not w64 s)) (bit_and n (bit_not w64 m))
+    ≡ bit_and (chosen p r a q n) (bit_not w64 (chosen p r b s m))
+chosen_off p r a q n b s m = grind arith
+
+chosen_small : (p r : Bool) (a q n : ℕ) → a < 2 ^ 64 → q < 2 ^ 64 → n < 2 ^ 64 → chosen p r a q n < 2 ^ 64
+chosen_small p r a q n x y z = grind arith
+
+-- what two have, their shared squares have
+pub has_both : (k j : Kind) (t : ℕ) (a q n b s m : ℕ) → has k j t (record { unpromoted = a; queen = q; knight = n }) ≡ true
+    → has k j t (record { unpromoted = b; queen = s; knight = m }) ≡ true
+    → has k j t (record { unpromoted = bit_and a b; queen = bit_and q s; knight = bit_and n m }) ≡ true
+has_both k j t a q n b s m h i =
+    ap (λ x. bit_at x t == 1) (chosen_both (same_kind k Pawn && not (same_kind j Pawn)) (same_kind j Knight) a q n b s m) ∙ on_both _ _ t h i
+
+-- what the first has and the second hasn't, the rest has
+pub has_off : (k j : Kind) (t : ℕ) (a q n b s m : ℕ) → b < 2 ^ 64 → s < 2 ^ 64 → m < 2 ^ 64 → t < 64
+    → has k j t (record { unpromoted = a; queen = q; knight = n }) ≡ true
+    → has k j t (record { unpromoted = b; queen = s; knight = m }) ≡ false
+    → has k j t (record { unpromoted = bit_and a (bit_not w64 b); queen = bit_and q (bit_not w64 s); knight = bit_and n (bit_not w64 m) }) ≡ true
+has_off k j t a q n b s m x y z small h i =
+    let p = same_kind k Pawn && not (same_kind j Pawn) in
+    ap (λ x. bit_at x t == 1) (chosen_off p (same_kind j Knight) a q n b s m)
+    ∙ denied_on _ _ t (chosen_small p (same_kind j Knight) b s m x y z) small h i
+
+-- a part of three is one of all three together
+part_joined : (p r : Bool) (t a q n : ℕ) → (bit_at (chosen p r a q n) t == 1) ≡ true → (bit_at (bit_or (bit_or a q) n) t == 1) ≡ true
+part_joined true true t a q n h = on_right (bit_or a q) n t h
+part_joined true false t a q n h = on_left (bit_or a q) n t (on_right a q t h)
+part_joined false r t a q n h = on_left (bit_or a q) n t (on_left a q t h)
+
+-- where a man can be at all
+pub has_some : (k j : Kind) (t : ℕ) (a q n : ℕ) → has k j t (record { unpromoted = a; queen = q; knight = n }) ≡ true
+    → (bit_at (bit_or (bit_or a q) n) t == 1) ≡ true
+has_some k j t a q n h = part_joined (same_kind k Pawn && not (same_kind j Pawn)) (same_kind j Knight) t a q n h
+
+-- two meet where both have a square
+pub has_meeting : (k j : Kind) (t : ℕ) (a q n b s m : ℕ) → has k j t (record { unpromoted = a; queen = q; knight = n }) ≡ true
+    → has k j t (record { unpromoted = b; queen = s; knight = m }) ≡ true
+    → not (bit_or (bit_or (bit_and a b) (bit_and q s)) (bit_and n m) == 0) ≡ true
+has_meeting k j t a q n b s m h i = ap not (some_on _ t (has_some k j t _ _ _ (has_both k j t a q n b s m h i)))
+
+-- a man is now on its square
+pub has_now : (k : Kind) (s : ℕ) → s < 64 → has k k s (record { unpromoted = 1 * 2 ^ s % 2 ^ 64; queen = 0; knight = 0 }) ≡ true
+has_now k s small = grind (arith, one_shl s 64 small, bit_at-pow_same s)

@@ -1,0 +1,280 @@
+-- A plan is found by the search.
+use Rattle.chess_attacks.proofs.Chess.{Colour, King, List, Man, Nightrider, None, Option, Some, White, all_at, and_from, and_left, and_parts, ap, arith, bit_and, bit_at, bit_or, cases_Bool, cases_lt, cond-false, cond-true, eq-eqb, eqb-true, false, false≢true, get_or_past, if◌then◌else◌, inl, inr, is_man, is_of_colour, is_square, length, list_all, list_any, man_on, not, other, queen_steps, range_with_len, refl, same_colour-true, same_kind-true, subst, sym, true, word, word_has, word_only, ℕ, ◌%◌, ◌&&◌, ◌*◌, ◌+◌, ◌-◌, ◌<◌, ◌==◌, ◌^◌, ◌∙◌, ◌≡◌, ◌≢◌, ◌≤◌}
+unfoldable use Rattle.chess_attacks.proofs.Chess.{along, king_square, leaps, reaches_as, squares}
+use Rattle.std.specs.Prelude.{◌⊎◌}
+use Rattle.std.proofs.Common.{slice_index_or}
+use Rattle.std.proofs.lemmas.Nat.Bits.{bit_at_or}
+use Rattle.std.specs.List.{sum_by}
+use Rattle.chess_attacks.proofs.Tests.{find_first}
+use Rattle.chess_attacks.proofs.rays.Flips.{king-back}
+use Rattle.chess_core.specs.Position.{Position, may_promote, same_kind}
+use Rattle.chess_core.specs.declared.man.Kind.{Kind}
+use Rattle.chess_reach.proofs.Bitboards.{on_both, on_first}
+use Rattle.chess_attacks.proofs.Bits.{off_zero}
+use Rattle.chess_reach.proofs.Chains.{gets_be}
+use Rattle.chess_reach.proofs.Getting.{gets_small}
+use Rattle.chess_reach.proofs.Holding.{one_within, sum_less, sum_within}
+unfoldable use Rattle.chess_reach.specs.Plans.{price}
+use Rattle.chess_reach.specs.Plans.{Ends, IsBlocked, IsGuarded, IsPlan}
+unfoldable use Rattle.chess_reach.specs.Reach.{guards}
+use Rattle.chess_reach.specs.Reach.{Gets}
+use Rattle.chess_reach.specs.declared.guards.Guard.{Guard}
+use Rattle.chess_reach.specs.declared.hold.Place.{Place}
+use Rattle.chess_reach.specs.declared.hold.Quest.{Quest}
+use Rattle.chess_reach.specs.declared.whereabouts.Whereabouts.{Whereabouts}
+use Rattle.chess_reach.specs.ties.Guards.{CanEnd, guard_at, is_blocker}
+use Rattle.chess_reach.specs.ties.Hold.{DoesGuard, Holds, IsApart, IsHeld, IsIn, IsQuestOf, end_at, place_at}
+unfoldable use Rattle.chess_reach.specs.ties.Hold.{blocked, unpaid}
+use Rattle.chess_reach.specs.ties.Whereabouts.{has}
+use Rattle.chess_reach.specs.ties.Ways.{IsChain, IsUsual, nowhere}
+use Rattle.pop_stipulation.specs.declared.stipulation.Goal.{Goal}
+use Rattle.pop_stipulation.specs.declared.stipulation.Goal.TheVariants.{Mate}
+
+-- a square of two bitboards joined is one of either
+on_either : (a b t : ℕ) → (bit_at (bit_or a b) t == 1) ≡ true → ((bit_at a t == 1) ≡ true) ⊎ ((bit_at b t == 1) ≡ true)
+on_either a b t on = elim (cases_Bool (bit_at a t == 1)) [
+  | inl here ↦ inl here
+  | inr off ↦ elim (cases_Bool (bit_at b t == 1)) [
+    | inl here ↦ inr here
+    | inr too ↦ absurd (false≢true (sym (grind (arith, bit_at_or a b t, off, too)) ∙ on))
+  ]
+]
+
+only_one : (s t : ℕ) → s < 64 → t < 64 → (bit_at (1 * 2 ^ s % 2 ^ 64) t == 1) ≡ true → s ≡ t
+only_one s t small low on = eqb-true s t (sym (word_has (λ t. is_square (Some s) t) _ t (word_only s small) low) ∙ on)
+
+-- a king guards where he steps
+king_steps : (c : Colour) (k t : ℕ) → guards c King k t ≡ list_any (leaps k t) queen_steps
+unfolding guards reaches_as
+king_steps c k t = refl
+
+-- the squares that have to be held: next to the king
+pub held_around : (k t w s : ℕ) → w ≡ word (λ t. list_any (leaps k t) queen_steps) → t < 64 → (bit_at (bit_and w s) t == 1) ≡ true → guards White King k t ≡ true
+held_around k t w s h small on = king_steps White k t ∙ sym (word_has (λ t. list_any (leaps k t) queen_steps) w t h small) ∙ on_first w s t on
+
+-- and for mate the king's own
+pub held_for_mate : (goal : Goal) (k i t w s : ℕ) → goal ≡ Mate → i ≡ k → k < 64 → w ≡ word (λ t. list_any (leaps k t) queen_steps) → t < 64
+    → (bit_at (bit_or (bit_and w s) (1 * 2 ^ i % 2 ^ 64)) t == 1) ≡ true → ((goal ≡ Mate) × (k ≡ t)) ⊎ (guards White King k t ≡ true)
+held_for_mate goal k i t w s mate same low h small on = elim (on_either _ _ t on) [
+  | inl around ↦ inr (held_around k t w s h small around)
+  | inr here ↦ inl (mate, only_one k t low small (subst (λ n. (bit_at (1 * 2 ^ n % 2 ^ 64) t == 1) ≡ true) same here))
+]
+
+none_stays : list_all (λ s. not (list_any (leaps s s) queen_steps)) (range_with_len 0 64) ≡ true
+unfolding leaps along
+none_stays = refl
+
+-- a king doesn't guard his own square
+off_himself : (c : Colour) (k t : ℕ) → k < 64 → guards c King k t ≡ true → k ≢ t
+off_himself c k t small guarded same =
+    let alone : not (list_any (leaps k k) queen_steps) ≡ true = all_at (λ s. not (list_any (leaps s s) queen_steps)) 0 64 k none_stays (omega arith) (omega (arith, small)) in
+    let step : list_any (leaps k k) queen_steps ≡ true = subst (λ x. list_any (leaps k x) queen_steps ≡ true) (sym same) (sym (king_steps c k t) ∙ guarded) in
+    false≢true (ap not (sym step) ∙ alone)
+
+-- a mating king that ends apart isn't among the squares next to the other
+pub apart_off : (q : Quest) (ends : Ends) (i w : ℕ) (g : Guard) → IsApart q ends → guard_at q.guards i ≡ g → i < q.count → same_kind g.kind King ≡ true
+    → w ≡ word (λ t. list_any (leaps q.king t) queen_steps) → q.king < 64 → (end_at q ends i).square < 64
+    → has g.kind (end_at q ends i).kind (end_at q ends i).square (record { unpromoted = w; queen = 0; knight = 0 }) ≡ false
+apart_off q ends i w g apart is lt king h low small =
+    let e = end_at q ends i in
+    let off : guards q.colour King e.square q.king ≡ false = apart.apart i lt (ap (λ (x : Guard). same_kind x.kind King) is ∙ king) in
+    king_part g.kind e.kind e.square w king
+    (word_has (λ t. list_any (leaps q.king t) queen_steps) w e.square h small ∙ sym (king-back e.square q.king small low) ∙ sym (king_steps q.colour e.square q.king) ∙ off)
+  where
+    king_part : (k j : Kind) (t w : ℕ) → same_kind k King ≡ true → (bit_at w t == 1) ≡ false
+        → has k j t (record { unpromoted = w; queen = 0; knight = 0 }) ≡ false
+    king_part k j t w h off = subst (λ x. has x j t (record { unpromoted = w; queen = 0; knight = 0 }) ≡ false) (sym (same_kind-true k King h)) off
+
+-- a man of a colour
+man_of : (o : Option Man) (c : Colour) → is_of_colour o c ≡ true → (x : Man) × (o ≡ Some x) × (x.colour ≡ c)
+man_of None c h = absurd (false≢true h)
+man_of (Some x) c h = (x, refl, same_colour-true x.colour c h)
+
+king_of : (o : Option Man) (c : Colour) → is_man o c King ≡ true → o ≡ Some (record { colour = c; kind = King })
+king_of None c h = absurd (false≢true h)
+king_of (Some x) c h =
+    let parts = and_parts _ _ h in
+    ap (λ k. Some (record { colour = k; kind = x.kind })) (same_colour-true x.colour c parts.0)
+    ∙ ap (λ k. Some (record { colour = c; kind = k })) (same_kind-true x.kind King parts.1)
+
+board_square : (men : List (Option Man)) (c : Colour) (s : ℕ) → length men ≡ 64 → is_of_colour (man_on men s) c ≡ true → s < 64
+board_square men c s size h = grind (arith, cases_lt, get_or_past)
+
+module _ (goal : Goal) (p : Position) (q : Quest) (king : Guard) (ours theirs : ℕ) (ends : Ends) (plan : IsPlan goal p q.colour ours theirs q.king ends)
+    (of : IsQuestOf p q king ours theirs) where
+  -- the other side's king
+  king_stands : is_man (man_on p.men king.from) (other q.colour) King ≡ true
+  unfolding king_square squares
+  king_stands = (find_first (λ s. is_man (man_on p.men s) (other q.colour) King) 0 64 king.from of.stands).here
+
+  king_gets : Gets (may_promote p) (other q.colour) (ends king.from).moves King king.from (ends king.from).kind (ends king.from).square
+  king_gets = plan.gets king.from _ (king_of (man_on p.men king.from) (other q.colour) king_stands)
+
+  -- no man makes more moves than its side
+  spends_within : (c : Colour) (n s : ℕ) → price p.men c ends ≤ n → s < 64 → is_of_colour (man_on p.men s) c ≡ true → (ends s).moves ≤ n
+  unfolding price squares
+  spends_within c n s all small mine =
+      let f : ℕ → ℕ = λ s. if is_of_colour (man_on p.men s) c then (ends s).moves else 0 in
+      omega (arith, all, one_within f 0 64 s (omega arith) (omega (arith, small)), cond-true (is_of_colour (man_on p.men s) c) (ends s).moves 0 mine)
+
+  king_colour : is_of_colour (man_on p.men king.from) (other q.colour) ≡ true
+  king_colour = ap (λ o. is_of_colour o (other q.colour)) (king_of (man_on p.men king.from) (other q.colour) king_stands) ∙ same_as_itself (other q.colour)
+    where
+      same_as_itself : (c : Colour) → is_of_colour (Some (record { colour = c; kind = King })) c ≡ true
+      same_as_itself c = grind arith
+
+  pub king_moves : (ends king.from).moves ≤ theirs
+  king_moves = spends_within (other q.colour) theirs king.from plan.theirs of.small king_colour
+
+  -- the king gets to his square
+  pub king_arrives : has king.kind (ends king.from).kind (ends king.from).square (slice_index_or king.chain (ends king.from).moves nowhere) ≡ true
+  king_arrives = subst (λ k. has k (ends king.from).kind (ends king.from).square (slice_index_or king.chain (ends king.from).moves nowhere) ≡ true) (sym of.kind)
+      (of.way.gets (may_promote p) (ends king.from).moves (ends king.from).kind (ends king.from).square king_moves of.usual king_gets)
+
+  pub king_there : (w : Whereabouts) → ((k : Kind) → has k k q.king w ≡ true) → has king.kind (ends king.from).kind (ends king.from).square w ≡ true
+  king_there w at =
+      let stays : (ends king.from).kind ≡ King = (gets_be (may_promote p) (other q.colour) (ends king.from).moves King king.from _ _ of.usual king_gets).piece refl in
+      subst (λ s. has king.kind (ends king.from).kind s w ≡ true) (sym (plan.king king.from king_stands))
+      (subst (λ k. has king.kind k q.king w ≡ true) (of.kind ∙ sym stays) (at king.kind))
+
+  guard_gets : (i : ℕ) → i < q.count
+      → Gets (may_promote p) q.colour (end_at q ends i).moves (guard_at q.guards i).kind (guard_at q.guards i).from (end_at q ends i).kind (end_at q ends i).square
+  guard_gets i lt = plan.gets (guard_at q.guards i).from _ (of.guards.each i lt)
+
+  all_moves : sum_by (λ i. (end_at q ends i).moves) (range_with_len 0 q.count) ≤ ours
+  unfolding price
+  all_moves = omega (arith, of.guards.sum (λ s. (ends s).moves), plan.ours)
+
+  guard_moves : (i : ℕ) → i < q.count → (end_at q ends i).moves ≤ ours
+  guard_moves i lt = omega (arith, all_moves, one_within (λ i. (end_at q ends i).moves) 0 q.count i (omega arith) (omega (arith, lt)))
+
+  can_end : ours < 9 → (i : ℕ) → i < q.count → CanEnd (guard_at q.guards i) (end_at q ends i)
+  can_end few i lt = record {
+    gets = (of.guards.chains i lt).gets (may_promote p) (end_at q ends i).moves _ _ (guard_moves i lt) of.usual (guard_gets i lt);
+    few = omega (arith, guard_moves i lt, few);
+    be = gets_be (may_promote p) q.colour (end_at q ends i).moves _ _ _ _ of.usual (guard_gets i lt);
+    small = gets_small (may_promote p) q.colour (end_at q ends i).moves _ _ _ _ (of.guards.small i lt) (guard_gets i lt);
+  }
+
+  blocker_moves : (s : ℕ) → s < 64 → is_blocker p.men (other q.colour) s ≡ true → (ends s).moves ≤ theirs
+  blocker_moves s small blocker = spends_within (other q.colour) theirs s plan.theirs small (and_parts (is_of_colour (man_on p.men s) (other q.colour)) _ blocker).0
+
+  -- who guards is a guard
+  guard_does : (t : ℕ) → IsGuarded p.men q.colour ends q.king t → (i : ℕ) × (i < q.count) × DoesGuard q ends t i
+  guard_does t g =
+      let (i, lt, is) = of.guards.all g.by (board_square p.men q.colour g.by of.size g.ours) g.ours in
+      (i, lt, subst (λ s. ((ends s).square ≢ q.king) × (guards q.colour (ends s).kind (ends s).square t ≡ true)) (sym is) (g.off, g.guards))
+
+  -- who blocks is a blocker
+  blocker_does : (t : ℕ) → q.king ≢ t → IsBlocked p.men (other q.colour) ends t
+      → (s : ℕ) × (s < 64) × (is_blocker p.men (other q.colour) s ≡ true) × ((ends s).square ≡ t) × (t ≢ q.king)
+  blocker_does t off b =
+      let none : is_man (man_on p.men b.by) (other q.colour) King ≡ false = elim (cases_Bool (is_man (man_on p.men b.by) (other q.colour) King)) [
+        | inr no_king ↦ no_king
+        | inl is ↦ absurd (off (sym (plan.king b.by is) ∙ b.there))
+      ] in
+      (b.by, board_square p.men (other q.colour) b.by of.size b.theirs, and_from _ _ b.theirs (ap not none), b.there, λ e. off (sym e))
+
+  held : q.king < 64 → (t : ℕ) → (((goal ≡ Mate) × (q.king ≡ t)) ⊎ (guards White King q.king t ≡ true)) → IsHeld q p.men ends t
+  held low t (inl (mate, here)) = inl (guard_does t (subst (λ x. IsGuarded p.men q.colour ends q.king x) here (plan.check mate)))
+  held low t (inr near) = elim (plan.around t (king_steps (other q.colour) q.king t ∙ sym (king_steps White q.king t) ∙ near)) [
+    | inl guarded ↦ inl (guard_does t guarded)
+    | inr blocked ↦ inr (blocker_does t (off_himself White q.king t low near) blocked)
+  ]
+
+  -- mating men end apart
+  pub ends_apart : IsApart q ends
+  ends_apart = record {
+    apart = λ i lt king_kind. plan.apart (guard_at q.guards i).from (ap (λ o. is_man o q.colour King) (of.guards.each i lt) ∙ is_king q.colour (guard_at q.guards i).kind king_kind);
+  }
+    where
+      is_king : (c : Colour) (k : Kind) → same_kind k King ≡ true → is_man (Some (record { colour = c; kind = k })) c King ≡ true
+      is_king c k h = grind (arith, h)
+
+  -- all that the search keeps holds at its beginning
+  pub plan_holds : (places : List Place) (w steps : ℕ) → ours < 9 → q.king < 64
+      → ((i : ℕ) → i < q.count → place_at places i ≡ record { squares = slice_index_or (guard_at q.guards i).chain ours nowhere; moves = 0 })
+      → ((t : ℕ) → t < 64 → (bit_at w t == 1) ≡ true → (((goal ≡ Mate) × (q.king ≡ t)) ⊎ (guards White King q.king t ≡ true)))
+      → steps ≤ (ends king.from).moves → Holds q p.men places w ours (theirs - steps) ends
+  unfolding price blocked unpaid squares
+  plan_holds places w steps few low first needs cheap = record {
+    guards = can_end few;
+    blockers = λ s small blocker.
+        let (x, is, colour) = man_of (man_on p.men s) (other q.colour) (and_parts (is_of_colour (man_on p.men s) (other q.colour)) _ blocker).0 in
+        of.blocks.gets s x (ends s).moves (ends s).kind (ends s).square small is blocker (blocker_moves s small blocker) (plan.gets s x is);
+    few = λ s small blocker. omega (arith, blocker_moves s small blocker, of.few);
+    inside = λ i lt. subst (λ x. IsIn (guard_at q.guards i) x (end_at q ends i)) (sym (first i lt)) (record {
+      on = (of.guards.chains i lt).grows (end_at q ends i).moves ours _ _ (guard_moves i lt) (omega arith) (can_end few i lt).small (can_end few i lt).gets;
+      paid = omega arith;
+    });
+    paid = omega (arith, all_moves, sum_within (λ i. (end_at q ends i).moves) (λ i. (end_at q ends i).moves - (place_at places i).moves) 0 q.count (λ i lt. omega arith));
+    blocking = omega (arith, plan.theirs, sum_less spends blocks 0 64 king.from steps (omega arith) (omega (arith, of.small)) (λ s lt. less s) here);
+    holds = λ t small on. held low t (needs t small on);
+  }
+    where
+      spends : ℕ → ℕ
+      spends s = if is_of_colour (man_on p.men s) (other q.colour) then (ends s).moves else 0
+
+      blocks : ℕ → ℕ
+      blocks s = if is_blocker p.men (other q.colour) s && (bit_at w (ends s).square == 1) then (ends s).moves else 0
+
+      less : (s : ℕ) → blocks s ≤ spends s
+      less s = elim (cases_Bool (is_blocker p.men (other q.colour) s && (bit_at w (ends s).square == 1))) [
+        | inr off ↦ omega (arith, cond-false (is_blocker p.men (other q.colour) s && (bit_at w (ends s).square == 1)) (ends s).moves 0 off)
+        | inl on ↦ omega (
+          arith,
+          cond-true (is_blocker p.men (other q.colour) s && (bit_at w (ends s).square == 1)) (ends s).moves 0 on,
+          cond-true (is_of_colour (man_on p.men s) (other q.colour)) (ends s).moves 0
+              (and_parts (is_of_colour (man_on p.men s) (other q.colour)) _ (and_parts (is_blocker p.men (other q.colour) s) _ on).0).0,
+        )
+      ]
+
+      here : blocks king.from + steps ≤ spends king.from
+      here =
+          let mine = cond-true (is_of_colour (man_on p.men king.from) (other q.colour)) (ends king.from).moves 0 king_colour in
+          let none : is_blocker p.men (other q.colour) king.from ≡ false = grind (arith, king_stands) in
+          let off = cond-false (is_blocker p.men (other q.colour) king.from && (bit_at w (ends king.from).square == 1)) (ends king.from).moves 0 (and_left _ _ none) in
+          omega (arith, mine, off, cheap)
+
+-- the square is one of its own bitboard
+pub bit_here : (i s : ℕ) → i ≡ s → s < 64 → (bit_at (1 * 2 ^ i % 2 ^ 64) s == 1) ≡ true
+bit_here i s same small = subst (λ n. (bit_at (1 * 2 ^ n % 2 ^ 64) s == 1) ≡ true) (sym same)
+    (word_has (λ t. is_square (Some s) t) (1 * 2 ^ s % 2 ^ 64) s (word_only s small) small ∙ eq-eqb s s refl)
+
+-- the king of a plan gets to his square
+pub king_near : (goal : Goal) (p : Position) (c d : Colour) (ours theirs k from : ℕ) (ends : Ends) (chain : List Whereabouts) → d ≡ other c
+    → IsPlan goal p c ours theirs k ends → king_square p.men d ≡ Some from → from < 64 → IsUsual (may_promote p)
+    → IsChain (record { colour = d; kind = King }) from theirs chain → k < 64 → (bit_at (slice_index_or chain theirs nowhere).unpromoted k == 1) ≡ true
+unfolding king_square squares price
+king_near goal p c d ours theirs k from ends chain enemy plan stands small usual way low =
+    let here : is_man (man_on p.men from) d King ≡ true = (find_first (λ s. is_man (man_on p.men s) d King) 0 64 from stands).here in
+    let man : man_on p.men from ≡ Some (record { colour = d; kind = King }) = king_of (man_on p.men from) d here in
+    let f : ℕ → ℕ = λ s. if is_of_colour (man_on p.men s) (other c) then (ends s).moves else 0 in
+    let colour : is_of_colour (man_on p.men from) (other c) ≡ true = subst (λ x. is_of_colour (man_on p.men from) x ≡ true) enemy (ap (λ o. is_of_colour o d) man ∙ own_colour d) in
+    let few : (ends from).moves ≤ theirs = omega (
+      arith,
+      plan.theirs,
+      one_within f 0 64 from (omega arith) (omega (arith, small)),
+      cond-true (is_of_colour (man_on p.men from) (other c)) (ends from).moves 0 colour,
+    ) in
+    let gets = plan.gets from _ man in
+    let had : has King (ends from).kind (ends from).square (slice_index_or chain theirs nowhere) ≡ true =
+    way.grows (ends from).moves theirs (ends from).kind (ends from).square few (omega arith)
+    (gets_small (may_promote p) d (ends from).moves King from _ _ small gets) (way.gets (may_promote p) (ends from).moves _ _ few usual gets) in
+    subst (λ s. (bit_at (slice_index_or chain theirs nowhere).unpromoted s == 1) ≡ true)
+    (plan.king from (subst (λ x. is_man (man_on p.men from) x King ≡ true) enemy here)) had
+  where
+    own_colour : (x : Colour) → is_of_colour (Some (record { colour = x; kind = King })) x ≡ true
+    own_colour x = grind arith
+
+-- promotion to nightrider apart, pawns promote as usual
+pub usual_promotion : (p : Position) → may_promote p Nightrider ≡ false → IsUsual (may_promote p)
+usual_promotion p h = record { king = refl; pawn = refl; rider = h }
+
+-- the squares of an empty bitboard
+pub none_near : (a b k : ℕ) → bit_and a b ≡ 0 → (bit_at a k == 1) ≡ true → (bit_at b k == 1) ≡ true → ⊥
+none_near a b k empty on too =
+    false≢true (sym (off_zero k) ∙ ap (λ w. bit_at w k == 1) (sym empty) ∙ on_both a b k on too)
+
+pub both_near : (a b k : ℕ) → (bit_at a k == 1) ≡ true → (bit_at b k == 1) ≡ true → (bit_at (bit_and a b) k == 1) ≡ true
+both_near a b k on too = on_both a b k on too

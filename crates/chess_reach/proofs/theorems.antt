@@ -1,0 +1,2 @@
+-- What plans mean: theorems for readers.
+pub mod Plans

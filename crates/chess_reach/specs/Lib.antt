@@ -1,0 +1,4 @@
+pub mod Reach
+pub mod Plans
+pub mod Lines
+pub mod ties

@@ -1,0 +1,68 @@
+-- What a mate needs, and what it costs in moves (own). In the last position of a help mate each square next
+-- to the king is guarded by an enemy man or holds a man of the king's side, and an enemy man checks. A plan
+-- says where each man ends, and in how many moves it gets there.
+use Rattle.std.specs.Prelude.{◌≡◌, ◌≢◌, ℕ, ◌≤◌, true, false, if◌then◌else◌, List, Option, Some, ◌⊎◌}
+use Rattle.std.specs.List.{sum_by}
+use Rattle.chess_core.specs.Squares.{squares}
+use Rattle.chess_core.specs.SquareNames.{e1, e8}
+use Rattle.chess_core.specs.Castling.{has_unmoved}
+use Rattle.chess_core.specs.Position.{Position, is_man, is_of_colour, man_on, may_promote, other}
+use Rattle.chess_core.specs.declared.man.Man.{Man}
+use Rattle.chess_core.specs.declared.man.Colour.{Colour}
+use Rattle.chess_core.specs.declared.man.Colour.TheVariants.{White, Black}
+use Rattle.chess_core.specs.declared.man.Kind.{Kind}
+use Rattle.chess_core.specs.declared.man.Kind.TheVariants.{King}
+use Rattle.pop_stipulation.specs.declared.stipulation.Goal.{Goal}
+use Rattle.pop_stipulation.specs.declared.stipulation.Goal.TheVariants.{Mate}
+use Rattle.chess_reach.specs.Reach.{Gets, guards}
+
+-- where a man ends and of which kind, and in how many moves
+pub record End : Type 0 where
+  pub kind : Kind
+  pub square : ℕ
+  pub moves : ℕ
+
+-- the end of each man, by the square on which it is now
+abbrev pub Ends : Type 0
+Ends = ℕ → End
+
+-- the moves that the men of a colour need to their ends
+unfoldable pub price : List (Option Man) → Colour → Ends → ℕ
+price men c ends =
+    sum_by (λ s. if is_of_colour (man_on men s) c then (ends s).moves else 0) squares
+
+-- a man of colour c guards t from its end, which isn't the square k of the king
+pub record IsGuarded (men : List (Option Man)) (c : Colour) (ends : Ends) (k t : ℕ) : Type 0 where
+  pub by : ℕ
+  pub ours : is_of_colour (man_on men by) c ≡ true
+  pub off : (ends by).square ≢ k
+  pub guards : guards c (ends by).kind (ends by).square t ≡ true
+
+-- a man of colour c ends on t
+pub record IsBlocked (men : List (Option Man)) (c : Colour) (ends : Ends) (t : ℕ) : Type 0 where
+  pub by : ℕ
+  pub theirs : is_of_colour (man_on men by) c ≡ true
+  pub there : (ends by).square ≡ t
+
+-- colour c makes n moves and the other side m; the king of the other side ends on k, not next to the king of
+-- colour c; it can't move there, and for mate is in check
+pub record IsPlan (goal : Goal) (p : Position) (c : Colour) (n m k : ℕ) (ends : Ends) : Type 0 where
+  pub gets : (s : ℕ) (x : Man) → man_on p.men s ≡ Some x
+      → Gets (may_promote p) x.colour (ends s).moves x.kind s (ends s).kind (ends s).square
+  pub ours : price p.men c ends ≤ n
+  pub theirs : price p.men (other c) ends ≤ m
+  pub king : (s : ℕ) → is_man (man_on p.men s) (other c) King ≡ true → (ends s).square ≡ k
+  pub apart : (s : ℕ) → is_man (man_on p.men s) c King ≡ true
+      → guards c King (ends s).square k ≡ false
+  pub around : (t : ℕ) → guards (other c) King k t ≡ true
+      → IsGuarded p.men c ends k t ⊎ IsBlocked p.men (other c) ends t
+  pub check : goal ≡ Mate → IsGuarded p.men c ends k k
+
+-- the square from which a colour's king castles (FIDE Laws 3.8.2)
+abbrev pub king_home : Colour → ℕ
+king_home White = e1
+king_home Black = e8
+
+-- the moves that castling may save a side: two of its king and one of its rook are one, once
+abbrev pub saved_moves : Position → Colour → ℕ
+saved_moves p c = if has_unmoved p.unmoved (king_home c) then 2 else 0

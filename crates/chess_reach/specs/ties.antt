@@ -1,0 +1,4 @@
+pub mod Guards
+pub mod Hold
+pub mod Whereabouts
+pub mod Ways

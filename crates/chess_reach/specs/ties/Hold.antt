@@ -1,0 +1,80 @@
+-- What the search for a plan knows (own).
+use Rattle.std.specs.Prelude.{ℕ, ◌≡◌, ◌≢◌, ◌≤◌, ◌<◌, ◌-◌, ◌==◌, true, false, length, ◌&&◌, if◌then◌else◌, List, Option, Some, slice_index_or, ◌⊎◌}
+use Rattle.std.specs.Int.{bit_at}
+use Rattle.std.specs.List.{range_with_len, sum_by}
+use Rattle.chess_core.specs.Position.{Position, king_square, may_promote, other, same_kind}
+use Rattle.chess_core.specs.Squares.{squares}
+use Rattle.chess_core.specs.declared.man.Kind.TheVariants.{King}
+use Rattle.chess_core.specs.declared.man.Man.{Man}
+use Rattle.chess_reach.specs.Plans.{End, Ends}
+use Rattle.chess_reach.specs.Reach.{guards}
+use Rattle.chess_reach.specs.declared.guards.Guard.{Guard}
+use Rattle.chess_reach.specs.declared.hold.Place.{Place}
+use Rattle.chess_reach.specs.declared.hold.Quest.{Quest}
+use Rattle.chess_reach.specs.ties.Guards.{AreBlocks, AreGuards, CanEnd, guard_at, is_blocker}
+use Rattle.chess_reach.specs.ties.Whereabouts.{has}
+use Rattle.chess_reach.specs.ties.Ways.{IsChain, IsUsual, nowhere}
+
+-- the place with this number
+abbrev pub place_at : List Place → ℕ → Place
+place_at ps i = slice_index_or ps i (record { squares = nowhere; moves = 0 })
+
+-- the end of the guard with this number
+abbrev pub end_at : Quest → Ends → ℕ → End
+end_at q ends i = ends (guard_at q.guards i).from
+
+-- the end is in the place
+pub record IsIn (g : Guard) (p : Place) (e : End) : Type 0 where
+  pub on : has g.kind e.kind e.square p.squares ≡ true
+  pub paid : p.moves ≤ e.moves
+
+-- the guard with number i guards t from its end, which isn't the king's square
+abbrev pub DoesGuard : Quest → Ends → ℕ → ℕ → Type 0
+DoesGuard q ends t i = ((end_at q ends i).square ≢ q.king)
+    × (guards q.colour (end_at q ends i).kind (end_at q ends i).square t ≡ true)
+
+-- t is guarded or blocked
+abbrev pub IsHeld : Quest → List (Option Man) → Ends → ℕ → Type 0
+IsHeld q men ends t =
+    ((i : ℕ) × (i < q.count) × DoesGuard q ends t i)
+    ⊎ ((s : ℕ) × (s < 64) × (is_blocker men (other q.colour) s ≡ true) × ((ends s).square ≡ t) × (t ≢ q.king))
+
+-- the moves that blockers spend who end on squares of the bitboard w
+unfoldable pub blocked : Quest → List (Option Man) → Ends → ℕ → ℕ
+blocked q men ends w =
+    sum_by (λ s. if is_blocker men (other q.colour) s && (bit_at w (ends s).square == 1)
+    then (ends s).moves else 0) squares
+
+-- the moves of the guards' ends, less the moves of their places
+unfoldable pub unpaid : Quest → List Place → Ends → ℕ
+unpaid q places ends =
+    sum_by (λ i. (end_at q ends i).moves - (place_at places i).moves) (range_with_len 0 q.count)
+
+-- guards end in their places, with at most `ours` moves beyond those, and hold the squares of w with
+-- blockers that spend at most `theirs` moves
+pub record Holds (q : Quest) (men : List (Option Man)) (places : List Place) (w ours theirs : ℕ) (ends : Ends) : Type 0 where
+  pub guards : (i : ℕ) → i < q.count → CanEnd (guard_at q.guards i) (end_at q ends i)
+  pub blockers : (s : ℕ) → s < 64 → is_blocker men (other q.colour) s ≡ true
+      → (bit_at (slice_index_or q.blockable (ends s).moves 0) (ends s).square == 1) ≡ true
+  pub few : (s : ℕ) → s < 64 → is_blocker men (other q.colour) s ≡ true → (ends s).moves < 9
+  pub inside : (i : ℕ) → i < q.count → IsIn (guard_at q.guards i) (place_at places i) (end_at q ends i)
+  pub paid : unpaid q places ends ≤ ours
+  pub blocking : blocked q men ends w ≤ theirs
+  pub holds : (t : ℕ) → t < 64 → (bit_at w t == 1) ≡ true → IsHeld q men ends t
+
+-- a mating king doesn't end next to the other
+pub record IsApart (q : Quest) (ends : Ends) : Type 0 where
+  pub apart : (i : ℕ) → i < q.count → same_kind (guard_at q.guards i).kind King ≡ true
+      → guards q.colour King (end_at q ends i).square q.king ≡ false
+
+-- the quest has the guards, the blockers and the king of the position
+pub record IsQuestOf (p : Position) (q : Quest) (king : Guard) (ours theirs : ℕ) : Type 0 where
+  pub size : length p.men ≡ 64
+  pub few : theirs < 9
+  pub guards : AreGuards p.men q.colour ours q.guards q.count
+  pub blocks : AreBlocks (may_promote p) p.men (other q.colour) theirs q.blockable
+  pub usual : IsUsual (may_promote p)
+  pub kind : king.kind ≡ King
+  pub stands : king_square p.men (other q.colour) ≡ Some king.from
+  pub small : king.from < 64
+  pub way : IsChain (record { colour = other q.colour; kind = King }) king.from theirs king.chain

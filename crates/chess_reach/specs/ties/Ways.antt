@@ -1,0 +1,52 @@
+-- Where a man gets, as the search for plans computes it (own).
+use Rattle.std.specs.Prelude.{ℕ, ◌≡◌, ◌≢◌, ◌≤◌, ◌<◌, ◌==◌, Bool, true, false, ◌||◌, ◌&&◌, List, slice_index_or}
+use Rattle.chess_core.specs.Position.{same_kind}
+use Rattle.chess_core.specs.Squares.{is_square, rank_of}
+use Rattle.chess_core.specs.Steps.{along}
+use Rattle.chess_core.specs.declared.man.Colour.{Colour}
+use Rattle.chess_attacks.specs.Reaches.{forward}
+use Rattle.chess_rules.specs.Legal.{second_rank}
+use Rattle.chess_core.specs.declared.man.Kind.{Kind}
+use Rattle.chess_core.specs.declared.man.Kind.TheVariants.{King, Nightrider, Pawn}
+use Rattle.chess_core.specs.declared.man.Man.{Man}
+use Rattle.chess_reach.specs.Reach.{Gets, goes}
+use Rattle.chess_reach.specs.declared.whereabouts.Whereabouts.{Whereabouts}
+use Rattle.chess_reach.specs.ties.Whereabouts.{has}
+
+-- no square
+abbrev pub nowhere : Whereabouts
+nowhere = record { unpromoted = 0; queen = 0; knight = 0 }
+
+-- a pawn steps from s to t
+abbrev pub steps_to : Colour → ℕ → ℕ → Bool
+steps_to c s t = is_square (along s (forward c) 1) t
+    || (rank_of s == second_rank c && is_square (along s (forward c) 2) t)
+
+-- a man that is now of kind k can be of kind j: a pawn as itself or promoted, but not to nightrider, and
+-- another man as itself
+pub record CanBe (k j : Kind) : Type 0 where
+  pub piece : same_kind k Pawn ≡ false → j ≡ k
+  pub rider : same_kind k Pawn ≡ true → j ≢ Nightrider
+  pub king : same_kind k Pawn ≡ true → j ≢ King
+
+-- pawns promote neither to king nor to nightrider, and don't stay pawns
+pub record IsUsual (allowed : Kind → Bool) : Type 0 where
+  pub king : allowed King ≡ false
+  pub pawn : allowed Pawn ≡ false
+  pub rider : allowed Nightrider ≡ false
+
+-- in one move the man gets from where it can be, b, to w
+pub record Leads (x : Man) (b w : Whereabouts) : Type 0 where
+  pub leads : (allowed : Kind → Bool) (i j : Kind) (q t : ℕ) → q < 64 → t < 64 → CanBe x.kind i
+      → allowed Pawn ≡ false → goes allowed x.colour i q j t ≡ true
+      → has x.kind i q b ≡ true → has x.kind j t w ≡ true
+
+-- within n moves, at most m, the man gets from s only to where the n-th of the chain has it; later ones
+-- have it too
+pub record IsChain (x : Man) (s m : ℕ) (chain : List Whereabouts) : Type 0 where
+  pub gets : (allowed : Kind → Bool) (n : ℕ) (j : Kind) (t : ℕ) → n ≤ m → IsUsual allowed
+      → Gets allowed x.colour n x.kind s j t
+      → has x.kind j t (slice_index_or chain n nowhere) ≡ true
+  pub grows : (n l : ℕ) (j : Kind) (t : ℕ) → n ≤ l → l ≤ m → t < 64
+      → has x.kind j t (slice_index_or chain n nowhere) ≡ true
+      → has x.kind j t (slice_index_or chain l nowhere) ≡ true

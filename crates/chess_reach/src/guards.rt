@@ -1,0 +1,139 @@
+//! The mating side's men: where each can be, and from where it guards a square.
+ghost use Rattle.std.specs.Prelude.{◌≡◌, ◌≢◌, ◌+◌, ◌<◌, ◌≤◌, ℕ, true, IfSome, MatchOption, slice_index_or};
+ghost use Rattle.chess_core.specs.declared.man.Kind.{Kind};
+ghost use Rattle.chess_reach.specs.Reach.{guards};
+ghost use Rattle.chess_reach.specs.ties.Whereabouts.{has};
+ghost use Rattle.chess_reach.specs.ties.Ways.{CanBe, nowhere};
+ghost use Rattle.chess_reach.specs.ties.Guards.{AreGuards};
+
+use crate::ways::{Chain, MOVES, chain_of, without_hops};
+use crate::whereabouts::Whereabouts;
+use chess_attacks::unblocked::unblocked_reach;
+use chess_attacks::words::pop_first;
+use chess_core::{Board, Colour, Kind, Man, Square};
+
+/// The greatest number of men of the mating side with which plans are searched.
+pub(crate) const MEN: usize = 8;
+
+/// A man of the mating side.
+#[derive(Clone, Copy)]
+pub(crate) struct Guard {
+    pub(crate) kind: Kind,
+    /// Its square now.
+    pub(crate) from: Square,
+    /// Where it can be within each number of moves.
+    pub(crate) chain: Chain,
+}
+
+impl Guard {
+    // Returns a man without moves, which fills a place that isn't used.
+    pub(crate) fn unused() -> Guard {
+        Guard {
+            kind: Kind::King,
+            from: Square::numbered(0),
+            chain: [Whereabouts::nowhere(); MOVES],
+        }
+    }
+
+    // Returns where a man of this colour guards `square` from, other than `king`.
+    #[inline(always)]
+    pub(crate) fn guarding(&self, colour: Colour, king: Square, square: Square) -> Whereabouts
+        ensures { (j : Kind) (s : ℕ) → s < 64 → CanBe self.now.kind j → s ≢ king
+            → guards colour j s square ≡ true → has self.now.kind j s result ≡ true }
+    {
+        // For the proof: a square's number is below 64.
+        let _small = square.index();
+        let enemy = colour.other();
+        let off = !(1u64 << king.index());
+        let kind = without_hops(self.kind);
+        let unpromoted = unblocked_reach(
+            Man {
+                colour: enemy,
+                kind,
+            },
+            square,
+        ) & off;
+        if !self.kind.is(Kind::Pawn) {
+            return Whereabouts {
+                unpromoted,
+                queen: 0,
+                knight: 0,
+            };
+        }
+        let queen = unblocked_reach(
+            Man {
+                colour: enemy,
+                kind: Kind::Queen,
+            },
+            square,
+        ) & off;
+        let knight = unblocked_reach(
+            Man {
+                colour: enemy,
+                kind: Kind::Knight,
+            },
+            square,
+        ) & off;
+        Whereabouts {
+            unpromoted,
+            queen,
+            knight,
+        }
+    }
+
+    // Returns the fewest moves, at least `least` and at most `spare` more, in which the man gets to one of
+    // these squares; `None` if it doesn't.
+    #[inline(always)]
+    pub(crate) fn fewest(&self, squares: &Whereabouts, least: usize, spare: usize) -> Option<usize>
+        ensures within { IfSome result (λ n. (least ≤ n) × (n ≤ least + spare)) }
+        ensures fewest { (j : Kind) (s n : ℕ) → least ≤ n → n ≤ least + spare → n < 9
+            → has self.now.kind j s (slice_index_or self.now.chain n nowhere) ≡ true
+            → has self.now.kind j s squares.now ≡ true → MatchOption result ⊥ (λ f. f ≤ n) }
+    {
+        let mut moves = least;
+        while moves < MOVES && moves - least <= spare {
+            if self.chain[moves].meets(squares) {
+                return Some(moves);
+            }
+            moves += 1;
+        }
+        None
+    }
+}
+
+/// Lists the men of a colour, each with where it can be within each number of moves up to `most`. Returns
+/// their number, or `None` if there are more than eight.
+pub(crate) fn list_guards(
+    board: &Board,
+    colour: Colour,
+    most: usize,
+    guards: &mut [Guard; MEN],
+) -> Option<usize>
+    requires { most < 9 }
+    ensures { IfSome result (λ count. AreGuards board.now.men colour most guards.new count) }
+{
+    let mut rest = board.side(colour);
+    let mut count = 0;
+    while let Some(from) = pop_first(&mut rest) {
+        if count == MEN {
+            return None;
+        }
+        let Some(man) = board.man_at(from) else {
+            return None;
+        };
+        guards[count] = Guard {
+            kind: man.kind,
+            from,
+            chain: chain_of(
+                Man {
+                    colour,
+                    kind: man.kind,
+                },
+                from,
+                most,
+            ),
+        };
+        count += 1;
+    }
+    Some(count)
+}

@@ -1,0 +1,195 @@
+//! The search for a plan: guards and blockers that hold all squares around a king.
+ghost use Rattle.std.specs.Prelude.{◌≡◌, ◌+◌, ◌<◌, ◌≤◌, ◌==◌, ℕ, true, false, IfSome, MatchOption, List, Option, slice_index_or};
+ghost use Rattle.std.specs.Int.{bit_at};
+ghost use Rattle.chess_core.specs.declared.man.Man.{Man};
+ghost use Rattle.chess_reach.specs.Plans.{End, Ends};
+ghost use Rattle.chess_reach.specs.ties.Guards.{CanEnd};
+ghost use Rattle.chess_reach.specs.ties.Hold.{Holds, IsIn};
+ghost use Rattle.chess_reach.specs.ties.Whereabouts.{has};
+
+use crate::blocks::Blocks;
+use crate::guards::{Guard, MEN};
+use crate::ways::MOVES;
+use crate::whereabouts::Whereabouts;
+use chess_attacks::words::{contains, pop_first};
+use chess_core::{Colour, Square, Squares};
+
+/// Where a guard may end, and the fewest moves in which it gets to one of these squares.
+#[derive(Clone, Copy)]
+pub(crate) struct Place {
+    pub(crate) squares: Whereabouts,
+    pub(crate) moves: usize,
+}
+
+/// The places of the guards.
+pub(crate) type Places = [Place; MEN];
+
+/// What a plan has to hold, and who may hold it.
+#[derive(Drop)]
+pub(crate) struct Quest {
+    /// The mating side.
+    pub(crate) colour: Colour,
+    /// Where the king ends.
+    pub(crate) king: Square,
+    /// The number of guards.
+    pub(crate) count: usize,
+    pub(crate) guards: [Guard; MEN],
+    pub(crate) blockable: Blocks,
+}
+
+// Returns the place with these squares instead, if the guard gets to one of them in at most `spare` moves
+// more.
+#[inline(always)]
+pub(crate) fn narrowed(
+    guard: &Guard,
+    place: &Place,
+    squares: &Whereabouts,
+    spare: usize,
+) -> Option<Place>
+    ensures within { IfSome result (λ p. (place.now.moves ≤ p.moves)
+        × (p.moves ≤ place.now.moves + spare)) }
+    ensures kept { (e : End) → CanEnd guard.now e → place.now.moves ≤ e.moves
+        → e.moves ≤ place.now.moves + spare → has guard.now.kind e.kind e.square squares.now ≡ true
+        → MatchOption result ⊥ (λ p. IsIn guard.now p e) }
+{
+    match guard.fewest(squares, place.moves, spare) {
+        Some(moves) => Some(Place {
+            squares: *squares,
+            moves,
+        }),
+        None => None,
+    }
+}
+
+impl Quest {
+    // Returns the fewest moves, at most `most`, in which a blocker gets to this square; `None` if none does.
+    #[inline(always)]
+    fn block_price(&self, square: Square, most: usize) -> Option<usize>
+        ensures within { IfSome result (λ n. n ≤ most) }
+        ensures fewest { (n : ℕ) → n ≤ most → n < 9
+            → (bit_at (slice_index_or self.now.blockable n 0) square == 1) ≡ true
+            → MatchOption result (square ≡ self.now.king) (λ f. f ≤ n) }
+    {
+        if square == self.king {
+            return None;
+        }
+        let mut moves = 0;
+        while moves < MOVES && moves <= most {
+            if contains(self.blockable[moves], square) {
+                return Some(moves);
+            }
+            moves += 1;
+        }
+        None
+    }
+
+    // Returns how many men may hold this square with these moves, blockers counted as one.
+    fn holders(&self, places: &Places, square: Square, ours: usize, theirs: usize) -> usize
+        requires { self.now.count ≤ 8 }
+    {
+        let mut holders = match self.block_price(square, theirs) {
+            Some(_) => 1,
+            None => 0,
+        };
+        for i in 0..self.count {
+            let guard = &self.guards[i];
+            let place = &places[i];
+            let squares = place
+                .squares
+                .within(&guard.guarding(self.colour, self.king, square));
+            let most = place.moves.saturating_add(ours);
+            let most = if most < MOVES { most } else { MOVES - 1 };
+            if guard.chain[most].meets(&squares) {
+                holders += 1;
+            }
+        }
+        holders
+    }
+
+    // Returns the square that the fewest men may hold, or `None` if there is no square.
+    fn hardest(
+        &self,
+        places: &Places,
+        squares: Squares,
+        ours: usize,
+        theirs: usize,
+    ) -> Option<Square>
+        requires { self.now.count ≤ 8 }
+        ensures { IfSome result (λ s. (s < 64) × ((bit_at squares s == 1) ≡ true)) }
+    {
+        let mut rest = squares;
+        let Some(mut hardest) = pop_first(&mut rest) else {
+            return None;
+        };
+        let mut fewest = self.holders(places, hardest, ours, theirs);
+        while let Some(square) = pop_first(&mut rest) {
+            let holders = self.holders(places, square, ours, theirs);
+            if holders < fewest {
+                hardest = square;
+                fewest = holders;
+            }
+        }
+        Some(hardest)
+    }
+}
+
+// Returns the squares without this one.
+#[inline(always)]
+fn taken_from(squares: Squares, square: Square) -> Squares
+    requires { (bit_at squares square == 1) ≡ true }
+    ensures gone { (bit_at result square == 1) ≡ false }
+    ensures others { (t : ℕ) → (bit_at result t == 1) ≡ true → (bit_at squares t == 1) ≡ true }
+    ensures fewer { result < squares }
+{
+    squares & !(1u64 << square.index())
+}
+
+/// Returns whether guards in these places, which make at most `ours` moves more, and blockers that make at
+/// most `theirs` may hold the squares of `unheld`. It says no only if they can't.
+pub(crate) fn can_hold(
+    quest: &Quest,
+    places: &Places,
+    unheld: Squares,
+    ours: usize,
+    theirs: usize,
+) -> bool
+    requires { quest.now.count ≤ 8 }
+    ensures { (men : List (Option Man)) (ends : Ends)
+        → Holds quest.now men places.now unheld ours theirs ends → result ≡ true }
+{
+    let Some(square) = quest.hardest(places, unheld, ours, theirs) else {
+        return true;
+    };
+    let rest = taken_from(unheld, square);
+    let mut left = *places;
+    let mut spare = ours;
+    for i in 0..quest.count {
+        let guard = &quest.guards[i];
+        let place = left[i];
+        let guarding = guard.guarding(quest.colour, quest.king, square);
+        let kept = narrowed(guard, &place, &place.squares.within(&guarding), spare);
+        if let Some(kept) = kept {
+            let mut with = left;
+            with[i] = kept;
+            if can_hold(
+                quest,
+                &with,
+                rest,
+                spare - (kept.moves - place.moves),
+                theirs,
+            ) {
+                return true;
+            }
+            let off = narrowed(guard, &place, &place.squares.without(&guarding), spare);
+            let Some(off) = off else {
+                return false;
+            };
+            spare -= off.moves - place.moves;
+            left[i] = off;
+        }
+    }
+    let Some(price) = quest.block_price(square, theirs) else {
+        return false;
+    };
+    can_hold(quest, &left, rest, spare, theirs - price)
+}

@@ -1,0 +1,167 @@
+//! The squares for which there may be a plan.
+ghost use Rattle.std.specs.Prelude.{◌≡◌, ◌<◌, ◌≤◌, ◌==◌, ℕ, true, List, Option, MatchOption, slice_index_or, ◌⊎◌};
+ghost use Rattle.std.specs.Int.{bit_at};
+ghost use Rattle.chess_core.specs.Position.{Position};
+ghost use Rattle.chess_core.specs.WellFormed.{IsWellFormed};
+ghost use Rattle.pop_stipulation.specs.declared.stipulation.Goal.TheVariants.{Mate};
+ghost use Rattle.chess_reach.specs.Plans.{Ends, IsPlan};
+ghost use Rattle.chess_core.specs.declared.man.Colour.TheVariants.{White};
+ghost use Rattle.chess_core.specs.declared.man.Kind.TheVariants.{King};
+ghost use Rattle.chess_core.specs.declared.man.Man.{Man};
+ghost use Rattle.chess_reach.specs.Reach.{guards};
+ghost use Rattle.chess_reach.specs.ties.Guards.{guard_at};
+ghost use Rattle.chess_reach.specs.ties.Hold.{Holds, IsApart, IsQuestOf, place_at};
+ghost use Rattle.chess_reach.specs.ties.Ways.{nowhere};
+
+use crate::blocks::blocks_of;
+use crate::guards::{Guard, MEN, list_guards};
+use crate::hold::{Place, Places, Quest, can_hold, narrowed};
+use crate::ways::{MOVES, chain_of};
+use crate::whereabouts::Whereabouts;
+use chess_attacks::leaps::king_leaps;
+use chess_attacks::words::pop_first;
+use chess_core::{Board, Colour, Kind, Man, Square, Squares};
+use pop_stipulation::Goal;
+
+// Returns the squares that have to be held: those next to the king without a blocker, and for mate the
+// king's own, since he is in check.
+#[inline(always)]
+fn unheld_squares(goal: Goal, king: Square, standing: Squares) -> Squares
+    ensures { (t : ℕ) → t < 64 → (bit_at result t == 1) ≡ true
+        → ((goal ≡ Mate) × (king ≡ t)) ⊎ (guards White King king t ≡ true) }
+{
+    let around = king_leaps(king) & !standing;
+    match goal {
+        Goal::Mate => around | 1u64 << king.index(),
+        Goal::Stalemate => around,
+    }
+}
+
+// Returns where the guards may end within `most` moves.
+fn first_places(quest: &Quest, most: usize) -> Places
+    requires count { quest.now.count ≤ 8 }
+    requires moves { most < 9 }
+    ensures { (i : ℕ) → i < quest.now.count
+        → place_at result i ≡ record {
+          squares = slice_index_or (guard_at quest.now.guards i).chain most nowhere;
+          moves = 0;
+        } }
+{
+    let mut places = [Place {
+        squares: Whereabouts::nowhere(),
+        moves: 0,
+    }; MEN];
+    for i in 0..quest.count {
+        places[i] = Place {
+            squares: quest.guards[i].chain[most],
+            moves: 0,
+        };
+    }
+    places
+}
+
+// Keeps the mating king apart from the other, and returns the moves that are left of `most`; `None` if it
+// can't get away.
+fn keep_apart(quest: &Quest, places: &mut Places, most: usize) -> Option<usize>
+    requires count { quest.now.count ≤ 8 }
+    ensures { (men : List (Option Man)) (ends : Ends) (w theirs : ℕ)
+        → Holds quest.now men places.old w most theirs ends → IsApart quest.now ends
+        → MatchOption result ⊥ (λ spare. Holds quest.now men places.new w spare theirs ends) }
+{
+    // For the proof: a square's number is below 64.
+    let _small = quest.king.index();
+    let near = Whereabouts {
+        unpromoted: king_leaps(quest.king),
+        queen: 0,
+        knight: 0,
+    };
+    let mut spare = most;
+    for i in 0..quest.count {
+        let guard = &quest.guards[i];
+        let place = places[i];
+        if guard.kind.is(Kind::King) {
+            let off = narrowed(guard, &place, &place.squares.without(&near), spare);
+            let Some(off) = off else {
+                return None;
+            };
+            spare -= off.moves - place.moves;
+            places[i] = off;
+        }
+    }
+    Some(spare)
+}
+
+// Returns whether there may be a plan in which the king, a guard of its own place here, ends on the
+// quest's square.
+fn may_have_plan(quest: &Quest, goal: Goal, king: &Guard, ours: usize, theirs: usize) -> bool
+    requires count { quest.now.count ≤ 8 }
+    requires moves { ours < 9 }
+    ensures { (p : Position) (ends : Ends)
+        → IsPlan goal p quest.now.colour ours theirs quest.now.king ends
+        → IsQuestOf p quest.now king.now ours theirs → result ≡ true }
+{
+    // For the proof: a square's number is below 64.
+    let _small = quest.king.index();
+    let Some(steps) = king.fewest(&Whereabouts::at(quest.king), 0, theirs) else {
+        return false;
+    };
+    let mut places = first_places(quest, ours);
+    let Some(spare) = keep_apart(quest, &mut places, ours) else {
+        return false;
+    };
+    let unheld = unheld_squares(goal, quest.king, quest.blockable[0]);
+    can_hold(quest, &places, unheld, spare, theirs - steps)
+}
+
+/// Returns the part of `squares` on which the king of the side to be mated may end by a plan: the mating
+/// side makes at most `ours` moves, the other at most `theirs`. It leaves out a square only if there is no plan.
+pub(crate) fn planned_squares(
+    board: &Board,
+    goal: Goal,
+    mating: Colour,
+    ours: usize,
+    theirs: usize,
+    squares: Squares,
+) -> Squares
+    requires { IsWellFormed board.now }
+    ensures { (k : ℕ) (ends : Ends) → k < 64 → IsPlan goal board.now mating ours theirs k ends
+        → (bit_at squares k == 1) ≡ true → (bit_at result k == 1) ≡ true }
+{
+    if ours >= MOVES || theirs >= MOVES || board.may_promote(Kind::Nightrider) {
+        return squares;
+    }
+    let colour = mating.other();
+    let Some(from) = board.king_of(colour) else {
+        return squares;
+    };
+    let kind = Kind::King;
+    let king = Guard {
+        kind,
+        from,
+        chain: chain_of(Man { colour, kind }, from, theirs),
+    };
+    let near = squares & king.chain[theirs].unpromoted;
+    if near == 0 {
+        return 0;
+    }
+    let mut quest = Quest {
+        colour: mating,
+        king: from,
+        count: 0,
+        guards: [Guard::unused(); MEN],
+        blockable: blocks_of(board, colour, theirs),
+    };
+    let Some(count) = list_guards(board, mating, ours, &mut quest.guards) else {
+        return squares;
+    };
+    quest.count = count;
+    let mut planned = 0u64;
+    let mut rest = near;
+    while let Some(to) = pop_first(&mut rest) {
+        quest.king = to;
+        if may_have_plan(&quest, goal, &king, ours, theirs) {
+            planned |= 1u64 << to.index();
+        }
+    }
+    planned
+}

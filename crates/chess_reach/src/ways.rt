@@ -1,0 +1,186 @@
+//! How far a man gets in a number of moves, wherever other men are.
+ghost use Rattle.std.specs.Prelude.{◌≡◌, ◌<◌, ◌≤◌, ◌==◌, ℕ, true, [], false, Bool};
+ghost use Rattle.std.specs.Int.{bit_at};
+ghost use Rattle.chess_core.specs.Squares.{rank_of};
+ghost use Rattle.chess_core.specs.declared.man.Kind.{Kind};
+ghost use Rattle.chess_attacks.specs.Reaches.{reaches_as};
+ghost use Rattle.chess_rules.specs.Legal.{last_rank, second_rank};
+ghost use Rattle.chess_reach.specs.Reach.{pawn_goes, without_hops};
+ghost use Rattle.chess_reach.specs.ties.Whereabouts.{has};
+ghost use Rattle.chess_reach.specs.ties.Ways.{IsChain, Leads, steps_to};
+
+use crate::whereabouts::Whereabouts;
+use chess_attacks::leaps::{king_leaps, pawn_advances, pawn_leaps};
+use chess_attacks::unblocked::unblocked_reach;
+use chess_attacks::words::{contains, pop_first};
+use chess_core::{Colour, Kind, Man, Square, Squares};
+
+/// The greatest number of moves that is looked at, and one more.
+pub(crate) const MOVES: usize = 9;
+
+/// Where a man can be within each number of moves.
+pub(crate) type Chain = [Whereabouts; MOVES];
+
+/// Returns the kind by whose lines a man guards and goes on an empty board: a grasshopper's are a queen's.
+#[inline(always)]
+pub(crate) fn without_hops(kind: Kind) -> Kind
+    ensures { result ≡ without_hops kind }
+{
+    match kind {
+        Kind::Grasshopper => Kind::Queen,
+        _ => kind,
+    }
+}
+
+// Returns the squares, and those that men of this kind on them reach.
+#[tactic(auto, using(chess_attacks::proofs::HoldTaken::taken_all, chess_attacks::proofs::HoldTaken::taken_none, chess_attacks::proofs::HoldTaken::rest_falls))]
+fn spread(colour: Colour, kind: Kind, squares: Squares) -> Squares
+    ensures kept { (t : ℕ) → t < 64 → (bit_at squares t == 1) ≡ true
+        → (bit_at result t == 1) ≡ true }
+    ensures reached { (s t : ℕ) → s < 64 → t < 64 → (bit_at squares s == 1) ≡ true
+        → reaches_as [] colour kind s t ≡ true → (bit_at result t == 1) ≡ true }
+{
+    let man = Man { colour, kind };
+    let mut reached = squares;
+    let mut rest = squares;
+    while let Some(from) = pop_first(&mut rest) {
+        let more = unblocked_reach(man, from);
+        reached |= more;
+    }
+    reached
+}
+
+// Returns from how many squares on it is taken for granted that men of this kind get everywhere. A rook or
+// queen on more than eight squares has moved already.
+#[inline(always)]
+fn enough_squares(kind: Kind) -> u32 {
+    match kind {
+        Kind::Queen | Kind::Rook => 9,
+        _ => 41,
+    }
+}
+
+// Returns the squares, and those to which pieces of this kind on them go.
+fn spread_pieces(colour: Colour, kind: Kind, squares: Squares) -> Squares
+    ensures kept { (t : ℕ) → t < 64 → (bit_at squares t == 1) ≡ true
+        → (bit_at result t == 1) ≡ true }
+    ensures reached { (s t : ℕ) → s < 64 → t < 64 → (bit_at squares s == 1) ≡ true
+        → reaches_as [] colour kind s t ≡ true → (bit_at result t == 1) ≡ true }
+{
+    let spread_out = squares.count_ones() >= enough_squares(kind);
+    if spread_out {
+        return !0;
+    }
+    spread(colour, kind, squares)
+}
+
+// The squares from which White's pawns make a double step, and Black's.
+const SECOND_RANK: Squares = 0xFF00;
+
+const SEVENTH_RANK: Squares = 0x00FF_0000_0000_0000;
+
+// The squares where White's pawns promote, and Black's.
+const EIGHTH_RANK: Squares = 0xFF00_0000_0000_0000;
+
+const FIRST_RANK: Squares = 0xFF;
+
+// Returns the squares of the rank from which pawns make a double step.
+#[inline(always)]
+fn second_rank(colour: Colour) -> Squares
+    ensures { (s : ℕ) → s < 64 → (bit_at result s == 1) ≡ (rank_of s == second_rank colour) }
+{
+    match colour {
+        Colour::White => SECOND_RANK,
+        Colour::Black => SEVENTH_RANK,
+    }
+}
+
+// Returns the squares of the rank on which pawns promote.
+#[inline(always)]
+fn last_rank(colour: Colour) -> Squares
+    ensures { (s : ℕ) → s < 64 → (bit_at result s == 1) ≡ (rank_of s == last_rank colour) }
+{
+    match colour {
+        Colour::White => EIGHTH_RANK,
+        Colour::Black => FIRST_RANK,
+    }
+}
+
+// Returns the squares to which a pawn steps from this one.
+#[inline(always)]
+fn pawn_steps(colour: Colour, from: Square) -> Squares
+    ensures { (t : ℕ) → t < 64 → steps_to colour from t ≡ true → (bit_at result t == 1) ≡ true }
+{
+    // For the proof: a square's number is below 64.
+    let _small = from.index();
+    let ahead = pawn_advances(colour, from);
+    if contains(second_rank(colour), from) {
+        return ahead;
+    }
+    ahead & king_leaps(from)
+}
+
+// Returns the squares to which a pawn goes from this one.
+#[inline(always)]
+fn pawn_targets(colour: Colour, from: Square) -> Squares
+    ensures { (t : ℕ) → t < 64 → pawn_goes colour from t ≡ true → (bit_at result t == 1) ≡ true }
+{
+    let steps = pawn_steps(colour, from);
+    steps | pawn_leaps(colour, from)
+}
+
+// Returns the squares, and those to which pawns on them go.
+fn spread_pawns(colour: Colour, squares: Squares) -> Squares
+    ensures kept { (t : ℕ) → t < 64 → (bit_at squares t == 1) ≡ true
+        → (bit_at result t == 1) ≡ true }
+    ensures reached { (s t : ℕ) → s < 64 → t < 64 → (bit_at squares s == 1) ≡ true
+        → pawn_goes colour s t ≡ true → (bit_at result t == 1) ≡ true }
+{
+    let mut reached = squares;
+    let mut rest = squares;
+    while let Some(from) = pop_first(&mut rest) {
+        let more = pawn_targets(colour, from);
+        reached |= more;
+    }
+    reached
+}
+
+// Returns where a man gets with one more move from where it can be.
+fn go_on(man: Man, before: &Whereabouts) -> Whereabouts
+    ensures kept { (j : Kind) (t : ℕ) → t < 64 → has man.kind j t before.now ≡ true
+        → has man.kind j t result ≡ true }
+    ensures reached { Leads man before.now result }
+{
+    if !man.kind.is(Kind::Pawn) {
+        return Whereabouts {
+            unpromoted: spread_pieces(man.colour, without_hops(man.kind), before.unpromoted),
+            queen: 0,
+            knight: 0,
+        };
+    }
+    let last = last_rank(man.colour);
+    let pawns = spread_pawns(man.colour, before.unpromoted);
+    Whereabouts {
+        unpromoted: before.unpromoted | pawns & !last,
+        queen: pawns & last | spread_pieces(man.colour, Kind::Queen, before.queen),
+        knight: pawns & last | spread(man.colour, Kind::Knight, before.knight),
+    }
+}
+
+/// Returns where the man can be within each number of moves, up to `most`.
+pub(crate) fn chain_of(man: Man, from: Square, most: usize) -> Chain
+    ensures { most < 9 → IsChain man from most result }
+{
+    // For the proof: a square's number is below 64.
+    let _small = from.index();
+    let mut now = Whereabouts::at(from);
+    let mut chain = [now; MOVES];
+    for n in 1..MOVES {
+        if n > most {
+            return chain;
+        }
+        now = go_on(man, &now);
+        chain[n] = now;
+    }
+    chain
+}

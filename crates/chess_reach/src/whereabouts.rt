@@ -1,0 +1,92 @@
+//! The squares where a man can be.
+ghost use Rattle.std.specs.Prelude.{◌≡◌, ◌<◌, ◌==◌, ℕ, true, false};
+ghost use Rattle.std.specs.Int.{bit_at};
+ghost use Rattle.chess_core.specs.declared.man.Kind.{Kind};
+ghost use Rattle.chess_reach.specs.ties.Whereabouts.{has};
+
+use chess_core::{Square, Squares};
+
+/// The squares where a man can be, by what it is there.
+#[derive(Clone, Copy)]
+pub(crate) struct Whereabouts {
+    /// As the man that it is now.
+    pub(crate) unpromoted: Squares,
+    /// Promoted to another kind than a knight. It counts as a queen, which guards all that a rook, a
+    /// bishop or a grasshopper does.
+    pub(crate) queen: Squares,
+    /// Promoted to a knight.
+    pub(crate) knight: Squares,
+}
+
+impl Whereabouts {
+    // Returns no square.
+    #[inline(always)]
+    pub(crate) fn nowhere() -> Whereabouts {
+        Whereabouts {
+            unpromoted: 0,
+            queen: 0,
+            knight: 0,
+        }
+    }
+
+    // Returns the square on which the man is now.
+    #[tactic(auto, using(crate::proofs::Parts::has_now))]
+    #[inline(always)]
+    pub(crate) fn at(square: Square) -> Whereabouts
+        ensures { (k : Kind) → has k k square result ≡ true }
+    {
+        Whereabouts {
+            unpromoted: 1u64 << square.index(),
+            queen: 0,
+            knight: 0,
+        }
+    }
+
+    // Returns the squares of both.
+    #[tactic(auto, using(crate::proofs::Parts::has_both))]
+    #[inline(always)]
+    pub(crate) fn within(&self, other: &Whereabouts) -> Whereabouts
+        ensures { (k j : Kind) (t : ℕ) → has k j t self.now ≡ true → has k j t other.now ≡ true
+            → has k j t result ≡ true }
+    {
+        Whereabouts {
+            unpromoted: self.unpromoted & other.unpromoted,
+            queen: self.queen & other.queen,
+            knight: self.knight & other.knight,
+        }
+    }
+
+    // Returns the squares that aren't among the others.
+    #[tactic(auto, using(crate::proofs::Parts::has_off))]
+    #[inline(always)]
+    pub(crate) fn without(&self, other: &Whereabouts) -> Whereabouts
+        ensures { (k j : Kind) (t : ℕ) → t < 64 → has k j t self.now ≡ true
+            → has k j t other.now ≡ false → has k j t result ≡ true }
+    {
+        Whereabouts {
+            unpromoted: self.unpromoted & !other.unpromoted,
+            queen: self.queen & !other.queen,
+            knight: self.knight & !other.knight,
+        }
+    }
+
+    // Returns whether the man can be on a square of both.
+    #[tactic(auto, using(crate::proofs::Parts::has_meeting))]
+    #[inline(always)]
+    pub(crate) fn meets(&self, other: &Whereabouts) -> bool
+        ensures { (k j : Kind) (t : ℕ) → has k j t self.now ≡ true → has k j t other.now ≡ true
+            → result ≡ true }
+    {
+        self.unpromoted & other.unpromoted | self.queen & other.queen | self.knight & other.knight
+            != 0
+    }
+
+    // Returns the squares where the man can be at all.
+    #[tactic(auto, using(crate::proofs::Parts::has_some))]
+    #[inline(always)]
+    pub(crate) fn anywhere(&self) -> Squares
+        ensures { (k j : Kind) (t : ℕ) → has k j t self.now ≡ true → (bit_at result t == 1) ≡ true }
+    {
+        self.unpromoted | self.queen | self.knight
+    }
+}
