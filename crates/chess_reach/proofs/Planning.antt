@@ -11,7 +11,7 @@ use Rattle.chess_core.specs.Position.{Position, may_promote, same_kind}
 use Rattle.chess_core.specs.declared.man.Kind.{Kind}
 use Rattle.chess_reach.proofs.Bitboards.{on_both, on_first}
 use Rattle.chess_attacks.proofs.Bits.{off_zero}
-use Rattle.chess_reach.proofs.Chains.{gets_be}
+use Rattle.chess_reach.proofs.Chains.{chain_less, gets_be}
 use Rattle.chess_reach.proofs.Getting.{gets_small}
 use Rattle.chess_reach.proofs.Holding.{one_within, sum_less, sum_within}
 unfoldable use Rattle.chess_reach.specs.Plans.{price}
@@ -22,7 +22,7 @@ use Rattle.chess_reach.specs.declared.guards.Guard.{Guard}
 use Rattle.chess_reach.specs.declared.hold.Place.{Place}
 use Rattle.chess_reach.specs.declared.hold.Quest.{Quest}
 use Rattle.chess_reach.specs.declared.whereabouts.Whereabouts.{Whereabouts}
-use Rattle.chess_reach.specs.ties.Guards.{CanEnd, guard_at, is_blocker}
+use Rattle.chess_reach.specs.ties.Guards.{AreGuards, CanEnd, guard_at, is_blocker}
 use Rattle.chess_reach.specs.ties.Hold.{DoesGuard, Holds, IsApart, IsHeld, IsIn, IsQuestOf, end_at, place_at}
 unfoldable use Rattle.chess_reach.specs.ties.Hold.{blocked, unpaid}
 use Rattle.chess_reach.specs.ties.Whereabouts.{has}
@@ -235,6 +235,17 @@ module _ (goal : Goal) (p : Position) (q : Quest) (king : Guard) (ours theirs : 
           let none : is_blocker p.men (other q.colour) king.from ≡ false = grind (arith, king_stands) in
           let off = cond-false (is_blocker p.men (other q.colour) king.from && (bit_at w (ends king.from).square == 1)) (ends king.from).moves 0 (and_left _ _ none) in
           omega (arith, mine, off, cheap)
+
+-- guards for fewer moves
+pub guards_less : (men : List (Option Man)) (c : Colour) (m n : ℕ) (gs : List Guard) (count : ℕ) → AreGuards men c m gs count → n ≤ m → AreGuards men c n gs count
+guards_less men c m n gs count h le = record {
+  few = h.few;
+  each = h.each;
+  small = h.small;
+  chains = λ i lt. chain_less _ _ m n _ (h.chains i lt) le;
+  all = h.all;
+  sum = h.sum;
+}
 
 -- the square is one of its own bitboard
 pub bit_here : (i s : ℕ) → i ≡ s → s < 64 → (bit_at (1 * 2 ^ i % 2 ^ 64) s == 1) ≡ true

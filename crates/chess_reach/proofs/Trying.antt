@@ -1,5 +1,5 @@
 -- One guard tried in the search for a plan.
-use Rattle.chess_attacks.proofs.Chess.{List, Man, Option, arith, bit_at, cases_eq, [], inl, inr, length, other, refl, subst, suc, sym, true, zero, ℕ, ◌+◌, ◌-◌, ◌<◌, ◌==◌, ◌∷◌, ◌≡◌, ◌≢◌, ◌≤◌}
+use Rattle.chess_attacks.proofs.Chess.{List, Man, Option, arith, bit_at, cases_eq, [], inl, inr, length, other, refl, subst, suc, sym, true, zero, ap, ℕ, ◌+◌, ◌-◌, ◌<◌, ◌==◌, ◌∷◌, ◌≡◌, ◌≢◌, ◌≤◌}
 use Rattle.std.proofs.Common.{slice_index_or, slice_set}
 use Rattle.chess_core.specs.declared.man.Kind.{Kind}
 use Rattle.chess_reach.proofs.Holding.{one_spare, placed}
@@ -19,6 +19,12 @@ pub found_at : {X : Type 0} (xs : List X) (i : ℕ) (d e : X) → i < length xs 
 found_at [] i d e lt = absurd (omega (arith, lt))
 found_at (x ∷ xs) zero d e lt = refl
 found_at (x ∷ xs) (suc i) d e lt = found_at xs i d e (omega (arith, lt))
+
+-- an element that is replaced twice
+pub set_again : {X : Type 0} (xs : List X) (i : ℕ) (a b : X) → slice_set (slice_set xs i a) i b ≡ slice_set xs i b
+set_again [] i a b = refl
+set_again (x ∷ xs) zero a b = refl
+set_again (x ∷ xs) (suc i) a b = ap (λ ys. x ∷ ys) (set_again xs i a b)
 
 module _ (q : Quest) (men : List (Option Man)) (ends : Ends) (left : List Place) (w spare theirs i : ℕ) (g : Guard) (is : guard_at q.guards i ≡ g)
     (lt : i < q.count) (h : Holds q men left w spare theirs ends) where

@@ -10,10 +10,13 @@ use crate::ways::{Chain, MOVES, chain_of, without_hops};
 use crate::whereabouts::Whereabouts;
 use chess_attacks::unblocked::unblocked_reach;
 use chess_attacks::words::pop_first;
-use chess_core::{Board, Colour, Kind, Man, Square};
+use chess_core::{Board, Colour, Kind, Man, Square, Squares};
 
 /// The greatest number of men of the mating side with which plans are searched.
 pub(crate) const MEN: usize = 8;
+
+// The most squares for which it pays to look from each.
+const MOST_LOOKED_FROM: u32 = 4;
 
 /// A man of the mating side.
 #[derive(Clone, Copy)]
@@ -23,6 +26,18 @@ pub(crate) struct Guard {
     pub(crate) from: Square,
     /// Where it can be within each number of moves.
     pub(crate) chain: Chain,
+}
+
+// Returns what men of a kind guard from these squares. For speed only.
+#[inline(always)]
+fn lines_from(colour: Colour, kind: Kind, squares: Squares) -> Squares {
+    let mut lines = 0u64;
+    let mut rest = squares;
+    while let Some(square) = pop_first(&mut rest) {
+        let more = unblocked_reach(Man { colour, kind }, square);
+        lines |= more;
+    }
+    lines
 }
 
 impl Guard {
@@ -81,6 +96,22 @@ impl Guard {
         }
     }
 
+    // Returns the squares that a man of this colour guards from these, or `seen` if they are many. For speed
+    // only.
+    #[inline(always)]
+    pub(crate) fn sight(&self, colour: Colour, from: &Whereabouts, seen: Squares) -> Squares {
+        if from.anywhere().count_ones() > MOST_LOOKED_FROM {
+            return seen;
+        }
+        let sight = lines_from(colour, self.kind, from.unpromoted);
+        if !self.kind.is(Kind::Pawn) {
+            return sight;
+        }
+        sight
+            | lines_from(colour, Kind::Queen, from.queen)
+            | lines_from(colour, Kind::Knight, from.knight)
+    }
+
     // Returns the fewest moves, at least `least` and at most `spare` more, in which the man gets to one of
     // these squares; `None` if it doesn't.
     #[inline(always)]
@@ -90,6 +121,9 @@ impl Guard {
             → has self.now.kind j s (slice_index_or self.now.chain n nowhere) ≡ true
             → has self.now.kind j s squares.now ≡ true → MatchOption result ⊥ (λ f. f ≤ n) }
     {
+        if squares.anywhere() == 0 {
+            return None;
+        }
         let mut moves = least;
         while moves < MOVES && moves - least <= spare {
             if self.chain[moves].meets(squares) {

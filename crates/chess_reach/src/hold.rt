@@ -24,6 +24,9 @@ pub(crate) struct Place {
 /// The places of the guards.
 pub(crate) type Places = [Place; MEN];
 
+/// Squares that the guards may guard, which guide the search.
+pub(crate) type Sights = [Squares; MEN];
+
 /// What a plan has to hold, and who may hold it.
 #[derive(Drop)]
 pub(crate) struct Quest {
@@ -83,33 +86,13 @@ impl Quest {
         None
     }
 
-    // Returns how many men may hold this square with these moves, blockers counted as one.
-    fn holders(&self, places: &Places, square: Square, ours: usize, theirs: usize) -> usize
-        requires { self.now.count ≤ 8 }
-    {
-        let mut holders = match self.block_price(square, theirs) {
-            Some(_) => 1,
-            None => 0,
-        };
-        for i in 0..self.count {
-            let guard = &self.guards[i];
-            let place = &places[i];
-            let squares = place
-                .squares
-                .within(&guard.guarding(self.colour, self.king, square));
-            let most = place.moves.saturating_add(ours);
-            let most = if most < MOVES { most } else { MOVES - 1 };
-            if guard.chain[most].meets(&squares) {
-                holders += 1;
-            }
-        }
-        holders
-    }
-
-    // Returns the square that the fewest men may hold, or `None` if there is no square.
+    // Returns the square that the fewest men may hold, or `None` if there is no square. Which one it is matters
+    // for speed only.
+    #[inline(always)]
     fn hardest(
         &self,
         places: &Places,
+        sights: &Sights,
         squares: Squares,
         ours: usize,
         theirs: usize,
@@ -117,19 +100,32 @@ impl Quest {
         requires { self.now.count ≤ 8 }
         ensures { IfSome result (λ s. (s < 64) × ((bit_at squares s == 1) ≡ true)) }
     {
-        let mut rest = squares;
-        let Some(mut hardest) = pop_first(&mut rest) else {
-            return None;
-        };
-        let mut fewest = self.holders(places, hardest, ours, theirs);
-        while let Some(square) = pop_first(&mut rest) {
-            let holders = self.holders(places, square, ours, theirs);
-            if holders < fewest {
-                hardest = square;
-                fewest = holders;
-            }
+        let most = if theirs < MOVES { theirs } else { MOVES - 1 };
+        let mut once = self.blockable[most] & !(1u64 << self.king.index());
+        let mut twice = 0u64;
+        let mut thrice = 0u64;
+        for i in 0..self.count {
+            let most = places[i].moves.saturating_add(ours).saturating_add(1);
+            let most = if most < MOVES { most } else { MOVES - 1 };
+            let sight = sights[i] & self.guards[i].chain[most].anywhere();
+            thrice |= twice & sight;
+            twice |= once & sight;
+            once |= sight;
         }
-        Some(hardest)
+        let mut none = squares & !once;
+        if none != 0 {
+            return pop_first(&mut none);
+        }
+        let mut one = squares & !twice;
+        if one != 0 {
+            return pop_first(&mut one);
+        }
+        let mut two = squares & !thrice;
+        if two != 0 {
+            return pop_first(&mut two);
+        }
+        let mut rest = squares;
+        pop_first(&mut rest)
     }
 }
 
@@ -149,6 +145,7 @@ fn taken_from(squares: Squares, square: Square) -> Squares
 pub(crate) fn can_hold(
     quest: &Quest,
     places: &Places,
+    sights: &Sights,
     unheld: Squares,
     ours: usize,
     theirs: usize,
@@ -157,11 +154,12 @@ pub(crate) fn can_hold(
     ensures { (men : List (Option Man)) (ends : Ends)
         → Holds quest.now men places.now unheld ours theirs ends → result ≡ true }
 {
-    let Some(square) = quest.hardest(places, unheld, ours, theirs) else {
+    let Some(square) = quest.hardest(places, sights, unheld, ours, theirs) else {
         return true;
     };
     let rest = taken_from(unheld, square);
     let mut left = *places;
+    let mut seen = *sights;
     let mut spare = ours;
     for i in 0..quest.count {
         let guard = &quest.guards[i];
@@ -169,17 +167,19 @@ pub(crate) fn can_hold(
         let guarding = guard.guarding(quest.colour, quest.king, square);
         let kept = narrowed(guard, &place, &place.squares.within(&guarding), spare);
         if let Some(kept) = kept {
-            let mut with = left;
-            with[i] = kept;
+            left[i] = kept;
+            seen[i] = guard.sight(quest.colour, &kept.squares, sights[i]);
             if can_hold(
                 quest,
-                &with,
+                &left,
+                &seen,
                 rest,
                 spare - (kept.moves - place.moves),
                 theirs,
             ) {
                 return true;
             }
+            seen[i] = sights[i];
             let off = narrowed(guard, &place, &place.squares.without(&guarding), spare);
             let Some(off) = off else {
                 return false;
@@ -191,5 +191,5 @@ pub(crate) fn can_hold(
     let Some(price) = quest.block_price(square, theirs) else {
         return false;
     };
-    can_hold(quest, &left, rest, spare, theirs - price)
+    can_hold(quest, &left, &seen, rest, spare, theirs - price)
 }

@@ -110,11 +110,20 @@ fn may_have_plan(quest: &Quest, goal: Goal, king: &Guard, ours: usize, theirs: u
         return false;
     };
     let unheld = unheld_squares(goal, quest.king, quest.blockable[0]);
-    can_hold(quest, &places, unheld, spare, theirs - steps)
+    can_hold(
+        quest,
+        &places,
+        &[Squares::MAX; MEN],
+        unheld,
+        spare,
+        theirs - steps,
+    )
 }
 
 /// Returns the part of `squares` on which the king of the side to be mated may end by a plan: the mating
 /// side makes at most `ours` moves, the other at most `theirs`. It leaves out a square only if there is no plan.
+/// Where the guards get with one move more tells what they may guard.
+#[tactic(auto, using(crate::proofs::Planning::guards_less))]
 pub(crate) fn planned_squares(
     board: &Board,
     goal: Goal,
@@ -127,7 +136,7 @@ pub(crate) fn planned_squares(
     ensures { (k : ℕ) (ends : Ends) → k < 64 → IsPlan goal board.now mating ours theirs k ends
         → (bit_at squares k == 1) ≡ true → (bit_at result k == 1) ≡ true }
 {
-    if ours >= MOVES || theirs >= MOVES || board.may_promote(Kind::Nightrider) {
+    if ours >= MOVES - 1 || theirs >= MOVES || board.may_promote(Kind::Nightrider) {
         return squares;
     }
     let colour = mating.other();
@@ -151,7 +160,7 @@ pub(crate) fn planned_squares(
         guards: [Guard::unused(); MEN],
         blockable: blocks_of(board, colour, theirs),
     };
-    let Some(count) = list_guards(board, mating, ours, &mut quest.guards) else {
+    let Some(count) = list_guards(board, mating, ours + 1, &mut quest.guards) else {
         return squares;
     };
     quest.count = count;

@@ -168,6 +168,7 @@ fn go_on(man: Man, before: &Whereabouts) -> Whereabouts
 }
 
 /// Returns where the man can be within each number of moves, up to `most`.
+#[inline(always)]
 pub(crate) fn chain_of(man: Man, from: Square, most: usize) -> Chain
     ensures { most < 9 → IsChain man from most result }
 {

@@ -3,7 +3,7 @@ use Rattle.std.proofs.lemmas.Bool.{cases_Bool, false≢true}
 use Rattle.std.proofs.lemmas.List.{length-set}
 use Rattle.std.specs.Int.{bit_at}
 use Rattle.chess_reach.proofs.Holding.{block_paid, block_spare, fewer_held}
-use Rattle.chess_reach.proofs.Trying.{blocker_there, found_at, from_there, in_place, kept_in, narrowed_place, none_next, on_board, within_moves}
+use Rattle.chess_reach.proofs.Trying.{blocker_there, found_at, from_there, in_place, kept_in, narrowed_place, none_next, on_board, set_again, within_moves}
 use Rattle.chess_reach.specs.ties.Guards.{guard_at, unused}
 use Rattle.chess_reach.specs.ties.Hold.{Holds, end_at}
 use Rattle.chess_reach.specs.ties.Whereabouts.{has}
@@ -41,7 +41,7 @@ loop-i-preserved t c =
     let is : guard_at q.guards i ≡ g = found_at q.guards i unused c.index-quest-i.result (search rules) in
     elim c.match-kept.branch [
       | in-Some-kept+else-can_hold+in-Some-off w ↦ record {
-        size = ap length w.left-is ∙ length-set left i w.in-Some-off.off ∙ c.loop-i.invariant.size;
+        size = ap length w.left-is ∙ length-set _ i w.in-Some-off.off ∙ length-set left i w.in-Some-kept.kept ∙ c.loop-i.invariant.size;
         kept = λ men ends holds.
             let before = c.loop-i.invariant.kept men ends holds in
             let h = before.0 in
@@ -58,7 +58,7 @@ loop-i-preserved t c =
             (kept_in q men ends left _ _ _ i g is lt h w.without.result w.in-Some-off.off w.in-Some-off.ensures.kept
             (w.without.ensures g.kind e.kind e.square (on_board q men ends left _ _ _ i g is lt h) (in_place q men ends left _ _ _ i g is lt h) none))
             w.in-Some-off.ensures.within.0 in (
-              subst (λ x. Holds q men x c.args.unheld c.match-kept.spare c.args.theirs ends) (sym w.left-is)
+              subst (λ x. Holds q men x c.args.unheld c.match-kept.spare c.args.theirs ends) (sym (w.left-is ∙ set_again left i w.in-Some-kept.kept w.in-Some-off.off))
                   (subst (λ n. Holds q men (slice_set left i w.in-Some-off.off) c.args.unheld n c.args.theirs ends) (sym w.spare-is) after),
               none_next q ends c.in-Some.square i before.1
                   (λ does. false≢true (sym none ∙ from_there q men ends left _ _ _ i g is lt h c.in-Some.square c.guarding-guarding.result c.guarding-guarding.ensures does)),
