@@ -1,5 +1,5 @@
 -- Castling as three moves: the king's two steps and the rook's move.
-use Rattle.chess_reach.proofs.Chess.{Black, Colour, IsWellFormed, King, Kind, List, Man, Move, None, Option, Position, Rook, RuleSet, Some, White, along, and_from, and_parts, ap, arith, corner, goes, guards, halfway, has_unmoved, inl, inr, is_castling, is_man, is_vacant, leaps, man_on, man_on-with_other, man_on-with_same, man_on-without_other, man_on-without_same, may_promote, position_after, reaches_as, refl, rides, same_colour, same_colour-true, same_kind, same_kind-true, sym, true, with_man, without_man, ℕ, ◌<◌, ◌∙◌, ◌≡◌, ◌≢◌, ◌⊎◌, length, captures_are_reborn, ◌+◌, Ends, IsPlan, arriving_man, capture_square, suc, other, moved_men, position_after_by, is_pseudo_legal, false, false≢true}
+use Rattle.chess_reach.proofs.Chess.{Black, Bool, Colour, IsWellFormed, King, Kind, List, Man, Move, None, Option, Position, Rook, RuleSet, Some, White, along, and_from, and_parts, ap, arith, corner, goes, guards, halfway, has_unmoved, inl, inr, is_castling, is_man, is_vacant, leaps, man_on, man_on-with_other, man_on-with_same, man_on-without_other, man_on-without_same, may_promote, position_after, reaches_as, refl, rides, same_colour, same_colour-true, same_kind, same_kind-true, sym, true, with_man, without_man, ℕ, ◌<◌, ◌∙◌, ◌≡◌, ◌≢◌, ◌⊎◌, length, captures_are_reborn, ◌+◌, Ends, IsPlan, arriving_man, capture_square, suc, other, moved_men, position_after_by, is_pseudo_legal, false, false≢true}
 use Rattle.chess_reach.proofs.Gone.{king_kept}
 use Rattle.chess_reach.specs.Plans.{king_home}
 use Rattle.chess_reach.proofs.OneMove.{IsGone, king_arrives, king_goes, king_stays, other_king_stays, other_step, own_step, stays}
@@ -16,10 +16,11 @@ pub man_is : (o : Option Man) (c : Colour) (j : Kind) → is_man o c j ≡ true 
 man_is o c j h = grind (arith, and_parts, same_colour-true, same_kind-true)
 
 -- a man that goes to an empty square
-pub gone_free : (p q : Position) (x : Man) (a b : ℕ) → a < 64 → b < 64 → a ≢ b → man_on p.men a ≡ Some x → man_on q.men b ≡ Some x → man_on q.men a ≡ None
-    → man_on p.men b ≡ None → ((s : ℕ) → s ≢ a → s ≢ b → man_on q.men s ≡ man_on p.men s) → goes (may_promote p) x.colour x.kind a x.kind b ≡ true
+pub gone_free : (p q : Position) (x : Man) (a b : ℕ) → length p.men ≡ 64 → a < 64 → b < 64 → a ≢ b → man_on p.men a ≡ Some x → man_on q.men b ≡ Some x → man_on q.men a ≡ None
+    → man_on p.men b ≡ None → ((s : ℕ) → s ≢ a → s ≢ b → man_on q.men s ≡ man_on p.men s) → ((takes : ℕ → Bool) → goes (may_promote p) takes x.colour x.kind a x.kind b ≡ true)
     → q.in_diagram ≡ p.in_diagram → IsGone p q x x a b None
-gone_free p q x a b from to apart here there left free others way kinds = record {
+gone_free p q x a b size from to apart here there left free others way kinds = record {
+  size = size;
   from = from;
   to = to;
   apart = apart;
@@ -32,7 +33,8 @@ gone_free p q x a b from to apart here there left free others way kinds = record
   others = λ s na nb none. others s na nb;
   captured = λ s z at. absurd (let bad : false ≡ true = at in grind arith);
   free = λ none. free;
-  goes = way;
+  on = λ s z at. absurd (let bad : false ≡ true = at in grind arith);
+  goes = λ takes may. way takes;
   kinds = kinds;
 }
 
@@ -257,29 +259,29 @@ module _ (rule : RuleSet) (p : Position) (x : Man) (m : Move) (well : IsWellForm
     first : IsGone p crossing king_man king_man m.from (halfway m) None
     unfolding crossing goes king_man
     first =
-        gone_free p crossing king_man m.from (halfway m) parts.small.0 parts.small.3 parts.apart.1 parts.king
+        gone_free p crossing king_man m.from (halfway m) well.size parts.small.0 parts.small.3 parts.apart.1 parts.king
         (moved_there p.men m.from (halfway m) king_man (omega (arith, parts.small.3, well.size))) (moved_left p.men m.from (halfway m) king_man parts.apart.1)
-        parts.crossed (moved_other p.men m.from (halfway m) king_man) (and_from _ _ parts.first_step refl) refl
+        parts.crossed (moved_other p.men m.from (halfway m) king_man) (λ takes. and_from _ _ parts.first_step refl) refl
 
     second : IsGone crossing crossed king_man king_man (halfway m) m.to None
     unfolding crossing crossed goes king_man
     second =
-        gone_free crossing crossed king_man (halfway m) m.to parts.small.3 parts.small.1 (λ e. parts.apart.4 (sym e))
+        gone_free crossing crossed king_man (halfway m) m.to (rw (length-set, length-set) well.size) parts.small.3 parts.small.1 (λ e. parts.apart.4 (sym e))
         (moved_there p.men m.from (halfway m) king_man (omega (arith, parts.small.3, well.size)))
         (moved_there p.men m.from m.to king_man (omega (arith, parts.small.1, well.size)))
         (moved_empty p.men m.from m.to king_man (halfway m) (λ e. parts.apart.4 (sym e)) parts.crossed)
         (moved_empty p.men m.from (halfway m) king_man m.to parts.apart.4 parts.free)
-        (λ s nh nt. moved_alike p.men m.from m.to (halfway m) king_man s nt nh) (and_from _ _ parts.second_step refl) refl
+        (λ s nh nt. moved_alike p.men m.from m.to (halfway m) king_man s nt nh) (λ takes. and_from _ _ parts.second_step refl) refl
 
     third : IsGone crossed (position_after rule p m) rook_man rook_man (corner m) (halfway m) None
     unfolding crossed goes rook_man
     third =
-        gone_free crossed (position_after rule p m) rook_man (corner m) (halfway m) parts.small.2 parts.small.3 parts.apart.5
+        gone_free crossed (position_after rule p m) rook_man (corner m) (halfway m) (rw (length-set, length-set) well.size) parts.small.2 parts.small.3 parts.apart.5
         rook_there
         (rw men_castled (moved_there crossed.men (corner m) (halfway m) rook_man (rw (length-set, length-set) (omega (arith, parts.small.3, well.size)))))
         (rw men_castled (moved_left crossed.men (corner m) (halfway m) rook_man parts.apart.5))
         (moved_empty p.men m.from m.to king_man (halfway m) (λ e. parts.apart.4 (sym e)) parts.crossed)
-        (rw men_castled (moved_other crossed.men (corner m) (halfway m) rook_man)) (and_from _ _ parts.rook_way refl) kinds_castled
+        (rw men_castled (moved_other crossed.men (corner m) (halfway m) rook_man)) (λ takes. and_from _ _ parts.rook_way refl) kinds_castled
 
     -- a plan after castling is one before it, with three moves more: of the mating side
     pub own_castling : (goal : Goal) (c : Colour) (n o k : ℕ) (ends : Ends) → x.colour ≡ c → IsPlan goal (position_after rule p m) c n o k ends

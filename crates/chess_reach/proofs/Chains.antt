@@ -10,7 +10,7 @@ unfoldable use Rattle.chess_reach.specs.Reach.{Gets, goes, guards, pawn_goes}
 use Rattle.chess_reach.specs.Reach.{without_hops}
 use Rattle.chess_reach.specs.declared.whereabouts.Whereabouts.{Whereabouts}
 use Rattle.chess_reach.specs.ties.Whereabouts.{has, part}
-use Rattle.chess_reach.specs.ties.Ways.{CanBe, IsChain, IsUsual, Leads, nowhere}
+use Rattle.chess_reach.specs.ties.Ways.{CanBe, IsChain, IsUsual, Leads, TakesOn, nowhere}
 
 -- a piece stays what it is
 pub piece_part : (k j : Kind) (w : Whereabouts) → same_kind k Pawn ≡ false → part k j w ≡ w.unpromoted
@@ -33,16 +33,17 @@ pub has_part : (k j : Kind) (t : ℕ) (w : Whereabouts) (n : ℕ) → part k j w
 has_part k j t w n e h = sym (ap (λ x. bit_at x t == 1) e) ∙ h
 
 -- a piece goes where it guards, and stays what it is
-piece_goes : (allowed : Kind → Bool) (c : Colour) (i : Kind) (q : ℕ) (j : Kind) (t : ℕ) → same_kind i Pawn ≡ false → goes allowed c i q j t ≡ true
+piece_goes : (allowed : Kind → Bool) (takes : ℕ → Bool) (c : Colour) (i : Kind) (q : ℕ) (j : Kind) (t : ℕ) → same_kind i Pawn ≡ false
+    → goes allowed takes c i q j t ≡ true
     → (guards c i q t ≡ true) × (same_kind i j ≡ true)
 unfolding goes
-piece_goes allowed c i q j t piece go = grind (arith, and_parts, go, piece)
+piece_goes allowed takes c i q j t piece go = grind (arith, and_parts, go, piece)
 
 -- a pawn goes by its own ways, and promotes on its last rank alone
-pawn_goes_on : (allowed : Kind → Bool) (c : Colour) (i : Kind) (q : ℕ) (j : Kind) (t : ℕ) → same_kind i Pawn ≡ true → goes allowed c i q j t ≡ true
-    → (pawn_goes c q t ≡ true) × ((if rank_of t == last_rank c then allowed j else same_kind i j) ≡ true)
+pawn_goes_on : (allowed : Kind → Bool) (takes : ℕ → Bool) (c : Colour) (i : Kind) (q : ℕ) (j : Kind) (t : ℕ) → same_kind i Pawn ≡ true
+    → goes allowed takes c i q j t ≡ true → (pawn_goes takes c q t ≡ true) × ((if rank_of t == last_rank c then allowed j else same_kind i j) ≡ true)
 unfolding goes
-pawn_goes_on allowed c i q j t pawn go = grind (arith, and_parts, go, pawn)
+pawn_goes_on allowed takes c i q j t pawn go = grind (arith, and_parts, go, pawn)
 
 -- a queen guards what rooks, bishops and grasshoppers guard
 pub queen_guards : (c : Colour) (i : Kind) (q t : ℕ) → same_kind i Pawn ≡ false → same_kind i Knight ≡ false → i ≢ Nightrider → i ≢ King → guards c i q t ≡ true
@@ -62,20 +63,20 @@ unfolding guards
 piece_guards c i q t h = h
 
 -- where a piece gets with one more move
-pub piece_leads : (x : Man) (b : Whereabouts) (w : ℕ) → same_kind x.kind Pawn ≡ false
+pub piece_leads : (prey : ℕ) (x : Man) (b : Whereabouts) (w : ℕ) → same_kind x.kind Pawn ≡ false
     → ((s t : ℕ) → s < 64 → t < 64 → (bit_at b.unpromoted s == 1) ≡ true → reaches_as [] x.colour (without_hops x.kind) s t ≡ true → (bit_at w t == 1) ≡ true)
-    → Leads x b (record { unpromoted = w; queen = 0; knight = 0 })
-piece_leads x b w piece spread = record {
-  leads = λ allowed i j q t sq st be pawn go h.
+    → Leads prey x b (record { unpromoted = w; queen = 0; knight = 0 })
+piece_leads prey x b w piece spread = record {
+  leads = λ allowed takes i j q t on_prey sq st be pawn go h.
       let same : i ≡ x.kind = be.piece piece in
       let on : (bit_at b.unpromoted q == 1) ≡ true = has_part x.kind i q b b.unpromoted (piece_part x.kind i b piece) h in
-      let way = (piece_goes allowed x.colour i q j t (ap (λ k. same_kind k Pawn) same ∙ piece) go).0 in
+      let way = (piece_goes allowed takes x.colour i q j t (ap (λ k. same_kind k Pawn) same ∙ piece) go).0 in
       part_has x.kind j t (record { unpromoted = w; queen = 0; knight = 0 }) w (piece_part x.kind j (record { unpromoted = w; queen = 0; knight = 0 }) piece)
       (spread q t sq st on (piece_guards x.colour x.kind q t (subst (λ k. guards x.colour k q t ≡ true) same way)));
 }
 
 -- where a pawn gets
-module _ (x : Man) (b : Whereabouts) (pawns last queens knights : ℕ) (is_pawn : same_kind x.kind Pawn ≡ true) where
+module _ (prey : ℕ) (x : Man) (b : Whereabouts) (pawns last queens knights : ℕ) (is_pawn : same_kind x.kind Pawn ≡ true) where
   abbrev after : Whereabouts
   after = record {
     unpromoted = bit_or b.unpromoted (bit_and pawns (bit_not w64 last));
@@ -102,14 +103,15 @@ module _ (x : Man) (b : Whereabouts) (pawns last queens knights : ℕ) (is_pawn 
   ]
 
   module _ (fits : last < 2 ^ 64) (ranks : (s : ℕ) → s < 64 → (bit_at last s == 1) ≡ (rank_of s == last_rank x.colour))
-      (steps : (s t : ℕ) → s < 64 → t < 64 → (bit_at b.unpromoted s == 1) ≡ true → pawn_goes x.colour s t ≡ true → (bit_at pawns t == 1) ≡ true)
+      (steps : (takes : ℕ → Bool) (s t : ℕ) → TakesOn takes prey → s < 64 → t < 64 → (bit_at b.unpromoted s == 1) ≡ true → pawn_goes takes x.colour s t ≡ true
+      → (bit_at pawns t == 1) ≡ true)
       (rides_on : (s t : ℕ) → s < 64 → t < 64 → (bit_at b.queen s == 1) ≡ true → reaches_as [] x.colour Queen s t ≡ true → (bit_at queens t == 1) ≡ true)
       (leaps_on : (s t : ℕ) → s < 64 → t < 64 → (bit_at b.knight s == 1) ≡ true → reaches_as [] x.colour Knight s t ≡ true → (bit_at knights t == 1) ≡ true) where
-    as_pawn : (allowed : Kind → Bool) (i j : Kind) (q t : ℕ) → q < 64 → t < 64 → allowed Pawn ≡ false → same_kind i Pawn ≡ true
-        → goes allowed x.colour i q j t ≡ true → has x.kind i q b ≡ true → has x.kind j t after ≡ true
-    as_pawn allowed i j q t sq st none pawn go h =
-        let way = pawn_goes_on allowed x.colour i q j t pawn go in
-        let on = steps q t sq st (has_part x.kind i q b _ (pawn_part x.kind i b pawn) h) way.0 in
+    as_pawn : (allowed : Kind → Bool) (takes : ℕ → Bool) (i j : Kind) (q t : ℕ) → TakesOn takes prey → q < 64 → t < 64 → allowed Pawn ≡ false
+        → same_kind i Pawn ≡ true → goes allowed takes x.colour i q j t ≡ true → has x.kind i q b ≡ true → has x.kind j t after ≡ true
+    as_pawn allowed takes i j q t on_prey sq st none pawn go h =
+        let way = pawn_goes_on allowed takes x.colour i q j t pawn go in
+        let on = steps takes q t on_prey sq st (has_part x.kind i q b _ (pawn_part x.kind i b pawn) h) way.0 in
         elim (cases_Bool (rank_of t == last_rank x.colour)) [
           | inl there ↦
               let may : allowed j ≡ true = sym (cond-true _ (allowed j) (same_kind i j) there) ∙ way.1 in
@@ -124,10 +126,10 @@ module _ (x : Man) (b : Whereabouts) (pawns last queens knights : ℕ) (is_pawn 
               part_has x.kind j t after _ (pawn_part x.kind j after still) (on_right _ _ t (denied_on pawns last t fits st on (ranks t st ∙ elsewhere)))
         ]
 
-    as_piece : (allowed : Kind → Bool) (i j : Kind) (q t : ℕ) → q < 64 → t < 64 → CanBe x.kind i → same_kind i Pawn ≡ false
-        → goes allowed x.colour i q j t ≡ true → has x.kind i q b ≡ true → has x.kind j t after ≡ true
-    as_piece allowed i j q t sq st be piece go h =
-        let way = piece_goes allowed x.colour i q j t piece go in
+    as_piece : (allowed : Kind → Bool) (takes : ℕ → Bool) (i j : Kind) (q t : ℕ) → q < 64 → t < 64 → CanBe x.kind i → same_kind i Pawn ≡ false
+        → goes allowed takes x.colour i q j t ≡ true → has x.kind i q b ≡ true → has x.kind j t after ≡ true
+    as_piece allowed takes i j q t sq st be piece go h =
+        let way = piece_goes allowed takes x.colour i q j t piece go in
         let same : i ≡ j = same_kind-true i j way.1 in
         subst (λ k. has x.kind k t after ≡ true) same (elim (cases_Bool (same_kind i Knight)) [
           | inl too ↦
@@ -140,78 +142,79 @@ module _ (x : Man) (b : Whereabouts) (pawns last queens knights : ℕ) (is_pawn 
               (queen_guards x.colour i q t piece nor (be.rider is_pawn) (be.king is_pawn) way.0)))
         ])
 
-    pub pawn_leads : Leads x b after
+    pub pawn_leads : Leads prey x b after
     pawn_leads = record {
-      leads = λ allowed i j q t sq st be none go h. elim (cases_Bool (same_kind i Pawn)) [
-        | inl pawn ↦ as_pawn allowed i j q t sq st none pawn go h
-        | inr piece ↦ as_piece allowed i j q t sq st be piece go h
+      leads = λ allowed takes i j q t on_prey sq st be none go h. elim (cases_Bool (same_kind i Pawn)) [
+        | inl pawn ↦ as_pawn allowed takes i j q t on_prey sq st none pawn go h
+        | inr piece ↦ as_piece allowed takes i j q t sq st be piece go h
       ];
     }
 
 -- what a man can become
-pub gets_be : (allowed : Kind → Bool) (c : Colour) (n : ℕ) (k : Kind) (s : ℕ) (j : Kind) (t : ℕ) → IsUsual allowed → Gets allowed c n k s j t → CanBe k j
+pub gets_be : (allowed : Kind → Bool) (takes : ℕ → Bool) (c : Colour) (n : ℕ) (k : Kind) (s : ℕ) (j : Kind) (t : ℕ) → IsUsual allowed → Gets allowed takes c n k s j t → CanBe k j
 unfolding Gets
-gets_be allowed c zero k s j t usual (same, there) = record {
+gets_be allowed takes c zero k s j t usual (same, there) = record {
   piece = λ h. sym same;
   rider = λ h e. let is = same_kind-true k Pawn h in absurd (let bad : Pawn ≡ Nightrider = sym is ∙ same ∙ e in cc);
   king = λ h e. let is = same_kind-true k Pawn h in absurd (let bad : Pawn ≡ King = sym is ∙ same ∙ e in cc);
 }
-gets_be allowed c (suc n) k s j t usual (i, q, go, rest) =
-    let later : CanBe i j = gets_be allowed c n i q j t usual rest in
+gets_be allowed takes c (suc n) k s j t usual (i, q, go, rest) =
+    let later : CanBe i j = gets_be allowed takes c n i q j t usual rest in
     elim (cases_Bool (same_kind k Pawn)) [
-      | inr piece ↦ subst (λ x. CanBe x j) (sym (same_kind-true k i (piece_goes allowed c k s i q piece go).1)) later
+      | inr piece ↦ subst (λ x. CanBe x j) (sym (same_kind-true k i (piece_goes allowed takes c k s i q piece go).1)) later
       | inl pawn ↦ record {
         piece = λ h. absurd (false≢true (sym h ∙ pawn));
         rider = λ h. elim (cases_Bool (same_kind i Pawn)) [
           | inl still ↦ later.rider still
-          | inr now ↦ λ e. false≢true (sym usual.rider ∙ ap allowed (sym e ∙ later.piece now) ∙ became allowed c k s i q pawn now go)
+          | inr now ↦ λ e. false≢true (sym usual.rider ∙ ap allowed (sym e ∙ later.piece now) ∙ became allowed takes c k s i q pawn now go)
         ];
         king = λ h. elim (cases_Bool (same_kind i Pawn)) [
           | inl still ↦ later.king still
-          | inr now ↦ λ e. false≢true (sym usual.king ∙ ap allowed (sym e ∙ later.piece now) ∙ became allowed c k s i q pawn now go)
+          | inr now ↦ λ e. false≢true (sym usual.king ∙ ap allowed (sym e ∙ later.piece now) ∙ became allowed takes c k s i q pawn now go)
         ];
       }
     ]
   where
-    became : (allowed : Kind → Bool) (c : Colour) (k : Kind) (s : ℕ) (i : Kind) (q : ℕ) → same_kind k Pawn ≡ true → same_kind i Pawn ≡ false
-        → goes allowed c k s i q ≡ true → allowed i ≡ true
-    became allowed c k s i q pawn now go = elim (cases_Bool (rank_of q == last_rank c)) [
-      | inl there ↦ sym (cond-true _ (allowed i) (same_kind k i) there) ∙ (pawn_goes_on allowed c k s i q pawn go).1
+    became : (allowed : Kind → Bool) (takes : ℕ → Bool) (c : Colour) (k : Kind) (s : ℕ) (i : Kind) (q : ℕ) → same_kind k Pawn ≡ true → same_kind i Pawn ≡ false
+        → goes allowed takes c k s i q ≡ true → allowed i ≡ true
+    became allowed takes c k s i q pawn now go = elim (cases_Bool (rank_of q == last_rank c)) [
+      | inl there ↦ sym (cond-true _ (allowed i) (same_kind k i) there) ∙ (pawn_goes_on allowed takes c k s i q pawn go).1
       | inr elsewhere ↦ absurd (false≢true (sym now ∙ ap (λ x. same_kind x Pawn)
-          (sym (same_kind-true k i (sym (cond-false _ (allowed i) (same_kind k i) elsewhere) ∙ (pawn_goes_on allowed c k s i q pawn go).1))) ∙ pawn))
+          (sym (same_kind-true k i (sym (cond-false _ (allowed i) (same_kind k i) elsewhere) ∙ (pawn_goes_on allowed takes c k s i q pawn go).1))) ∙ pawn))
     ]
 
 -- a chain begins on the man's square
-pub chain_starts : (x : Man) (s : ℕ) (chain : List Whereabouts) → ((k : Kind) → has k k s (slice_index_or chain 0 nowhere) ≡ true) → IsChain x s 0 chain
+pub chain_starts : (prey : ℕ) (x : Man) (s : ℕ) (chain : List Whereabouts) → ((k : Kind) → has k k s (slice_index_or chain 0 nowhere) ≡ true) → IsChain prey x s 0 chain
 unfolding Gets
-chain_starts x s chain here = record {
+chain_starts prey x s chain here = record {
   gets = starts;
   grows = λ n l j t le most small h. subst (λ i. has x.kind j t (slice_index_or chain i nowhere) ≡ true) (omega arith) h;
 }
   where
-    starts : (allowed : Kind → Bool) (n : ℕ) (j : Kind) (t : ℕ) → n ≤ 0 → IsUsual allowed → Gets allowed x.colour n x.kind s j t
+    starts : (allowed : Kind → Bool) (takes : ℕ → Bool) (n : ℕ) (j : Kind) (t : ℕ) → TakesOn takes prey → n ≤ 0 → IsUsual allowed
+        → Gets allowed takes x.colour n x.kind s j t
         → has x.kind j t (slice_index_or chain n nowhere) ≡ true
-    starts allowed zero j t le usual (same, there) = subst (λ q. has x.kind j q (slice_index_or chain 0 nowhere) ≡ true) there
+    starts allowed takes zero j t on le usual (same, there) = subst (λ q. has x.kind j q (slice_index_or chain 0 nowhere) ≡ true) there
         (subst (λ i. has x.kind i s (slice_index_or chain 0 nowhere) ≡ true) same (here x.kind))
-    starts allowed (suc n) j t le usual way = absurd (omega (arith, le))
+    starts allowed takes (suc n) j t on le usual way = absurd (omega (arith, le))
 
 -- a chain for fewer moves
-pub chain_less : (x : Man) (s m n : ℕ) (chain : List Whereabouts) → IsChain x s m chain → n ≤ m → IsChain x s n chain
-chain_less x s m n chain h le = record {
-  gets = λ allowed i j t less usual way. h.gets allowed i j t (omega (arith, less, le)) usual way;
+pub chain_less : (prey : ℕ) (x : Man) (s m n : ℕ) (chain : List Whereabouts) → IsChain prey x s m chain → n ≤ m → IsChain prey x s n chain
+chain_less prey x s m n chain h le = record {
+  gets = λ allowed takes i j t on less usual way. h.gets allowed takes i j t on (omega (arith, less, le)) usual way;
   grows = λ i l j t less more small has. h.grows i l j t less (omega (arith, more, le)) small has;
 }
 
 -- a chain goes on
-pub chain_goes_on : (x : Man) (s m n : ℕ) (chain : List Whereabouts) (w : Whereabouts) → IsChain x s m chain → n ≡ suc m → n < length chain → s < 64
-    → Leads x (slice_index_or chain m nowhere) w
+pub chain_goes_on : (prey : ℕ) (x : Man) (s m n : ℕ) (chain : List Whereabouts) (w : Whereabouts) → IsChain prey x s m chain → n ≡ suc m → n < length chain → s < 64
+    → Leads prey x (slice_index_or chain m nowhere) w
     → ((j : Kind) (t : ℕ) → t < 64 → has x.kind j t (slice_index_or chain m nowhere) ≡ true → has x.kind j t w ≡ true)
-    → IsChain x s n (slice_set chain n w)
-chain_goes_on x s m n chain w h next room small leads kept = record {
-  gets = λ allowed i j t le usual way. elim (cases_eq i n) [
-    | inr before ↦ subst (λ y. has x.kind j t y ≡ true) (sym (get_or-set_other chain n i w nowhere before)) (h.gets allowed i j t (omega (arith, le, before, next)) usual way)
+    → IsChain prey x s n (slice_set chain n w)
+chain_goes_on prey x s m n chain w h next room small leads kept = record {
+  gets = λ allowed takes i j t on le usual way. elim (cases_eq i n) [
+    | inr before ↦ subst (λ y. has x.kind j t y ≡ true) (sym (get_or-set_other chain n i w nowhere before)) (h.gets allowed takes i j t on (omega (arith, le, before, next)) usual way)
     | inl now ↦ subst (λ y. has x.kind j t y ≡ true) (sym (ap (λ y. slice_index_or (slice_set chain n w) y nowhere) now ∙ get_or-set_same chain n w nowhere room))
-        (steps allowed j t usual (subst (λ y. Gets allowed x.colour y x.kind s j t) (now ∙ next) way))
+        (steps allowed takes j t on usual (subst (λ y. Gets allowed takes x.colour y x.kind s j t) (now ∙ next) way))
   ];
   grows = λ i l j t less more low had. elim (cases_eq l n) [
     | inr before ↦ subst (λ y. has x.kind j t y ≡ true) (sym (get_or-set_other chain n l w nowhere before))
@@ -222,11 +225,12 @@ chain_goes_on x s m n chain w h next room small leads kept = record {
   ];
 }
   where
-    steps : (allowed : Kind → Bool) (j : Kind) (t : ℕ) → IsUsual allowed → Gets allowed x.colour (suc m) x.kind s j t → has x.kind j t w ≡ true
-    steps allowed j t usual way =
-        let (i, q, before, go) = gets_last allowed x.colour m x.kind s j t way in
-        leads.leads allowed i j q t (gets_small allowed x.colour m x.kind s i q small before) (goes_small allowed x.colour i q j t go)
-        (gets_be allowed x.colour m x.kind s i q usual before) usual.pawn go (h.gets allowed m i q (omega arith) usual before)
+    steps : (allowed : Kind → Bool) (takes : ℕ → Bool) (j : Kind) (t : ℕ) → TakesOn takes prey → IsUsual allowed
+        → Gets allowed takes x.colour (suc m) x.kind s j t → has x.kind j t w ≡ true
+    steps allowed takes j t on usual way =
+        let (i, q, before, go) = gets_last allowed takes x.colour m x.kind s j t way in
+        leads.leads allowed takes i j q t on (gets_small allowed takes x.colour m x.kind s i q small before) (goes_small allowed takes x.colour i q j t go)
+        (gets_be allowed takes x.colour m x.kind s i q usual before) usual.pawn go (h.gets allowed takes m i q on (omega arith) usual before)
 
     last : (i : ℕ) (j : Kind) (t : ℕ) → i ≤ n → t < 64 → has x.kind j t (slice_index_or (slice_set chain n w) i nowhere) ≡ true → has x.kind j t w ≡ true
     last i j t le low had = elim (cases_eq i n) [

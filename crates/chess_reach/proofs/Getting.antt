@@ -1,5 +1,5 @@
 -- How far a man gets: a superset, move by move.
-use Rattle.chess_attacks.proofs.Chess.{Black, Bool, Colour, Gait, Hopper, Kind, Leaper, List, Man, Option, Rider, gait_of, goes_by, hops, kind_steps, Pawn, Step, White, [], all_at, along, arith, bit_and, bit_at, bit_not, bit_or, cases_Bool, false, false≢true, first_of_and, forward, inl, inr, is_advance, is_square, leaps, list_any, not, on_left, on_right, or_cases, or_left, or_right, pawn_capture_steps, queen_steps, rank_of, reaches_as, refl, rides, rules, second_of_and, subst, suc, sym, true, w64, word, word_has, zero, ℕ, ◌&&◌, ◌<◌, ◌==◌, ◌||◌, ◌∙◌, ◌∷◌, ◌≡◌}
+use Rattle.chess_attacks.proofs.Chess.{Black, Bool, Colour, Gait, Hopper, Kind, Leaper, List, Man, Option, Rider, gait_of, goes_by, hops, kind_steps, Pawn, Step, White, [], all_at, along, and_from, and_parts, arith, bit_and, bit_at, bit_not, bit_or, cases_Bool, false, false≢true, first_of_and, forward, inl, inr, is_advance, is_square, leaps, list_any, not, on_left, on_right, or_cases, or_left, or_right, pawn_capture_steps, queen_steps, rank_of, reaches_as, refl, rides, rules, second_of_and, subst, suc, sym, true, w64, word, word_has, zero, ℕ, ◌-◌, ◌^◌, ◌&&◌, ◌<◌, ◌==◌, ◌||◌, ◌∙◌, ◌∷◌, ◌≡◌}
 use Rattle.std.specs.Prelude.{◌⊎◌}
 use Rattle.chess_attacks.specs.ties.Lines.{AreReached}
 use Rattle.chess_core.specs.Position.{same_kind}
@@ -8,7 +8,7 @@ use Rattle.chess_rules.specs.Legal.{second_rank}
 use Rattle.chess_reach.proofs.Bitboards.{on_both}
 unfoldable use Rattle.chess_reach.specs.Reach.{Gets, goes, guards, pawn_goes}
 use Rattle.chess_reach.specs.Reach.{without_hops}
-use Rattle.chess_reach.specs.ties.Ways.{steps_to}
+use Rattle.chess_reach.specs.ties.Ways.{TakesOn, steps_to}
 
 -- two tests agree
 abbrev agree : Bool → Bool → Bool
@@ -64,16 +64,22 @@ unfolding guards reaches_as
 pawn_guards c s t = refl
 
 -- a pawn goes by a step or by a capture
-pub goes_pawn : (c : Colour) (s t w k : ℕ) → (steps_to c s t ≡ true → (bit_at w t == 1) ≡ true) → k ≡ word (λ t. list_any (leaps s t) (pawn_capture_steps c)) → t < 64
-    → pawn_goes c s t ≡ true → (bit_at (bit_or w k) t == 1) ≡ true
+pub goes_pawn : (takes : ℕ → Bool) (c : Colour) (s t w k prey : ℕ) → TakesOn takes prey → (steps_to c s t ≡ true → (bit_at w t == 1) ≡ true)
+    → k ≡ word (λ t. list_any (leaps s t) (pawn_capture_steps c)) → t < 64 → pawn_goes takes c s t ≡ true → (bit_at (bit_or w (bit_and k prey)) t == 1) ≡ true
 unfolding pawn_goes
-goes_pawn c s t w k steps captures small go =
-    elim (step_or_capture (is_square (along s (forward c) 1) t) (rank_of s == second_rank c && is_square (along s (forward c) 2) t) (guards c Pawn s t) go) [
-      | inl step ↦ on_left w k t (steps step)
-      | inr takes ↦ on_right w k t (word_has (λ t. list_any (leaps s t) (pawn_capture_steps c)) k t captures small ∙ sym (pawn_guards c s t) ∙ takes)
+goes_pawn takes c s t w k prey on steps captures small go =
+    elim (step_or_capture (is_square (along s (forward c) 1) t) (rank_of s == second_rank c && is_square (along s (forward c) 2) t) (guards c Pawn s t && takes t) go) [
+      | inl step ↦ on_left w _ t (steps step)
+      | inr capture ↦
+          let both = and_parts (guards c Pawn s t) (takes t) capture in
+          on_right w _ t (on_both k prey t (word_has (λ t. list_any (leaps s t) (pawn_capture_steps c)) k t captures small ∙ sym (pawn_guards c s t) ∙ both.0)
+          (on t small both.1))
     ]
 
 -- every square is one of all
+pub every_on : (takes : ℕ → Bool) → TakesOn takes (2 ^ 64 - 1)
+every_on takes t small on = all_at (λ t. bit_at (2 ^ 64 - 1) t == 1) 0 64 t refl (omega arith) (omega (arith, small))
+
 pub all_on : (t : ℕ) → t < 64 → (bit_at (bit_not w64 0) t == 1) ≡ true
 all_on t small = all_at (λ t. bit_at (bit_not w64 0) t == 1) 0 64 t refl (omega arith) (omega (arith, small))
 
@@ -103,30 +109,55 @@ pub guards_small : (c : Colour) (k : Kind) (s t : ℕ) → guards c k s t ≡ tr
 unfolding guards reaches_as
 guards_small c k s t h = some_passes (goes_by (gait_of (without_hops k)) [] s t) (kind_steps c (without_hops k)) (λ d. goes_on_board (gait_of (without_hops k)) [] s t d) h
 
-pawn_small : (c : Colour) (s t : ℕ) → pawn_goes c s t ≡ true → t < 64
+pawn_small : (takes : ℕ → Bool) (c : Colour) (s t : ℕ) → pawn_goes takes c s t ≡ true → t < 64
 unfolding pawn_goes
-pawn_small c s t h = search (rules, or_cases, second_of_and, stays_on_board, guards_small)
+pawn_small takes c s t h = search (rules, or_cases, first_of_and, second_of_and, stays_on_board, guards_small)
 
 -- where a man goes is on the board
-pub goes_small : (allowed : Kind → Bool) (c : Colour) (k : Kind) (s : ℕ) (j : Kind) (t : ℕ) → goes allowed c k s j t ≡ true → t < 64
+pub goes_small : (allowed : Kind → Bool) (takes : ℕ → Bool) (c : Colour) (k : Kind) (s : ℕ) (j : Kind) (t : ℕ) → goes allowed takes c k s j t ≡ true → t < 64
 unfolding goes
-goes_small allowed c k s j t h = elim (cases_Bool (same_kind k Pawn)) [
-  | inl y ↦ pawn_small c s t (grind (arith, first_of_and, y))
+goes_small allowed takes c k s j t h = elim (cases_Bool (same_kind k Pawn)) [
+  | inl y ↦ pawn_small takes c s t (grind (arith, first_of_and, y))
   | inr n ↦ guards_small c k s t (grind (arith, first_of_and, n))
 ]
 
 -- where a man gets is on the board
-pub gets_small : (allowed : Kind → Bool) (c : Colour) (n : ℕ) (k : Kind) (s : ℕ) (j : Kind) (t : ℕ) → s < 64 → Gets allowed c n k s j t → t < 64
+pub gets_small : (allowed : Kind → Bool) (takes : ℕ → Bool) (c : Colour) (n : ℕ) (k : Kind) (s : ℕ) (j : Kind) (t : ℕ) → s < 64
+    → Gets allowed takes c n k s j t → t < 64
 unfolding Gets
-gets_small allowed c zero k s j t small (same, there) = subst (λ x. x < 64) there small
-gets_small allowed c (suc n) k s j t small (i, q, go, rest) = gets_small allowed c n i q j t (goes_small allowed c k s i q go) rest
+gets_small allowed takes c zero k s j t small (same, there) = subst (λ x. x < 64) there small
+gets_small allowed takes c (suc n) k s j t small (i, q, go, rest) = gets_small allowed takes c n i q j t (goes_small allowed takes c k s i q go) rest
 
 -- the last move of a way
-pub gets_last : (allowed : Kind → Bool) (c : Colour) (n : ℕ) (k : Kind) (s : ℕ) (j : Kind) (t : ℕ) → Gets allowed c (suc n) k s j t
-    → (i : Kind) × (q : ℕ) × Gets allowed c n k s i q × (goes allowed c i q j t ≡ true)
+pub gets_last : (allowed : Kind → Bool) (takes : ℕ → Bool) (c : Colour) (n : ℕ) (k : Kind) (s : ℕ) (j : Kind) (t : ℕ) → Gets allowed takes c (suc n) k s j t
+    → (i : Kind) × (q : ℕ) × Gets allowed takes c n k s i q × (goes allowed takes c i q j t ≡ true)
 unfolding Gets
-gets_last allowed c zero k s j t (i, q, go, (same, there)) =
-    (k, s, (refl, refl), subst (λ x. goes allowed c k s x t ≡ true) same (subst (λ x. goes allowed c k s i x ≡ true) there go))
-gets_last allowed c (suc n) k s j t (i, q, go, rest) =
-    let (a, b, before, last) = gets_last allowed c n i q j t rest in
+gets_last allowed takes c zero k s j t (i, q, go, (same, there)) =
+    (k, s, (refl, refl), subst (λ x. goes allowed takes c k s x t ≡ true) same (subst (λ x. goes allowed takes c k s i x ≡ true) there go))
+gets_last allowed takes c (suc n) k s j t (i, q, go, rest) =
+    let (a, b, before, last) = gets_last allowed takes c n i q j t rest in
     (a, b, (i, q, go, before), last)
+
+-- where a pawn may capture more, it goes too
+takes_more : (takes more : ℕ → Bool) (c : Colour) (s t : ℕ) → (takes t ≡ true → more t ≡ true) → pawn_goes takes c s t ≡ true → pawn_goes more c s t ≡ true
+unfolding pawn_goes
+takes_more takes more c s t grows go =
+    elim (or_cases (is_square (along s (forward c) 1) t || (rank_of s == second_rank c && is_square (along s (forward c) 2) t)) (guards c Pawn s t && takes t) go) [
+      | inl step ↦ or_left _ _ step
+      | inr capture ↦ let both = and_parts (guards c Pawn s t) (takes t) capture in or_right _ _ (and_from _ _ both.0 (grows both.1))
+    ]
+
+goes_more : (allowed : Kind → Bool) (takes more : ℕ → Bool) (c : Colour) (k : Kind) (s : ℕ) (j : Kind) (t : ℕ) → (takes t ≡ true → more t ≡ true)
+    → goes allowed takes c k s j t ≡ true → goes allowed more c k s j t ≡ true
+unfolding goes
+goes_more allowed takes more c k s j t grows go = elim (cases_Bool (same_kind k Pawn)) [
+  | inl y ↦ grind (arith, y, and_parts, and_from, takes_more takes more c s t grows)
+  | inr n ↦ grind (arith, n, and_parts, and_from)
+]
+
+pub gets_more : (allowed : Kind → Bool) (takes more : ℕ → Bool) (c : Colour) (n : ℕ) (k : Kind) (s : ℕ) (j : Kind) (t : ℕ)
+    → ((t : ℕ) → takes t ≡ true → more t ≡ true) → Gets allowed takes c n k s j t → Gets allowed more c n k s j t
+unfolding Gets
+gets_more allowed takes more c zero k s j t grows way = way
+gets_more allowed takes more c (suc n) k s j t grows (i, q, go, rest) =
+    (i, q, goes_more allowed takes more c k s i q (grows q) go, gets_more allowed takes more c n i q j t grows rest)

@@ -1,16 +1,16 @@
 -- What a legal move that doesn't castle does to the men, where captured men aren't reborn.
-use Rattle.chess_reach.proofs.Chess.{Colour, IsWellFormed, King, Kind, List, Man, Move, None, Option, Pawn, Position, RuleSet, Some, and_from, and_parts, arith, arriving_man, becomes, capture_square, captured_man, captures_are_reborn, cases_Bool, cond-false, cond-true, eq-eqb, false, false≢true, goes, guards, is_castling, is_pawn_capture, is_pawn_step, is_promotion_right, is_pseudo_legal, is_some, is_square, man_on, may_promote, moved_men, if◌then◌else◌, not-true, ne_eqb, is_arrival_free, same_colour-refl, rank_of, last_rank, ◌==◌, or_cases, or_left, or_right, pawn_goes, position_after, position_after_by, reaches, reborn_square, refl, same_colour, same_kind, same_kind-true, sym, true, ℕ, ◌&&◌, ◌∙◌, ◌≡◌, ◌≢◌, ◌⊎◌}
+use Rattle.chess_reach.proofs.Chess.{Black, White, Bool, ap, captures_to, is_ahead, subst, inl, inr, ◌<◌, ◌≤◌, ◌+◌, ◌||◌, Colour, IsWellFormed, King, Kind, List, Man, Move, None, Option, Pawn, Position, RuleSet, Some, and_from, and_parts, arith, arriving_man, becomes, capture_square, captured_man, captures_are_reborn, cases_Bool, cond-false, cond-true, eq-eqb, false, false≢true, goes, guards, is_castling, is_pawn_capture, is_pawn_step, is_promotion_right, is_pseudo_legal, is_some, is_square, man_on, may_promote, moved_men, if◌then◌else◌, not-true, ne_eqb, is_arrival_free, same_colour-refl, rank_of, last_rank, ◌==◌, or_cases, or_left, or_right, pawn_goes, position_after, position_after_by, reaches, reborn_square, refl, same_colour, same_kind, same_kind-true, sym, true, ℕ, ◌&&◌, ◌∙◌, ◌≡◌, ◌≢◌, ◌⊎◌}
 use Rattle.chess_attacks.proofs.rays.Ends.{square_is}
 use Rattle.chess_attacks.proofs.rays.OnSquares.{on_board}
 use Rattle.chess_reach.proofs.EmptyBoard.{guards_reached}
 use Rattle.chess_reach.proofs.OneMove.{IsGone}
-use Rattle.chess_rules.proofs.Chess.{can_castle, may_castle, rebirth_at}
+use Rattle.chess_rules.proofs.Chess.{file_of, square_at, square_at-is, le-leb, can_castle, may_castle, rebirth_at}
 use Rattle.chess_rules.proofs.legality.Blocking.{arriving_colour, simple_after}
 use Rattle.chess_rules.proofs.legality.Seeing.{kept_now, left_now, there_now}
 use Rattle.chess_rules.proofs.listing_moves.TripleNumbers.{made_is_triple}
 use Rattle.chess_rules.proofs.making_moves.Fits.{arrived, pawn_is_no_king, taken}
 use Rattle.chess_rules.proofs.making_moves.Plays.{none_from_is_some}
-use Rattle.chess_rules.proofs.making_moves.Pseudo.{IsMade, made, ways}
+use Rattle.chess_rules.proofs.making_moves.Pseudo.{Advances, IsMade, made, pawn_reaches, ways}
 
 -- nobody is reborn
 rebirth_none : (o : Option Man) (s : Option ℕ) (men : List (Option Man)) → rebirth_at false men o s ≡ None
@@ -47,15 +47,86 @@ becomes_right : (p : Position) (x : Man) (m : Move) (r : Option Kind) → is_pro
 becomes_right p x m None right = cond-false (same_kind x.kind Pawn && rank_of m.to == last_rank x.colour) _ _ (not-true _ right) ∙ eq-eqb _ _ refl
 becomes_right p x m (Some j) right = let h = and_parts _ _ right in cond-true (same_kind x.kind Pawn && rank_of m.to == last_rank x.colour) _ _ h.0 ∙ h.1
 
+-- a square that is missing is off the board
+missing : (f r : ℕ) → 0 < f → f ≤ 8 → 0 < r → r ≤ 8 → square_at f r ≡ None → ⊥
+missing f r a b c d none = grind (arith, le-leb)
+
+-- the square ahead
+ahead : (c : Colour) (s from to : ℕ) → Advances c from to 1 → file_of to ≡ file_of s → rank_of from ≡ rank_of s → is_ahead c s to ≡ true
+ahead White s from to advances file rank = and_from _ _ (eq-eqb _ _ (sym file)) (eq-eqb _ _ (advances ∙ ap (λ r. r + 1) rank))
+ahead Black s from to advances file rank = and_from _ _ (eq-eqb _ _ (sym file)) (eq-eqb _ _ (sym rank ∙ advances))
+
+-- one of two, and not the first
+passed_over : (a b : Bool) → a ≡ false → (a || b) ≡ true → b ≡ true
+passed_over a b off h = grind arith
+
 module _ (rule : RuleSet) (p : Position) (x : Man) (m : Move) (well : IsWellFormed p) (may : is_pseudo_legal rule p m ≡ true)
     (here : man_on p.men m.from ≡ Some x)
     (plain : is_castling x m ≡ false) where
   is_made : IsMade rule p x m
   is_made = made rule p m x may here
 
-  pawn_way : (same_kind x.kind Pawn ≡ true) × ((is_pawn_capture p m ≡ true) ⊎ (is_pawn_step p x m ≡ true)) → pawn_goes x.colour m.from m.to ≡ true
+  -- whom a pawn captures
+  record Captured : Type 0 where
+    square : ℕ
+    man : Man
+    taken : is_square (capture_square p x m) square ≡ true
+    there : man_on p.men square ≡ Some man
+    to : captures_to x.colour square m.to ≡ true
+
+  -- a man on the arrival
+  captured_there : (o : Option Man) → man_on p.men m.to ≡ o → is_some o ≡ true → Captured
+  unfolding capture_square
+  captured_there None at some = absurd (false≢true some)
+  captured_there (Some z) at some = record {
+    square = m.to;
+    man = z;
+    taken = rw (at, eq-eqb m.to m.to refl) refl;
+    there = at;
+    to = or_left _ _ (eq-eqb m.to m.to refl);
+  }
+
+  -- or one that is passed
+  passing_at : same_kind x.kind Pawn ≡ true → is_some (man_on p.men m.to) ≡ false → is_square p.crossed m.to ≡ true → file_of m.from ≢ file_of m.to
+      → capture_square p x m ≡ square_at (file_of m.to) (rank_of m.from)
+  unfolding capture_square
+  passing_at pawn empty crossed aside = rw (empty, pawn, crossed, ne_eqb (file_of m.from) (file_of m.to) aside) refl
+
+  captured_passing : (o : Option ℕ) → capture_square p x m ≡ o → same_kind x.kind Pawn ≡ true → is_some (man_on p.men m.to) ≡ false
+      → is_square p.crossed m.to ≡ true → reaches p.men m.from m.to ≡ true → Captured
+  unfolding capture_square
+  captured_passing None at pawn empty crossed reach =
+      let take = pawn_reaches p.men x m.from m.to here pawn reach in
+      absurd (missing (file_of m.to) (rank_of m.from) (omega (arith, take.small)) (omega (arith, take.small))
+      (omega (arith, on_board p.men m.from x well.size here)) (omega (arith, on_board p.men m.from x well.size here)) (sym (passing_at pawn empty crossed take.aside) ∙ at))
+  captured_passing (Some s) at pawn empty crossed reach =
+      let take = pawn_reaches p.men x m.from m.to here pawn reach in
+      let t = taken rule p x m s well is_made at in
+      let is = square_at-is (file_of m.to) (rank_of m.from) s (rw (sym (passing_at pawn empty crossed take.aside) ∙ at) (eq-eqb s s refl)) in
+      record { square = s; man = t.man; taken = rw at (eq-eqb s s refl); there = t.there; to = or_right (s == m.to) _ (ahead x.colour s m.from m.to take.advances is.file is.rank) }
+
+  captured : same_kind x.kind Pawn ≡ true → is_pawn_capture p m ≡ true → Captured
+  captured pawn capture =
+      let parts = and_parts (reaches p.men m.from m.to) _ capture in
+      elim (cases_Bool (is_some (man_on p.men m.to))) [
+        | inl some ↦ captured_there (man_on p.men m.to) refl some
+        | inr empty ↦ captured_passing (capture_square p x m) refl pawn empty (passed_over (is_some (man_on p.men m.to)) (is_square p.crossed m.to) empty parts.1) parts.0
+      ]
+
+  -- where a pawn may capture what it captures
+  abbrev MayTake : (ℕ → Bool) → Type 0
+  MayTake takes = (s : ℕ) (z : Man) → is_square (capture_square p x m) s ≡ true → man_on p.men s ≡ Some z → captures_to x.colour s m.to ≡ true → takes m.to ≡ true
+
+  takes_it : (takes : ℕ → Bool) → MayTake takes → same_kind x.kind Pawn ≡ true → is_pawn_capture p m ≡ true → takes m.to ≡ true
+  takes_it takes may_take pawn capture = let t = captured pawn capture in may_take t.square t.man t.taken t.there t.to
+
+  pawn_way : (takes : ℕ → Bool) → MayTake takes → (same_kind x.kind Pawn ≡ true) × ((is_pawn_capture p m ≡ true) ⊎ (is_pawn_step p x m ≡ true))
+      → pawn_goes takes x.colour m.from m.to ≡ true
   unfolding pawn_goes
-  pawn_way h = grind (arith, or_cases, or_left, or_right, and_parts, and_from, same_kind-true x.kind Pawn, guards_from p.men x m.from m.to here)
+  pawn_way takes may_take (pawn, inl capture) =
+      or_right _ _ (and_from _ _ (subst (λ k. guards x.colour k m.from m.to ≡ true) (same_kind-true x.kind Pawn pawn)
+      (guards_from p.men x m.from m.to here (and_parts (reaches p.men m.from m.to) _ capture).0)) (takes_it takes may_take pawn capture))
+  pawn_way takes may_take (pawn, inr step) = grind (arith, or_left, and_parts, and_from)
 
   piece_way : (same_kind x.kind Pawn ≡ false) × ((reaches p.men m.from m.to ≡ true) ⊎ (can_castle rule p x m ≡ true))
       → guards x.colour x.kind m.from m.to ≡ true
@@ -63,13 +134,16 @@ module _ (rule : RuleSet) (p : Position) (x : Man) (m : Move) (well : IsWellForm
   piece_way h = grind (arith, guards_from p.men x m.from m.to here, and_parts, plain)
 
   -- the way of the man
-  way_goes : (if same_kind x.kind Pawn then pawn_goes x.colour m.from m.to else guards x.colour x.kind m.from m.to) ≡ true
-  unfolding pawn_goes
-  way_goes = grind (arith, ways rule p x m is_made.can_go, pawn_way, piece_way)
+  way_goes : (takes : ℕ → Bool) → MayTake takes
+      → (if same_kind x.kind Pawn then pawn_goes takes x.colour m.from m.to else guards x.colour x.kind m.from m.to) ≡ true
+  way_goes takes may_take = elim (ways rule p x m is_made.can_go) [
+    | inl pawn ↦ cond-true (same_kind x.kind Pawn) _ _ pawn.0 ∙ pawn_way takes may_take pawn
+    | inr piece ↦ cond-false (same_kind x.kind Pawn) _ _ piece.0 ∙ piece_way piece
+  ]
 
-  man_goes : goes (may_promote p) x.colour x.kind m.from (arriving_man x m.promo).kind m.to ≡ true
+  man_goes : (takes : ℕ → Bool) → MayTake takes → goes (may_promote p) takes x.colour x.kind m.from (arriving_man x m.promo).kind m.to ≡ true
   unfolding goes
-  man_goes = and_from _ _ way_goes (becomes_right p x m m.promo is_made.promotion)
+  man_goes takes may_take = and_from _ _ (way_goes takes may_take) (becomes_right p x m m.promo is_made.promotion)
 
   free_arrival : is_square (capture_square p x m) m.to ≡ false → man_on p.men m.to ≡ None
   unfolding capture_square
@@ -103,6 +177,7 @@ module _ (rule : RuleSet) (p : Position) (x : Man) (m : Move) (well : IsWellForm
     is_gone =
         let small = (made_is_triple rule p m well.size may).1 in
         record {
+          size = well.size;
           from = on_board p.men m.from x well.size here;
           to = small;
           apart = apart;
@@ -117,6 +192,7 @@ module _ (rule : RuleSet) (p : Position) (x : Man) (m : Move) (well : IsWellForm
               (grind (arith, ne_eqb m.from s)));
           captured = λ s z at stands. captured_is s z (square_is (capture_square p x m) s at) stands;
           free = free_arrival;
+          on = λ s z at stands. on_board p.men s z well.size stands;
           goes = man_goes;
           kinds = kinds_after;
         }

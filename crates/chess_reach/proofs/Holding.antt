@@ -1,7 +1,8 @@
 -- What the search for a plan keeps.
-use Rattle.chess_attacks.proofs.Chess.{List, Man, Option, and_from, and_right, ap, arith, bit_at, cases_Bool, cases_eq, cond-false, cond-true, false, inl, inr, length, other, range_with_len, refl, subst, suc, sym, true, zero, ℕ, ◌&&◌, ◌+◌, ◌-◌, ◌<◌, ◌==◌, ◌∙◌, ◌≡◌, ◌≢◌, ◌≤◌, if◌then◌else◌}
+use Rattle.chess_attacks.proofs.Chess.{Bool, eq-eqb, List, Man, Option, not, and_from, and_right, ap, arith, bit_at, cases_Bool, cases_eq, cond-false, cond-true, false, inl, inr, length, other, range_with_len, refl, subst, suc, sym, true, zero, ℕ, ◌&&◌, ◌+◌, ◌-◌, ◌<◌, ◌==◌, ◌∙◌, ◌≡◌, ◌≢◌, ◌≤◌, if◌then◌else◌}
 unfoldable use Rattle.chess_attacks.proofs.Chess.{squares}
 use Rattle.std.proofs.Common.{slice_set}
+use Rattle.chess_rules.proofs.Chess.{ne_eqb}
 use Rattle.std.specs.List.{sum_by}
 use Rattle.std.proofs.lemmas.List.{get_or-set_other, get_or-set_same}
 use Rattle.std.proofs.lemmas.List.Sums.{sum_by-cons}
@@ -9,7 +10,7 @@ use Rattle.chess_reach.specs.Plans.{Ends}
 use Rattle.chess_reach.specs.declared.hold.Place.{Place}
 use Rattle.chess_reach.specs.declared.hold.Quest.{Quest}
 use Rattle.chess_reach.specs.ties.Guards.{guard_at, is_blocker}
-use Rattle.chess_reach.specs.ties.Hold.{Holds, IsIn, end_at, place_at}
+use Rattle.chess_reach.specs.ties.Hold.{Holds, IsIn, blocks_in, end_at, place_at}
 unfoldable use Rattle.chess_reach.specs.ties.Hold.{blocked, unpaid}
 use Rattle.chess_reach.specs.ties.Ways.{nowhere}
 
@@ -46,9 +47,49 @@ sum_less f g a (suc n) i d low high each here = elim (cases_eq i a) [
   )
 ]
 
+-- where two have less, the sum is less by both
+pub sum_less_twice : (f g : ℕ → ℕ) (i j x y : ℕ) → i < 64 → j < 64 → i ≢ j → ((s : ℕ) → g s ≤ f s) → g i + x ≤ f i → g j + y ≤ f j
+    → sum_by g (range_with_len 0 64) + x + y ≤ sum_by f (range_with_len 0 64)
+sum_less_twice f g i j x y low small apart each first second =
+    omega (
+      arith,
+      sum_less between g 0 64 i x (omega arith) (omega (arith, low)) (λ s lt. grown s) (omega (arith, first, at_first)),
+      sum_less f between 0 64 j y (omega arith) (omega (arith, small)) (λ s lt. growing s) (omega (arith, second, at_second)),
+    )
+  where
+    between : ℕ → ℕ
+    between s = if s == i then f i else g s
+
+    at_first : between i ≡ f i
+    at_first = cond-true (i == i) _ _ (eq-eqb i i refl)
+
+    at_second : between j ≡ g j
+    at_second = cond-false (j == i) _ _ (ne_eqb j i (λ same. apart (sym same)))
+
+    grown : (s : ℕ) → g s ≤ between s
+    grown s = elim (cases_eq s i) [
+      | inl same ↦ omega (arith, subst (λ k. g k ≤ f k) (sym same) (each i), cond-true (s == i) (f i) (g s) (eq-eqb s i same), ap f same, each s)
+      | inr off ↦ omega (arith, cond-false (s == i) (f i) (g s) (ne_eqb s i off))
+    ]
+
+    growing : (s : ℕ) → between s ≤ f s
+    growing s = elim (cases_eq s i) [
+      | inl same ↦ omega (arith, cond-true (s == i) (f i) (g s) (eq-eqb s i same), ap f same)
+      | inr off ↦ omega (arith, cond-false (s == i) (f i) (g s) (ne_eqb s i off), each s)
+    ]
+
+-- two numbers are at most the sum
+pub two_within : (f : ℕ → ℕ) (i j : ℕ) → i < 64 → j < 64 → i ≢ j → f i + f j ≤ sum_by f (range_with_len 0 64)
+two_within f i j low small apart =
+    omega (arith, sum_less_twice f (λ _. 0) i j (f i) (f j) low small apart (λ s. omega arith) (omega arith) (omega arith))
+
 -- one number is at most the sum
 pub one_within : (f : ℕ → ℕ) (a n i : ℕ) → a ≤ i → i < a + n → f i ≤ sum_by f (range_with_len a n)
 one_within f a n i low high = omega (arith, sum_less f (λ _. 0) a n i (f i) low high (λ j lt. omega arith) (omega arith))
+
+-- who blocks one of fewer squares pays as much
+fewer_in : (b r w : Bool) (n : ℕ) → (r ≡ true → w ≡ true) → (if b && r then n else 0) ≤ (if b && w then n else 0)
+fewer_in b r w n inside = grind (arith, cases_Bool r)
 
 module _ (q : Quest) (men : List (Option Man)) (ends : Ends) where
   -- a guard has no more moves left than all together
@@ -108,30 +149,32 @@ module _ (q : Quest) (men : List (Option Man)) (ends : Ends) where
   }
     where
       spends : ℕ → ℕ → ℕ
-      spends v s = if is_blocker men (other q.colour) s && (bit_at v (ends s).square == 1) then (ends s).moves else 0
+      spends v s = if blocks_in q men ends v s then (ends s).moves else 0
 
       fewer_spent : (s : ℕ) → spends r s ≤ spends w s
-      fewer_spent s = grind (arith, inside (ends s).square, cases_Bool (bit_at r (ends s).square == 1))
+      fewer_spent s = fewer_in (is_blocker men (other q.colour) s && not (ends s).taken) (bit_at r (ends s).square == 1) (bit_at w (ends s).square == 1) (ends s).moves
+          (inside (ends s).square)
 
   -- a blocker has at most the moves of all
   pub block_spare : (places : List Place) (w ours theirs s : ℕ) → Holds q men places w ours theirs ends → s < 64 → is_blocker men (other q.colour) s ≡ true
-      → (bit_at w (ends s).square == 1) ≡ true → (ends s).moves ≤ theirs
+      → (ends s).taken ≡ false → (bit_at w (ends s).square == 1) ≡ true → (ends s).moves ≤ theirs
   unfolding blocked squares
-  block_spare places w ours theirs s h small blocker on =
-      let f : ℕ → ℕ = λ s. if is_blocker men (other q.colour) s && (bit_at w (ends s).square == 1) then (ends s).moves else 0 in
+  block_spare places w ours theirs s h small blocker stays on =
+      let f : ℕ → ℕ = λ s. if blocks_in q men ends w s then (ends s).moves else 0 in
       omega (
         arith,
         h.blocking,
         one_within f 0 64 s (omega arith) (omega (arith, small)),
-        cond-true (is_blocker men (other q.colour) s && (bit_at w (ends s).square == 1)) (ends s).moves 0 (and_from _ _ blocker on),
+        cond-true (blocks_in q men ends w s) (ends s).moves 0 (and_from _ _ (and_from _ _ blocker (ap not stays)) on),
       )
 
   -- a blocker ends on a square, and its moves are paid
   pub block_paid : (places : List Place) (w r ours theirs z s price : ℕ) → Holds q men places w ours theirs ends → (bit_at w z == 1) ≡ true
       → (bit_at r z == 1) ≡ false → ((t : ℕ) → (bit_at r t == 1) ≡ true → (bit_at w t == 1) ≡ true) → s < 64
-      → is_blocker men (other q.colour) s ≡ true → (ends s).square ≡ z → price ≤ (ends s).moves → Holds q men places r ours (theirs - price) ends
+      → is_blocker men (other q.colour) s ≡ true → (ends s).square ≡ z → (ends s).taken ≡ false → price ≤ (ends s).moves
+      → Holds q men places r ours (theirs - price) ends
   unfolding blocked squares
-  block_paid places w r ours theirs z s price h on off inside small blocker there cheap = record {
+  block_paid places w r ours theirs z s price h on off inside small blocker there stays cheap = record {
     guards = h.guards;
     blockers = h.blockers;
     few = h.few;
@@ -142,15 +185,16 @@ module _ (q : Quest) (men : List (Option Man)) (ends : Ends) where
   }
     where
       spends : ℕ → ℕ → ℕ
-      spends v s = if is_blocker men (other q.colour) s && (bit_at v (ends s).square == 1) then (ends s).moves else 0
+      spends v s = if blocks_in q men ends v s then (ends s).moves else 0
 
       fewer_spent : (s : ℕ) → spends r s ≤ spends w s
-      fewer_spent s = grind (arith, inside (ends s).square, cases_Bool (bit_at r (ends s).square == 1))
+      fewer_spent s = fewer_in (is_blocker men (other q.colour) s && not (ends s).taken) (bit_at r (ends s).square == 1) (bit_at w (ends s).square == 1) (ends s).moves
+          (inside (ends s).square)
 
       here : spends r s + price ≤ spends w s
       here =
-          let before = cond-true (is_blocker men (other q.colour) s && (bit_at w (ends s).square == 1)) (ends s).moves 0
-          (and_from _ _ blocker (ap (λ t. bit_at w t == 1) there ∙ on)) in
-          let after = cond-false (is_blocker men (other q.colour) s && (bit_at r (ends s).square == 1)) (ends s).moves 0
+          let before = cond-true (blocks_in q men ends w s) (ends s).moves 0
+          (and_from _ _ (and_from _ _ blocker (ap not stays)) (ap (λ t. bit_at w t == 1) there ∙ on)) in
+          let after = cond-false (blocks_in q men ends r s) (ends s).moves 0
           (and_right _ _ (ap (λ t. bit_at r t == 1) there ∙ off)) in
           omega (arith, before, after, cheap)

@@ -18,4 +18,5 @@ mod Trying
 mod Blocking
 mod Listing
 mod Planning
+mod Prey
 pub mod theorems

@@ -1,12 +1,17 @@
 -- A plan comes back over one move.
-use Rattle.chess_reach.proofs.Chess.{Bool, Colour, End, Ends, Gets, IsBlocked, IsGuarded, IsPlan, King, Kind, List, Man, None, Option, Position, Some, and_parts, ap, arith, cases_Bool, cases_eq, cond-false, cond-true, eq-eqb, false, false≢true, goes, if◌then◌else◌, inl, inr, is_man, is_of_colour, is_square, man_on, may_promote, ne_eqb, other, price, refl, same_colour, same_colour-refl, same_kind, suc, sym, true, ℕ, ◌<◌, ◌==◌, ◌∙◌, ◌≡◌, ◌≢◌, ◌≤◌}
+use Rattle.chess_reach.proofs.Chess.{Bool, Colour, End, Ends, Gets, IsBlocked, IsGuarded, IsPlan, King, Kind, List, Man, None, Option, Position, Some, and_parts, ap, arith, cases_Bool, cases_eq, cond-false, cond-true, eq-eqb, false, false≢true, goes, if◌then◌else◌, inl, inr, captures_to, is_prey, length, may_capture, not, or_cases, or_left, or_right, and_from, same_colour-true, some_square, some_square_true, squares, is_man, is_of_colour, is_square, man_on, may_promote, ne_eqb, other, price, refl, same_colour, same_colour-refl, same_kind, suc, sym, true, ℕ, ◌<◌, ◌==◌, ◌∙◌, ◌≡◌, ◌≢◌, ◌≤◌, ◌&&◌, ◌||◌}
 use Rattle.pop_stipulation.specs.declared.stipulation.Goal.{Goal}
 use Rattle.chess_rules.proofs.legality.Blocking.{man_there, other_differs}
 use Rattle.chess_rules.proofs.legality.StayingInCheck.{side_there}
+use Rattle.chess_attacks.proofs.Tests.{any_range_cases}
+use Rattle.chess_attacks.proofs.rays.OnSquares.{on_board}
+use Rattle.chess_rules.proofs.Chess.{any_range_false}
+use Rattle.chess_reach.proofs.Getting.{gets_more}
 use Rattle.chess_reach.proofs.Sums.{sum_grows, sum_moved}
 
 -- x on a has gone to b, where it is y, and has captured on e, if there is a square; nothing else has changed
 pub record IsGone (p q : Position) (x y : Man) (a b : ℕ) (e : Option ℕ) : Type 0 where
+  pub size : length p.men ≡ 64
   pub from : a < 64
   pub to : b < 64
   pub apart : a ≢ b
@@ -19,7 +24,9 @@ pub record IsGone (p q : Position) (x y : Man) (a b : ℕ) (e : Option ℕ) : Ty
   pub others : (s : ℕ) → s ≢ a → s ≢ b → is_square e s ≡ false → man_on q.men s ≡ man_on p.men s
   pub captured : (s : ℕ) (z : Man) → is_square e s ≡ true → man_on p.men s ≡ Some z → (same_colour z.colour x.colour ≡ false) × (same_kind z.kind King ≡ false)
   pub free : is_square e b ≡ false → man_on p.men b ≡ None
-  pub goes : goes (may_promote p) x.colour x.kind a y.kind b ≡ true
+  pub on : (s : ℕ) (z : Man) → is_square e s ≡ true → man_on p.men s ≡ Some z → s < 64
+  pub goes : (takes : ℕ → Bool) → ((s : ℕ) (z : Man) → is_square e s ≡ true → man_on p.men s ≡ Some z → captures_to x.colour s b ≡ true → takes b ≡ true)
+      → goes (may_promote p) takes x.colour x.kind a y.kind b ≡ true
   pub kinds : q.in_diagram ≡ p.in_diagram
 
 -- the kind of the man, if there is one
@@ -29,7 +36,11 @@ kind_of (Some x) = x.kind
 
 -- the man on s ends where it is
 abbrev pub stays : List (Option Man) → ℕ → End
-stays men s = record { kind = kind_of (man_on men s); square = s; moves = 0 }
+stays men s = record { kind = kind_of (man_on men s); square = s; moves = 0; taken = false }
+
+-- the man on s is captured there
+abbrev pub falls : List (Option Man) → ℕ → End
+falls men s = record { kind = kind_of (man_on men s); square = s; moves = 0; taken = true }
 
 -- one move more
 abbrev later : End → End
@@ -37,7 +48,7 @@ later e = record e { moves = suc e.moves }
 
 -- the ends before a man went from a to b and captured on e
 pub ends_before : List (Option Man) → ℕ → ℕ → Option ℕ → Ends → Ends
-ends_before men a b e ends s = if s == a then later (ends b) else (if is_square e s then stays men s else ends s)
+ends_before men a b e ends s = if s == a then later (ends b) else (if is_square e s then falls men s else ends s)
 
 -- what the man on s pays, if it is of colour c
 abbrev paid : List (Option Man) → Colour → Ends → ℕ → ℕ
@@ -47,12 +58,31 @@ paid men c ends s = if is_of_colour (man_on men s) c then (ends s).moves else 0
 differs_from_other : (c : Colour) → same_colour (other c) c ≡ false
 differs_from_other c = grind arith
 
+-- some square passes a test
+pub passing : (test : ℕ → Bool) → some_square test ≡ true → (s : ℕ) × (s < 64) × (test s ≡ true)
+unfolding some_square squares
+passing test h = elim (any_range_cases test 0 64) [
+  | inl w ↦ (w.0, omega (arith, w.2), w.3)
+  | inr none ↦ absurd (false≢true (sym (any_range_false test 0 64 none) ∙ h))
+]
+
+-- a man of another colour than c is of the other
+enemy_colour : (d b c : Colour) → b ≡ c → same_colour d b ≡ false → same_colour d (other c) ≡ true
+enemy_colour d b c mine enemy = grind (arith, mine, enemy)
+
+-- no king is of a kind that isn't king
+not_king : (z : Man) (c : Colour) → same_kind z.kind King ≡ false → not (is_man (Some z) (other c) King) ≡ true
+not_king z c mortal = grind (arith, mortal)
+
 module _ (p q : Position) (x y : Man) (a b : ℕ) (e : Option ℕ) (gone : IsGone p q x y a b e) (ends : Ends) where
+  size : length p.men ≡ 64
+  size = gone.size
+
   at_origin : ends_before p.men a b e ends a ≡ later (ends b)
   unfolding ends_before
   at_origin = cond-true (a == a) _ _ (eq-eqb a a refl)
 
-  at_capture : (s : ℕ) → s ≢ a → is_square e s ≡ true → ends_before p.men a b e ends s ≡ stays p.men s
+  at_capture : (s : ℕ) → s ≢ a → is_square e s ≡ true → ends_before p.men a b e ends s ≡ falls p.men s
   unfolding ends_before
   at_capture s ne taken = cond-false (s == a) _ _ (ne_eqb s a ne) ∙ cond-true (is_square e s) _ _ taken
 
@@ -69,28 +99,117 @@ module _ (p q : Position) (x y : Man) (a b : ℕ) (e : Option ℕ) (gone : IsGon
     ours : is_of_colour (man_on p.men by) c ≡ true
     kind : (ends_before p.men a b e ends by).kind ≡ (ends s).kind
     square : (ends_before p.men a b e ends by).square ≡ (ends s).square
+    taken : (ends_before p.men a b e ends by).taken ≡ (ends s).taken
+    king : is_man (man_on p.men by) c King ≡ is_man (man_on q.men s) c King
 
   same_promotions : may_promote q ≡ may_promote p
   same_promotions = ap (λ (d : List Bool). may_promote (record p { in_diagram = d })) gone.kinds
 
-  -- the man that went has one step more in front
-  from_origin : Gets (may_promote q) y.colour (ends b).moves y.kind b (ends b).kind (ends b).square
-      → Gets (may_promote p) x.colour (suc (ends b).moves) x.kind a (ends b).kind (ends b).square
-  unfolding Gets
-  from_origin gets = (y.kind, b, gone.goes, rw (same_promotions, gone.colour) at gets)
+  -- a square with a man after the move, the arrival apart, had the same man before it
+  pub stood_before : (s : ℕ) (z : Man) → man_on q.men s ≡ Some z → s ≢ b → (s ≢ a) × ((is_square e s ≡ false) × (man_on p.men s ≡ Some z))
+  stood_before s z at nb = grind (arith, cases_eq s a, cases_Bool (is_square e s), gone.left, gone.cleared s, gone.others s)
 
-  gets_back : ((s : ℕ) (z : Man) → man_on q.men s ≡ Some z → Gets (may_promote q) z.colour (ends s).moves z.kind s (ends s).kind (ends s).square)
+  -- a king that has arrived is one that went
+  king_at_arrival : (c : Colour) → is_man (man_on p.men a) c King ≡ is_man (man_on q.men b) c King
+  king_at_arrival c = rw (gone.here, gone.there, gone.colour, gone.king) refl
+
+  -- each man has come from a square where its end was the same
+  came_from : (c : Colour) (s : ℕ) → is_of_colour (man_on q.men s) c ≡ true → CameFrom c s
+  came_from c s ours = elim (cases_eq s b) [
+    | inl e1 ↦ record {
+      by = a;
+      ours = rw gone.here (rw (e1, gone.there, gone.colour) at ours);
+      kind = rw (e1, at_origin) refl;
+      square = rw (e1, at_origin) refl;
+      taken = ap (λ (x : End). x.taken) at_origin ∙ ap (λ t. (ends t).taken) (sym e1);
+      king = king_at_arrival c ∙ ap (λ t. is_man (man_on q.men t) c King) (sym e1);
+    }
+    | inr nb ↦
+        let z = side_there (man_on q.men s) c ours in
+        let r = stood_before s z.0 z.1.0 nb in
+        record {
+          by = s;
+          ours = rw r.1.1 z.1.1;
+          kind = rw (at_others s r.0 r.1.0) refl;
+          square = rw (at_others s r.0 r.1.0) refl;
+          taken = rw (at_others s r.0 r.1.0) refl;
+          king = ap (λ o. is_man o c King) (r.1.1 ∙ sym z.1.0);
+        }
+  ]
+
+  -- a man on the board
+  by_small : (s : ℕ) (c : Colour) → is_of_colour (man_on p.men s) c ≡ true → s < 64
+  by_small s c ours = let z = side_there (man_on p.men s) c ours in on_board p.men s z.0 size z.1.0
+
+  -- where a pawn may capture after the move, it may before it
+  captures_back : (c d : Colour) (t : ℕ) → may_capture q.men c ends d t ≡ true → may_capture p.men c (ends_before p.men a b e ends) d t ≡ true
+  unfolding may_capture
+  captures_back c d t may = elim (or_cases (not (same_colour d c)) (some_square (is_prey q.men c ends t)) may) [
+    | inl theirs ↦ or_left _ _ theirs
+    | inr some ↦
+        let w = passing _ some in
+        let parts = and_parts _ _ w.2 in
+        let man = and_parts _ _ parts.0 in
+        let r = came_from (other c) w.0 man.0 in
+        or_right (not (same_colour d c)) _ (some_square_true (is_prey p.men c (ends_before p.men a b e ends) t) r.by (by_small r.by (other c) r.ours)
+        (and_from _ _ (and_from _ _ r.ours (ap not r.king ∙ man.1)) (rw (r.taken, r.square) parts.1)))
+  ]
+
+  -- who is captured is prey
+  captured_prey : (c : Colour) (s : ℕ) (z : Man) → x.colour ≡ c → is_square e s ≡ true → man_on p.men s ≡ Some z → captures_to c s b ≡ true
+      → is_prey p.men c (ends_before p.men a b e ends) b s ≡ true
+  captured_prey c s z mine taken there to =
+      let enemy = gone.captured s z taken there in
+      let off : s ≢ a = λ same. no_prey s z same taken there in
+      and_from (is_of_colour (man_on p.men s) (other c) && not (is_man (man_on p.men s) (other c) King)) _
+      (rw there (and_from (same_colour z.colour (other c)) (not (is_man (Some z) (other c) King)) (enemy_colour z.colour x.colour c mine enemy.0)
+      (not_king z c enemy.1))) (rw (at_capture s off taken) to)
+    where
+      no_prey : (s : ℕ) (z : Man) → s ≡ a → is_square e s ≡ true → man_on p.men s ≡ Some z → ⊥
+      no_prey s z same taken there =
+          let z_is : z ≡ x = let h : Some z ≡ Some x = sym (rw same at there) ∙ gone.here in cc in
+          let differs : same_colour x.colour x.colour ≡ false = rw z_is at (gone.captured s z taken there).0 in
+          false≢true (sym differs ∙ same_colour-refl x.colour)
+
+  -- the move of a pawn that captures is one of the plan
+  goes_back : (c : Colour) → goes (may_promote p) (may_capture p.men c (ends_before p.men a b e ends) x.colour) x.colour x.kind a y.kind b ≡ true
+  unfolding may_capture
+  goes_back c = gone.goes _ (λ s z taken there to. elim (cases_Bool (same_colour x.colour c)) [
+    | inr theirs ↦ or_left (not (same_colour x.colour c)) _ (ap not theirs)
+    | inl ours ↦
+        let mine : x.colour ≡ c = same_colour-true x.colour c ours in
+        or_right (not (same_colour x.colour c)) _ (some_square_true (is_prey p.men c (ends_before p.men a b e ends) b) s (gone.on s z taken there)
+        (captured_prey c s z mine taken there (rw mine at to)))
+  ])
+
+  -- the man that went has one step more in front
+  from_origin : (c : Colour) → Gets (may_promote q) (may_capture q.men c ends y.colour) y.colour (ends b).moves y.kind b (ends b).kind (ends b).square
+      → Gets (may_promote p) (may_capture p.men c (ends_before p.men a b e ends) x.colour) x.colour (suc (ends b).moves) x.kind a (ends b).kind (ends b).square
+  unfolding Gets
+  from_origin c gets = (
+    y.kind,
+    b,
+    goes_back c,
+    gets_more (may_promote p) (may_capture q.men c ends x.colour) (may_capture p.men c (ends_before p.men a b e ends) x.colour) x.colour (ends b).moves y.kind b
+        (ends b).kind (ends b).square
+        (captures_back c x.colour) (rw (same_promotions, gone.colour) at gets),
+  )
+
+  gets_back : (c : Colour) → ((s : ℕ) (z : Man) → man_on q.men s ≡ Some z
+      → Gets (may_promote q) (may_capture q.men c ends z.colour) z.colour (ends s).moves z.kind s (ends s).kind (ends s).square)
       → (s : ℕ) (z : Man) → man_on p.men s ≡ Some z
-      → Gets (may_promote p) z.colour (ends_before p.men a b e ends s).moves z.kind s
+      → Gets (may_promote p) (may_capture p.men c (ends_before p.men a b e ends) z.colour) z.colour (ends_before p.men a b e ends s).moves z.kind s
       (ends_before p.men a b e ends s).kind (ends_before p.men a b e ends s).square
   unfolding Gets
-  gets_back gets s z at = elim (cases_eq s a) [
+  gets_back c gets s z at = elim (cases_eq s a) [
     | inl e1 ↦
         let z_is : z ≡ x = let h : Some z ≡ Some x = sym (rw e1 at at) ∙ gone.here in cc in
-        rw (z_is, e1, at_origin) (from_origin (gets b y gone.there))
+        rw (z_is, e1, at_origin) (from_origin c (gets b y gone.there))
     | inr e1 ↦ elim (cases_Bool (is_square e s)) [
       | inl e2 ↦ rw (at_capture s e1 e2, at) (refl, refl)
-      | inr e2 ↦ rw (at_others s e1 e2, ← same_promotions) (gets s z (stood s z at e1 e2))
+      | inr e2 ↦ rw (at_others s e1 e2, ← same_promotions)
+          (gets_more (may_promote q) (may_capture q.men c ends z.colour) (may_capture p.men c (ends_before p.men a b e ends) z.colour) z.colour (ends s).moves
+          z.kind s (ends s).kind (ends s).square (captures_back c z.colour) (gets s z (stood s z at e1 e2)))
     ]
   ]
 
@@ -135,25 +254,6 @@ module _ (p q : Position) (x y : Man) (a b : ℕ) (e : Option ℕ) (gone : IsGon
         ]
       ]
 
-  -- a square with a man after the move, the arrival apart, had the same man before it
-  pub stood_before : (s : ℕ) (z : Man) → man_on q.men s ≡ Some z → s ≢ b → (s ≢ a) × ((is_square e s ≡ false) × (man_on p.men s ≡ Some z))
-  stood_before s z at nb = grind (arith, cases_eq s a, cases_Bool (is_square e s), gone.left, gone.cleared s, gone.others s)
-
-  -- each man has come from a square where its end was the same
-  came_from : (c : Colour) (s : ℕ) → is_of_colour (man_on q.men s) c ≡ true → CameFrom c s
-  came_from c s ours = elim (cases_eq s b) [
-    | inl e1 ↦ record {
-      by = a;
-      ours = rw gone.here (rw (e1, gone.there, gone.colour) at ours);
-      kind = rw (e1, at_origin) refl;
-      square = rw (e1, at_origin) refl;
-    }
-    | inr nb ↦
-        let z = side_there (man_on q.men s) c ours in
-        let r = stood_before s z.0 z.1.0 nb in
-        record { by = s; ours = rw r.1.1 z.1.1; kind = rw (at_others s r.0 r.1.0) refl; square = rw (at_others s r.0 r.1.0) refl }
-  ]
-
   -- each king goes to a square where it ends likewise
   pub king_goes : (c : Colour) (s : ℕ) → is_man (man_on p.men s) c King ≡ true
       → (r : ℕ) × (is_man (man_on q.men r) c King ≡ true) × ((ends_before p.men a b e ends s).square ≡ (ends r).square)
@@ -188,14 +288,14 @@ module _ (p q : Position) (x y : Man) (a b : ℕ) (e : Option ℕ) (gone : IsGon
       { by = r.by; ours = r.ours; off = rw r.square g.off; guards = rw (r.kind, r.square) g.guards }
 
   blocked_back : (c : Colour) (t : ℕ) → IsBlocked q.men c ends t → IsBlocked p.men c (ends_before p.men a b e ends) t
-  blocked_back c t g = let r = came_from c g.by g.theirs in record { by = r.by; theirs = r.ours; there = rw r.square g.there }
+  blocked_back c t g = let r = came_from c g.by g.theirs in record { by = r.by; theirs = r.ours; there = rw r.square g.there; stays = rw r.taken g.stays }
 
   -- a plan with these numbers of moves comes back
   plan_back : (goal : Goal) (c : Colour) (n m i j k : ℕ) → IsPlan goal q c n m k ends
       → price p.men c (ends_before p.men a b e ends) ≤ i → price p.men (other c) (ends_before p.men a b e ends) ≤ j
       → IsPlan goal p c i j k (ends_before p.men a b e ends)
   plan_back goal c n m i j k plan ours theirs = record {
-    gets = gets_back plan.gets;
+    gets = gets_back c plan.gets;
     ours = ours;
     theirs = theirs;
     king = λ s h. let r = king_goes (other c) s h in r.2 ∙ plan.king r.0 r.1;

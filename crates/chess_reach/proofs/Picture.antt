@@ -1,12 +1,11 @@
 -- A position in which a side is mated or stalemated is its own plan.
 use Rattle.chess_reach.proofs.Chess.{Bool, Colour, IsGuarded, IsPlan, IsWellFormed, King, Kind, List, Man, Move, None, Option, Position, RuleSet, Some, and_from, and_parts, ap, arith, captures_are_reborn, cases_Bool, false, false_from_ne_true, false≢true, guards, in_check, inl, inr, is_arrival_free, is_attacked, is_attacker, is_castling, is_legal, is_man, is_of_colour, is_paralysed, is_pseudo_legal, king_square, man_on, not_from_false, or_left, other, position_after, price, reaches, reaches_as, refl, same_colour, same_colour-refl, same_colour-true, not, same_kind-true, some_square, some_square_true, squares, sym, true, ℕ, ◌<◌, ◌∙◌, ◌≡◌, ◌≢◌, ◌≤◌, Gets, subst, if◌then◌else◌}
-use Rattle.chess_attacks.proofs.Tests.{any_range_cases}
 use Rattle.chess_attacks.proofs.rays.Flips.{king-back}
 use Rattle.chess_attacks.proofs.rays.OnSquares.{on_board}
-use Rattle.chess_rules.proofs.Chess.{any_range_false, like_men_paralyse, second_fails}
+use Rattle.chess_rules.proofs.Chess.{like_men_paralyse, second_fails}
 use Rattle.chess_reach.proofs.EmptyBoard.{king_guards}
 use Rattle.chess_reach.proofs.Gone.{guards_from, is_gone}
-use Rattle.chess_reach.proofs.OneMove.{stays, stood_before}
+use Rattle.chess_reach.proofs.OneMove.{passing, stays, stood_before}
 use Rattle.chess_reach.proofs.Sums.{sum_of_zeros}
 use Rattle.chess_reach.specs.Lines.{reaches_goal}
 use Rattle.chess_rules.proofs.legality.Blocking.{king_is, man_there, other_twice}
@@ -16,14 +15,6 @@ use Rattle.chess_rules.proofs.making_moves.Stays.{after_well_formed}
 use Rattle.chess_rules.proofs.theorems.Moves.{mate_is, stalemate_is}
 use Rattle.pop_stipulation.specs.declared.stipulation.Goal.{Goal}
 use Rattle.pop_stipulation.specs.declared.stipulation.Goal.TheVariants.{Mate, Stalemate}
-
--- a square that passes
-passing : (test : ℕ → Bool) → some_square test ≡ true → (s : ℕ) × (s < 64) × (test s ≡ true)
-unfolding some_square squares
-passing test h = elim (any_range_cases test 0 64) [
-  | inl w ↦ (w.0, omega (arith, w.2), w.3)
-  | inr none ↦ absurd (false≢true (sym (any_range_false test 0 64 none) ∙ h))
-]
 
 -- an attacked square is reached by an attacker
 attacker : (rule : RuleSet) (men : List (Option Man)) (t : ℕ) (c : Colour) → is_attacked rule men t c ≡ true
@@ -168,7 +159,7 @@ module _ (rule : RuleSet) (q : Position) (c : Colour) (k : ℕ) (well : IsWellFo
     king = λ s king. well.kings.same (other c) s k king (king_there q.men (other c) k at).1;
     apart = λ s king. next_to_each c (other c) s k (king_small s king) (king_there q.men (other c) k at).0 ∙ kings_apart s king;
     around = λ t near. elim (cases_Bool (is_of_colour (man_on q.men t) (other c))) [
-      | inl theirs ↦ inr (record { by = t; theirs = theirs; there = refl })
+      | inl theirs ↦ inr (record { by = t; theirs = theirs; there = refl; stays = refl })
       | inr free ↦ inl (guarded none t near free)
     ];
     check = λ mate. checked_by (check mate);

@@ -1,5 +1,5 @@
 -- A plan is found by the search.
-use Rattle.chess_attacks.proofs.Chess.{Colour, King, List, Man, Nightrider, None, Option, Some, White, all_at, and_from, and_left, and_parts, ap, arith, bit_and, bit_at, bit_or, cases_Bool, cases_lt, cond-false, cond-true, eq-eqb, eqb-true, false, false≢true, get_or_past, if◌then◌else◌, inl, inr, is_man, is_of_colour, is_square, length, list_all, list_any, man_on, not, other, queen_steps, range_with_len, refl, same_colour-true, same_kind-true, subst, sym, true, word, word_has, word_only, ℕ, ◌%◌, ◌&&◌, ◌*◌, ◌+◌, ◌-◌, ◌<◌, ◌==◌, ◌^◌, ◌∙◌, ◌≡◌, ◌≢◌, ◌≤◌}
+use Rattle.chess_attacks.proofs.Chess.{Bool, Colour, King, List, Man, Nightrider, None, Option, Some, White, all_at, and_from, and_left, and_parts, and_right, ap, arith, bit_and, bit_at, bit_or, cases_Bool, cases_lt, cond-false, cond-true, eq-eqb, eqb-true, false, false≢true, get_or_past, if◌then◌else◌, inl, inr, is_man, is_of_colour, is_square, length, list_all, list_any, man_on, not, other, queen_steps, range_with_len, refl, same_colour-true, same_kind-true, subst, sym, true, word, word_has, word_only, ℕ, ◌%◌, ◌&&◌, ◌*◌, ◌+◌, ◌-◌, ◌<◌, ◌==◌, ◌^◌, ◌∙◌, ◌≡◌, ◌≢◌, ◌≤◌}
 unfoldable use Rattle.chess_attacks.proofs.Chess.{along, king_square, leaps, reaches_as, squares}
 use Rattle.std.specs.Prelude.{◌⊎◌}
 use Rattle.std.proofs.Common.{slice_index_or}
@@ -12,9 +12,9 @@ use Rattle.chess_core.specs.declared.man.Kind.{Kind}
 use Rattle.chess_reach.proofs.Bitboards.{on_both, on_first}
 use Rattle.chess_attacks.proofs.Bits.{off_zero}
 use Rattle.chess_reach.proofs.Chains.{chain_less, gets_be}
-use Rattle.chess_reach.proofs.Getting.{gets_small}
-use Rattle.chess_reach.proofs.Holding.{one_within, sum_less, sum_within}
-unfoldable use Rattle.chess_reach.specs.Plans.{price}
+use Rattle.chess_reach.proofs.Getting.{every_on, gets_small}
+use Rattle.chess_reach.proofs.Holding.{one_within, sum_less, sum_less_twice, sum_within, two_within}
+unfoldable use Rattle.chess_reach.specs.Plans.{may_capture, price}
 use Rattle.chess_reach.specs.Plans.{Ends, IsBlocked, IsGuarded, IsPlan}
 unfoldable use Rattle.chess_reach.specs.Reach.{guards}
 use Rattle.chess_reach.specs.Reach.{Gets}
@@ -22,8 +22,8 @@ use Rattle.chess_reach.specs.declared.guards.Guard.{Guard}
 use Rattle.chess_reach.specs.declared.hold.Place.{Place}
 use Rattle.chess_reach.specs.declared.hold.Quest.{Quest}
 use Rattle.chess_reach.specs.declared.whereabouts.Whereabouts.{Whereabouts}
-use Rattle.chess_reach.specs.ties.Guards.{AreGuards, CanEnd, guard_at, is_blocker}
-use Rattle.chess_reach.specs.ties.Hold.{DoesGuard, Holds, IsApart, IsHeld, IsIn, IsQuestOf, end_at, place_at}
+use Rattle.chess_reach.specs.ties.Guards.{AreBlocks, AreGuards, CanEnd, guard_at, is_blocker}
+use Rattle.chess_reach.specs.ties.Hold.{Captures, DoesGuard, Holds, IsApart, IsHeld, IsIn, IsQuestOf, blocks_in, end_at, place_at}
 unfoldable use Rattle.chess_reach.specs.ties.Hold.{blocked, unpaid}
 use Rattle.chess_reach.specs.ties.Whereabouts.{has}
 use Rattle.chess_reach.specs.ties.Ways.{IsChain, IsUsual, nowhere}
@@ -86,7 +86,7 @@ apart_off q ends i w g apart is lt king h low small =
     king_part k j t w h off = subst (λ x. has x j t (record { unpromoted = w; queen = 0; knight = 0 }) ≡ false) (sym (same_kind-true k King h)) off
 
 -- a man of a colour
-man_of : (o : Option Man) (c : Colour) → is_of_colour o c ≡ true → (x : Man) × (o ≡ Some x) × (x.colour ≡ c)
+pub man_of : (o : Option Man) (c : Colour) → is_of_colour o c ≡ true → (x : Man) × (o ≡ Some x) × (x.colour ≡ c)
 man_of None c h = absurd (false≢true h)
 man_of (Some x) c h = (x, refl, same_colour-true x.colour c h)
 
@@ -100,14 +100,15 @@ king_of (Some x) c h =
 board_square : (men : List (Option Man)) (c : Colour) (s : ℕ) → length men ≡ 64 → is_of_colour (man_on men s) c ≡ true → s < 64
 board_square men c s size h = grind (arith, cases_lt, get_or_past)
 
-module _ (goal : Goal) (p : Position) (q : Quest) (king : Guard) (ours theirs : ℕ) (ends : Ends) (plan : IsPlan goal p q.colour ours theirs q.king ends)
-    (of : IsQuestOf p q king ours theirs) where
+module _ (goal : Goal) (prey captured : ℕ) (p : Position) (q : Quest) (king : Guard) (ours theirs : ℕ) (ends : Ends)
+    (plan : IsPlan goal p q.colour ours theirs q.king ends)
+    (captures : Captures prey captured p q.colour ends) (of : IsQuestOf prey p q king ours theirs) where
   -- the other side's king
   king_stands : is_man (man_on p.men king.from) (other q.colour) King ≡ true
   unfolding king_square squares
   king_stands = (find_first (λ s. is_man (man_on p.men s) (other q.colour) King) 0 64 king.from of.stands).here
 
-  king_gets : Gets (may_promote p) (other q.colour) (ends king.from).moves King king.from (ends king.from).kind (ends king.from).square
+  king_gets : Gets (may_promote p) (may_capture p.men q.colour ends (other q.colour)) (other q.colour) (ends king.from).moves King king.from (ends king.from).kind (ends king.from).square
   king_gets = plan.gets king.from _ (king_of (man_on p.men king.from) (other q.colour) king_stands)
 
   -- no man makes more moves than its side
@@ -123,22 +124,44 @@ module _ (goal : Goal) (p : Position) (q : Quest) (king : Guard) (ours theirs : 
       same_as_itself : (c : Colour) → is_of_colour (Some (record { colour = c; kind = King })) c ≡ true
       same_as_itself c = grind arith
 
-  pub king_moves : (ends king.from).moves ≤ theirs
-  king_moves = spends_within (other q.colour) theirs king.from plan.theirs of.small king_colour
+  king_within : (ends king.from).moves ≤ theirs
+  king_within = spends_within (other q.colour) theirs king.from plan.theirs of.small king_colour
+
+  -- the king isn't a blocker
+  no_blocker : (s : ℕ) → is_blocker p.men (other q.colour) s ≡ true → king.from ≢ s
+  no_blocker s blocker same =
+      let none : is_blocker p.men (other q.colour) king.from ≡ false = grind (arith, king_stands) in
+      false≢true (sym none ∙ ap (is_blocker p.men (other q.colour)) same ∙ blocker)
+
+  -- the king's moves and those of a captured man
+  king_and_captured : (s : ℕ) → s < 64 → is_blocker p.men (other q.colour) s ≡ true → (ends king.from).moves + (ends s).moves ≤ theirs
+  unfolding price squares
+  king_and_captured s small blocker =
+      let f : ℕ → ℕ = λ s. if is_of_colour (man_on p.men s) (other q.colour) then (ends s).moves else 0 in
+      let mine = cond-true (is_of_colour (man_on p.men king.from) (other q.colour)) (ends king.from).moves 0 king_colour in
+      let its = cond-true (is_of_colour (man_on p.men s) (other q.colour)) (ends s).moves 0 (and_parts (is_of_colour (man_on p.men s) (other q.colour)) _ blocker).0 in
+      omega (arith, plan.theirs, two_within f king.from s of.small small (no_blocker s blocker), mine, its)
+
+  -- what captured men don't need is enough for the king
+  pub king_moves : (ends king.from).moves ≤ theirs - captured
+  king_moves = elim (cases_lt 0 captured) [
+    | inr none ↦ omega (arith, king_within, none)
+    | inl some ↦ let s = captures.moves some in omega (arith, king_and_captured s.0 s.1 s.2, s.4)
+  ]
 
   -- the king gets to his square
   pub king_arrives : has king.kind (ends king.from).kind (ends king.from).square (slice_index_or king.chain (ends king.from).moves nowhere) ≡ true
   king_arrives = subst (λ k. has k (ends king.from).kind (ends king.from).square (slice_index_or king.chain (ends king.from).moves nowhere) ≡ true) (sym of.kind)
-      (of.way.gets (may_promote p) (ends king.from).moves (ends king.from).kind (ends king.from).square king_moves of.usual king_gets)
+      (of.way.gets (may_promote p) _ (ends king.from).moves (ends king.from).kind (ends king.from).square (every_on _) king_within of.usual king_gets)
 
   pub king_there : (w : Whereabouts) → ((k : Kind) → has k k q.king w ≡ true) → has king.kind (ends king.from).kind (ends king.from).square w ≡ true
   king_there w at =
-      let stays : (ends king.from).kind ≡ King = (gets_be (may_promote p) (other q.colour) (ends king.from).moves King king.from _ _ of.usual king_gets).piece refl in
+      let stays : (ends king.from).kind ≡ King = (gets_be (may_promote p) _ (other q.colour) (ends king.from).moves King king.from _ _ of.usual king_gets).piece refl in
       subst (λ s. has king.kind (ends king.from).kind s w ≡ true) (sym (plan.king king.from king_stands))
       (subst (λ k. has king.kind k q.king w ≡ true) (of.kind ∙ sym stays) (at king.kind))
 
   guard_gets : (i : ℕ) → i < q.count
-      → Gets (may_promote p) q.colour (end_at q ends i).moves (guard_at q.guards i).kind (guard_at q.guards i).from (end_at q ends i).kind (end_at q ends i).square
+      → Gets (may_promote p) (may_capture p.men q.colour ends q.colour) q.colour (end_at q ends i).moves (guard_at q.guards i).kind (guard_at q.guards i).from (end_at q ends i).kind (end_at q ends i).square
   guard_gets i lt = plan.gets (guard_at q.guards i).from _ (of.guards.each i lt)
 
   all_moves : sum_by (λ i. (end_at q ends i).moves) (range_with_len 0 q.count) ≤ ours
@@ -150,10 +173,10 @@ module _ (goal : Goal) (p : Position) (q : Quest) (king : Guard) (ours theirs : 
 
   can_end : ours < 9 → (i : ℕ) → i < q.count → CanEnd (guard_at q.guards i) (end_at q ends i)
   can_end few i lt = record {
-    gets = (of.guards.chains i lt).gets (may_promote p) (end_at q ends i).moves _ _ (guard_moves i lt) of.usual (guard_gets i lt);
+    gets = (of.guards.chains i lt).gets (may_promote p) _ (end_at q ends i).moves _ _ captures.on (guard_moves i lt) of.usual (guard_gets i lt);
     few = omega (arith, guard_moves i lt, few);
-    be = gets_be (may_promote p) q.colour (end_at q ends i).moves _ _ _ _ of.usual (guard_gets i lt);
-    small = gets_small (may_promote p) q.colour (end_at q ends i).moves _ _ _ _ (of.guards.small i lt) (guard_gets i lt);
+    be = gets_be (may_promote p) _ q.colour (end_at q ends i).moves _ _ _ _ of.usual (guard_gets i lt);
+    small = gets_small (may_promote p) _ q.colour (end_at q ends i).moves _ _ _ _ (of.guards.small i lt) (guard_gets i lt);
   }
 
   blocker_moves : (s : ℕ) → s < 64 → is_blocker p.men (other q.colour) s ≡ true → (ends s).moves ≤ theirs
@@ -167,13 +190,13 @@ module _ (goal : Goal) (p : Position) (q : Quest) (king : Guard) (ours theirs : 
 
   -- who blocks is a blocker
   blocker_does : (t : ℕ) → q.king ≢ t → IsBlocked p.men (other q.colour) ends t
-      → (s : ℕ) × (s < 64) × (is_blocker p.men (other q.colour) s ≡ true) × ((ends s).square ≡ t) × (t ≢ q.king)
+      → (s : ℕ) × (s < 64) × (is_blocker p.men (other q.colour) s ≡ true) × ((ends s).square ≡ t) × ((ends s).taken ≡ false) × (t ≢ q.king)
   blocker_does t off b =
       let none : is_man (man_on p.men b.by) (other q.colour) King ≡ false = elim (cases_Bool (is_man (man_on p.men b.by) (other q.colour) King)) [
         | inr no_king ↦ no_king
         | inl is ↦ absurd (off (sym (plan.king b.by is) ∙ b.there))
       ] in
-      (b.by, board_square p.men (other q.colour) b.by of.size b.theirs, and_from _ _ b.theirs (ap not none), b.there, λ e. off (sym e))
+      (b.by, board_square p.men (other q.colour) b.by of.size b.theirs, and_from _ _ b.theirs (ap not none), b.there, b.stays, λ e. off (sym e))
 
   held : q.king < 64 → (t : ℕ) → (((goal ≡ Mate) × (q.king ≡ t)) ⊎ (guards White King q.king t ≡ true)) → IsHeld q p.men ends t
   held low t (inl (mate, here)) = inl (guard_does t (subst (λ x. IsGuarded p.men q.colour ends q.king x) here (plan.check mate)))
@@ -191,58 +214,89 @@ module _ (goal : Goal) (p : Position) (q : Quest) (king : Guard) (ours theirs : 
       is_king : (c : Colour) (k : Kind) → same_kind k King ≡ true → is_man (Some (record { colour = c; kind = k })) c King ≡ true
       is_king c k h = grind (arith, h)
 
+  -- what the men of the king's side spend, and what blockers do on squares of w
+  spends : ℕ → ℕ
+  spends s = if is_of_colour (man_on p.men s) (other q.colour) then (ends s).moves else 0
+
+  blocks : ℕ → ℕ → ℕ
+  blocks w s = if blocks_in q p.men ends w s then (ends s).moves else 0
+
+  less : (w s : ℕ) → blocks w s ≤ spends s
+  unfolding blocks spends
+  less w s = elim (cases_Bool (blocks_in q p.men ends w s)) [
+    | inr off ↦ omega (arith, cond-false (blocks_in q p.men ends w s) (ends s).moves 0 off)
+    | inl on ↦ omega (
+      arith,
+      cond-true (blocks_in q p.men ends w s) (ends s).moves 0 on,
+      cond-true (is_of_colour (man_on p.men s) (other q.colour)) (ends s).moves 0
+          (and_parts (is_of_colour (man_on p.men s) (other q.colour)) _ (and_parts (is_blocker p.men (other q.colour) s) _ (and_parts _ _ on).0).0).0,
+    )
+  ]
+
+  here : (w steps : ℕ) → steps ≤ (ends king.from).moves → blocks w king.from + steps ≤ spends king.from
+  unfolding blocks spends
+  here w steps cheap =
+      let mine = cond-true (is_of_colour (man_on p.men king.from) (other q.colour)) (ends king.from).moves 0 king_colour in
+      let none : is_blocker p.men (other q.colour) king.from ≡ false = grind (arith, king_stands) in
+      let off = cond-false (blocks_in q p.men ends w king.from) (ends king.from).moves 0 (and_left _ _ (and_left _ _ none)) in
+      omega (arith, mine, off, cheap)
+
+  taken_off : (w s : ℕ) → is_blocker p.men (other q.colour) s ≡ true → (ends s).taken ≡ true → captured ≤ (ends s).moves → blocks w s + captured ≤ spends s
+  unfolding blocks spends
+  taken_off w s blocker taken most =
+      let mine = cond-true (is_of_colour (man_on p.men s) (other q.colour)) (ends s).moves 0 (and_parts (is_of_colour (man_on p.men s) (other q.colour)) _ blocker).0 in
+      let off = cond-false (blocks_in q p.men ends w s) (ends s).moves 0 (and_left _ _ (and_right (is_blocker p.men (other q.colour) s) _ (ap not taken))) in
+      omega (arith, mine, off, most)
+
+  -- blockers, the king and a captured man
+  blocking : (w steps : ℕ) → steps ≤ (ends king.from).moves → blocked q p.men ends w ≤ theirs - captured - steps
+  unfolding price blocked blocks spends squares
+  blocking w steps cheap = elim (cases_lt 0 captured) [
+    | inr none ↦ omega (
+      arith,
+      none,
+      plan.theirs,
+      sum_less spends (blocks w) 0 64 king.from steps (omega arith) (omega (arith, of.small)) (λ s lt. less w s) (here w steps cheap),
+    )
+    | inl some ↦
+        let m = captures.moves some in
+        omega (
+          arith,
+          plan.theirs,
+          sum_less_twice spends (blocks w) king.from m.0 steps captured of.small m.1 (no_blocker m.0 m.2) (less w) (here w steps cheap)
+              (taken_off w m.0 m.2 m.3 m.4),
+        )
+  ]
+
   -- all that the search keeps holds at its beginning
   pub plan_holds : (places : List Place) (w steps : ℕ) → ours < 9 → q.king < 64
       → ((i : ℕ) → i < q.count → place_at places i ≡ record { squares = slice_index_or (guard_at q.guards i).chain ours nowhere; moves = 0 })
       → ((t : ℕ) → t < 64 → (bit_at w t == 1) ≡ true → (((goal ≡ Mate) × (q.king ≡ t)) ⊎ (guards White King q.king t ≡ true)))
-      → steps ≤ (ends king.from).moves → Holds q p.men places w ours (theirs - steps) ends
-  unfolding price blocked unpaid squares
+      → steps ≤ (ends king.from).moves → Holds q p.men places w ours (theirs - captured - steps) ends
+  unfolding unpaid squares
   plan_holds places w steps few low first needs cheap = record {
     guards = can_end few;
     blockers = λ s small blocker.
         let (x, is, colour) = man_of (man_on p.men s) (other q.colour) (and_parts (is_of_colour (man_on p.men s) (other q.colour)) _ blocker).0 in
-        of.blocks.gets s x (ends s).moves (ends s).kind (ends s).square small is blocker (blocker_moves s small blocker) (plan.gets s x is);
+        of.blocks.gets s x (ends s).moves (ends s).kind (ends s).square small is blocker (blocker_moves s small blocker) _ (plan.gets s x is);
     few = λ s small blocker. omega (arith, blocker_moves s small blocker, of.few);
     inside = λ i lt. subst (λ x. IsIn (guard_at q.guards i) x (end_at q ends i)) (sym (first i lt)) (record {
       on = (of.guards.chains i lt).grows (end_at q ends i).moves ours _ _ (guard_moves i lt) (omega arith) (can_end few i lt).small (can_end few i lt).gets;
       paid = omega arith;
     });
     paid = omega (arith, all_moves, sum_within (λ i. (end_at q ends i).moves) (λ i. (end_at q ends i).moves - (place_at places i).moves) 0 q.count (λ i lt. omega arith));
-    blocking = omega (arith, plan.theirs, sum_less spends blocks 0 64 king.from steps (omega arith) (omega (arith, of.small)) (λ s lt. less s) here);
+    blocking = blocking w steps cheap;
     holds = λ t small on. held low t (needs t small on);
   }
-    where
-      spends : ℕ → ℕ
-      spends s = if is_of_colour (man_on p.men s) (other q.colour) then (ends s).moves else 0
-
-      blocks : ℕ → ℕ
-      blocks s = if is_blocker p.men (other q.colour) s && (bit_at w (ends s).square == 1) then (ends s).moves else 0
-
-      less : (s : ℕ) → blocks s ≤ spends s
-      less s = elim (cases_Bool (is_blocker p.men (other q.colour) s && (bit_at w (ends s).square == 1))) [
-        | inr off ↦ omega (arith, cond-false (is_blocker p.men (other q.colour) s && (bit_at w (ends s).square == 1)) (ends s).moves 0 off)
-        | inl on ↦ omega (
-          arith,
-          cond-true (is_blocker p.men (other q.colour) s && (bit_at w (ends s).square == 1)) (ends s).moves 0 on,
-          cond-true (is_of_colour (man_on p.men s) (other q.colour)) (ends s).moves 0
-              (and_parts (is_of_colour (man_on p.men s) (other q.colour)) _ (and_parts (is_blocker p.men (other q.colour) s) _ on).0).0,
-        )
-      ]
-
-      here : blocks king.from + steps ≤ spends king.from
-      here =
-          let mine = cond-true (is_of_colour (man_on p.men king.from) (other q.colour)) (ends king.from).moves 0 king_colour in
-          let none : is_blocker p.men (other q.colour) king.from ≡ false = grind (arith, king_stands) in
-          let off = cond-false (is_blocker p.men (other q.colour) king.from && (bit_at w (ends king.from).square == 1)) (ends king.from).moves 0 (and_left _ _ none) in
-          omega (arith, mine, off, cheap)
 
 -- guards for fewer moves
-pub guards_less : (men : List (Option Man)) (c : Colour) (m n : ℕ) (gs : List Guard) (count : ℕ) → AreGuards men c m gs count → n ≤ m → AreGuards men c n gs count
-guards_less men c m n gs count h le = record {
+guards_less : (prey : ℕ) (men : List (Option Man)) (c : Colour) (m n : ℕ) (gs : List Guard) (count : ℕ) → AreGuards prey men c m gs count → n ≤ m
+    → AreGuards prey men c n gs count
+guards_less prey men c m n gs count h le = record {
   few = h.few;
   each = h.each;
   small = h.small;
-  chains = λ i lt. chain_less _ _ m n _ (h.chains i lt) le;
+  chains = λ i lt. chain_less prey _ _ m n _ (h.chains i lt) le;
   all = h.all;
   sum = h.sum;
 }
@@ -255,7 +309,7 @@ bit_here i s same small = subst (λ n. (bit_at (1 * 2 ^ n % 2 ^ 64) s == 1) ≡ 
 -- the king of a plan gets to his square
 pub king_near : (goal : Goal) (p : Position) (c d : Colour) (ours theirs k from : ℕ) (ends : Ends) (chain : List Whereabouts) → d ≡ other c
     → IsPlan goal p c ours theirs k ends → king_square p.men d ≡ Some from → from < 64 → IsUsual (may_promote p)
-    → IsChain (record { colour = d; kind = King }) from theirs chain → k < 64 → (bit_at (slice_index_or chain theirs nowhere).unpromoted k == 1) ≡ true
+    → IsChain (2 ^ 64 - 1) (record { colour = d; kind = King }) from theirs chain → k < 64 → (bit_at (slice_index_or chain theirs nowhere).unpromoted k == 1) ≡ true
 unfolding king_square squares price
 king_near goal p c d ours theirs k from ends chain enemy plan stands small usual way low =
     let here : is_man (man_on p.men from) d King ≡ true = (find_first (λ s. is_man (man_on p.men s) d King) 0 64 from stands).here in
@@ -271,7 +325,7 @@ king_near goal p c d ours theirs k from ends chain enemy plan stands small usual
     let gets = plan.gets from _ man in
     let had : has King (ends from).kind (ends from).square (slice_index_or chain theirs nowhere) ≡ true =
     way.grows (ends from).moves theirs (ends from).kind (ends from).square few (omega arith)
-    (gets_small (may_promote p) d (ends from).moves King from _ _ small gets) (way.gets (may_promote p) (ends from).moves _ _ few usual gets) in
+    (gets_small (may_promote p) _ d (ends from).moves King from _ _ small gets) (way.gets (may_promote p) _ (ends from).moves _ _ (every_on _) few usual gets) in
     subst (λ s. (bit_at (slice_index_or chain theirs nowhere).unpromoted s == 1) ≡ true)
     (plan.king from (subst (λ x. is_man (man_on p.men from) x King ≡ true) enemy here)) had
   where
@@ -281,6 +335,30 @@ king_near goal p c d ours theirs k from ends chain enemy plan stands small usual
 -- promotion to nightrider apart, pawns promote as usual
 pub usual_promotion : (p : Position) → may_promote p Nightrider ≡ false → IsUsual (may_promote p)
 usual_promotion p h = record { king = refl; pawn = refl; rider = h }
+
+-- the quest of a position
+pub quest_of : (prey : ℕ) (p : Position) (c d : Colour) (ours m theirs : ℕ) (gs : List Guard) (count : ℕ) (ws : List ℕ) (from at : ℕ) (chain : List Whereabouts) → d ≡ other c
+    → length p.men ≡ 64 → theirs < 9 → AreGuards prey p.men c m gs count → ours ≤ m → ((allowed : Kind → Bool) → IsUsual allowed → AreBlocks allowed p.men d theirs ws)
+    → may_promote p Nightrider ≡ false → king_square p.men d ≡ Some from → from < 64 → IsChain (2 ^ 64 - 1) (record { colour = d; kind = King }) from theirs chain
+    → IsQuestOf prey p (record { colour = c; king = at; count = count; guards = gs; blockable = ws }) (record { kind = King; from = from; chain = chain }) ours theirs
+quest_of prey p c d ours m theirs gs count ws from at chain enemy size few guards le blocks plain stands small way = record {
+  size = size;
+  few = few;
+  guards = guards_less prey p.men c m ours gs count guards le;
+  blocks = subst (λ x. AreBlocks (may_promote p) p.men x theirs ws) enemy (blocks (may_promote p) (usual_promotion p plain));
+  usual = usual_promotion p plain;
+  kind = refl;
+  stands = subst (λ x. king_square p.men x ≡ Some from) enemy stands;
+  small = small;
+  way = subst (λ x. IsChain (2 ^ 64 - 1) (record { colour = x; kind = King }) from theirs chain) enemy way;
+}
+
+pub quest_again : (prey : ℕ) (p : Position) (c d : Colour) (k count : ℕ) (gs : List Guard) (vs ws : List ℕ) (king : Guard) (ours theirs : ℕ) → d ≡ c → vs ≡ ws
+    → IsQuestOf prey p (record { colour = c; king = k; count = count; guards = gs; blockable = ws }) king ours theirs
+    → IsQuestOf prey p (record { colour = d; king = k; count = count; guards = gs; blockable = vs }) king ours theirs
+quest_again prey p c d k count gs vs ws king ours theirs same blocks of =
+    subst (λ x. IsQuestOf prey p (record { colour = x; king = k; count = count; guards = gs; blockable = vs }) king ours theirs) (sym same)
+    (subst (λ x. IsQuestOf prey p (record { colour = c; king = k; count = count; guards = gs; blockable = x }) king ours theirs) (sym blocks) of)
 
 -- the squares of an empty bitboard
 pub none_near : (a b k : ℕ) → bit_and a b ≡ 0 → (bit_at a k == 1) ≡ true → (bit_at b k == 1) ≡ true → ⊥

@@ -1,5 +1,5 @@
 -- One guard tried in the search for a plan.
-use Rattle.chess_attacks.proofs.Chess.{List, Man, Option, arith, bit_at, cases_eq, [], inl, inr, length, other, refl, subst, suc, sym, true, zero, ap, ℕ, ◌+◌, ◌-◌, ◌<◌, ◌==◌, ◌∷◌, ◌≡◌, ◌≢◌, ◌≤◌}
+use Rattle.chess_attacks.proofs.Chess.{List, Man, Option, arith, bit_at, cases_eq, [], inl, inr, length, other, refl, subst, suc, sym, true, zero, ap, ℕ, ◌+◌, ◌-◌, ◌<◌, ◌==◌, false, ◌∷◌, ◌≡◌, ◌≢◌, ◌≤◌}
 use Rattle.std.proofs.Common.{slice_index_or, slice_set}
 use Rattle.chess_core.specs.declared.man.Kind.{Kind}
 use Rattle.chess_reach.proofs.Holding.{one_spare, placed}
@@ -78,7 +78,7 @@ none_next q ends z i before here m lt does = elim (cases_eq m i) [
 -- where no guard guards z, a blocker is there
 pub blocker_there : (q : Quest) (men : List (Option Man)) (ends : Ends) (left : List Place) (w spare theirs z : ℕ) → Holds q men left w spare theirs ends
     → z < 64 → (bit_at w z == 1) ≡ true → ((m : ℕ) → m < q.count → DoesGuard q ends z m → ⊥)
-    → (s : ℕ) × (s < 64) × (is_blocker men (other q.colour) s ≡ true) × ((ends s).square ≡ z) × (z ≢ q.king)
+    → (s : ℕ) × (s < 64) × (is_blocker men (other q.colour) s ≡ true) × ((ends s).square ≡ z) × ((ends s).taken ≡ false) × (z ≢ q.king)
 blocker_there q men ends left w spare theirs z h small on none = elim (h.holds z small on) [
   | inl (m, lt, does) ↦ absurd (none m lt does)
   | inr blocker ↦ blocker

@@ -1,12 +1,12 @@
 -- What a mate needs, and what it costs in moves (own). In the last position of a help mate each square next
 -- to the king is guarded by an enemy man or holds a man of the king's side, and an enemy man checks. A plan
--- says where each man ends, and in how many moves it gets there.
-use Rattle.std.specs.Prelude.{◌≡◌, ◌≢◌, ℕ, ◌≤◌, true, false, if◌then◌else◌, List, Option, Some, ◌⊎◌}
+-- says where each man ends, and in how many moves it gets there; a man that is captured ends where that happens.
+use Rattle.std.specs.Prelude.{◌≡◌, ◌≢◌, ℕ, ◌+◌, ◌≤◌, ◌==◌, Bool, true, false, not, ◌&&◌, ◌||◌, if◌then◌else◌, List, Option, Some, ◌⊎◌}
 use Rattle.std.specs.List.{sum_by}
-use Rattle.chess_core.specs.Squares.{squares}
+use Rattle.chess_core.specs.Squares.{file_of, rank_of, some_square, squares}
 use Rattle.chess_core.specs.SquareNames.{e1, e8}
 use Rattle.chess_core.specs.Castling.{has_unmoved}
-use Rattle.chess_core.specs.Position.{Position, is_man, is_of_colour, man_on, may_promote, other}
+use Rattle.chess_core.specs.Position.{Position, is_man, is_of_colour, man_on, may_promote, other, same_colour}
 use Rattle.chess_core.specs.declared.man.Man.{Man}
 use Rattle.chess_core.specs.declared.man.Colour.{Colour}
 use Rattle.chess_core.specs.declared.man.Colour.TheVariants.{White, Black}
@@ -16,11 +16,12 @@ use Rattle.pop_stipulation.specs.declared.stipulation.Goal.{Goal}
 use Rattle.pop_stipulation.specs.declared.stipulation.Goal.TheVariants.{Mate}
 use Rattle.chess_reach.specs.Reach.{Gets, guards}
 
--- where a man ends and of which kind, and in how many moves
+-- where a man ends and of which kind, in how many moves, and whether it is captured there
 pub record End : Type 0 where
   pub kind : Kind
   pub square : ℕ
   pub moves : ℕ
+  pub taken : Bool
 
 -- the end of each man, by the square on which it is now
 abbrev pub Ends : Type 0
@@ -38,17 +39,38 @@ pub record IsGuarded (men : List (Option Man)) (c : Colour) (ends : Ends) (k t :
   pub off : (ends by).square ≢ k
   pub guards : guards c (ends by).kind (ends by).square t ≡ true
 
--- a man of colour c ends on t
+-- a man of colour c ends on t and isn't captured there
 pub record IsBlocked (men : List (Option Man)) (c : Colour) (ends : Ends) (t : ℕ) : Type 0 where
   pub by : ℕ
   pub theirs : is_of_colour (man_on men by) c ≡ true
   pub there : (ends by).square ≡ t
+  pub stays : (ends by).taken ≡ false
+
+-- t is the square ahead of s for a pawn of this colour
+abbrev pub is_ahead : Colour → ℕ → ℕ → Bool
+is_ahead White s t = file_of s == file_of t && rank_of t == rank_of s + 1
+is_ahead Black s t = file_of s == file_of t && rank_of s == rank_of t + 1
+
+-- a pawn of colour c that captures a man on s arrives on t: on s, or en passant on the square ahead of it
+abbrev pub captures_to : Colour → ℕ → ℕ → Bool
+captures_to c s t = s == t || is_ahead c s t
+
+-- the man on s, of the other side and not its king, is captured where a pawn of colour c arrives on t
+abbrev pub is_prey : List (Option Man) → Colour → Ends → ℕ → ℕ → Bool
+is_prey men c ends t s =
+    (is_of_colour (man_on men s) (other c) && not (is_man (man_on men s) (other c) King))
+    && ((ends s).taken && captures_to c (ends s).square t)
+
+-- a pawn of colour d may capture on t: where it is of colour c, only a man that ends so
+unfoldable pub may_capture : List (Option Man) → Colour → Ends → Colour → ℕ → Bool
+may_capture men c ends d t = not (same_colour d c) || some_square (is_prey men c ends t)
 
 -- colour c makes n moves and the other side m; the king of the other side ends on k, not next to the king of
 -- colour c; it can't move there, and for mate is in check
 pub record IsPlan (goal : Goal) (p : Position) (c : Colour) (n m k : ℕ) (ends : Ends) : Type 0 where
   pub gets : (s : ℕ) (x : Man) → man_on p.men s ≡ Some x
-      → Gets (may_promote p) x.colour (ends s).moves x.kind s (ends s).kind (ends s).square
+      → Gets (may_promote p) (may_capture p.men c ends x.colour) x.colour (ends s).moves x.kind s
+      (ends s).kind (ends s).square
   pub ours : price p.men c ends ≤ n
   pub theirs : price p.men (other c) ends ≤ m
   pub king : (s : ℕ) → is_man (man_on p.men s) (other c) King ≡ true → (ends s).square ≡ k

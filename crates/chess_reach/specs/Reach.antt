@@ -1,5 +1,5 @@
 -- How far a man gets on an empty board (own). This reaches more than on any board with men: no man blocks
--- another, and a pawn captures on each square that it attacks.
+-- another, and a pawn captures on any square that it attacks and on which it may capture.
 use Rattle.std.specs.Prelude.{◌≡◌, ℕ, zero, suc, ◌==◌, Bool, true, ◌&&◌, ◌||◌, if◌then◌else◌, []}
 use Rattle.chess_core.specs.Squares.{rank_of, is_square}
 use Rattle.chess_core.specs.Steps.{along}
@@ -19,12 +19,12 @@ without_hops k = k
 unfoldable pub guards : Colour → Kind → ℕ → ℕ → Bool
 guards c k s t = reaches_as [] c (without_hops k) s t
 
--- a pawn goes from s to t: it steps, or it captures whatever may come there
-unfoldable pub pawn_goes : Colour → ℕ → ℕ → Bool
-pawn_goes c s t =
+-- a pawn goes from s to t: it steps, or it captures on a square of `takes`
+unfoldable pub pawn_goes : (ℕ → Bool) → Colour → ℕ → ℕ → Bool
+pawn_goes takes c s t =
     is_square (along s (forward c) 1) t
     || (rank_of s == second_rank c && is_square (along s (forward c) 2) t)
-    || guards c Pawn s t
+    || (guards c Pawn s t && takes t)
 
 -- a man of kind k that goes to t is then of kind j: a pawn on its last rank promotes to a kind of `allowed`
 abbrev pub becomes : (Kind → Bool) → Colour → Kind → ℕ → Kind → Bool
@@ -32,12 +32,12 @@ becomes allowed c k t j =
     if same_kind k Pawn && rank_of t == last_rank c then allowed j else same_kind k j
 
 -- in one move a man of kind k on s gets to t, and is then of kind j
-unfoldable pub goes : (Kind → Bool) → Colour → Kind → ℕ → Kind → ℕ → Bool
-goes allowed c k s j t =
-    (if same_kind k Pawn then pawn_goes c s t else guards c k s t) && becomes allowed c k t j
+unfoldable pub goes : (Kind → Bool) → (ℕ → Bool) → Colour → Kind → ℕ → Kind → ℕ → Bool
+goes allowed takes c k s j t =
+    (if same_kind k Pawn then pawn_goes takes c s t else guards c k s t) && becomes allowed c k t j
 
 -- in n moves a man of kind k on s gets to t, and is then of kind j
-unfoldable pub Gets : (Kind → Bool) → Colour → ℕ → Kind → ℕ → Kind → ℕ → Type 0
-Gets allowed c zero k s j t = (k ≡ j) × (s ≡ t)
-Gets allowed c (suc n) k s j t =
-    (i : Kind) × (q : ℕ) × (goes allowed c k s i q ≡ true) × Gets allowed c n i q j t
+unfoldable pub Gets : (Kind → Bool) → (ℕ → Bool) → Colour → ℕ → Kind → ℕ → Kind → ℕ → Type 0
+Gets allowed takes c zero k s j t = (k ≡ j) × (s ≡ t)
+Gets allowed takes c (suc n) k s j t = (i : Kind) × (q : ℕ) × (goes allowed takes c k s i q ≡ true)
+    × Gets allowed takes c n i q j t

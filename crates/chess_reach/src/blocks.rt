@@ -39,7 +39,7 @@ pub(crate) fn blocks_of(board: &Board, colour: Colour, most: usize) -> Blocks
     let mut rest = men;
     while let Some(from) = pop_first(&mut rest) {
         if let Some(man) = board.man_at(from) {
-            let chain = chain_of(man, from, most);
+            let chain = chain_of(man, from, most, Squares::MAX);
             add_man(&mut blocks, &chain);
         }
     }

@@ -135,16 +135,17 @@ impl Guard {
     }
 }
 
-/// Lists the men of a colour, each with where it can be within each number of moves up to `most`. Returns
-/// their number, or `None` if there are more than eight.
+/// Lists the men of a colour, each with where it can be within each number of moves up to `most`, if its pawns
+/// capture on squares of `prey` alone. Returns their number, or `None` if there are more than eight.
 pub(crate) fn list_guards(
     board: &Board,
     colour: Colour,
     most: usize,
+    prey: Squares,
     guards: &mut [Guard; MEN],
 ) -> Option<usize>
     requires { most < 9 }
-    ensures { IfSome result (λ count. AreGuards board.now.men colour most guards.new count) }
+    ensures { IfSome result (λ count. AreGuards prey board.now.men colour most guards.new count) }
 {
     let mut rest = board.side(colour);
     let mut count = 0;
@@ -165,6 +166,7 @@ pub(crate) fn list_guards(
                 },
                 from,
                 most,
+                prey,
             ),
         };
         count += 1;

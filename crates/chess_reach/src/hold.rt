@@ -65,6 +65,14 @@ pub(crate) fn narrowed(
 }
 
 impl Quest {
+    // Takes another square as the king's.
+    #[inline(always)]
+    pub(crate) fn seek(&mut self, king: Square)
+        ensures { self.new ≡ record self.old { king = king } }
+    {
+        self.king = king;
+    }
+
     // Returns the fewest moves, at most `most`, in which a blocker gets to this square; `None` if none does.
     #[inline(always)]
     fn block_price(&self, square: Square, most: usize) -> Option<usize>

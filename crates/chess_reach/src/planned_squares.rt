@@ -1,16 +1,16 @@
 //! The squares for which there may be a plan.
-ghost use Rattle.std.specs.Prelude.{◌≡◌, ◌<◌, ◌≤◌, ◌==◌, ℕ, true, List, Option, MatchOption, slice_index_or, ◌⊎◌};
+ghost use Rattle.std.specs.Prelude.{◌≡◌, ◌-◌, ◌^◌, ◌<◌, ◌≤◌, false, ◌==◌, ℕ, true, List, Option, MatchOption, slice_index_or, ◌⊎◌};
 ghost use Rattle.std.specs.Int.{bit_at};
-ghost use Rattle.chess_core.specs.Position.{Position};
+ghost use Rattle.chess_core.specs.Position.{Position, other};
 ghost use Rattle.chess_core.specs.WellFormed.{IsWellFormed};
 ghost use Rattle.pop_stipulation.specs.declared.stipulation.Goal.TheVariants.{Mate};
-ghost use Rattle.chess_reach.specs.Plans.{Ends, IsPlan};
+ghost use Rattle.chess_reach.specs.Plans.{Ends, IsPlan, captures_to};
 ghost use Rattle.chess_core.specs.declared.man.Colour.TheVariants.{White};
 ghost use Rattle.chess_core.specs.declared.man.Kind.TheVariants.{King};
 ghost use Rattle.chess_core.specs.declared.man.Man.{Man};
 ghost use Rattle.chess_reach.specs.Reach.{guards};
-ghost use Rattle.chess_reach.specs.ties.Guards.{guard_at};
-ghost use Rattle.chess_reach.specs.ties.Hold.{Holds, IsApart, IsQuestOf, place_at};
+ghost use Rattle.chess_reach.specs.ties.Guards.{guard_at, is_blocker};
+ghost use Rattle.chess_reach.specs.ties.Hold.{Captures, Holds, IsApart, IsQuestOf, place_at};
 ghost use Rattle.chess_reach.specs.ties.Ways.{nowhere};
 
 use crate::blocks::blocks_of;
@@ -92,17 +92,26 @@ fn keep_apart(quest: &Quest, places: &mut Places, most: usize) -> Option<usize>
 }
 
 // Returns whether there may be a plan in which the king, a guard of its own place here, ends on the
-// quest's square.
-fn may_have_plan(quest: &Quest, goal: Goal, king: &Guard, ours: usize, theirs: usize) -> bool
+// quest's square, and captured men make at least `captured` moves.
+fn may_have_plan(
+    quest: &Quest,
+    goal: Goal,
+    king: &Guard,
+    ours: usize,
+    theirs: usize,
+    captured: usize,
+) -> bool
     requires count { quest.now.count ≤ 8 }
     requires moves { ours < 9 }
-    ensures { (p : Position) (ends : Ends)
+    requires captured { captured ≤ theirs }
+    ensures { (prey : ℕ) (p : Position) (ends : Ends)
         → IsPlan goal p quest.now.colour ours theirs quest.now.king ends
-        → IsQuestOf p quest.now king.now ours theirs → result ≡ true }
+        → Captures prey captured p quest.now.colour ends
+        → IsQuestOf prey p quest.now king.now ours theirs → result ≡ true }
 {
     // For the proof: a square's number is below 64.
     let _small = quest.king.index();
-    let Some(steps) = king.fewest(&Whereabouts::at(quest.king), 0, theirs) else {
+    let Some(steps) = king.fewest(&Whereabouts::at(quest.king), 0, theirs - captured) else {
         return false;
     };
     let mut places = first_places(quest, ours);
@@ -116,14 +125,73 @@ fn may_have_plan(quest: &Quest, goal: Goal, king: &Guard, ours: usize, theirs: u
         &[Squares::MAX; MEN],
         unheld,
         spare,
-        theirs - steps,
+        theirs - captured - steps,
     )
+}
+
+// Returns the squares to which pawns of this colour capture men that haven't moved: theirs, and for capture en
+// passant the one ahead. Without pawns they are all squares.
+fn prey(board: &Board, mating: Colour) -> Squares
+    ensures { (s t : ℕ) → s < 64 → t < 64 → is_blocker board.now.men (other mating) s ≡ true
+        → captures_to mating s t ≡ true → (bit_at result t == 1) ≡ true }
+{
+    if board.squares(mating, Kind::Pawn) == 0 {
+        return Squares::MAX;
+    }
+    let mated = mating.other();
+    let men = board.side(mated) & !board.squares(mated, Kind::King);
+    match mating {
+        Colour::White => men | men << 8,
+        Colour::Black => men | men >> 8,
+    }
+}
+
+// Returns the part of `near` on which the king may end by a plan in which guards capture on squares of the
+// quest's prey, and captured men make at least `captured` moves.
+fn planned_part(
+    quest: &mut Quest,
+    goal: Goal,
+    king: &Guard,
+    near: Squares,
+    ours: usize,
+    theirs: usize,
+    captured: usize,
+) -> Squares
+    requires count { quest.old.count ≤ 8 }
+    requires moves { ours < 9 }
+    requires captured { captured ≤ theirs }
+    ensures planned { (prey : ℕ) (p : Position) (k : ℕ) (ends : Ends)
+        → IsQuestOf prey p quest.old king.now ours theirs → k < 64
+        → IsPlan goal p quest.old.colour ours theirs k ends
+        → Captures prey captured p quest.old.colour ends → (bit_at near k == 1) ≡ true
+        → (bit_at result k == 1) ≡ true }
+    ensures colour { quest.new.colour ≡ quest.old.colour }
+    ensures blockable { quest.new.blockable ≡ quest.old.blockable }
+{
+    let mut planned = 0u64;
+    let mut rest = near;
+    while let Some(to) = pop_first(&mut rest) {
+        quest.seek(to);
+        if may_have_plan(quest, goal, king, ours, theirs, captured) {
+            planned |= 1u64 << to.index();
+        }
+    }
+    planned
+}
+
+// Returns whether plans have to be searched in which guards capture elsewhere than on `prey`, for squares of
+// `left`: not if no man moves there in order to be captured.
+fn may_lure(theirs: usize, prey: Squares, left: Squares) -> bool
+    ensures lure { result ≡ true → 0 < theirs }
+    ensures none { result ≡ false
+        → (theirs ≡ 0) ⊎ (prey ≡ 0) ⊎ (prey ≡ 2 ^ 64 - 1) ⊎ (left ≡ 0) }
+{
+    theirs != 0 && prey != 0 && prey != Squares::MAX && left != 0
 }
 
 /// Returns the part of `squares` on which the king of the side to be mated may end by a plan: the mating
 /// side makes at most `ours` moves, the other at most `theirs`. It leaves out a square only if there is no plan.
 /// Where the guards get with one move more tells what they may guard.
-#[tactic(auto, using(crate::proofs::Planning::guards_less))]
 pub(crate) fn planned_squares(
     board: &Board,
     goal: Goal,
@@ -147,12 +215,13 @@ pub(crate) fn planned_squares(
     let king = Guard {
         kind,
         from,
-        chain: chain_of(Man { colour, kind }, from, theirs),
+        chain: chain_of(Man { colour, kind }, from, theirs, Squares::MAX),
     };
     let near = squares & king.chain[theirs].unpromoted;
     if near == 0 {
         return 0;
     }
+    let prey = prey(board, mating);
     let mut quest = Quest {
         colour: mating,
         king: from,
@@ -160,17 +229,18 @@ pub(crate) fn planned_squares(
         guards: [Guard::unused(); MEN],
         blockable: blocks_of(board, colour, theirs),
     };
-    let Some(count) = list_guards(board, mating, ours + 1, &mut quest.guards) else {
+    let Some(count) = list_guards(board, mating, ours + 1, prey, &mut quest.guards) else {
         return squares;
     };
     quest.count = count;
-    let mut planned = 0u64;
-    let mut rest = near;
-    while let Some(to) = pop_first(&mut rest) {
-        quest.king = to;
-        if may_have_plan(&quest, goal, &king, ours, theirs) {
-            planned |= 1u64 << to.index();
-        }
+    let planned = planned_part(&mut quest, goal, &king, near, ours, theirs, 0);
+    let left = near & !planned;
+    if !may_lure(theirs, prey, left) {
+        return planned;
     }
-    planned
+    let Some(count) = list_guards(board, mating, ours + 1, Squares::MAX, &mut quest.guards) else {
+        return squares;
+    };
+    quest.count = count;
+    planned | planned_part(&mut quest, goal, &king, left, ours, theirs, 1)
 }

@@ -7,7 +7,7 @@ ghost use Rattle.chess_attacks.specs.Reaches.{reaches_as};
 ghost use Rattle.chess_rules.specs.Legal.{last_rank, second_rank};
 ghost use Rattle.chess_reach.specs.Reach.{pawn_goes, without_hops};
 ghost use Rattle.chess_reach.specs.ties.Whereabouts.{has};
-ghost use Rattle.chess_reach.specs.ties.Ways.{IsChain, Leads, steps_to};
+ghost use Rattle.chess_reach.specs.ties.Ways.{IsChain, Leads, TakesOn, steps_to};
 
 use crate::whereabouts::Whereabouts;
 use chess_attacks::leaps::{king_leaps, pawn_advances, pawn_leaps};
@@ -120,36 +120,39 @@ fn pawn_steps(colour: Colour, from: Square) -> Squares
     ahead & king_leaps(from)
 }
 
-// Returns the squares to which a pawn goes from this one.
+// Returns the squares to which a pawn goes from this one, if it captures on squares of `prey` alone.
 #[inline(always)]
-fn pawn_targets(colour: Colour, from: Square) -> Squares
-    ensures { (t : ℕ) → t < 64 → pawn_goes colour from t ≡ true → (bit_at result t == 1) ≡ true }
+fn pawn_targets(colour: Colour, from: Square, prey: Squares) -> Squares
+    ensures { (takes : ℕ → Bool) (t : ℕ) → TakesOn takes prey → t < 64
+        → pawn_goes takes colour from t ≡ true → (bit_at result t == 1) ≡ true }
 {
     let steps = pawn_steps(colour, from);
-    steps | pawn_leaps(colour, from)
+    steps | pawn_leaps(colour, from) & prey
 }
 
-// Returns the squares, and those to which pawns on them go.
-fn spread_pawns(colour: Colour, squares: Squares) -> Squares
+// Returns the squares, and those to which pawns on them go, if they capture on squares of `prey` alone.
+fn spread_pawns(colour: Colour, squares: Squares, prey: Squares) -> Squares
     ensures kept { (t : ℕ) → t < 64 → (bit_at squares t == 1) ≡ true
         → (bit_at result t == 1) ≡ true }
-    ensures reached { (s t : ℕ) → s < 64 → t < 64 → (bit_at squares s == 1) ≡ true
-        → pawn_goes colour s t ≡ true → (bit_at result t == 1) ≡ true }
+    ensures reached { (takes : ℕ → Bool) (s t : ℕ) → TakesOn takes prey → s < 64 → t < 64
+        → (bit_at squares s == 1) ≡ true → pawn_goes takes colour s t ≡ true
+        → (bit_at result t == 1) ≡ true }
 {
     let mut reached = squares;
     let mut rest = squares;
     while let Some(from) = pop_first(&mut rest) {
-        let more = pawn_targets(colour, from);
+        let more = pawn_targets(colour, from, prey);
         reached |= more;
     }
     reached
 }
 
-// Returns where a man gets with one more move from where it can be.
-fn go_on(man: Man, before: &Whereabouts) -> Whereabouts
+// Returns where a man gets with one more move from where it can be, if it captures as a pawn on squares of
+// `prey` alone.
+fn go_on(man: Man, before: &Whereabouts, prey: Squares) -> Whereabouts
     ensures kept { (j : Kind) (t : ℕ) → t < 64 → has man.kind j t before.now ≡ true
         → has man.kind j t result ≡ true }
-    ensures reached { Leads man before.now result }
+    ensures reached { Leads prey man before.now result }
 {
     if !man.kind.is(Kind::Pawn) {
         return Whereabouts {
@@ -159,7 +162,7 @@ fn go_on(man: Man, before: &Whereabouts) -> Whereabouts
         };
     }
     let last = last_rank(man.colour);
-    let pawns = spread_pawns(man.colour, before.unpromoted);
+    let pawns = spread_pawns(man.colour, before.unpromoted, prey);
     Whereabouts {
         unpromoted: before.unpromoted | pawns & !last,
         queen: pawns & last | spread_pieces(man.colour, Kind::Queen, before.queen),
@@ -167,10 +170,11 @@ fn go_on(man: Man, before: &Whereabouts) -> Whereabouts
     }
 }
 
-/// Returns where the man can be within each number of moves, up to `most`.
+/// Returns where the man can be within each number of moves, up to `most`, if it captures as a pawn on squares
+/// of `prey` alone.
 #[inline(always)]
-pub(crate) fn chain_of(man: Man, from: Square, most: usize) -> Chain
-    ensures { most < 9 → IsChain man from most result }
+pub(crate) fn chain_of(man: Man, from: Square, most: usize, prey: Squares) -> Chain
+    ensures { most < 9 → IsChain prey man from most result }
 {
     // For the proof: a square's number is below 64.
     let _small = from.index();
@@ -180,7 +184,7 @@ pub(crate) fn chain_of(man: Man, from: Square, most: usize) -> Chain
         if n > most {
             return chain;
         }
-        now = go_on(man, &now);
+        now = go_on(man, &now, prey);
         chain[n] = now;
     }
     chain

@@ -1,19 +1,20 @@
 -- What the search for a plan knows (own).
-use Rattle.std.specs.Prelude.{ℕ, ◌≡◌, ◌≢◌, ◌≤◌, ◌<◌, ◌-◌, ◌==◌, true, false, length, ◌&&◌, if◌then◌else◌, List, Option, Some, slice_index_or, ◌⊎◌}
+use Rattle.std.specs.Prelude.{ℕ, ◌≡◌, ◌≢◌, ◌≤◌, ◌<◌, ◌-◌, ◌^◌, ◌==◌, Bool, true, false, length, ◌&&◌, not, if◌then◌else◌, List, Option, Some, slice_index_or, ◌⊎◌}
 use Rattle.std.specs.Int.{bit_at}
 use Rattle.std.specs.List.{range_with_len, sum_by}
 use Rattle.chess_core.specs.Position.{Position, king_square, may_promote, other, same_kind}
 use Rattle.chess_core.specs.Squares.{squares}
+use Rattle.chess_core.specs.declared.man.Colour.{Colour}
 use Rattle.chess_core.specs.declared.man.Kind.TheVariants.{King}
 use Rattle.chess_core.specs.declared.man.Man.{Man}
-use Rattle.chess_reach.specs.Plans.{End, Ends}
+use Rattle.chess_reach.specs.Plans.{End, Ends, may_capture}
 use Rattle.chess_reach.specs.Reach.{guards}
 use Rattle.chess_reach.specs.declared.guards.Guard.{Guard}
 use Rattle.chess_reach.specs.declared.hold.Place.{Place}
 use Rattle.chess_reach.specs.declared.hold.Quest.{Quest}
 use Rattle.chess_reach.specs.ties.Guards.{AreBlocks, AreGuards, CanEnd, guard_at, is_blocker}
 use Rattle.chess_reach.specs.ties.Whereabouts.{has}
-use Rattle.chess_reach.specs.ties.Ways.{IsChain, IsUsual, nowhere}
+use Rattle.chess_reach.specs.ties.Ways.{IsChain, IsUsual, TakesOn, nowhere}
 
 -- the place with this number
 abbrev pub place_at : List Place → ℕ → Place
@@ -37,13 +38,16 @@ DoesGuard q ends t i = ((end_at q ends i).square ≢ q.king)
 abbrev pub IsHeld : Quest → List (Option Man) → Ends → ℕ → Type 0
 IsHeld q men ends t =
     ((i : ℕ) × (i < q.count) × DoesGuard q ends t i)
-    ⊎ ((s : ℕ) × (s < 64) × (is_blocker men (other q.colour) s ≡ true) × ((ends s).square ≡ t) × (t ≢ q.king))
+    ⊎ ((s : ℕ) × (s < 64) × (is_blocker men (other q.colour) s ≡ true) × ((ends s).square ≡ t)
+    × ((ends s).taken ≡ false) × (t ≢ q.king))
 
--- the moves that blockers spend who end on squares of the bitboard w
+-- the moves that blockers spend who end on squares of the bitboard w and aren't captured
+abbrev pub blocks_in : Quest → List (Option Man) → Ends → ℕ → ℕ → Bool
+blocks_in q men ends w s =
+    (is_blocker men (other q.colour) s && not (ends s).taken) && (bit_at w (ends s).square == 1)
+
 unfoldable pub blocked : Quest → List (Option Man) → Ends → ℕ → ℕ
-blocked q men ends w =
-    sum_by (λ s. if is_blocker men (other q.colour) s && (bit_at w (ends s).square == 1)
-    then (ends s).moves else 0) squares
+blocked q men ends w = sum_by (λ s. if blocks_in q men ends w s then (ends s).moves else 0) squares
 
 -- the moves of the guards' ends, less the moves of their places
 unfoldable pub unpaid : Quest → List Place → Ends → ℕ
@@ -67,14 +71,20 @@ pub record IsApart (q : Quest) (ends : Ends) : Type 0 where
   pub apart : (i : ℕ) → i < q.count → same_kind (guard_at q.guards i).kind King ≡ true
       → guards q.colour King (end_at q ends i).square q.king ≡ false
 
+-- guards capture as pawns on the bitboard `prey` alone, and some captured man makes at least n moves
+pub record Captures (prey n : ℕ) (p : Position) (c : Colour) (ends : Ends) : Type 0 where
+  pub on : TakesOn (may_capture p.men c ends c) prey
+  pub moves : 0 < n → (s : ℕ) × (s < 64) × (is_blocker p.men (other c) s ≡ true)
+      × ((ends s).taken ≡ true) × (n ≤ (ends s).moves)
+
 -- the quest has the guards, the blockers and the king of the position
-pub record IsQuestOf (p : Position) (q : Quest) (king : Guard) (ours theirs : ℕ) : Type 0 where
+pub record IsQuestOf (prey : ℕ) (p : Position) (q : Quest) (king : Guard) (ours theirs : ℕ) : Type 0 where
   pub size : length p.men ≡ 64
   pub few : theirs < 9
-  pub guards : AreGuards p.men q.colour ours q.guards q.count
+  pub guards : AreGuards prey p.men q.colour ours q.guards q.count
   pub blocks : AreBlocks (may_promote p) p.men (other q.colour) theirs q.blockable
   pub usual : IsUsual (may_promote p)
   pub kind : king.kind ≡ King
   pub stands : king_square p.men (other q.colour) ≡ Some king.from
   pub small : king.from < 64
-  pub way : IsChain (record { colour = other q.colour; kind = King }) king.from theirs king.chain
+  pub way : IsChain (2 ^ 64 - 1) (record { colour = other q.colour; kind = King }) king.from theirs king.chain

@@ -1,5 +1,6 @@
 -- Where a man gets, as the search for plans computes it (own).
 use Rattle.std.specs.Prelude.{ℕ, ◌≡◌, ◌≢◌, ◌≤◌, ◌<◌, ◌==◌, Bool, true, false, ◌||◌, ◌&&◌, List, slice_index_or}
+use Rattle.std.specs.Int.{bit_at}
 use Rattle.chess_core.specs.Position.{same_kind}
 use Rattle.chess_core.specs.Squares.{is_square, rank_of}
 use Rattle.chess_core.specs.Steps.{along}
@@ -35,17 +36,22 @@ pub record IsUsual (allowed : Kind → Bool) : Type 0 where
   pub pawn : allowed Pawn ≡ false
   pub rider : allowed Nightrider ≡ false
 
+-- pawns capture on squares of the bitboard `prey` alone
+abbrev pub TakesOn : (ℕ → Bool) → ℕ → Type 0
+TakesOn takes prey = (t : ℕ) → t < 64 → takes t ≡ true → (bit_at prey t == 1) ≡ true
+
 -- in one move the man gets from where it can be, b, to w
-pub record Leads (x : Man) (b w : Whereabouts) : Type 0 where
-  pub leads : (allowed : Kind → Bool) (i j : Kind) (q t : ℕ) → q < 64 → t < 64 → CanBe x.kind i
-      → allowed Pawn ≡ false → goes allowed x.colour i q j t ≡ true
+pub record Leads (prey : ℕ) (x : Man) (b w : Whereabouts) : Type 0 where
+  pub leads : (allowed : Kind → Bool) (takes : ℕ → Bool) (i j : Kind) (q t : ℕ) → TakesOn takes prey
+      → q < 64 → t < 64 → CanBe x.kind i
+      → allowed Pawn ≡ false → goes allowed takes x.colour i q j t ≡ true
       → has x.kind i q b ≡ true → has x.kind j t w ≡ true
 
 -- within n moves, at most m, the man gets from s only to where the n-th of the chain has it; later ones
 -- have it too
-pub record IsChain (x : Man) (s m : ℕ) (chain : List Whereabouts) : Type 0 where
-  pub gets : (allowed : Kind → Bool) (n : ℕ) (j : Kind) (t : ℕ) → n ≤ m → IsUsual allowed
-      → Gets allowed x.colour n x.kind s j t
+pub record IsChain (prey : ℕ) (x : Man) (s m : ℕ) (chain : List Whereabouts) : Type 0 where
+  pub gets : (allowed : Kind → Bool) (takes : ℕ → Bool) (n : ℕ) (j : Kind) (t : ℕ) → TakesOn takes prey
+      → n ≤ m → IsUsual allowed → Gets allowed takes x.colour n x.kind s j t
       → has x.kind j t (slice_index_or chain n nowhere) ≡ true
   pub grows : (n l : ℕ) (j : Kind) (t : ℕ) → n ≤ l → l ≤ m → t < 64
       → has x.kind j t (slice_index_or chain n nowhere) ≡ true

@@ -5,29 +5,29 @@ use Rattle.chess_reach.proofs.Planning.{ends_apart, king_arrives, king_moves, ki
 use Rattle.chess_reach.proofs.planned_squares.may_have_plan.Goals as goal
 
 pub returns-in_default : goal.returns-in_default
-returns-in_default c p ends plan of =
+returns-in_default c prey p ends plan captures of =
     let k = ends c.args.king.now.from in
-    absurd (c.in_default.ensures.fewest k.kind k.square k.moves (omega arith) (omega (arith, king_moves _ p _ _ _ _ ends plan of))
-    (omega (arith, king_moves _ p _ _ _ _ ends plan of, of.few)) (king_arrives _ p _ _ _ _ ends plan of) (king_there _ p _ _ _ _ ends plan of c.at.result c.at.ensures))
+    absurd (c.in_default.ensures.fewest k.kind k.square k.moves (omega arith) (omega (arith, king_moves _ prey _ p _ _ _ _ ends plan captures of))
+    (omega (arith, king_moves _ prey _ p _ _ _ _ ends plan captures of, of.few)) (king_arrives _ prey _ p _ _ _ _ ends plan captures of) (king_there _ prey _ p _ _ _ _ ends plan captures of c.at.result c.at.ensures))
 
 pub returns-in_default-keep_apart : goal.returns-in_default-keep_apart
-returns-in_default-keep_apart c p ends plan of =
+returns-in_default-keep_apart c prey p ends plan captures of =
     let k = ends c.args.king.now.from in
     let low = subst (λ n. n < 64) c.index-small.ensures.value c.index-small.ensures.small in
-    let cheap = c.in-Some.ensures.fewest k.kind k.square k.moves (omega arith) (omega (arith, king_moves _ p _ _ _ _ ends plan of))
-    (omega (arith, king_moves _ p _ _ _ _ ends plan of, of.few)) (king_arrives _ p _ _ _ _ ends plan of)
-    (king_there _ p _ _ _ _ ends plan of c.at.result c.at.ensures) in
+    let cheap = c.in-Some.ensures.fewest k.kind k.square k.moves (omega arith) (omega (arith, king_moves _ prey _ p _ _ _ _ ends plan captures of))
+    (omega (arith, king_moves _ prey _ p _ _ _ _ ends plan captures of, of.few)) (king_arrives _ prey _ p _ _ _ _ ends plan captures of)
+    (king_there _ prey _ p _ _ _ _ ends plan captures of c.at.result c.at.ensures) in
     absurd (c.in_default-keep_apart.ensures p.men ends 0 _
-    (plan_holds _ p _ _ _ _ ends plan of c.first_places-places.result 0 c.in-Some.steps c.requires.moves low c.first_places-places.ensures
-    (λ t small on. absurd (false≢true (sym (off_zero t) ∙ on))) cheap) (ends_apart _ p _ _ _ _ ends plan of))
+    (plan_holds _ prey _ p _ _ _ _ ends plan captures of c.first_places-places.result 0 c.in-Some.steps c.requires.moves low c.first_places-places.ensures
+    (λ t small on. absurd (false≢true (sym (off_zero t) ∙ on))) cheap) (ends_apart _ prey _ p _ _ _ _ ends plan captures of))
 
 pub returns : goal.returns
-returns c p ends plan of =
+returns c prey p ends plan captures of =
     let k = ends c.args.king.now.from in
     let low = subst (λ n. n < 64) c.index-small.ensures.value c.index-small.ensures.small in
-    let cheap = c.in-Some.ensures.fewest k.kind k.square k.moves (omega arith) (omega (arith, king_moves _ p _ _ _ _ ends plan of))
-    (omega (arith, king_moves _ p _ _ _ _ ends plan of, of.few)) (king_arrives _ p _ _ _ _ ends plan of)
-    (king_there _ p _ _ _ _ ends plan of c.at.result c.at.ensures) in
+    let cheap = c.in-Some.ensures.fewest k.kind k.square k.moves (omega arith) (omega (arith, king_moves _ prey _ p _ _ _ _ ends plan captures of))
+    (omega (arith, king_moves _ prey _ p _ _ _ _ ends plan captures of, of.few)) (king_arrives _ prey _ p _ _ _ _ ends plan captures of)
+    (king_there _ prey _ p _ _ _ _ ends plan captures of c.at.result c.at.ensures) in
     c.can_hold.ensures p.men ends (c.in-Some-keep_apart.ensures p.men ends _ _
-    (plan_holds _ p _ _ _ _ ends plan of c.first_places-places.result c.unheld_squares-unheld.result c.in-Some.steps c.requires.moves low c.first_places-places.ensures
-    c.unheld_squares-unheld.ensures cheap) (ends_apart _ p _ _ _ _ ends plan of))
+    (plan_holds _ prey _ p _ _ _ _ ends plan captures of c.first_places-places.result c.unheld_squares-unheld.result c.in-Some.steps c.requires.moves low c.first_places-places.ensures
+    c.unheld_squares-unheld.ensures cheap) (ends_apart _ prey _ p _ _ _ _ ends plan captures of))

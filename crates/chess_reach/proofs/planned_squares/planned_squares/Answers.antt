@@ -1,7 +1,10 @@
-use Rattle.std.proofs.Common.{arith, rules, sym, ◌∙◌}
+use Rattle.std.proofs.Common.{arith, rules, subst, sym, ◌-◌, ◌^◌, ◌∙◌}
 use Rattle.chess_attacks.proofs.Bits.{on_left, on_right}
 use Rattle.chess_attacks.proofs.HoldTaken.{is_taken, taken_all, taken_map, taken_on}
-use Rattle.chess_reach.proofs.Planning.{bit_here, both_near, king_near, none_near, usual_promotion}
+use Rattle.chess_reach.proofs.Planning.{both_near, king_near, quest_again, quest_of, none_near, usual_promotion}
+use Rattle.chess_reach.proofs.Prey.{found_with, found_without}
+use Rattle.chess_reach.specs.Plans.{IsPlan}
+use Rattle.chess_reach.specs.ties.Hold.{Captures}
 use Rattle.chess_reach.proofs.planned_squares.planned_squares.Goals as goal
 
 pub returns-then-near-eq0 : goal.returns-then-near-eq0
@@ -10,22 +13,29 @@ returns-then-near-eq0 c k ends low plan on =
     (sym c.king_of.ensures ∙ c.in-Some.is) (search rules) (usual_promotion c.args.board.now (sym c.may_promote.ensures ∙ c.if-may_promote.false)) (c.chain_of.ensures (omega (arith, c.if-theirs-ge-MOVES.false)))
     low))
 
-pub loop-to-preserved-then-may_have_plan : goal.loop-to-preserved-then-may_have_plan
-loop-to-preserved-then-may_have_plan c =
-    let old = c.loop-to.invariant in
-    let popped = is_taken _ _ _ _ c.pop_first.ensures.taken c.in-Some-pop_first.is in
-    record {
-      count = old.count;
-      moves = old.moves;
-      colour = old.colour;
-      of = search rules;
-      taken = taken_on _ _ _ _ _ _ (taken_map _ _ _ _ (λ s found ends plan. on_left _ _ s (found ends plan)) old.taken) c.pop_first.ensures.taken c.in-Some-pop_first.is
-          (λ ends plan. on_right _ _ _ (bit_here _ _ c.index.ensures.value popped.small));
-    }
+pub returns-then-not-may_lure : goal.returns-then-not-may_lure
+returns-then-not-may_lure c k ends low plan on =
+    let near = both_near _ _ k on (king_near _ c.args.board.now _ _ _ _ k c.in-Some.from ends c.chain_of.result c.other-colour.ensures plan
+    (sym c.king_of.ensures ∙ c.in-Some.is) (search rules) (usual_promotion c.args.board.now (sym c.may_promote.ensures ∙ c.if-may_promote.false)) (c.chain_of.ensures (omega (arith, c.if-theirs-ge-MOVES.false)))
+    low) in
+    found_without _ c.args.board.now c.args.mating _ _ k ends plan c.prey-prey.result c.prey-prey.ensures _ c.planned_part-planned.result c.planned_part-planned.type_inv low near
+    (c.may_lure.ensures.none (search rules)) (λ captures. c.planned_part-planned.ensures.planned c.prey-prey.result c.args.board.now k ends (quest_of _ c.args.board.now _ _ _ _ _ _ _ _ _ _ _ c.other-colour.ensures c.requires.size (omega (arith, c.if-theirs-ge-MOVES.false)) c.in-Some-list_guards.ensures (omega arith)
+    c.blocks_of.ensures (sym c.may_promote.ensures ∙ c.if-may_promote.false) (sym c.king_of.ensures ∙ c.in-Some.is) (search rules) (c.chain_of.ensures (omega (arith, c.if-theirs-ge-MOVES.false)))) low plan captures near)
 
 pub returns : goal.returns
 returns c k ends low plan on =
-    taken_all _ _ _ _ c.loop-to.invariant.taken c.pop_first.ensures.none c.in_default-pop_first.is k low
-    (both_near _ _ k on (king_near _ c.args.board.now _ _ _ _ k c.in-Some.from ends c.chain_of.result c.other-colour.ensures plan
+    let near = both_near _ _ k on (king_near _ c.args.board.now _ _ _ _ k c.in-Some.from ends c.chain_of.result c.other-colour.ensures plan
     (sym c.king_of.ensures ∙ c.in-Some.is) (search rules) (usual_promotion c.args.board.now (sym c.may_promote.ensures ∙ c.if-may_promote.false)) (c.chain_of.ensures (omega (arith, c.if-theirs-ge-MOVES.false)))
-    low)) ends plan
+    low) in
+    found_with _ c.args.board.now c.args.mating _ _ k ends plan c.prey-prey.result c.prey-prey.ensures _ c.planned_part-planned.result c.planned_part.result
+    c.planned_part-planned.type_inv low near
+    (λ captures. c.planned_part-planned.ensures.planned c.prey-prey.result c.args.board.now k ends (quest_of _ c.args.board.now _ _ _ _ _ _ _ _ _ _ _ c.other-colour.ensures c.requires.size (omega (arith, c.if-theirs-ge-MOVES.false)) c.in-Some-list_guards.ensures (omega arith)
+    c.blocks_of.ensures (sym c.may_promote.ensures ∙ c.if-may_promote.false) (sym c.king_of.ensures ∙ c.in-Some.is) (search rules) (c.chain_of.ensures (omega (arith, c.if-theirs-ge-MOVES.false)))) low plan captures near)
+    (λ captures left. c.planned_part.ensures.planned (2 ^ 64 - 1) c.args.board.now k ends
+    (quest_again (2 ^ 64 - 1) c.args.board.now _ _ _ _ _ _ _ _ _ _ c.planned_part-planned.ensures.colour c.planned_part-planned.ensures.blockable
+    (quest_of _ c.args.board.now c.args.mating _ _ _ _ _ _ _ _ _ _ c.other-colour.ensures c.requires.size (omega (arith, c.if-theirs-ge-MOVES.false))
+    c.in-Some-list_guards-2.ensures (omega arith)
+    c.blocks_of.ensures (sym c.may_promote.ensures ∙ c.if-may_promote.false) (sym c.king_of.ensures ∙ c.in-Some.is) (search rules)
+    (c.chain_of.ensures (omega (arith, c.if-theirs-ge-MOVES.false))))) low
+    (subst (λ d. IsPlan c.args.goal c.args.board.now d c.args.ours c.args.theirs k ends) (sym c.planned_part-planned.ensures.colour) plan)
+    (subst (λ d. Captures (2 ^ 64 - 1) 1 c.args.board.now d ends) (sym c.planned_part-planned.ensures.colour) captures) left)
