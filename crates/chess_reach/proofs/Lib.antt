@@ -19,4 +19,5 @@ mod Blocking
 mod Listing
 mod Planning
 mod Prey
+mod Shifts
 pub mod theorems

@@ -6,9 +6,6 @@ use Rattle.std.specs.Int.{bit_not}
 use Rattle.std.specs.Prelude.{bit_and, bit_or}
 use Rattle.std.specs.List.{sum_by}
 use Rattle.chess_attacks.proofs.Basics.{w64}
-use Rattle.std.proofs.Math.Nat.{div-add-mod}
-use Rattle.std.proofs.lemmas.Nat.{pow_pos, shr-shr}
-use Rattle.std.proofs.lemmas.Nat.Bits.{bit_at_cat_high, bit_at_cat_low}
 use Rattle.chess_attacks.proofs.Bits.{off_zero, on_left, on_right}
 use Rattle.chess_reach.proofs.Bitboards.{denied_on}
 use Rattle.chess_reach.proofs.Holding.{one_within}
@@ -16,21 +13,13 @@ use Rattle.chess_attacks.proofs.Tests.{any_range_cases}
 use Rattle.chess_reach.proofs.Getting.{every_on}
 use Rattle.chess_reach.proofs.OneMove.{passing}
 use Rattle.chess_reach.proofs.Planning.{man_of}
+use Rattle.chess_reach.proofs.Shifts.{bit_down, bit_up}
 use Rattle.chess_reach.specs.ties.Guards.{is_blocker}
 use Rattle.chess_reach.specs.ties.Hold.{Captures, IsQuestOf}
 use Rattle.chess_reach.specs.declared.guards.Guard.{Guard}
 use Rattle.chess_reach.specs.declared.hold.Quest.{Quest}
 use Rattle.chess_reach.specs.ties.Ways.{TakesOn}
 use Rattle.pop_stipulation.specs.declared.stipulation.Goal.{Goal}
-
--- a bitboard moved down or up by k squares
-bit_down : (w k s : ℕ) → bit_at (w / 2 ^ k) s ≡ bit_at w (k + s)
-bit_down w k s = ap (λ x. x % 2) (shr-shr w k s)
-
-bit_up : (w k s : ℕ) → k ≤ s → s < 64 → bit_at (w * 2 ^ k % 2 ^ 64) s ≡ bit_at w (s - k)
-bit_up w k s from small =
-    let all = w * 2 ^ k in
-    grind (arith, div-add-mod all (2 ^ 64), bit_at_cat_low (all / 2 ^ 64) 64 (all % 2 ^ 64) s small, bit_at_cat_high w k 0 s (pow_pos k) from, pow_pos k)
 
 -- the squares of men, and those one rank down
 pub prey_down : (c : Colour) (w s t : ℕ) → c ≡ Black → s < 64 → t < 64 → (bit_at w s == 1) ≡ true → captures_to c s t ≡ true

@@ -2,7 +2,9 @@
 ghost use Rattle.std.specs.Prelude.{◌≡◌, ◌<◌, ◌≤◌, ◌==◌, ℕ, true, [], false, Bool};
 ghost use Rattle.std.specs.Int.{bit_at};
 ghost use Rattle.chess_core.specs.Squares.{rank_of};
+ghost use Rattle.chess_core.specs.declared.man.Colour.{Colour};
 ghost use Rattle.chess_core.specs.declared.man.Kind.{Kind};
+ghost use Rattle.chess_core.specs.declared.man.Kind.TheVariants.{King, Knight};
 ghost use Rattle.chess_attacks.specs.Reaches.{reaches_as};
 ghost use Rattle.chess_rules.specs.Legal.{last_rank, second_rank};
 ghost use Rattle.chess_reach.specs.Reach.{pawn_goes, without_hops};
@@ -32,9 +34,59 @@ pub(crate) fn without_hops(kind: Kind) -> Kind
     }
 }
 
+// The squares of a file or two: those where a man that goes one or two files aside from the other edge would
+// arrive, if the board were a ring.
+const FILE_A: Squares = 0x0101_0101_0101_0101;
+
+const FILE_H: Squares = 0x8080_8080_8080_8080;
+
+const FILES_AB: Squares = 0x0303_0303_0303_0303;
+
+const FILES_GH: Squares = 0xC0C0_C0C0_C0C0_C0C0;
+
+// Returns the squares, and those next to them.
+#[inline(always)]
+fn spread_kings(squares: Squares) -> Squares
+    ensures kept { (t : ℕ) → t < 64 → (bit_at squares t == 1) ≡ true
+        → (bit_at result t == 1) ≡ true }
+    ensures reached { (c : Colour) (s t : ℕ) → s < 64 → t < 64 → (bit_at squares s == 1) ≡ true
+        → reaches_as [] c King s t ≡ true → (bit_at result t == 1) ≡ true }
+{
+    let row = squares | squares << 1 & !FILE_A | squares >> 1 & !FILE_H;
+    row | row << 8 | row >> 8
+}
+
+// Returns the squares, and those a knight's leap away.
+#[inline(always)]
+fn spread_knights(squares: Squares) -> Squares
+    ensures kept { (t : ℕ) → t < 64 → (bit_at squares t == 1) ≡ true
+        → (bit_at result t == 1) ≡ true }
+    ensures reached { (c : Colour) (s t : ℕ) → s < 64 → t < 64 → (bit_at squares s == 1) ≡ true
+        → reaches_as [] c Knight s t ≡ true → (bit_at result t == 1) ≡ true }
+{
+    let beside = squares << 1 & !FILE_A | squares >> 1 & !FILE_H;
+    let aside = squares << 2 & !FILES_AB | squares >> 2 & !FILES_GH;
+    squares | (beside << 16 | beside >> 16 | aside << 8 | aside >> 8)
+}
+
 // Returns the squares, and those that men of this kind on them reach.
-#[tactic(auto, using(chess_attacks::proofs::HoldTaken::taken_all, chess_attacks::proofs::HoldTaken::taken_none, chess_attacks::proofs::HoldTaken::rest_falls))]
+#[inline(always)]
 fn spread(colour: Colour, kind: Kind, squares: Squares) -> Squares
+    ensures kept { (t : ℕ) → t < 64 → (bit_at squares t == 1) ≡ true
+        → (bit_at result t == 1) ≡ true }
+    ensures reached { (s t : ℕ) → s < 64 → t < 64 → (bit_at squares s == 1) ≡ true
+        → reaches_as [] colour kind s t ≡ true → (bit_at result t == 1) ≡ true }
+{
+    match kind {
+        Kind::King => spread_kings(squares),
+        Kind::Knight => spread_knights(squares),
+        _ => spread_each(colour, kind, squares),
+    }
+}
+
+// Returns the squares, and those that men of this kind on them reach, square by square.
+#[tactic(auto, using(chess_attacks::proofs::HoldTaken::taken_all, chess_attacks::proofs::HoldTaken::taken_none, chess_attacks::proofs::HoldTaken::rest_falls))]
+fn spread_each(colour: Colour, kind: Kind, squares: Squares) -> Squares
     ensures kept { (t : ℕ) → t < 64 → (bit_at squares t == 1) ≡ true
         → (bit_at result t == 1) ≡ true }
     ensures reached { (s t : ℕ) → s < 64 → t < 64 → (bit_at squares s == 1) ≡ true

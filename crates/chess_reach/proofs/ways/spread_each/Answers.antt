@@ -1,7 +1,7 @@
 use Rattle.chess_attacks.proofs.Bits.{on_left}
 use Rattle.chess_attacks.proofs.HoldTaken.{taken_map, taken_on}
 use Rattle.chess_reach.proofs.Getting.{reached_left, reached_right}
-use Rattle.chess_reach.proofs.ways.spread.Goals as goal
+use Rattle.chess_reach.proofs.ways.spread_each.Goals as goal
 
 pub loop-from-preserved : goal.loop-from-preserved
 loop-from-preserved c = record {

@@ -2,7 +2,7 @@ use Rattle.chess_attacks.proofs.HoldTaken.{HoldTaken}
 use Rattle.chess_attacks.specs.ties.Lines.{AreReached}
 use Rattle.std.proofs.Common.{◌≡◌, ◌==◌, ℕ, true}
 use Rattle.std.specs.Int.{bit_at}
-use Rattle.chess_reach.proofs.ways.spread.Given as goal
+use Rattle.chess_reach.proofs.ways.spread_each.Given as goal
 
 abbrev pub invariant-loop-from : goal.invariant-loop-from
 invariant-loop-from l = record {
