@@ -3,22 +3,22 @@ use Rattle.chess_reach.proofs.Chess.{Black, Bool, Colour, zero, suc, ◌||◌, �
 use Rattle.std.specs.Int.{bit_at}
 use Rattle.chess_core.specs.Squares.{file_of}
 use Rattle.std.specs.Int.{bit_not}
-use Rattle.std.specs.Prelude.{bit_and, bit_or}
+use Rattle.std.specs.Prelude.{bit_and, bit_or, slice_index_or}
 use Rattle.std.specs.List.{sum_by}
 use Rattle.chess_attacks.proofs.Basics.{w64}
 use Rattle.chess_attacks.proofs.Bits.{off_zero, on_left, on_right}
 use Rattle.chess_reach.proofs.Bitboards.{denied_on}
 use Rattle.chess_reach.proofs.Holding.{one_within}
 use Rattle.chess_attacks.proofs.Tests.{any_range_cases}
-use Rattle.chess_reach.proofs.Getting.{every_on}
+use Rattle.chess_reach.proofs.Getting.{gets_small}
 use Rattle.chess_reach.proofs.OneMove.{passing}
 use Rattle.chess_reach.proofs.Planning.{man_of}
 use Rattle.chess_reach.proofs.Shifts.{bit_down, bit_up}
-use Rattle.chess_reach.specs.ties.Guards.{is_blocker}
+use Rattle.chess_reach.specs.ties.Guards.{AreBlocks, is_blocker}
 use Rattle.chess_reach.specs.ties.Hold.{Captures, IsQuestOf}
 use Rattle.chess_reach.specs.declared.guards.Guard.{Guard}
 use Rattle.chess_reach.specs.declared.hold.Quest.{Quest}
-use Rattle.chess_reach.specs.ties.Ways.{TakesOn}
+use Rattle.chess_reach.specs.ties.Ways.{IsUsual, TakesOn}
 use Rattle.pop_stipulation.specs.declared.stipulation.Goal.{Goal}
 
 -- the squares of men, and those one rank down
@@ -63,8 +63,10 @@ quest_at prey p q r king ours theirs k same of = subst (λ x. IsQuestOf prey p x
   way = of.way;
 })
 
-module _ (goal : Goal) (p : Position) (c : Colour) (ours theirs k : ℕ) (ends : Ends) (plan : IsPlan goal p c ours theirs k ends) (prey : ℕ)
-    (has : (s t : ℕ) → s < 64 → t < 64 → is_blocker p.men (other c) s ≡ true → captures_to c s t ≡ true → (bit_at prey t == 1) ≡ true) where
+module _ (goal : Goal) (p : Position) (c : Colour) (ours theirs k : ℕ) (ends : Ends) (plan : IsPlan goal p c ours theirs k ends) (prey lures : ℕ) (ws : List ℕ)
+    (few : theirs < 9) (usual : IsUsual (may_promote p)) (blocks : AreBlocks (may_promote p) p.men (other c) theirs ws)
+    (has : (s t : ℕ) → s < 64 → t < 64 → is_blocker p.men (other c) s ≡ true → captures_to c s t ≡ true → (bit_at prey t == 1) ≡ true)
+    (holds : (n s t : ℕ) → n < 9 → s < 64 → t < 64 → (bit_at (slice_index_or ws n 0) s == 1) ≡ true → captures_to c s t ≡ true → (bit_at lures t == 1) ≡ true) where
   -- a man that is captured elsewhere has moved
   moved : (s t : ℕ) → s < 64 → t < 64 → is_blocker p.men (other c) s ≡ true → captures_to c (ends s).square t ≡ true → (bit_at prey t == 1) ≡ false
       → (z : Man) (n : ℕ) → (ends s).moves ≡ n
@@ -80,9 +82,52 @@ module _ (goal : Goal) (p : Position) (c : Colour) (ours theirs k : ℕ) (ends :
       let z = man_of (man_on p.men s) (other c) (and_parts (is_of_colour (man_on p.men s) (other c)) _ blocker).0 in
       moved s t small low blocker to off z.0 (ends s).moves refl (plan.gets s z.0 z.1)
 
-  -- guards capture on the prey alone, or some man goes somewhere in order to be captured
-  pub capture_cases : TakesOn (may_capture p.men c ends c) prey ⊎ Captures (2 ^ 64 - 1) 1 p c ends
+  -- no man makes more moves than its side
+  moves_within : (s : ℕ) → s < 64 → is_blocker p.men (other c) s ≡ true → (ends s).moves ≤ theirs
+  unfolding price squares
+  moves_within s small blocker =
+      let f : ℕ → ℕ = λ s. if is_of_colour (man_on p.men s) (other c) then (ends s).moves else 0 in
+      omega (
+        arith,
+        plan.theirs,
+        one_within f 0 64 s (omega arith) (omega (arith, small)),
+        cond-true (is_of_colour (man_on p.men s) (other c)) (ends s).moves 0 (and_parts (is_of_colour (man_on p.men s) (other c)) _ blocker).0,
+      )
+
+  -- where a man gets, it may be captured
+  lure_there : (s t : ℕ) → s < 64 → t < 64 → is_blocker p.men (other c) s ≡ true → captures_to c (ends s).square t ≡ true → (bit_at lures t == 1) ≡ true
+  lure_there s t small low blocker to =
+      let z = man_of (man_on p.men s) (other c) (and_parts (is_of_colour (man_on p.men s) (other c)) _ blocker).0 in
+      let most = moves_within s small blocker in
+      let way = plan.gets s z.0 z.1 in
+      holds (ends s).moves (ends s).square t (omega (arith, most, few)) (gets_small (may_promote p) _ _ (ends s).moves _ s _ _ small way) low
+      (blocks.gets s z.0 (ends s).moves (ends s).kind (ends s).square small z.1 blocker most _ way) to
+
+  is_off : (b : Bool) → not b ≡ true → b ≡ false
+  is_off b h = grind (arith, h)
+
+  second : (a b : Bool) → a ≡ true → (not a || b) ≡ true → b ≡ true
+  second a b on h = grind (arith, on, h)
+
+  -- who is captured where a pawn may capture
+  record Captured (t : ℕ) : Type 0 where
+    by : ℕ
+    small : by < 64
+    blocker : is_blocker p.men (other c) by ≡ true
+    taken : (ends by).taken ≡ true
+    to : captures_to c (ends by).square t ≡ true
+
+  captured : (t : ℕ) → may_capture p.men c ends c t ≡ true → Captured t
   unfolding may_capture
+  captured t may =
+      let some = second (same_colour c c) (some_square (is_prey p.men c ends t)) (same_colour-refl c) may in
+      let s = passing _ some in
+      let parts = and_parts (is_blocker p.men (other c) s.0) _ s.2 in
+      let taken = and_parts (ends s.0).taken _ parts.1 in
+      record { by = s.0; small = s.1; blocker = parts.0; taken = taken.0; to = taken.1 }
+
+  -- guards capture on the prey alone, or some man goes somewhere in order to be captured
+  pub capture_cases : TakesOn (may_capture p.men c ends c) prey ⊎ Captures lures 1 p c ends
   capture_cases = elim (any_range_cases (λ t. may_capture p.men c ends c t && not (bit_at prey t == 1)) 0 64) [
     | inr none ↦ inl (λ t low on. elim (cases_Bool (bit_at prey t == 1)) [
       | inl here ↦ here
@@ -91,57 +136,30 @@ module _ (goal : Goal) (p : Position) (c : Colour) (ours theirs k : ℕ) (ends :
     | inl w ↦
         let both = and_parts (may_capture p.men c ends c w.0) _ w.3 in
         let off : (bit_at prey w.0 == 1) ≡ false = is_off (bit_at prey w.0 == 1) both.1 in
-        let some = second (same_colour c c) (some_square (is_prey p.men c ends w.0)) (same_colour-refl c) both.0 in
-        let s = passing _ some in
-        let parts = and_parts (is_blocker p.men (other c) s.0) _ s.2 in
-        let taken = and_parts (ends s.0).taken _ parts.1 in
+        let s = captured w.0 both.0 in
         inr (record {
-          on = every_on _;
-          moves = λ more. (s.0, s.1, parts.0, taken.0, lured s.0 w.0 s.1 (omega (arith, w.2)) parts.0 taken.1 off);
+          on = λ t low may. let r = captured t may in lure_there r.by t r.small low r.blocker r.to;
+          moves = λ more. (s.by, s.small, s.blocker, s.taken, lured s.by w.0 s.small (omega (arith, w.2)) s.blocker s.to off);
         })
   ]
-    where
-      is_off : (b : Bool) → not b ≡ true → b ≡ false
-      is_off b h = grind (arith, h)
 
-      second : (a b : Bool) → a ≡ true → (not a || b) ≡ true → b ≡ true
-      second a b on h = grind (arith, on, h)
-
-  -- whoever goes somewhere in order to be captured needs a move, and is prey now
-  pub lured_moves : Captures (2 ^ 64 - 1) 1 p c ends → 0 < theirs
-  unfolding price squares
-  lured_moves captures =
-      let s = captures.moves (omega arith) in
-      let f : ℕ → ℕ = λ s. if is_of_colour (man_on p.men s) (other c) then (ends s).moves else 0 in
-      omega (
-        arith,
-        plan.theirs,
-        one_within f 0 64 s.0 (omega arith) (omega (arith, s.1)),
-        cond-true (is_of_colour (man_on p.men s.0) (other c)) (ends s.0).moves 0 (and_parts (is_of_colour (man_on p.men s.0) (other c)) _ s.2).0,
-        s.4,
-      )
-
-  pub some_prey : Captures (2 ^ 64 - 1) 1 p c ends → prey ≢ 0
-  some_prey captures none =
-      let s = captures.moves (omega arith) in
-      false≢true (sym (off_zero s.0) ∙ ap (λ w. bit_at w s.0 == 1) (sym none) ∙ has s.0 s.0 s.1 s.1 s.2 (or_left _ _ (eq-eqb s.0 s.0 refl)))
+  -- whoever goes somewhere in order to be captured needs a move
+  pub lured_moves : Captures lures 1 p c ends → 0 < theirs
+  lured_moves captures = let s = captures.moves (omega arith) in omega (arith, moves_within s.0 s.1 s.2, s.4)
 
   -- where nobody can be lured, or all squares are found, the plan was found
   pub found_without : (near planned : ℕ) → planned < 2 ^ 64 → k < 64 → (bit_at near k == 1) ≡ true
-      → (theirs ≡ 0) ⊎ ((prey ≡ 0) ⊎ ((prey ≡ 2 ^ 64 - 1) ⊎ (bit_and near (bit_not w64 planned) ≡ 0)))
+      → (theirs ≡ 0) ⊎ ((lures ≡ prey) ⊎ (bit_and near (bit_not w64 planned) ≡ 0))
       → (Captures prey 0 p c ends → (bit_at planned k == 1) ≡ true) → (bit_at planned k == 1) ≡ true
   found_without near planned fits low on none found = elim capture_cases [
     | inl free ↦ found (free_captures prey p c ends free)
     | inr lured ↦ elim none [
       | inl still ↦ absurd (let more = lured_moves lured in omega (arith, still, more))
       | inr rest ↦ elim rest [
-        | inl empty ↦ absurd (some_prey lured empty)
-        | inr more ↦ elim more [
-          | inl every ↦ found (free_captures prey p c ends (subst (TakesOn (may_capture p.men c ends c)) (sym every) (every_on _)))
-          | inr all ↦ elim (cases_Bool (bit_at planned k == 1)) [
-            | inl here ↦ here
-            | inr off ↦ absurd (false≢true (sym (off_zero k) ∙ ap (λ w. bit_at w k == 1) (sym all) ∙ denied_on near planned k fits low on off))
-          ]
+        | inl same ↦ found (free_captures prey p c ends (subst (TakesOn (may_capture p.men c ends c)) same lured.on))
+        | inr all ↦ elim (cases_Bool (bit_at planned k == 1)) [
+          | inl here ↦ here
+          | inr off ↦ absurd (false≢true (sym (off_zero k) ∙ ap (λ w. bit_at w k == 1) (sym all) ∙ denied_on near planned k fits low on off))
         ]
       ]
     ]
@@ -150,7 +168,7 @@ module _ (goal : Goal) (p : Position) (c : Colour) (ours theirs k : ℕ) (ends :
   -- otherwise one of two searches finds it
   pub found_with : (near planned more : ℕ) → planned < 2 ^ 64 → k < 64 → (bit_at near k == 1) ≡ true
       → (Captures prey 0 p c ends → (bit_at planned k == 1) ≡ true)
-      → (Captures (2 ^ 64 - 1) 1 p c ends → (bit_at (bit_and near (bit_not w64 planned)) k == 1) ≡ true → (bit_at more k == 1) ≡ true)
+      → (Captures lures 1 p c ends → (bit_at (bit_and near (bit_not w64 planned)) k == 1) ≡ true → (bit_at more k == 1) ≡ true)
       → (bit_at (bit_or planned more) k == 1) ≡ true
   found_with near planned more fits low on found lure = elim (cases_Bool (bit_at planned k == 1)) [
     | inl here ↦ on_left planned more k here

@@ -27,6 +27,19 @@ fn add_man(blocks: &mut Blocks, chain: &Chain)
     }
 }
 
+/// Returns the squares to which some man gets at all.
+#[inline(always)]
+pub(crate) fn all_blockable(blocks: &Blocks) -> Squares
+    ensures { (n t : ℕ) → n < 9 → (bit_at (slice_index_or blocks.now n 0) t == 1) ≡ true
+        → (bit_at result t == 1) ≡ true }
+{
+    let mut all = 0u64;
+    for n in 0..MOVES {
+        all |= blocks[n];
+    }
+    all
+}
+
 /// Returns the squares to which the men of a colour get, other than its king, by the number of moves up to
 /// `most`.
 pub(crate) fn blocks_of(board: &Board, colour: Colour, most: usize) -> Blocks

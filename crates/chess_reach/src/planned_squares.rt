@@ -13,7 +13,7 @@ ghost use Rattle.chess_reach.specs.ties.Guards.{guard_at, is_blocker};
 ghost use Rattle.chess_reach.specs.ties.Hold.{Captures, Holds, IsApart, IsQuestOf, place_at};
 ghost use Rattle.chess_reach.specs.ties.Ways.{nowhere};
 
-use crate::blocks::blocks_of;
+use crate::blocks::{Blocks, all_blockable, blocks_of};
 use crate::guards::{Guard, MEN, list_guards};
 use crate::hold::{Place, Places, Quest, can_hold, narrowed};
 use crate::ways::{MOVES, chain_of};
@@ -129,8 +129,21 @@ fn may_have_plan(
     )
 }
 
-// Returns the squares to which pawns of this colour capture men that haven't moved: theirs, and for capture en
-// passant the one ahead. Without pawns they are all squares.
+// Returns the squares to which pawns of this colour capture men on these squares: the same, and for capture en
+// passant the ones ahead.
+#[inline(always)]
+fn captured_from(mating: Colour, men: Squares) -> Squares
+    ensures { (s t : ℕ) → s < 64 → t < 64 → (bit_at men s == 1) ≡ true
+        → captures_to mating s t ≡ true → (bit_at result t == 1) ≡ true }
+{
+    match mating {
+        Colour::White => men | men << 8,
+        Colour::Black => men | men >> 8,
+    }
+}
+
+// Returns the squares to which pawns of this colour capture men that haven't moved. Without pawns they are all
+// squares.
 fn prey(board: &Board, mating: Colour) -> Squares
     ensures { (s t : ℕ) → s < 64 → t < 64 → is_blocker board.now.men (other mating) s ≡ true
         → captures_to mating s t ≡ true → (bit_at result t == 1) ≡ true }
@@ -140,10 +153,20 @@ fn prey(board: &Board, mating: Colour) -> Squares
     }
     let mated = mating.other();
     let men = board.side(mated) & !board.squares(mated, Kind::King);
-    match mating {
-        Colour::White => men | men << 8,
-        Colour::Black => men | men >> 8,
+    captured_from(mating, men)
+}
+
+// Returns the squares to which pawns of this colour capture men where these get. Without pawns they are all
+// squares.
+fn lures(board: &Board, mating: Colour, blockable: &Blocks) -> Squares
+    ensures { (n s t : ℕ) → n < 9 → s < 64 → t < 64
+        → (bit_at (slice_index_or blockable.now n 0) s == 1) ≡ true
+        → captures_to mating s t ≡ true → (bit_at result t == 1) ≡ true }
+{
+    if board.squares(mating, Kind::Pawn) == 0 {
+        return Squares::MAX;
     }
+    captured_from(mating, all_blockable(blockable))
 }
 
 // Returns the part of `near` on which the king may end by a plan in which guards capture on squares of the
@@ -179,14 +202,13 @@ fn planned_part(
     planned
 }
 
-// Returns whether plans have to be searched in which guards capture elsewhere than on `prey`, for squares of
-// `left`: not if no man moves there in order to be captured.
-fn may_lure(theirs: usize, prey: Squares, left: Squares) -> bool
+// Returns whether plans have to be searched in which guards capture elsewhere than on `prey`, on `lures`, for
+// squares of `left`.
+fn may_lure(theirs: usize, prey: Squares, lures: Squares, left: Squares) -> bool
     ensures lure { result ≡ true → 0 < theirs }
-    ensures none { result ≡ false
-        → (theirs ≡ 0) ⊎ (prey ≡ 0) ⊎ (prey ≡ 2 ^ 64 - 1) ⊎ (left ≡ 0) }
+    ensures none { result ≡ false → (theirs ≡ 0) ⊎ (lures ≡ prey) ⊎ (left ≡ 0) }
 {
-    theirs != 0 && prey != 0 && prey != Squares::MAX && left != 0
+    theirs != 0 && lures != prey && left != 0
 }
 
 /// Returns the part of `squares` on which the king of the side to be mated may end by a plan: the mating
@@ -221,13 +243,15 @@ pub(crate) fn planned_squares(
     if near == 0 {
         return 0;
     }
+    let blockable = blocks_of(board, colour, theirs);
     let prey = prey(board, mating);
+    let lures = lures(board, mating, &blockable);
     let mut quest = Quest {
         colour: mating,
         king: from,
         count: 0,
         guards: [Guard::unused(); MEN],
-        blockable: blocks_of(board, colour, theirs),
+        blockable,
     };
     let Some(count) = list_guards(board, mating, ours + 1, prey, &mut quest.guards) else {
         return squares;
@@ -235,10 +259,10 @@ pub(crate) fn planned_squares(
     quest.count = count;
     let planned = planned_part(&mut quest, goal, &king, near, ours, theirs, 0);
     let left = near & !planned;
-    if !may_lure(theirs, prey, left) {
+    if !may_lure(theirs, prey, lures, left) {
         return planned;
     }
-    let Some(count) = list_guards(board, mating, ours + 1, Squares::MAX, &mut quest.guards) else {
+    let Some(count) = list_guards(board, mating, ours + 1, lures, &mut quest.guards) else {
         return squares;
     };
     quest.count = count;
