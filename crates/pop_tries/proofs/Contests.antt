@@ -1,6 +1,6 @@
 -- What the values of positions mean for a contest.
-use Rattle.pop_tries.proofs.Words.{IsWellFormed, Game, List, Move, [], ◌∷◌, cases_lt, false≢true, inl, inr, legal_moves, Battle, Bool, Direct, Goal, Position, RuleSet, Selfmate, and_parts, arith, chess, false, is_goal_reached, is_in_set_play, is_try, keeps_win, length, list_any, nat_le, nat_tests, not, refl, refutations, rules, suc, sym, true, wins_in, zero, ℕ, ◌&&◌, ◌+◌, ◌-◌, ◌<◌, ◌∙◌, ◌≡◌, ◌≤◌, half_moves}
-unfoldable use Rattle.pop_tries.proofs.Words.{is_lost, self_wins, wins}
+use Rattle.pop_tries.proofs.Words.{IsWellFormed, Game, List, Move, [], ◌∷◌, false≢true, legal_moves, Battle, Bool, Direct, Goal, Position, RuleSet, Selfmate, and_parts, arith, chess, false, is_goal_reached, is_in_set_play, is_try, keeps_win, length, list_any, nat_le, nat_tests, not, refl, refutations, rules, suc, sym, true, wins_in, zero, ℕ, ◌&&◌, ◌+◌, ◌-◌, ◌<◌, ◌∙◌, ◌≡◌, ◌≤◌, half_moves}
+unfoldable use Rattle.pop_tries.proofs.Words.{is_lost, is_self_lost, self_wins, wins}
 unfoldable use Rattle.pop_battle.specs.ties.Values.{value}
 unfoldable use Rattle.chess_rules.specs.Legal.{is_mate, is_stalemate}
 unfoldable use Rattle.chess_core.specs.WellFormed.{is_en_passant_square_right}
@@ -301,8 +301,27 @@ pub ruleset passing = (passed_by_value, no_win_at_goal, no_win_in_short)
 -- for the test of a defence
 pub ruleset defending = (passed_well_formed, defence_by_loop, defence_without_threat, playing)
 
+-- without a refutation a first move is a key if Black has a reply, or if the goal is reached in direct play
+pub key_with_reply : (battle : Battle) (goal : Goal) (rule : RuleSet) (n : ℕ) (q : Position) → length (refutations battle (chess goal rule) n q) ≡ 0
+    → not (is_nil (legal_moves rule q)) ≡ true → true ≡ keeps_win battle (chess goal rule) n q
+key_with_reply battle goal rule n q none some =
+    sym (no_refutation_is_key battle (chess goal rule) n q (sym (has_reply (legal_moves rule q)) ∙ some) (nil_from_length _ none))
+
+pub direct_without_reply : (goal : Goal) (rule : RuleSet) (n : ℕ) (q : Position) → not (is_nil (legal_moves rule q)) ≡ false
+    → is_goal_reached goal rule q ≡ keeps_win Direct (chess goal rule) n q
+direct_without_reply goal rule n q none =
+    sym (won_without_reply rule n 1 q (omega arith) (chess goal rule) (n - 1) (sym (has_reply (legal_moves rule q)) ∙ none))
+
+pub selfmate_without_reply : (goal : Goal) (rule : RuleSet) (n : ℕ) (q : Position) → not (is_nil (legal_moves rule q)) ≡ false
+    → false ≡ keeps_win Selfmate (chess goal rule) n q
+unfolding is_self_lost
+selfmate_without_reply goal rule n q none = rw (sym (has_reply (legal_moves rule q)) ∙ none) refl
+
+-- for the test of a key that no reply refutes
+pub ruleset unrefuted = (key_with_reply, direct_without_reply, selfmate_without_reply)
+
 -- for the test of a try: without a refutation counted, there is none
-uncounted : (all most : ℕ) (count : ℕ) → count ≡ min all (most + 1) → eqb count 0 ≡ true → all ≡ 0
+pub uncounted : (all most : ℕ) (count : ℕ) → count ≡ min all (most + 1) → eqb count 0 ≡ true → all ≡ 0
 uncounted all most count e zero_of = grind (arith, nat_tests)
 
 pub try_unrefuted : (battle : Battle) (goal : Goal) (rule : RuleSet) (n : ℕ) (q : Position) (most count : ℕ)

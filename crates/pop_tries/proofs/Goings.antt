@@ -9,13 +9,14 @@ use Rattle.pop_battle.specs.ties.Frames.{Frame}
 use Rattle.pop_tries.specs.Shown.{try_event_of}
 use Rattle.pop_events.specs.declared.try_event.TryEvent.{TryEvent}
 use Rattle.pop_tries.specs.declared.first_moves.Group.{Group}
+use Rattle.pop_tries.specs.declared.move_set.MoveSet.{MoveSet}
 use Rattle.pop_tries.specs.declared.stage.First.{First}
 use Rattle.pop_tries.specs.declared.stage.Firsts.{Firsts}
 use Rattle.pop_tries.specs.declared.stage.Task.{Task}
 use Rattle.pop_tries.specs.declared.stage.TriesStage.{TriesStage}
 use Rattle.pop_tries.specs.declared.stage.TriesStage.TheVariants.{Beginning, Faced, FirstMove}
 use Rattle.pop_tries.specs.ties.Contests.{IsContest}
-use Rattle.pop_tries.specs.ties.Searching.{Emits, Goes, IsPlaced, IsTask, after_first, beginning_of, contest_of, ending_of, first_event, firsts_after, group_left, is_stopped, rank}
+use Rattle.pop_tries.specs.ties.Searching.{Emits, Goes, IsPlaced, IsTask, after_first, HoldCandidates, beginning_of, contest_of, ending_of, first_event, firsts_after, group_left, is_stopped, rank}
 unfoldable use Rattle.pop_tries.specs.ties.Searching.{HoldsAt, left_of}
 use Rattle.pop_tries.proofs.Steps.{group_begins, next_first, still_few, still_limited}
 
@@ -35,11 +36,11 @@ module _ {A : Type 0} (rule : RuleSet) (task : Task) (old new : TriesStage A) (w
   without_event left less = record { holds = holds; emits = left; falls = λ _. less }
 
 -- a group begins
-pub group_comes : (A : Type 0) (rule : RuleSet) (task : Task) (group : Group) (place : ℕ) → place ≡ 0 → (was items : List Frame)
-    → left_of rule task {A = A} (Beginning group) was
-    ≡ beginning_of group ∷ left_of rule task {A = A} (FirstMove (record { group = group; place = place; count = 0 })) items
+pub group_comes : (A : Type 0) (rule : RuleSet) (task : Task) (group : Group) (before candidates : Option MoveSet) (place : ℕ) → place ≡ 0
+    → (was items : List Frame) → left_of rule task {A = A} (Beginning group before) was
+    ≡ beginning_of group ∷ left_of rule task {A = A} (FirstMove (record { group = group; place = place; count = 0; candidates = candidates })) items
 unfolding left_of
-group_comes A rule task group place e was items = rw e (group_begins rule task group)
+group_comes A rule task group before candidates place e was items = rw e (group_begins rule task group)
 
 -- a group ends
 pub group_ended : {A : Type 0} (rule : RuleSet) (task : Task) (firsts : Firsts A) (new : TriesStage A) (was items : List Frame) (board : Position)
@@ -55,27 +56,28 @@ group_ended rule task firsts new was items board event h e s l = record {
 
 -- a first move begins
 module _ {A : Type 0} (rule : RuleSet) (task : Task) (fit : IsContest (contest_of task)) (s : IsTask task) (firsts : Firsts A)
-    (placed : IsPlaced rule task firsts) (next : ℕ) (m : Move) (undo : Undo)
+    (placed : IsPlaced rule task firsts) (next : ℕ) (candidates : Option MoveSet) (m : Move) (undo : Undo)
     (found : firsts_after rule task firsts.group firsts.place ≡ m ∷ firsts_after rule task firsts.group next)
     (open_yet : is_stopped task.problem firsts.group firsts.count ≡ false) where
   abbrev first : First A
-  first = record { firsts = record { group = firsts.group; place = next; count = firsts.count + 1 }; by = m; undo = undo; threat = None }
+  first = record { firsts = record { group = firsts.group; place = next; count = firsts.count + 1; candidates = candidates }; by = m; undo = undo; threat = None }
 
   pub first_comes : (was items : List Frame) → left_of rule task (FirstMove firsts) was ≡ first_event firsts.group m ∷ left_of rule task (Faced first) items
   unfolding left_of
   first_comes was items = next_first rule task firsts.group firsts.place next firsts.count m found placed.limited open_yet undo None
 
-  pub first_holds : is_legal rule (play_start task.problem) m ≡ true → undo ≡ undo_of rule (play_start task.problem) m
+  pub first_holds : HoldCandidates rule task firsts.group candidates next → is_legal rule (play_start task.problem) m ≡ true → undo ≡ undo_of rule (play_start task.problem) m
       → (items : List Frame) (board : Position) → items ≡ [] → board ≡ after_first rule task m → HoldsAt rule task (Faced first) items board
   unfolding HoldsAt
-  first_holds legal back items board none at = (
+  first_holds noted legal back items board none at = (
     fit,
     record { board_at = at; none = none },
     record {
       came = record { sound = s.sound.well_formed; legal = legal; led = refl; undone = back };
       sound = after_well_formed rule (play_start task.problem) m s.sound.well_formed (is_pseudo_legal-from_legal rule (play_start task.problem) m legal);
       placed = record {
-        few = placed.few;
+        asked = placed.asked;
+        noted = noted;
         counted = still_few rule task firsts.group firsts.place next firsts.count m found placed.limited open_yet placed.counted;
         limited = still_limited rule task firsts.group firsts.count placed.limited open_yet;
       };

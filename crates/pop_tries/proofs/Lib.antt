@@ -1,6 +1,9 @@
 pub mod Words
 pub mod Contests
 pub mod Loops
+pub mod Counts
+pub mod MoveSets
+pub mod Candidates
 pub mod ThreatLengths
 pub mod Walks
 pub mod Starts

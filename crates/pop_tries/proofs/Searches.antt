@@ -1,5 +1,5 @@
 -- How a search for tries begins, and what a call of `next` returns.
-use Rattle.pop_tries.proofs.Words.{BareTryEvent, Battle, Bool, IsSound, List, None, Option, Posed, Position, RuleSet, Some, [], arith, battle_of, drop, false, false≢true, nat_tests, play_start, refl, rules, true, ℕ, ◌∙◌, ◌∷◌, ◌≡◌, ◌≤◌}
+use Rattle.pop_tries.proofs.Words.{BareTryEvent, Battle, Bool, IsSound, List, None, Option, Posed, Position, RuleSet, Some, [], arith, battle_of, drop, false, false≢true, inl, nat_tests, play_start, refl, rules, true, ℕ, ◌∙◌, ◌∷◌, ◌≡◌, ◌≤◌}
 unfoldable use Rattle.pop_tries.proofs.Words.{try_events}
 use Rattle.std.specs.Prelude.{MatchOption, is_some, slice_get}
 use Rattle.std.specs.Option.{option_map}
@@ -47,7 +47,7 @@ module _ {A : Type 0} (rule : RuleSet) (problem : Posed) (battle : Battle) (most
           (record { fought = fought; some = some_move _ _ _ fought s.range }, record { board_at = refl; none = refl })
       by (Some b) false i e =
           let fought : battle_of problem.stipulation.form ≡ Some battle = rw i e in
-          (record { fought = fought; some = some_move _ _ _ fought s.range }, record { board_at = refl; none = refl }, tt)
+          (record { fought = fought; some = some_move _ _ _ fought s.range }, record { board_at = refl; none = refl }, tt, λ m c t. inl refl)
 
 module _ (rule : RuleSet) (problem : Posed) where
   -- the event returned, and the events then still to come

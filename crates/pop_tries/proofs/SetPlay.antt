@@ -102,7 +102,7 @@ module _ (A : Type 0) (rule : RuleSet) (task : Task) where
 
   -- set play ends
   pub left_ends : (old : Stage) (was items : List Frame) → set_play_left rule task.problem old (reverse was) ≡ []
-      → left_of rule task {A = A} (Within old) was ≡ left_of rule task {A = A} (Beginning Keys) items
+      → left_of rule task {A = A} (Within old) was ≡ left_of rule task {A = A} (Beginning Keys None) items
   unfolding left_of
   left_ends old was items e = rw e refl
 

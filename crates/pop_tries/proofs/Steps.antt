@@ -4,7 +4,7 @@ use Rattle.pop_battle.proofs.Boards.{after_start}
 use Rattle.pop_battle.proofs.Words.{append-nil, append_assoc}
 use Rattle.pop_solve.proofs.Trees.{flat-same}
 use Rattle.chess_core.specs.Undo.{Undo}
-use Rattle.std.specs.Prelude.{Option}
+use Rattle.std.specs.Prelude.{None, Option}
 use Rattle.std.proofs.lemmas.List.FromFn.{length-map-range_with_len}
 use Rattle.chess_rules.proofs.listing_moves.Places.{triples_numbered}
 use Rattle.chess_rules.specs.ties.Places.{all_triples, triple_at}
@@ -57,7 +57,7 @@ module _ (rule : RuleSet) (task : Task) where
 
   -- a group begins
   pub group_begins : (group : Group) → whole_group rule task group
-      ≡ beginning_of group ∷ group_left rule task {A = Unit {0}} (record { group = group; place = 0; count = 0 })
+      ≡ beginning_of group ∷ group_left rule task {A = Unit {0}} (record { group = group; place = 0; count = 0; candidates = None })
   group_begins Keys =
       let all : task.problem.max_solutions - 0 ≡ task.problem.max_solutions = omega arith in
       let shown : List Move = take task.problem.max_solutions (key_moves task.battle rule task.problem) in
@@ -78,7 +78,7 @@ module _ (rule : RuleSet) (task : Task) where
 
   -- a group that the limit stops ends
   pub stopped_ends : (group : Group) (place count : ℕ) → is_stopped task.problem group count ≡ true
-      → group_left rule task {A = Unit {0}} (record { group = group; place = place; count = count }) ≡ ending_of rule task group count
+      → group_left rule task {A = Unit {0}} (record { group = group; place = place; count = count; candidates = None }) ≡ ending_of rule task group count
   stopped_ends Keys place count e =
       let none : task.problem.max_solutions - count ≡ 0 = grind (arith, nat_tests) in
       let same : count + 0 ≡ count = omega arith in
@@ -87,7 +87,7 @@ module _ (rule : RuleSet) (task : Task) where
 
   -- a group without further first moves ends
   pub emptied_ends : (group : Group) (place count : ℕ) → firsts_after rule task group place ≡ []
-      → group_left rule task {A = Unit {0}} (record { group = group; place = place; count = count }) ≡ ending_of rule task group count
+      → group_left rule task {A = Unit {0}} (record { group = group; place = place; count = count; candidates = None }) ≡ ending_of rule task group count
   emptied_ends group place count e =
       let same : count + 0 ≡ count = omega arith in
       rw (e, no_more group count, same) refl
@@ -102,10 +102,10 @@ module _ (rule : RuleSet) (task : Task) where
   module _ (group : Group) (place next count : ℕ) (m : Move) (found : firsts_after rule task group place ≡ m ∷ firsts_after rule task group next)
       (few : IsInLimit task.problem group count) (open_yet : is_stopped task.problem group count ≡ false) where
     abbrev before : Firsts (Unit {0})
-    before = record { group = group; place = place; count = count }
+    before = record { group = group; place = place; count = count; candidates = None }
 
     abbrev then : Firsts (Unit {0})
-    then = record { group = group; place = next; count = count + 1 }
+    then = record { group = group; place = next; count = count + 1; candidates = None }
 
     -- the next first move of a group
     pub next_first : (undo : Undo) (threat : Option ℕ) → group_left rule task before

@@ -1,3 +1,4 @@
+pub mod MoveSets
 pub mod Contests
 pub mod FirstMoves
 pub mod Searching

@@ -1,13 +1,18 @@
 //! The next key, try, shown reply or refutation after a place in the order of moves.
-ghost use Rattle.std.specs.Prelude.{◌≡◌, [], ◌∷◌, MatchOption, true};
+ghost use Rattle.std.specs.Prelude.{◌≡◌, ◌≤◌, MatchOption, true};
 ghost use Rattle.arrayvec.specs.ArrayVec.{array_vec_len};
 ghost use Rattle.chess_rules.specs.Legal.{is_legal};
-ghost use Rattle.chess_rules.specs.Play.{position_after, undo_of};
+ghost use Rattle.chess_core.specs.declared.man.Move.{Move};
 ghost use Rattle.pop_tries.specs.ties.Contests.{IsReady, IsThreat, Keeps};
-ghost use Rattle.pop_tries.specs.ties.FirstMoves.{belongs, firsts_after, is_shown, refutes, IsFew, IsNext};
+ghost use Rattle.pop_tries.specs.declared.first_moves.Group.TheVariants.{Keys, Tries};
+ghost use Rattle.pop_tries.specs.ties.FirstMoves.{belongs, is_shown, is_try_after, refutes, AreCandidates, IsAsked, IsNext, IsPlayed};
+ghost use Rattle.pop_tries.specs.ties.MoveSets.{may_be, HoldAll, HoldBefore};
+ghost use Rattle.pop_tries.specs.ties.Searching.{contest_of};
 
 use crate::contest::Contest;
-use crate::replies::{is_key, is_try, refutes};
+use crate::move_set::{MoveSet, may_be, noted};
+use crate::replies::{count_refutations, is_key, is_key_unrefuted, is_try, refutes};
+use crate::stage::{Firsts, Task};
 use crate::threats::is_defence;
 use arrayvec::ArrayVec;
 use chess_core::board::Board;
@@ -26,56 +31,151 @@ pub enum Group {
     Tries { most: u32 },
 }
 
-/// Returns whether the first move that led to the board's position belongs to the group.
-pub fn belongs<R: Rules, const N: usize>(
-    contest: Contest,
-    group: Group,
+/// Returns whether the first move `by`, which led to the board's position, is a key. If it isn't, notes it
+/// among `candidates` unless it is no try.
+#[tactic(auto, using(crate::proofs::Candidates::classing))]
+fn is_key_or_noted<R: Rules, const N: usize>(
+    task: &Task,
+    by: &Move,
+    candidates: &mut Option<MoveSet>,
     board: &mut Board,
     frames: &mut ArrayVec<Frame<R>, N>,
     search_state: &mut SearchState<R>,
 ) -> bool
-    requires ready { IsReady contest board.old (array_vec_len frames.old) N }
-    requires few { IsFew group }
-    ensures belongs { result ≡ belongs R.rule contest group board.old }
+    requires ready { IsReady (contest_of task.now) board.old (array_vec_len frames.old) N }
+    requires few { task.now.most ≤ 200 }
+    ensures key { result ≡ belongs R.rule (contest_of task.now) Keys board.old }
+    ensures noted { belongs R.rule (contest_of task.now) (Tries task.now.most) board.old ≡ true
+        → may_be candidates.new by.now ≡ true }
+    ensures kept { (m : Move) → may_be candidates.old m ≡ true → may_be candidates.new m ≡ true }
     ensures rest { Keeps board.old board.new frames.old.items frames.new.items }
 {
-    match group {
-        Group::Keys => is_key::<R, N>(contest, board, frames, search_state),
-        Group::Tries { most } => is_try::<R, N>(contest, most, board, frames, search_state),
+    let contest = task.contest();
+    if task.most == 0 {
+        return is_key::<R, N>(contest, board, frames, search_state);
     }
+    let count = count_refutations::<R, N>(contest, task.most, board, frames, search_state);
+    if count == 0 && is_key_unrefuted::<R>(contest, board) {
+        return true;
+    }
+    if count <= task.most {
+        *candidates = noted(*candidates, by);
+    }
+    false
 }
 
-/// Plays the next first move after `place` that belongs to the group, and moves `place` to it. Returns the
-/// move and what takes it back; after the last one `None`, with the board unchanged.
+/// Plays the next key after `place`, and moves `place` to it. Notes the first moves before it that may be
+/// tries among `candidates`. Returns the key and what takes it back; after the last one `None`, with the board
+/// unchanged.
 #[tactic(auto, using(crate::proofs::Loops::filtering, chess_rules::proofs::listing_moves::Calls::playing))]
-pub fn play_next<R: Rules, const N: usize>(
-    contest: Contest,
-    group: Group,
+fn play_next_key<R: Rules, const N: usize>(
+    task: &Task,
     place: &mut Moves<R>,
+    candidates: &mut Option<MoveSet>,
     board: &mut Board,
     frames: &mut ArrayVec<Frame<R>, N>,
     search_state: &mut SearchState<R>,
 ) -> Option<(Move, Undo)>
-    requires ready { IsReady contest board.old (array_vec_len frames.old) N }
-    requires few { IsFew group }
+    requires ready { IsReady (contest_of task.now) board.old (array_vec_len frames.old) N }
+    requires few { task.now.most ≤ 200 }
+    requires noted { HoldBefore R.rule board.old (is_try_after R.rule (contest_of task.now)
+        task.now.most board.old) candidates.old place.old }
     ensures frames { frames.new.items ≡ frames.old.items }
-    ensures next { MatchOption result
-        ((firsts_after R.rule contest group board.old place.old ≡ []) × (board.new ≡ board.old))
-        (λ found. (firsts_after R.rule contest group board.old place.old
-        ≡ found.0 ∷ firsts_after R.rule contest group board.old place.new)
-        × (board.new ≡ position_after R.rule board.old found.0)
-        × (found.1 ≡ undo_of R.rule board.old found.0)
-        × (is_legal R.rule board.old found.0 ≡ true)) }
+    ensures next { IsPlayed R.rule (contest_of task.now) Keys board.old board.new place.old
+        place.new result }
+    ensures noted { MatchOption result (HoldAll R.rule board.old (is_try_after R.rule
+        (contest_of task.now) task.now.most board.old) candidates.new)
+        (λ _. HoldBefore R.rule board.old (is_try_after R.rule (contest_of task.now)
+        task.now.most board.old) candidates.new place.new) }
 {
     let mut known = None;
     while let Some(by) = next_move::<R>(&mut known, place, board) {
         let undo = play::<R>(board, by);
-        if belongs::<R, N>(contest, group, board, frames, search_state) {
+        if is_key_or_noted::<R, N>(task, &by, candidates, board, frames, search_state) {
             return Some((by, undo));
         }
         unplay::<R>(board, by, undo);
     }
     None
+}
+
+/// Plays the next try after `place` with at most `task.most` refutations, and moves `place` to it. Tests only
+/// the `candidates`. Returns the try and what takes it back; after the last one `None`, with the board
+/// unchanged.
+#[tactic(auto, using(crate::proofs::Loops::filtering, chess_rules::proofs::listing_moves::Calls::playing))]
+fn play_next_try<R: Rules, const N: usize>(
+    task: &Task,
+    place: &mut Moves<R>,
+    candidates: Option<MoveSet>,
+    board: &mut Board,
+    frames: &mut ArrayVec<Frame<R>, N>,
+    search_state: &mut SearchState<R>,
+) -> Option<(Move, Undo)>
+    requires ready { IsReady (contest_of task.now) board.old (array_vec_len frames.old) N }
+    requires few { task.now.most ≤ 200 }
+    requires held { HoldAll R.rule board.old (is_try_after R.rule (contest_of task.now)
+        task.now.most board.old) candidates }
+    ensures frames { frames.new.items ≡ frames.old.items }
+    ensures next { IsPlayed R.rule (contest_of task.now) (Tries task.now.most) board.old board.new
+        place.old place.new result }
+{
+    let contest = task.contest();
+    let mut known = None;
+    while let Some(by) = next_move::<R>(&mut known, place, board) {
+        if may_be(candidates, &by) {
+            let undo = play::<R>(board, by);
+            if is_try::<R, N>(contest, task.most, board, frames, search_state) {
+                return Some((by, undo));
+            }
+            unplay::<R>(board, by, undo);
+        }
+    }
+    None
+}
+
+/// Plays the next first move after the place that belongs to the group, and moves the place to it. Returns the
+/// move and what takes it back; after the last one `None`, with the board unchanged.
+pub fn play_next<R: Rules, const N: usize>(
+    task: &Task,
+    firsts: &mut Firsts<R>,
+    board: &mut Board,
+    frames: &mut ArrayVec<Frame<R>, N>,
+    search_state: &mut SearchState<R>,
+) -> Option<(Move, Undo)>
+    requires ready { IsReady (contest_of task.now) board.old (array_vec_len frames.old) N }
+    requires few { task.now.most ≤ 200 }
+    requires asked { IsAsked firsts.old.group task.now.most }
+    requires noted { AreCandidates R.rule (contest_of task.now) firsts.old.group task.now.most
+        board.old firsts.old.candidates firsts.old.place }
+    ensures frames { frames.new.items ≡ frames.old.items }
+    ensures next { IsPlayed R.rule (contest_of task.now) firsts.old.group board.old board.new
+        firsts.old.place firsts.new.place result }
+    ensures noted { MatchOption result (HoldAll R.rule board.old (is_try_after R.rule
+        (contest_of task.now) task.now.most board.old) firsts.new.candidates)
+        (λ _. AreCandidates R.rule (contest_of task.now) firsts.old.group task.now.most
+        board.old firsts.new.candidates firsts.new.place) }
+    ensures group { firsts.new.group ≡ firsts.old.group }
+    ensures count { firsts.new.count ≡ firsts.old.count }
+{
+    let candidates = firsts.candidates;
+    match firsts.group {
+        Group::Keys => play_next_key::<R, N>(
+            task,
+            &mut firsts.place,
+            &mut firsts.candidates,
+            board,
+            frames,
+            search_state,
+        ),
+        Group::Tries { .. } => play_next_try::<R, N>(
+            task,
+            &mut firsts.place,
+            candidates,
+            board,
+            frames,
+            search_state,
+        ),
+    }
 }
 
 /// Returns whether the legal reply `by` to the first move that led to the board's position is shown: a

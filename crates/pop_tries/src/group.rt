@@ -1,14 +1,16 @@
 //! The steps of a search for tries among the first moves of a group.
-ghost use Rattle.std.specs.Prelude.{◌≡◌, List, None, Some, is_some, true};
+ghost use Rattle.std.specs.Prelude.{◌≡◌, ℕ, List, None, Some, is_some, true};
 ghost use Rattle.chess_core.specs.Position.{Position};
 ghost use Rattle.pop_battle.specs.ties.Frames.{CameBy, Frame as Level};
 ghost use Rattle.pop_solve.specs.Events.{play_start};
 ghost use Rattle.pop_tries.specs.Shown.{try_event_of};
+ghost use Rattle.pop_tries.specs.declared.first_moves.Group.TheVariants.{Keys, Tries};
 ghost use Rattle.pop_tries.specs.declared.stage.TriesStage.TheVariants.{Beginning, Faced, FirstMove};
 ghost use Rattle.pop_tries.specs.ties.Contests.{IsContest};
-ghost use Rattle.pop_tries.specs.ties.Searching.{contest_of, ending_of, event_of_first, first_event as bare_first, is_stopped, left_of, Emits, Goes, HoldsAt, IsBare, IsTask, MayStep};
+ghost use Rattle.pop_tries.specs.ties.Searching.{contest_of, ending_of, event_of_first, first_event as bare_first, is_stopped, left_of, Emits, Goes, HoldsAt, HoldTries, IsBare, IsTask, MayStep};
 
 use crate::first_moves::{Group, play_next};
+use crate::move_set::MoveSet;
 use crate::shown::shown;
 use crate::stage::{First, Firsts, Step, Task, TriesStage};
 use arrayvec::ArrayVec;
@@ -19,17 +21,39 @@ use pop_battle::frame::Frame;
 use pop_battle::search_state::SearchState;
 use pop_events::{Shown, TryEvent};
 
+/// Returns the stage before the keys.
+pub(crate) fn beginning_of_keys<R: Rules>() -> TriesStage<R>
+    ensures { result ≡ Beginning Keys None }
+{
+    TriesStage::Beginning {
+        group: Group::Keys,
+        candidates: None,
+    }
+}
+
+/// Returns the first moves that may be tries before the first move of a group.
+fn first_candidates(group: Group, candidates: Option<MoveSet>) -> Option<MoveSet>
+    ensures tries { (most : ℕ) → group ≡ Tries most → result ≡ candidates }
+{
+    match group {
+        Group::Keys => Some(MoveSet::none()),
+        Group::Tries { .. } => candidates,
+    }
+}
+
 /// Begins a group.
 #[tactic(auto, using(crate::proofs::Steps::group_begins, crate::proofs::Steps::few_firsts), unfolding(crate::specs::ties::Searching::HoldsAt, crate::specs::ties::Searching::left_of, crate::specs::ties::Searching::rank))]
 pub(crate) fn begin_group<R: Rules, const N: usize>(
     task: &Task,
     group: Group,
+    candidates: Option<MoveSet>,
     board: &Board,
     frames: &ArrayVec<Frame<R>, N>,
 ) -> Step<R>
     requires task { IsTask task.now }
-    requires holds { HoldsAt R.rule task.now {A = R} (Beginning group) frames.now.items board.now }
-    ensures { Goes R.rule task.now (Beginning group) frames.now.items result.stage
+    requires holds { HoldsAt R.rule task.now {A = R} (Beginning group candidates) frames.now.items
+        board.now }
+    ensures { Goes R.rule task.now (Beginning group candidates) frames.now.items result.stage
         frames.now.items board.now result.event }
 {
     Step {
@@ -38,6 +62,7 @@ pub(crate) fn begin_group<R: Rules, const N: usize>(
                 group,
                 place: Moves::start(),
                 count: 0,
+                candidates: first_candidates(group, candidates),
             },
         },
         event: Some(match group {
@@ -67,11 +92,17 @@ fn first_event(group: Group, shown: Shown) -> TryEvent
     }
 }
 
-/// Ends a group with its total.
+/// Ends a group with its total. After the keys the tries follow, which are among `candidates`.
 #[tactic(auto, unfolding(crate::specs::ties::Searching::HoldsAt, crate::specs::ties::Searching::left_of, crate::specs::ties::Searching::rank))]
-fn end_group<R: Rules>(task: &Task, group: Group, count: u32) -> Step<R>
+fn end_group<R: Rules>(
+    task: &Task,
+    group: Group,
+    count: u32,
+    candidates: Option<MoveSet>,
+) -> Step<R>
     requires task { IsTask task.now }
     requires contest { IsContest (contest_of task.now) }
+    requires candidates { HoldTries R.rule task.now candidates }
     ensures goes { (items : List Level) (p : Position)
         → IsBare (play_start task.now.problem) items p
         → HoldsAt R.rule task.now result.stage items p }
@@ -84,6 +115,7 @@ fn end_group<R: Rules>(task: &Task, group: Group, count: u32) -> Step<R>
         Group::Keys => Step {
             stage: TriesStage::Beginning {
                 group: Group::Tries { most: task.most },
+                candidates,
             },
             event: Some(TryEvent::KeyTotal {
                 count,
@@ -112,21 +144,13 @@ pub(crate) fn find_first<R: Rules, const N: usize>(
 {
     let group = firsts.group;
     if is_stopped(task, group, firsts.count) {
-        return end_group(task, group, firsts.count);
+        return end_group(task, group, firsts.count, None);
     }
-    let mut place = firsts.place;
-    let found = play_next::<R, N>(
-        task.contest(),
-        group,
-        &mut place,
-        board,
-        frames,
-        search_state,
-    );
-    let Some((by, undo)) = found else {
-        return end_group(task, group, firsts.count);
+    let mut next = firsts;
+    let Some((by, undo)) = play_next::<R, N>(task, &mut next, board, frames, search_state) else {
+        return end_group(task, group, firsts.count, next.candidates);
     };
-    begin_first(task, firsts.counted(place), by, undo, board)
+    begin_first(task, next.counted(), by, undo, board)
 }
 
 /// Shows a first move that has been played: takes it back, since it is shown from the position before it, and

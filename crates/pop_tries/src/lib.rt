@@ -14,6 +14,7 @@ pub mod contest;
 pub mod first_moves;
 mod group;
 pub mod laws;
+pub mod move_set;
 pub mod replies;
 pub mod search;
 mod set_play;

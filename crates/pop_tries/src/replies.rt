@@ -1,20 +1,20 @@
 //! Keys, tries and refutations: tests of first moves and of the replies to them.
-ghost use Rattle.std.specs.Prelude.{◌≡◌, ◌+◌, ◌≤◌, not, min, true, length};
+ghost use Rattle.std.specs.Prelude.{◌≡◌, ◌+◌, ◌≤◌, filter, not, min, true, length};
 ghost use Rattle.arrayvec.specs.ArrayVec.{array_vec_len};
 ghost use Rattle.chess_core.specs.WellFormed.{IsWellFormed};
-ghost use Rattle.chess_rules.specs.Legal.{is_legal};
+ghost use Rattle.chess_rules.specs.Legal.{is_legal, moves};
 ghost use Rattle.pop_solve.specs.Tree.{is_in_set_play, keeps_win};
 ghost use Rattle.pop_tries.specs.Events.{chess_passing};
 ghost use Rattle.pop_tries.specs.Tries.{is_try, refutations};
 ghost use Rattle.pop_tries.specs.ties.Contests.{IsReady, Keeps, game_in};
-ghost use Rattle.pop_tries.specs.ties.FirstMoves.{is_refuted_by_stalemate, refutes};
+ghost use Rattle.pop_tries.specs.ties.FirstMoves.{gives_check, is_counted, is_refuted_by_stalemate, refutes, refutes_among};
 
 use crate::contest::Contest;
 use arrayvec::ArrayVec;
 use chess_core::board::Board;
 use chess_core::man::Move;
-use chess_rules::{Moves, Rules, is_stalemate, play, unplay};
-use pop_battle::chess::next_move;
+use chess_rules::{Moves, Rules, has_legal_move, in_check, is_stalemate, play, unplay};
+use pop_battle::chess::{next_move, reaches_goal};
 use pop_battle::frame::Frame;
 use pop_battle::search_state::SearchState;
 use pop_battle::value::value_of;
@@ -77,10 +77,124 @@ pub fn refutes<R: Rules, const N: usize>(
     refuted
 }
 
-/// Returns the number of refutations of the first move that led to the board's position, counted up to one
-/// more than `most`.
+/// Returns whether the first move that led to the board's position is a key, if no reply refutes it.
+#[tactic(auto, using(crate::proofs::Contests::unrefuted))]
+pub fn is_key_unrefuted<R: Rules>(contest: Contest, board: &mut Board) -> bool
+    requires well_formed { IsWellFormed board.old }
+    ensures key { length (refutations contest.battle (game_in R.rule contest) contest.stipulation.n
+        board.old) ≡ 0
+        → result ≡ keeps_win contest.battle (game_in R.rule contest) contest.stipulation.n board.old }
+    ensures unchanged { board.new ≡ board.old }
+{
+    if has_legal_move::<R>(board) {
+        return true;
+    }
+    match contest.battle {
+        Battle::Direct => reaches_goal::<R>(contest.stipulation.goal, board),
+        Battle::Selfmate => false,
+    }
+}
+
+/// Which replies are counted together.
+#[derive(Clone, Copy, Debug)]
+pub enum Counted {
+    All,
+    /// The replies that give check.
+    Checks,
+    /// The replies that don't.
+    Others,
+}
+
+/// A number of refutations, counted up to one more than `most`, which is 0 to 200.
+#[derive(Clone, Copy, Debug)]
+pub struct Tally {
+    pub count: u32,
+    pub most: u32,
+}
+
+/// Returns whether the legal move `by` gives check.
+#[tactic(auto, using(chess_rules::proofs::listing_moves::Calls::playing))]
+fn gives_check<R: Rules>(by: Move, board: &mut Board) -> bool
+    requires well_formed { IsWellFormed board.old }
+    requires legal { is_legal R.rule board.old by ≡ true }
+    ensures checks { result ≡ gives_check R.rule board.old by }
+    ensures unchanged { board.new ≡ board.old }
+{
+    let undo = play::<R>(board, by);
+    let checks = in_check::<R>(board, board.turn());
+    unplay::<R>(board, by, undo);
+    checks
+}
+
+/// Returns whether the legal reply `by` is one of those that are counted.
+fn is_counted<R: Rules>(counted: Counted, by: Move, board: &mut Board) -> bool
+    requires well_formed { IsWellFormed board.old }
+    requires legal { is_legal R.rule board.old by ≡ true }
+    ensures counted { result ≡ is_counted R.rule board.old counted by }
+    ensures unchanged { board.new ≡ board.old }
+{
+    match counted {
+        Counted::All => true,
+        Counted::Checks => gives_check::<R>(by, board),
+        Counted::Others => !gives_check::<R>(by, board),
+    }
+}
+
+/// Returns whether the legal reply `by` is counted, and refutes the first move that led to the board's
+/// position.
+fn refutes_among<R: Rules, const N: usize>(
+    contest: Contest,
+    counted: Counted,
+    by: Move,
+    board: &mut Board,
+    frames: &mut ArrayVec<Frame<R>, N>,
+    search_state: &mut SearchState<R>,
+) -> bool
+    requires ready { IsReady contest board.old (array_vec_len frames.old) N }
+    requires legal { is_legal R.rule board.old by ≡ true }
+    ensures refutes { result ≡ refutes_among R.rule contest counted board.old by }
+    ensures rest { Keeps board.old board.new frames.old.items frames.new.items }
+{
+    if !is_counted::<R>(counted, by, board) {
+        return false;
+    }
+    refutes::<R, N>(contest, by, board, frames, search_state)
+}
+
+/// Returns the tally's count after the counted refutations of the first move that led to the board's position.
 #[tactic(auto, using(crate::proofs::Loops::counting, pop_battle::proofs::Boards::after_start))]
-fn count_refutations<R: Rules, const N: usize>(
+fn count_among<R: Rules, const N: usize>(
+    contest: Contest,
+    counted: Counted,
+    tally: Tally,
+    board: &mut Board,
+    frames: &mut ArrayVec<Frame<R>, N>,
+    search_state: &mut SearchState<R>,
+) -> u32
+    requires ready { IsReady contest board.old (array_vec_len frames.old) N }
+    requires few { (tally.count ≤ tally.most) × (tally.most ≤ 200) }
+    ensures count { result ≡ min (tally.count + length (filter (refutes_among R.rule contest counted
+        board.old) (moves R.rule board.old))) (tally.most + 1) }
+    ensures rest { Keeps board.old board.new frames.old.items frames.new.items }
+{
+    let mut known = None;
+    let mut place = Moves::<R>::start();
+    let mut count = tally.count;
+    while let Some(by) = next_move::<R>(&mut known, &mut place, board) {
+        if refutes_among::<R, N>(contest, counted, by, board, frames, search_state) {
+            count += 1;
+            if count > tally.most {
+                return count;
+            }
+        }
+    }
+    count
+}
+
+/// Returns the number of refutations of the first move that led to the board's position, counted up to one
+/// more than `most`. With two or more moves to come it begins with checks: they leave White few moves.
+#[tactic(auto, using(crate::proofs::Counts::counting_parts))]
+pub fn count_refutations<R: Rules, const N: usize>(
     contest: Contest,
     most: u32,
     board: &mut Board,
@@ -93,18 +207,16 @@ fn count_refutations<R: Rules, const N: usize>(
         contest.stipulation.n board.old)) (most + 1) }
     ensures rest { Keeps board.old board.new frames.old.items frames.new.items }
 {
-    let mut known = None;
-    let mut place = Moves::<R>::start();
-    let mut count = 0;
-    while let Some(by) = next_move::<R>(&mut known, &mut place, board) {
-        if refutes::<R, N>(contest, by, board, frames, search_state) {
-            count += 1;
-            if count > most {
-                return count;
-            }
-        }
+    let none = Tally { count: 0, most };
+    if contest.stipulation.half_moves() < 5 {
+        return count_among::<R, N>(contest, Counted::All, none, board, frames, search_state);
     }
-    count
+    let count = count_among::<R, N>(contest, Counted::Checks, none, board, frames, search_state);
+    if count > most {
+        return count;
+    }
+    let some = Tally { count, most };
+    count_among::<R, N>(contest, Counted::Others, some, board, frames, search_state)
 }
 
 /// Returns whether the first move that led to the board's position stalemates, which refutes it in a direct

@@ -8,8 +8,7 @@ ghost use Rattle.pop_tries.specs.ties.Searching.{first_stage, is_over, IsOf, lef
 use crate::below_first::{
     begin_refutations, end_stalemate, face, find_refutation, find_reply, walk_reply, walk_threats,
 };
-use crate::first_moves::Group;
-use crate::group::{begin_group, find_first};
+use crate::group::{begin_group, beginning_of_keys, find_first};
 use crate::set_play::{begin_set_play, walk_set_play};
 use crate::stage::{Step, Task, TriesStage};
 use arrayvec::ArrayVec;
@@ -106,7 +105,7 @@ fn first_stage<R: Rules>(problem: &Problem) -> (Battle, TriesStage<R>)
     match problem.stipulation().form.battle() {
         None => (Battle::Direct, TriesStage::NoTries),
         Some(battle) if problem.set_play() => (battle, TriesStage::SetPlay),
-        Some(battle) => (battle, TriesStage::Beginning { group: Group::Keys }),
+        Some(battle) => (battle, beginning_of_keys()),
     }
 }
 
@@ -138,11 +137,13 @@ fn take_step<R: Rules, const N: usize>(
         },
         TriesStage::SetPlay => begin_set_play(task, board, frames),
         TriesStage::Impossible => Step {
-            stage: TriesStage::Beginning { group: Group::Keys },
+            stage: beginning_of_keys(),
             event: Some(TryEvent::Set(Event::Impossible)),
         },
         TriesStage::Within { stage } => walk_set_play(task, stage, board, frames, search_state),
-        TriesStage::Beginning { group } => begin_group(task, group, board, frames),
+        TriesStage::Beginning { group, candidates } => {
+            begin_group(task, group, candidates, board, frames)
+        }
         TriesStage::FirstMove { firsts } => find_first(task, firsts, board, frames, search_state),
         TriesStage::Faced { first } => face(task, first, board, frames, search_state),
         TriesStage::Threats { first, crossed } => {

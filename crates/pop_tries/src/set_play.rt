@@ -3,7 +3,7 @@ ghost use Rattle.pop_events.specs.declared.event.Phase.TheVariants.{Set};
 ghost use Rattle.pop_tries.specs.declared.stage.TriesStage.TheVariants.{SetPlay, Within};
 ghost use Rattle.pop_tries.specs.ties.Searching.{Goes, HoldsAt, MayStep};
 
-use crate::first_moves::Group;
+use crate::group::beginning_of_keys;
 use crate::stage::{Step, Task, TriesStage};
 use arrayvec::ArrayVec;
 use chess_core::board::Board;
@@ -83,7 +83,7 @@ pub(crate) fn walk_set_play<R: Rules, const N: usize>(
             event: Some(TryEvent::Set(event)),
         },
         None => Step {
-            stage: TriesStage::Beginning { group: Group::Keys },
+            stage: beginning_of_keys(),
             event: None,
         },
     }

@@ -7,6 +7,7 @@ ghost use Rattle.pop_tries.specs.ties.Searching.{contest_of, walk_below};
 use crate::below::{Base, WalkBelow};
 use crate::contest::Contest;
 use crate::first_moves::Group;
+use crate::move_set::MoveSet;
 use chess_core::man::Move;
 use chess_core::square::Square;
 use chess_rules::{Moves, Rules, Undo};
@@ -66,18 +67,20 @@ pub struct Firsts<R: Rules> {
     pub place: Moves<R>,
     /// How many first moves of the group have been shown.
     pub count: u32,
+    /// Holds the first moves that may be tries, among the keys those up to the place. `None` if nothing is
+    /// known.
+    pub candidates: Option<MoveSet>,
 }
 
 impl<R: Rules> Firsts<R> {
     /// Returns the place after one more first move.
-    pub(crate) fn counted(self, place: Moves<R>) -> Self
+    pub(crate) fn counted(self) -> Self
         requires few { self.count ≤ all_triples }
-        ensures { result ≡ record { group = self.group; place = place; count = self.count + 1 } }
+        ensures { result ≡ record self { count = self.count + 1 } }
     {
         Firsts {
-            group: self.group,
-            place,
             count: self.count + 1,
+            ..self
         }
     }
 }
@@ -119,6 +122,8 @@ pub enum TriesStage<R: Rules> {
     /// The beginning of a group.
     Beginning {
         group: Group,
+        /// The first moves that may be tries, as in `Firsts`.
+        candidates: Option<MoveSet>,
     },
     /// The next first move of a group.
     FirstMove {

@@ -1,10 +1,12 @@
 -- The groups of first moves that a search shows, and the replies shown below one (own).
-use Rattle.std.specs.Prelude.{◌≡◌, ◌≤◌, ◌&&◌, ℕ, Bool, not, true, false, List, [], ◌∷◌, filter, Option, MatchOption}
+use Rattle.std.specs.Prelude.{◌≡◌, ◌&&◌, ℕ, Bool, not, true, false, List, [], ◌∷◌, filter, Option, MatchOption}
 use Rattle.chess_core.specs.Position.{Position}
 use Rattle.chess_core.specs.declared.man.Move.{Move}
+use Rattle.chess_attacks.specs.Attacks.{in_check}
 use Rattle.chess_attacks.specs.RuleSet.{RuleSet}
 use Rattle.chess_rules.specs.Legal.{is_legal, is_stalemate}
-use Rattle.chess_rules.specs.Play.{position_after}
+use Rattle.chess_core.specs.Undo.{Undo}
+use Rattle.chess_rules.specs.Play.{position_after, undo_of}
 use Rattle.chess_rules.specs.ties.Places.{moves_after}
 use Rattle.pop_solve.specs.Tree.{is_in_set_play, keeps_win}
 use Rattle.pop_stipulation.specs.declared.stipulation.Battle.{Battle}
@@ -16,7 +18,11 @@ use Rattle.pop_tries.specs.Tries.{is_defence, is_try}
 use Rattle.pop_tries.specs.declared.contest.Contest.{Contest}
 use Rattle.pop_tries.specs.declared.first_moves.Group.{Group}
 use Rattle.pop_tries.specs.declared.first_moves.Group.TheVariants.{Keys, Tries}
+use Rattle.pop_tries.specs.declared.move_set.MoveSet.{MoveSet}
+use Rattle.pop_tries.specs.declared.replies.Counted.{Counted}
+use Rattle.pop_tries.specs.declared.replies.Counted.TheVariants.{All, Checks, Others}
 use Rattle.pop_tries.specs.ties.Contests.{game_in}
+use Rattle.pop_tries.specs.ties.MoveSets.{HoldAll, HoldBefore}
 
 -- the first move that leads to q belongs to the group
 abbrev pub belongs : RuleSet → Contest → Group → Position → Bool
@@ -36,10 +42,33 @@ is_refuted_by_stalemate Direct Mate rule q = is_stalemate rule q
 is_refuted_by_stalemate Direct Stalemate rule q = false
 is_refuted_by_stalemate Selfmate goal rule q = false
 
--- tries have at most 200 refutations
-abbrev pub IsFew : Group → Type 0
-IsFew Keys = Unit {0}
-IsFew (Tries most) = most ≤ 200
+-- the move m of p is a try with at most `most` refutations
+abbrev pub is_try_after : RuleSet → Contest → ℕ → Position → Move → Bool
+is_try_after rule contest most p m = belongs rule contest (Tries most) (position_after rule p m)
+
+-- what is known of the moves of p that may be tries, at a place among the first moves of a group: keys come
+-- first, and tell it of the moves up to the place
+abbrev pub AreCandidates : RuleSet → Contest → Group → ℕ → Position → Option MoveSet → ℕ → Type 0
+AreCandidates rule contest Keys most p set place =
+    HoldBefore rule p (is_try_after rule contest most p) set place
+AreCandidates rule contest (Tries some) most p set place =
+    HoldAll rule p (is_try_after rule contest most p) set
+
+-- the tries of a group have at most `most` refutations
+abbrev pub IsAsked : Group → ℕ → Type 0
+IsAsked Keys most = Unit {0}
+IsAsked (Tries some) most = some ≡ most
+
+-- the next first move of a group after a place among the moves of p was found and played: `next` is its place
+abbrev pub IsPlayed : RuleSet → Contest → Group → (p board : Position) → (place next : ℕ)
+    → Option (Move × Undo) → Type 0
+IsPlayed rule contest group p board place next found = MatchOption found
+    ((firsts_after rule contest group p place ≡ []) × (board ≡ p))
+    (λ f. (firsts_after rule contest group p place
+    ≡ f.0 ∷ firsts_after rule contest group p next)
+    × (board ≡ position_after rule p f.0)
+    × (f.1 ≡ undo_of rule p f.0)
+    × (is_legal rule p f.0 ≡ true))
 
 -- the reply d to a first move that leads to q is shown: a defence that doesn't refute
 abbrev pub is_shown : RuleSet → Contest → Position → Move → Bool
@@ -53,6 +82,20 @@ is_shown rule contest q d =
 abbrev pub refutes : RuleSet → Contest → Position → Move → Bool
 refutes rule contest q d = not (is_in_set_play contest.battle (game_in rule contest)
     contest.stipulation.n (position_after rule q d))
+
+-- the move d of q gives check
+abbrev pub gives_check : RuleSet → Position → Move → Bool
+gives_check rule q d = in_check rule (position_after rule q d).men (position_after rule q d).turn
+
+-- the move d of q is one of those that are counted
+abbrev pub is_counted : RuleSet → Position → Counted → Move → Bool
+is_counted rule q All d = true
+is_counted rule q Checks d = gives_check rule q d
+is_counted rule q Others d = not (gives_check rule q d)
+
+-- the reply d is counted, and refutes
+abbrev pub refutes_among : RuleSet → Contest → Counted → Position → Move → Bool
+refutes_among rule contest counted q d = is_counted rule q counted d && refutes rule contest q d
 
 -- `found` is the next legal move of p after a place that passes a test; `next` is its place
 abbrev pub IsNext : RuleSet → Position → (Move → Bool) → (place next : ℕ) → Option Move → Type 0

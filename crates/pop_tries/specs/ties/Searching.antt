@@ -24,7 +24,9 @@ use Rattle.pop_tries.specs.Tries.{Below, below_reply, refutation, reply, shown_r
 use Rattle.pop_tries.specs.Events.{BareTryEvent, attempt, below, events_of_tries, key, key_total, keys, no_tries, play_events, set_event, shown_below, tries, try_total}
 use Rattle.pop_tries.specs.Shown.{try_event_of}
 use Rattle.pop_tries.specs.ties.Contests.{IsContest, IsThreat}
-use Rattle.pop_tries.specs.ties.FirstMoves.{firsts_after as firsts_of, is_shown, refutes, IsFew}
+use Rattle.pop_tries.specs.ties.FirstMoves.{firsts_after as firsts_of, is_shown, is_try_after, refutes, AreCandidates, IsAsked}
+use Rattle.pop_tries.specs.ties.MoveSets.{HoldAll}
+use Rattle.pop_tries.specs.declared.move_set.MoveSet.{MoveSet}
 use Rattle.pop_tries.specs.ties.Starts.{base_position, shown_line}
 use Rattle.pop_tries.specs.declared.below.Base.{Base}
 use Rattle.pop_tries.specs.declared.below.WalkBelow.{WalkBelow}
@@ -76,7 +78,7 @@ IsInLimit problem (Tries most) count = Unit {0}
 -- the first stage of a problem's search
 abbrev pub stage_by : {A : Type 0} → Option Battle → Bool → TriesStage A
 stage_by None set_play = NoTries
-stage_by (Some battle) set_play = if set_play then SetPlay else Beginning Keys
+stage_by (Some battle) set_play = if set_play then SetPlay else Beginning Keys None
 
 abbrev pub first_stage : {A : Type 0} → Posed → TriesStage A
 first_stage problem = stage_by (battle_of problem.stipulation.form) problem.set_play
@@ -92,7 +94,7 @@ is_over NoTries = false
 is_over SetPlay = false
 is_over Impossible = false
 is_over (Within stage) = false
-is_over (Beginning group) = false
+is_over (Beginning group candidates) = false
 is_over (FirstMove firsts) = false
 is_over (Faced first) = false
 is_over (Threats first crossed) = false
@@ -218,7 +220,7 @@ module _ (rule : RuleSet) (task : Task) where
   left_of Impossible items = set_event impossible ∷ whole_group Keys
   left_of (Within stage) items =
       map set_event (set_play_left rule task.problem stage (reverse items)) ++ whole_group Keys
-  left_of (Beginning group) items = whole_group group
+  left_of (Beginning group candidates) items = whole_group group
   left_of (FirstMove firsts) items = group_left firsts
   left_of (Faced first) items = below_and_after first (shown_after first.by)
   left_of (Threats first crossed) items = below_and_after first
@@ -239,9 +241,20 @@ module _ (rule : RuleSet) (task : Task) where
   left_of (Stalemate first) items = below first.by stalemate ∷ group_left first.firsts
   left_of Over items = []
 
+  -- what is known of the first moves that may be tries
+  abbrev pub HoldCandidates : Group → Option MoveSet → ℕ → Type 0
+  HoldCandidates group candidates place = AreCandidates rule (contest_of task) group task.most
+      (play_start task.problem) candidates place
+
+  -- all first moves that are tries are among the candidates
+  abbrev pub HoldTries : Option MoveSet → Type 0
+  HoldTries candidates = HoldAll rule (play_start task.problem)
+      (is_try_after rule (contest_of task) task.most (play_start task.problem)) candidates
+
   -- a place among the first moves of a group: counts fit
   pub record IsPlaced {A : Type 0} (firsts : Firsts A) : Type 0 where
-    pub few : IsFew firsts.group
+    pub asked : IsAsked firsts.group task.most
+    pub noted : HoldCandidates firsts.group firsts.candidates firsts.place
     pub counted : firsts.count + length (firsts_after firsts.group firsts.place) ≤ all_triples
     pub limited : IsInLimit task.problem firsts.group firsts.count
 
@@ -273,8 +286,9 @@ module _ (rule : RuleSet) (task : Task) where
       IsContest (contest_of task) × IsBare (play_start task.problem) items board
   HoldsAt (Within stage) items board = IsContest (contest_of task)
       × HoldsAtStage rule task.problem stage (reverse items) board
-  HoldsAt (Beginning group) items board = IsContest (contest_of task)
-      × IsBare (play_start task.problem) items board × IsFew group
+  HoldsAt (Beginning group candidates) items board = IsContest (contest_of task)
+      × IsBare (play_start task.problem) items board × IsAsked group task.most
+      × HoldCandidates group candidates 0
   HoldsAt (FirstMove firsts) items board = IsContest (contest_of task)
       × IsBare (play_start task.problem) items board × IsPlaced firsts
   HoldsAt (Faced first) items board = IsContest (contest_of task)
@@ -320,7 +334,7 @@ rank NoTries = 0
 rank SetPlay = 0
 rank Impossible = 0
 rank (Within stage) = 1
-rank (Beginning group) = 0
+rank (Beginning group candidates) = 0
 rank (FirstMove firsts) = 0
 rank (Faced first) = 2
 rank (Threats first crossed) = 2

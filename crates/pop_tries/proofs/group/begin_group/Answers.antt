@@ -1,6 +1,7 @@
-use Rattle.pop_tries.proofs.Words.{refl, sym, ◌∙◌}
+use Rattle.pop_tries.proofs.Words.{play_start, refl, sym, ◌∙◌}
 unfoldable use Rattle.pop_tries.specs.ties.Searching.{HoldsAt}
-use Rattle.pop_tries.specs.ties.Searching.{beginning_of}
+use Rattle.pop_tries.specs.ties.Searching.{beginning_of, contest_of}
+use Rattle.pop_tries.proofs.Candidates.{notes}
 use Rattle.pop_tries.specs.declared.stage.Firsts.{Firsts}
 use Rattle.pop_tries.specs.declared.stage.TriesStage.TheVariants.{FirstMove}
 use Rattle.pop_tries.proofs.Goings as goes
@@ -15,17 +16,20 @@ returns g c =
     let rule = g.R.Rules.rule in
     let task = c.args.task.now in
     let group = c.args.group in
-    let firsts : Firsts g.row.R.Denot = record { group = group; place = c.start.result; count = 0 } in
+    let candidates = c.first_candidates.result in
+    let firsts : Firsts g.row.R.Denot = record { group = group; place = c.start.result; count = 0; candidates = candidates } in
     let holds : HoldsAt rule task (FirstMove firsts) c.args.frames.now.items c.args.board.now = (
       h.0,
       h.1,
       record {
-        few = h.2;
+        asked = h.2;
+        noted = notes rule (contest_of task) task.most (play_start task.problem) group c.args.candidates candidates c.start.result c.start.ensures h.3
+            c.first_candidates.ensures.tries;
         counted = rw c.start.ensures (steps.none_counted rule task group);
         limited = steps.at_first task.problem group;
       },
     ) in
-    goes.with_event rule task _ _ _ _ _ holds _ (beginning_of group) (goes.group_comes g.row.R.Denot rule task group c.start.result c.start.ensures _ _)
+    goes.with_event rule task _ _ _ _ _ holds _ (beginning_of group) (goes.group_comes g.row.R.Denot rule task group _ _ c.start.result c.start.ensures _ _)
     (elim c.match-group.branch [
       | in-Keys w ↦ w.result-is ∙ sym (rw w.in-Keys.is refl)
       | in-Tries w ↦ w.result-is ∙ sym (rw w.in-Tries.is refl)

@@ -1,4 +1,4 @@
-use Rattle.pop_tries.proofs.Words.{no_tries, refl, set_event}
+use Rattle.pop_tries.proofs.Words.{inl, no_tries, refl, set_event}
 unfoldable use Rattle.pop_tries.specs.ties.Searching.{HoldsAt, left_of}
 use Rattle.pop_solve.specs.Events.{impossible}
 use Rattle.pop_tries.proofs.Goings.{with_event}
@@ -12,4 +12,5 @@ pub returns-in-Impossible : goal.returns-in-Impossible
 unfolding HoldsAt left_of
 returns-in-Impossible g c =
     let h = rw c.in-Impossible.is at c.requires.may_step.holds in
-    rw c.in-Impossible.is (with_event g.R.Rules.rule c.args.task.now _ _ _ _ _ (h.0, h.1, tt) _ (set_event impossible) refl refl)
+    rw (c.in-Impossible.is, c.beginning_of_keys.ensures)
+    (with_event g.R.Rules.rule c.args.task.now _ _ _ _ _ (h.0, h.1, tt, λ m w t. inl refl) _ (set_event impossible) refl refl)

@@ -1,0 +1,44 @@
+-- Refutations counted in parts: checks, and the other replies.
+use Rattle.pop_tries.proofs.Words.{Bool, List, Move, Position, RuleSet, [], arith, filter, length, legal_moves, not, refl, refutations, ℕ, ◌&&◌, ◌+◌, ◌<◌, ◌∷◌, ◌≡◌, ◌≤◌}
+use Rattle.std.proofs.Common.{min}
+use Rattle.pop_tries.specs.declared.contest.Contest.{Contest}
+use Rattle.pop_tries.specs.declared.replies.Counted.TheVariants.{All, Checks, Others}
+use Rattle.pop_tries.specs.ties.Contests.{game_in}
+use Rattle.pop_tries.specs.ties.FirstMoves.{gives_check, refutes, refutes_among}
+
+-- what passes a test is what also passes another, and what doesn't
+parts : (c r : Move → Bool) (ms : List Move)
+    → length (filter (λ d. c d && r d) ms) + length (filter (λ d. not (c d) && r d) ms) ≡ length (filter r ms)
+parts c r [] = refl
+parts c r (m ∷ ms) = grind (arith, parts c r ms)
+
+module _ (rule : RuleSet) (contest : Contest) (q : Position) where
+  abbrev all : ℕ
+  all = length (refutations contest.battle (game_in rule contest) contest.stipulation.n q)
+
+  abbrev checks : ℕ
+  checks = length (filter (refutes_among rule contest Checks q) (legal_moves rule q))
+
+  abbrev others : ℕ
+  others = length (filter (refutes_among rule contest Others q) (legal_moves rule q))
+
+  both : checks + others ≡ all
+  both = parts (gives_check rule q) (refutes rule contest q) (legal_moves rule q)
+
+  -- all at once
+  pub counted_at_once : (count most : ℕ) → count ≡ min (0 + length (filter (refutes_among rule contest All q) (legal_moves rule q))) (most + 1)
+      → count ≡ min all (most + 1)
+  counted_at_once count most e =
+      let same : length (filter (refutes_among rule contest All q) (legal_moves rule q)) ≡ all = refl in omega (arith, e, same)
+
+  -- checks are too many
+  pub too_many_checks : (count most : ℕ) → count ≡ min (0 + checks) (most + 1) → most < count → count ≡ min all (most + 1)
+  too_many_checks count most e more = omega (arith, both, e, more)
+
+  -- the other replies too
+  pub counted_in_parts : (before count most : ℕ) → before ≡ min (0 + checks) (most + 1) → before ≤ most
+      → count ≡ min (before + others) (most + 1) → count ≡ min all (most + 1)
+  counted_in_parts before count most e few f = omega (arith, both, e, few, f)
+
+-- for a count in parts
+pub ruleset counting_parts = (counted_at_once, too_many_checks, counted_in_parts)

@@ -1,0 +1,15 @@
+use Rattle.pop_tries.proofs.Words.{filter, legal_moves, length, ◌+◌, ◌≡◌, ◌≤◌}
+use Rattle.std.specs.Prelude.{IfSome}
+use Rattle.chess_rules.specs.ties.Places.{IsPlaceIn, moves_after}
+use Rattle.pop_tries.specs.ties.FirstMoves.{refutes_among}
+use Rattle.pop_tries.proofs.replies.count_among.Given as goal
+
+-- the refutations so far, and those among the moves that follow, are all that are counted
+abbrev pub invariant-loop-by : goal.invariant-loop-by
+invariant-loop-by g l = (l.board ≡ l.fn.board) × (l.frames.items ≡ l.fn.frames.items) × IfSome l.known (λ k. IsPlaceIn g.R.Rules.rule l.fn.board k)
+    × (l.count ≤ l.fn.tally.most)
+    × (l.count + length (filter (refutes_among g.R.Rules.rule l.fn.contest l.fn.counted l.fn.board) (moves_after g.R.Rules.rule l.fn.board l.place))
+    ≡ l.fn.tally.count + length (filter (refutes_among g.R.Rules.rule l.fn.contest l.fn.counted l.fn.board) (legal_moves g.R.Rules.rule l.fn.board)))
+
+abbrev pub decreases-loop-by : goal.decreases-loop-by
+decreases-loop-by g l = length (moves_after g.R.Rules.rule l.fn.board l.place)

@@ -1,0 +1,67 @@
+//! Sets of moves, by their origins and arrivals.
+ghost use Rattle.std.specs.Prelude.{◌≡◌, false, true};
+ghost use Rattle.chess_core.specs.declared.man.Move.{Move};
+ghost use Rattle.pop_tries.specs.ties.MoveSets.{may_be, may_hold};
+
+use chess_core::man::Move;
+use chess_core::square::Squares;
+
+/// A set that may hold more than the moves put into it: all moves from one of their origins to one of their
+/// arrivals.
+#[derive(Clone, Copy)]
+pub struct MoveSet {
+    origins: Squares,
+    arrivals: Squares,
+}
+
+impl MoveSet {
+    /// Returns the set without any move.
+    pub fn none() -> MoveSet
+        ensures { (m : Move) → may_hold result m ≡ false }
+    {
+        MoveSet {
+            origins: 0,
+            arrivals: 0,
+        }
+    }
+
+    /// Returns whether the set may hold the move.
+    pub fn may_hold(self, by: &Move) -> bool
+        ensures { result ≡ may_hold self by.now }
+    {
+        self.origins >> by.from.index() & 1 == 1 && self.arrivals >> by.to.index() & 1 == 1
+    }
+
+    /// Returns the set with the move put into it.
+    #[tactic(auto, using(crate::proofs::MoveSets::putting))]
+    pub fn with(self, by: &Move) -> MoveSet
+        ensures put { may_hold result by.now ≡ true }
+        ensures kept { (m : Move) → may_hold self m ≡ true → may_hold result m ≡ true }
+    {
+        MoveSet {
+            origins: self.origins | 1u64 << by.from.index(),
+            arrivals: self.arrivals | 1u64 << by.to.index(),
+        }
+    }
+}
+
+/// Returns whether a move may be in the set; without a set nothing is known.
+pub fn may_be(set: Option<MoveSet>, by: &Move) -> bool
+    ensures { result ≡ may_be set by.now }
+{
+    match set {
+        Some(set) => set.may_hold(by),
+        None => true,
+    }
+}
+
+/// Returns the set, if there is one, with the move put into it.
+pub fn noted(set: Option<MoveSet>, by: &Move) -> Option<MoveSet>
+    ensures put { may_be result by.now ≡ true }
+    ensures kept { (m : Move) → may_be set m ≡ true → may_be result m ≡ true }
+{
+    match set {
+        Some(set) => Some(set.with(by)),
+        None => None,
+    }
+}
