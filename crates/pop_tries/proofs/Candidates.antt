@@ -1,5 +1,5 @@
 -- What the count of a first move's refutations says: whether it is a key, and whether it may be a try.
-use Rattle.pop_tries.proofs.Words.{Bool, Move, Position, RuleSet, arith, cases_lt, chess_passing, eqb, false, false≢true, inl, inr, None, Option, keeps_win, length, nat_le, nat_tests, refl, refutations, sym, true, ℕ, ◌+◌, ◌<◌, ◌∙◌, ◌≡◌, ◌≢◌}
+use Rattle.pop_tries.proofs.Words.{Bool, Contains, in_filter, legal_moves, none_in_nil, subst, Move, Position, RuleSet, arith, cases_lt, chess_passing, eqb, false, false≢true, inl, inr, None, Option, keeps_win, length, nat_le, nat_tests, refl, refutations, sym, true, ℕ, ◌+◌, ◌<◌, ◌∙◌, ◌≡◌, ◌≢◌}
 use Rattle.std.proofs.Common.{min}
 use Rattle.pop_tries.specs.declared.contest.Contest.{Contest}
 use Rattle.pop_tries.specs.declared.first_moves.Group.{Group}
@@ -8,8 +8,8 @@ use Rattle.pop_tries.specs.declared.move_set.MoveSet.{MoveSet}
 use Rattle.pop_tries.specs.ties.MoveSets.{HoldAll}
 use Rattle.pop_tries.proofs.MoveSets.{held_at_start}
 use Rattle.pop_tries.specs.ties.Contests.{game_in}
-use Rattle.pop_tries.specs.ties.FirstMoves.{AreCandidates, belongs, is_try_after}
-use Rattle.pop_tries.proofs.Contests.{refuted_is_no_key, try_by_count, try_by_none}
+use Rattle.pop_tries.specs.ties.FirstMoves.{AreCandidates, belongs, is_try_after, refutes}
+use Rattle.pop_tries.proofs.Contests.{key_unrefuted, refuted_is_no_key, try_by_count, try_by_none}
 use Rattle.pop_tries.proofs.theorems.Refutations.{no_key_is_a_try}
 
 module _ (rule : RuleSet) (contest : Contest) (q : Position) where
@@ -47,6 +47,11 @@ module _ (rule : RuleSet) (contest : Contest) (q : Position) where
   -- an unrefuted move is a key by its test
   pub unrefuted_key : (most count : ℕ) (key : Bool) → count ≡ min all (most + 1) → count ≡ 0 → (all ≡ 0 → key ≡ won) → key ≡ won
   unrefuted_key most count key e zero_of test = test (omega (arith, e, zero_of))
+
+  -- a key has no refutations, which any set holds
+  pub key_held : (set : Option MoveSet) → won ≡ true → HoldAll rule q (refutes rule contest q) set
+  key_held set key m c r = absurd (none_in_nil m (subst (λ ms. Contains ms m) (key_unrefuted contest.battle contest.stipulation.goal rule contest.stipulation.n q key)
+      (in_filter (refutes rule contest q) (legal_moves rule q) m c r)))
 
 -- for the test of a first move
 pub ruleset classing = (none_tried, key_untried, more_untried, refuted_no_key, unrefuted_key)

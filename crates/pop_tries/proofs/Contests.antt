@@ -1,5 +1,5 @@
 -- What the values of positions mean for a contest.
-use Rattle.pop_tries.proofs.Words.{IsWellFormed, Game, List, Move, [], ◌∷◌, false≢true, legal_moves, Battle, Bool, Direct, Goal, Position, RuleSet, Selfmate, and_parts, arith, chess, false, is_goal_reached, is_in_set_play, is_try, keeps_win, length, list_any, nat_le, nat_tests, not, refl, refutations, rules, suc, sym, true, wins_in, zero, ℕ, ◌&&◌, ◌+◌, ◌-◌, ◌<◌, ◌∙◌, ◌≡◌, ◌≤◌, half_moves}
+use Rattle.pop_tries.proofs.Words.{IsWellFormed, Game, List, Move, [], ◌∷◌, cases_lt, false≢true, inl, inr, legal_moves, Battle, Bool, Direct, Goal, Position, RuleSet, Selfmate, and_parts, arith, chess, false, is_goal_reached, is_in_set_play, is_try, keeps_win, length, list_any, nat_le, nat_tests, not, refl, refutations, rules, suc, sym, true, wins_in, zero, ℕ, ◌&&◌, ◌+◌, ◌-◌, ◌<◌, ◌∙◌, ◌≡◌, ◌≢◌, ◌≤◌, half_moves}
 unfoldable use Rattle.pop_tries.proofs.Words.{is_lost, is_self_lost, self_wins, wins}
 unfoldable use Rattle.pop_battle.specs.ties.Values.{value}
 unfoldable use Rattle.chess_rules.specs.Legal.{is_mate, is_stalemate}
@@ -140,6 +140,13 @@ and_false : (b : Bool) → (b && false) ≡ false
 and_false true = refl
 and_false false = refl
 
+-- a number that isn't zero, as the test says it
+pub not_zero : (n : ℕ) → n ≢ 0 → eqb n 0 ≡ false
+not_zero n some = elim (cases_lt n 1) [
+  | inl few ↦ absurd (some (omega (arith, few)))
+  | inr more ↦ grind (arith, nat_tests)
+]
+
 -- tests of a number of refutations
 few_by_count : (all most count : ℕ) → count ≡ min all (most + 1) → 1 ≤ all → (not false && (nat_le 1 all && nat_le all most)) ≡ nat_le count most
 few_by_count all most count e some = grind (arith, nat_tests)
@@ -165,7 +172,7 @@ untried_by_check false count most e = refl
 
 -- a first move of chess leads to q
 module _ (battle : Battle) (goal : Goal) (rule : RuleSet) (n : ℕ) (q : Position) where
-  key_unrefuted : keeps_win battle (chess goal rule) n q ≡ true → refutations battle (chess goal rule) n q ≡ []
+  pub key_unrefuted : keeps_win battle (chess goal rule) n q ≡ true → refutations battle (chess goal rule) n q ≡ []
   key_unrefuted key = by (is_goal_reached goal rule q) refl
     where
       by : (b : Bool) → is_goal_reached goal rule q ≡ b → refutations battle (chess goal rule) n q ≡ []

@@ -1,10 +1,12 @@
 -- Refutations counted in parts: checks, and the other replies.
-use Rattle.pop_tries.proofs.Words.{Bool, List, Move, Position, RuleSet, [], arith, filter, length, legal_moves, not, refl, refutations, ℕ, ◌&&◌, ◌+◌, ◌<◌, ◌∷◌, ◌≡◌, ◌≤◌}
+use Rattle.pop_tries.proofs.Words.{Bool, Some, false, true, List, Move, Position, RuleSet, [], arith, filter, length, legal_moves, not, refl, refutations, ℕ, ◌&&◌, ◌+◌, ◌<◌, ◌∷◌, ◌≡◌, ◌≤◌}
 use Rattle.std.proofs.Common.{min}
 use Rattle.pop_tries.specs.declared.contest.Contest.{Contest}
 use Rattle.pop_tries.specs.declared.replies.Counted.TheVariants.{All, Checks, Others}
 use Rattle.pop_tries.specs.ties.Contests.{game_in}
 use Rattle.pop_tries.specs.ties.FirstMoves.{gives_check, refutes, refutes_among}
+use Rattle.pop_tries.specs.declared.move_set.MoveSet.{MoveSet}
+use Rattle.pop_tries.specs.ties.MoveSets.{HoldAll, may_hold}
 
 -- what passes a test is what also passes another, and what doesn't
 parts : (c r : Move → Bool) (ms : List Move)
@@ -40,5 +42,15 @@ module _ (rule : RuleSet) (contest : Contest) (q : Position) where
       → count ≡ min (before + others) (most + 1) → count ≡ min all (most + 1)
   counted_in_parts before count most e few f = omega (arith, both, e, few, f)
 
+  -- checks that refute are held, and then the other replies that do
+  pub held_in_parts : (first both : MoveSet) → HoldAll rule q (refutes_among rule contest Checks q) (Some first)
+      → ((m : Move) → may_hold first m ≡ true → may_hold both m ≡ true)
+      → HoldAll rule q (refutes_among rule contest Others q) (Some both) → HoldAll rule q (refutes rule contest q) (Some both)
+  held_in_parts first both one kept two m c r = by (gives_check rule q m) refl
+    where
+      by : (b : Bool) → gives_check rule q m ≡ b → may_hold both m ≡ true
+      by true e = kept m (one m c (rw (e, r) refl))
+      by false e = two m c (rw (e, r) refl)
+
 -- for a count in parts
-pub ruleset counting_parts = (counted_at_once, too_many_checks, counted_in_parts)
+pub ruleset counting_parts = (counted_at_once, too_many_checks, counted_in_parts, held_in_parts)

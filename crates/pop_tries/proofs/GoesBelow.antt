@@ -19,7 +19,8 @@ use Rattle.pop_tries.specs.declared.below.Base.{Base}
 use Rattle.pop_tries.specs.declared.below.Base.TheVariants.{Passed, Reply}
 use Rattle.pop_tries.specs.declared.stage.First.{First}
 use Rattle.pop_tries.specs.declared.stage.Task.{Task}
-use Rattle.pop_tries.specs.ties.Contests.{IsThreat, Keeps, game_in}
+use Rattle.pop_tries.specs.declared.threats.Threat.{Threat}
+use Rattle.pop_tries.specs.ties.Contests.{AreThreats, Keeps, game_in}
 use Rattle.pop_tries.specs.ties.FirstMoves.{is_shown}
 use Rattle.pop_tries.specs.ties.Searching.{IsAnswered, IsBare, IsWalkedBelow, after_first, event_of_faced, event_of_first, first_event}
 use Rattle.pop_tries.specs.ties.Starts.{base_position, shown_line}
@@ -51,15 +52,15 @@ head_passes test ms m rest e = (from_filter test ms m (rw e (first_in m rest))).
 
 -- White threatens, if there is a length of the threats
 module _ (rule : RuleSet) (contest : Contest) (q : Position) where
-  pub threat_is : (threat : Option ℕ) → is_some threat ≡ true → IsThreat rule contest q threat
+  pub threat_is : (threat : Option Threat) → is_some threat ≡ true → AreThreats rule contest q threat
       → has_threat contest.battle (game_in rule contest) contest.stipulation.n (chess_passing rule) q ≡ true
   threat_is None s t = absurd (false≢true s)
-  threat_is (Some length) s t = t.threat
+  threat_is (Some known) s t = t.timed.threat
 
-  pub no_threat_is : (threat : Option ℕ) → is_some threat ≡ false → IsThreat rule contest q threat
+  pub no_threat_is : (threat : Option Threat) → is_some threat ≡ false → AreThreats rule contest q threat
       → has_threat contest.battle (game_in rule contest) contest.stipulation.n (chess_passing rule) q ≡ false
   no_threat_is None s t = t
-  no_threat_is (Some length) s t = absurd (false≢true (sym s))
+  no_threat_is (Some known) s t = absurd (false≢true (sym s))
 
   -- a reply that is shown doesn't refute
   pub shown_is_met : (d : Move) → is_shown rule contest q d ≡ true

@@ -16,6 +16,8 @@ use Rattle.pop_tries.specs.declared.stage.Task.{Task}
 use Rattle.pop_tries.specs.declared.stage.TriesStage.{TriesStage}
 use Rattle.pop_tries.specs.declared.stage.TriesStage.TheVariants.{Beginning, Faced, FirstMove}
 use Rattle.pop_tries.specs.ties.Contests.{IsContest}
+use Rattle.pop_tries.specs.ties.FirstMoves.{refutes}
+use Rattle.pop_tries.specs.ties.MoveSets.{HoldAll}
 use Rattle.pop_tries.specs.ties.Searching.{Emits, Goes, IsPlaced, IsTask, after_first, HoldCandidates, beginning_of, contest_of, ending_of, first_event, firsts_after, group_left, is_stopped, rank}
 unfoldable use Rattle.pop_tries.specs.ties.Searching.{HoldsAt, left_of}
 use Rattle.pop_tries.proofs.Steps.{group_begins, next_first, still_few, still_limited}
@@ -56,25 +58,27 @@ group_ended rule task firsts new was items board event h e s l = record {
 
 -- a first move begins
 module _ {A : Type 0} (rule : RuleSet) (task : Task) (fit : IsContest (contest_of task)) (s : IsTask task) (firsts : Firsts A)
-    (placed : IsPlaced rule task firsts) (next : ℕ) (candidates : Option MoveSet) (m : Move) (undo : Undo)
+    (placed : IsPlaced rule task firsts) (next : ℕ) (candidates : Option MoveSet) (m : Move) (undo : Undo) (refuting : MoveSet)
     (found : firsts_after rule task firsts.group firsts.place ≡ m ∷ firsts_after rule task firsts.group next)
     (open_yet : is_stopped task.problem firsts.group firsts.count ≡ false) where
   abbrev first : First A
-  first = record { firsts = record { group = firsts.group; place = next; count = firsts.count + 1; candidates = candidates }; by = m; undo = undo; threat = None }
+  first = record { firsts = record { group = firsts.group; place = next; count = firsts.count + 1; candidates = candidates }; by = m; undo = undo; threat = None; refuting = refuting }
 
   pub first_comes : (was items : List Frame) → left_of rule task (FirstMove firsts) was ≡ first_event firsts.group m ∷ left_of rule task (Faced first) items
   unfolding left_of
-  first_comes was items = next_first rule task firsts.group firsts.place next firsts.count m found placed.limited open_yet undo None
+  first_comes was items = next_first rule task firsts.group firsts.place next firsts.count m found placed.limited open_yet undo None refuting
 
   pub first_holds : HoldCandidates rule task firsts.group candidates next → is_legal rule (play_start task.problem) m ≡ true → undo ≡ undo_of rule (play_start task.problem) m
+      → HoldAll rule (after_first rule task m) (refutes rule (contest_of task) (after_first rule task m)) (Some refuting)
       → (items : List Frame) (board : Position) → items ≡ [] → board ≡ after_first rule task m → HoldsAt rule task (Faced first) items board
   unfolding HoldsAt
-  first_holds noted legal back items board none at = (
+  first_holds noted legal back held items board none at = (
     fit,
     record { board_at = at; none = none },
     record {
       came = record { sound = s.sound.well_formed; legal = legal; led = refl; undone = back };
       sound = after_well_formed rule (play_start task.problem) m s.sound.well_formed (is_pseudo_legal-from_legal rule (play_start task.problem) m legal);
+      refuted = held;
       placed = record {
         asked = placed.asked;
         noted = noted;

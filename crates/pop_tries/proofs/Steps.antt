@@ -12,7 +12,9 @@ unfoldable use Rattle.chess_rules.specs.ties.Places.{moves_after}
 use Rattle.pop_tries.specs.declared.first_moves.Group.{Group}
 use Rattle.pop_tries.specs.declared.first_moves.Group.TheVariants.{Keys, Tries}
 use Rattle.pop_tries.specs.declared.stage.Firsts.{Firsts}
+use Rattle.pop_tries.specs.declared.move_set.MoveSet.{MoveSet}
 use Rattle.pop_tries.specs.declared.stage.Task.{Task}
+use Rattle.pop_tries.specs.declared.threats.Threat.{Threat}
 use Rattle.pop_tries.specs.ties.Searching.{IsInLimit, below_and_after, after_first, beginning_of, contest_of, ending_of, events_of_first, first_event, firsts_after, firsts_left, group_left, is_stopped, shown_after, whole_group, within_limit}
 use Rattle.chess_rules.specs.Legal.{is_legal, triples}
 use Rattle.pop_tries.specs.Events.{key, key_moves, try_moves}
@@ -108,9 +110,9 @@ module _ (rule : RuleSet) (task : Task) where
     then = record { group = group; place = next; count = count + 1; candidates = None }
 
     -- the next first move of a group
-    pub next_first : (undo : Undo) (threat : Option ℕ) → group_left rule task before
-        ≡ first_event group m ∷ below_and_after rule task (record { firsts = then; by = m; undo = undo; threat = threat }) (shown_after rule task m)
-    next_first undo threat =
+    pub next_first : (undo : Undo) (threat : Option Threat) (refuting : MoveSet) → group_left rule task before
+        ≡ first_event group m ∷ below_and_after rule task (record { firsts = then; by = m; undo = undo; threat = threat; refuting = refuting }) (shown_after rule task m)
+    next_first undo threat refuting =
         let left : firsts_left rule task before ≡ m ∷ firsts_left rule task then = rw found (limited group count m _ few open_yet) in
         let total : count + suc (length (firsts_left rule task then)) ≡ count + 1 + length (firsts_left rule task then) = omega arith in
         rw (left, total) (append_assoc (events_of_first rule task group m) (flat_map (events_of_first rule task group) (firsts_left rule task then)) _)

@@ -15,14 +15,14 @@ ghost use Rattle.pop_solve.specs.Events.{game_of};
 ghost use Rattle.pop_stipulation.specs.Stipulations.{half_moves};
 ghost use Rattle.pop_events.specs.declared.try_event.TryEvent.TheVariants.{Node};
 ghost use Rattle.pop_tries.specs.declared.stage.TriesStage.TheVariants.{BelowReply, But, Faced, FirstMove, Refutation, Reply, Stalemate, Threats};
-ghost use Rattle.pop_tries.specs.ties.Contests.{IsContest, IsThreat};
+ghost use Rattle.pop_tries.specs.ties.Contests.{AreThreats, IsContest};
 ghost use Rattle.pop_tries.specs.ties.Searching.{after_first, below_and_after, contest_of, event_of_faced, left_of, Goes, HoldsAt, IsFirst, IsWalkedBelow, MayStep, rank, ShowsNode};
 
 use crate::below::{Base, open_walk, shown_node, walk_on};
 use crate::first_moves::{Group, next_refutation, next_reply};
 use crate::shown::shown;
 use crate::stage::{First, Played, Step, Task, TriesStage};
-use crate::threats::{pass, threat_length, unpass};
+use crate::threats::{find_threat, pass, unpass};
 use arrayvec::ArrayVec;
 use chess_core::board::Board;
 use chess_core::man::Move;
@@ -81,7 +81,7 @@ pub(crate) fn face<R: Rules, const N: usize>(
             event: None,
         };
     }
-    let threat = threat_length::<R, N>(task.contest(), board, frames, search_state);
+    let threat = find_threat::<R, N>(task.contest(), board, frames, search_state);
     let first = First { threat, ..first };
     if threat.is_some() {
         return begin_threats::<R, N>(task, first, board, frames, search_state);
@@ -117,7 +117,7 @@ fn begin_threats<R: Rules, const N: usize>(
     search_state: &mut SearchState<R>,
 ) -> Step<R>
     requires may_step { MayStep R.rule task.now (Faced first) frames.old.items board.old N }
-    requires threat { IsThreat R.rule (contest_of task.now) (after_first R.rule task.now first.by)
+    requires threat { AreThreats R.rule (contest_of task.now) (after_first R.rule task.now first.by)
         first.threat }
     requires some { is_some first.threat ≡ true }
     requires reply { can_move (game_of R.rule task.now.problem)
@@ -258,7 +258,7 @@ pub(crate) fn find_reply<R: Rules, const N: usize>(
     let mut next = place;
     let found = next_reply::<R, N>(
         task.contest(),
-        first.threat,
+        &first,
         &mut next,
         board,
         frames,
@@ -374,7 +374,14 @@ pub(crate) fn find_refutation<R: Rules, const N: usize>(
         frames.new.items board.new result.event }
 {
     let mut next = place;
-    let found = next_refutation::<R, N>(task.contest(), &mut next, board, frames, search_state);
+    let found = next_refutation::<R, N>(
+        task.contest(),
+        first.refuting,
+        &mut next,
+        board,
+        frames,
+        search_state,
+    );
     let Some(by) = found else {
         return Step {
             stage: end_first(first, board),

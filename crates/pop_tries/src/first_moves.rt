@@ -1,9 +1,9 @@
 //! The next key, try, shown reply or refutation after a place in the order of moves.
-ghost use Rattle.std.specs.Prelude.{◌≡◌, ◌≤◌, MatchOption, true};
+ghost use Rattle.std.specs.Prelude.{◌≡◌, ◌≤◌, MatchOption, Some, true};
 ghost use Rattle.arrayvec.specs.ArrayVec.{array_vec_len};
 ghost use Rattle.chess_rules.specs.Legal.{is_legal};
 ghost use Rattle.chess_core.specs.declared.man.Move.{Move};
-ghost use Rattle.pop_tries.specs.ties.Contests.{IsReady, IsThreat, Keeps};
+ghost use Rattle.pop_tries.specs.ties.Contests.{AreThreats, IsReady, Keeps};
 ghost use Rattle.pop_tries.specs.declared.first_moves.Group.TheVariants.{Keys, Tries};
 ghost use Rattle.pop_tries.specs.ties.FirstMoves.{belongs, is_shown, is_try_after, refutes, AreCandidates, IsAsked, IsNext, IsPlayed};
 ghost use Rattle.pop_tries.specs.ties.MoveSets.{may_be, HoldAll, HoldBefore};
@@ -11,8 +11,8 @@ ghost use Rattle.pop_tries.specs.ties.Searching.{contest_of};
 
 use crate::contest::Contest;
 use crate::move_set::{MoveSet, may_be, noted};
-use crate::replies::{count_refutations, is_key, is_key_unrefuted, is_try, refutes};
-use crate::stage::{Firsts, Task};
+use crate::replies::{count_refutations, is_key, is_key_unrefuted, is_refutation, is_try};
+use crate::stage::{First, Firsts, Task};
 use crate::threats::is_defence;
 use arrayvec::ArrayVec;
 use chess_core::board::Board;
@@ -54,7 +54,7 @@ fn is_key_or_noted<R: Rules, const N: usize>(
     if task.most == 0 {
         return is_key::<R, N>(contest, board, frames, search_state);
     }
-    let count = count_refutations::<R, N>(contest, task.most, board, frames, search_state);
+    let count = count_refutations::<R, N>(contest, task.most, board, frames, search_state).count;
     if count == 0 && is_key_unrefuted::<R>(contest, board) {
         return true;
     }
@@ -65,9 +65,9 @@ fn is_key_or_noted<R: Rules, const N: usize>(
 }
 
 /// Plays the next key after `place`, and moves `place` to it. Notes the first moves before it that may be
-/// tries among `candidates`. Returns the key and what takes it back; after the last one `None`, with the board
-/// unchanged.
-#[tactic(auto, using(crate::proofs::Loops::filtering, chess_rules::proofs::listing_moves::Calls::playing))]
+/// tries among `candidates`. Returns the key, what takes it back, and its refutations: none; after the last
+/// one `None`, with the board unchanged.
+#[tactic(auto, using(crate::proofs::Candidates::key_held, crate::proofs::Loops::filtering, chess_rules::proofs::listing_moves::Calls::playing))]
 fn play_next_key<R: Rules, const N: usize>(
     task: &Task,
     place: &mut Moves<R>,
@@ -75,7 +75,7 @@ fn play_next_key<R: Rules, const N: usize>(
     board: &mut Board,
     frames: &mut ArrayVec<Frame<R>, N>,
     search_state: &mut SearchState<R>,
-) -> Option<(Move, Undo)>
+) -> Option<(Move, Undo, MoveSet)>
     requires ready { IsReady (contest_of task.now) board.old (array_vec_len frames.old) N }
     requires few { task.now.most ≤ 200 }
     requires noted { HoldBefore R.rule board.old (is_try_after R.rule (contest_of task.now)
@@ -92,7 +92,7 @@ fn play_next_key<R: Rules, const N: usize>(
     while let Some(by) = next_move::<R>(&mut known, place, board) {
         let undo = play::<R>(board, by);
         if is_key_or_noted::<R, N>(task, &by, candidates, board, frames, search_state) {
-            return Some((by, undo));
+            return Some((by, undo, MoveSet::none()));
         }
         unplay::<R>(board, by, undo);
     }
@@ -100,8 +100,8 @@ fn play_next_key<R: Rules, const N: usize>(
 }
 
 /// Plays the next try after `place` with at most `task.most` refutations, and moves `place` to it. Tests only
-/// the `candidates`. Returns the try and what takes it back; after the last one `None`, with the board
-/// unchanged.
+/// the `candidates`. Returns the try, what takes it back, and a set that holds its refutations; after the last
+/// one `None`, with the board unchanged.
 #[tactic(auto, using(crate::proofs::Loops::filtering, chess_rules::proofs::listing_moves::Calls::playing))]
 fn play_next_try<R: Rules, const N: usize>(
     task: &Task,
@@ -110,7 +110,7 @@ fn play_next_try<R: Rules, const N: usize>(
     board: &mut Board,
     frames: &mut ArrayVec<Frame<R>, N>,
     search_state: &mut SearchState<R>,
-) -> Option<(Move, Undo)>
+) -> Option<(Move, Undo, MoveSet)>
     requires ready { IsReady (contest_of task.now) board.old (array_vec_len frames.old) N }
     requires few { task.now.most ≤ 200 }
     requires held { HoldAll R.rule board.old (is_try_after R.rule (contest_of task.now)
@@ -124,8 +124,16 @@ fn play_next_try<R: Rules, const N: usize>(
     while let Some(by) = next_move::<R>(&mut known, place, board) {
         if may_be(candidates, &by) {
             let undo = play::<R>(board, by);
-            if is_try::<R, N>(contest, task.most, board, frames, search_state) {
-                return Some((by, undo));
+            let mut refuting = MoveSet::none();
+            if is_try::<R, N>(
+                contest,
+                task.most,
+                &mut refuting,
+                board,
+                frames,
+                search_state,
+            ) {
+                return Some((by, undo, refuting));
             }
             unplay::<R>(board, by, undo);
         }
@@ -134,14 +142,15 @@ fn play_next_try<R: Rules, const N: usize>(
 }
 
 /// Plays the next first move after the place that belongs to the group, and moves the place to it. Returns the
-/// move and what takes it back; after the last one `None`, with the board unchanged.
+/// move, what takes it back, and a set that holds its refutations; after the last one `None`, with the board
+/// unchanged.
 pub fn play_next<R: Rules, const N: usize>(
     task: &Task,
     firsts: &mut Firsts<R>,
     board: &mut Board,
     frames: &mut ArrayVec<Frame<R>, N>,
     search_state: &mut SearchState<R>,
-) -> Option<(Move, Undo)>
+) -> Option<(Move, Undo, MoveSet)>
     requires ready { IsReady (contest_of task.now) board.old (array_vec_len frames.old) N }
     requires few { task.now.most ≤ 200 }
     requires asked { IsAsked firsts.old.group task.now.most }
@@ -179,48 +188,52 @@ pub fn play_next<R: Rules, const N: usize>(
 }
 
 /// Returns whether the legal reply `by` to the first move that led to the board's position is shown: a
-/// defence that doesn't refute. `threat` is the length of White's threats, as for `is_defence`.
+/// defence that doesn't refute. Of `first` only what is known of threats and refutations is read.
 fn is_shown<R: Rules, const N: usize>(
     contest: Contest,
-    threat: Option<usize>,
+    first: &First<R>,
     by: Move,
     board: &mut Board,
     frames: &mut ArrayVec<Frame<R>, N>,
     search_state: &mut SearchState<R>,
 ) -> bool
     requires ready { IsReady contest board.old (array_vec_len frames.old) N }
-    requires threat { IsThreat R.rule contest board.old threat }
+    requires threat { AreThreats R.rule contest board.old first.now.threat }
+    requires refuting { HoldAll R.rule board.old (refutes R.rule contest board.old)
+        (Some first.now.refuting) }
     requires legal { is_legal R.rule board.old by ≡ true }
     ensures shown { result ≡ is_shown R.rule contest board.old by }
     ensures rest { Keeps board.old board.new frames.old.items frames.new.items }
 {
-    if refutes::<R, N>(contest, by, board, frames, search_state) {
+    if is_refutation::<R, N>(contest, first.refuting, by, board, frames, search_state) {
         return false;
     }
-    is_defence::<R, N>(contest, threat, by, board, frames, search_state)
+    is_defence::<R, N>(contest, first.threat, by, board, frames, search_state)
 }
 
 /// Returns the next reply after `place` that is shown below the first move that led to the board's position,
-/// and moves `place` to it; after the last one `None`. The board is unchanged. `threat` is the length of
-/// White's threats, as for `is_defence`.
+/// and moves `place` to it; after the last one `None`. The board is unchanged. Of `first` only what is known of
+/// threats and refutations is read.
 #[tactic(auto, using(crate::proofs::Loops::filtering))]
 pub fn next_reply<R: Rules, const N: usize>(
     contest: Contest,
-    threat: Option<usize>,
+    first: &First<R>,
     place: &mut Moves<R>,
     board: &mut Board,
     frames: &mut ArrayVec<Frame<R>, N>,
     search_state: &mut SearchState<R>,
 ) -> Option<Move>
     requires ready { IsReady contest board.old (array_vec_len frames.old) N }
-    requires threat { IsThreat R.rule contest board.old threat }
+    requires threat { AreThreats R.rule contest board.old first.now.threat }
+    requires refuting { HoldAll R.rule board.old (refutes R.rule contest board.old)
+        (Some first.now.refuting) }
     ensures rest { Keeps board.old board.new frames.old.items frames.new.items }
     ensures next { IsNext R.rule board.old (is_shown R.rule contest board.old)
         place.old place.new result }
 {
     let mut known = None;
     while let Some(by) = next_move::<R>(&mut known, place, board) {
-        if is_shown::<R, N>(contest, threat, by, board, frames, search_state) {
+        if is_shown::<R, N>(contest, first, by, board, frames, search_state) {
             return Some(by);
         }
     }
@@ -228,23 +241,25 @@ pub fn next_reply<R: Rules, const N: usize>(
 }
 
 /// Returns the next refutation after `place` of the first move that led to the board's position, and moves
-/// `place` to it; after the last one `None`. The board is unchanged.
+/// `place` to it; after the last one `None`. The board is unchanged. `refuting` holds the refutations.
 #[tactic(auto, using(crate::proofs::Loops::filtering))]
 pub fn next_refutation<R: Rules, const N: usize>(
     contest: Contest,
+    refuting: MoveSet,
     place: &mut Moves<R>,
     board: &mut Board,
     frames: &mut ArrayVec<Frame<R>, N>,
     search_state: &mut SearchState<R>,
 ) -> Option<Move>
     requires ready { IsReady contest board.old (array_vec_len frames.old) N }
+    requires held { HoldAll R.rule board.old (refutes R.rule contest board.old) (Some refuting) }
     ensures rest { Keeps board.old board.new frames.old.items frames.new.items }
     ensures next { IsNext R.rule board.old (refutes R.rule contest board.old)
         place.old place.new result }
 {
     let mut known = None;
     while let Some(by) = next_move::<R>(&mut known, place, board) {
-        if refutes::<R, N>(contest, by, board, frames, search_state) {
+        if is_refutation::<R, N>(contest, refuting, by, board, frames, search_state) {
             return Some(by);
         }
     }

@@ -147,10 +147,11 @@ pub(crate) fn find_first<R: Rules, const N: usize>(
         return end_group(task, group, firsts.count, None);
     }
     let mut next = firsts;
-    let Some((by, undo)) = play_next::<R, N>(task, &mut next, board, frames, search_state) else {
+    let found = play_next::<R, N>(task, &mut next, board, frames, search_state);
+    let Some((by, undo, refuting)) = found else {
         return end_group(task, group, firsts.count, next.candidates);
     };
-    begin_first(task, next.counted(), by, undo, board)
+    begin_first(task, next.counted(), by, undo, refuting, board)
 }
 
 /// Shows a first move that has been played: takes it back, since it is shown from the position before it, and
@@ -161,12 +162,13 @@ fn begin_first<R: Rules>(
     firsts: Firsts<R>,
     by: Move,
     undo: Undo,
+    refuting: MoveSet,
     board: &mut Board,
 ) -> Step<R>
     requires came { CameBy R.rule by undo board.old (play_start task.now.problem) }
     ensures unchanged { board.new ≡ board.old }
     ensures stage { result.stage ≡ Faced
-        (record { firsts = firsts; by = by; undo = undo; threat = None }) }
+        (record { firsts = firsts; by = by; undo = undo; threat = None; refuting = refuting }) }
     ensures event { result.event ≡ Some (try_event_of R.rule task.now.problem
         (bare_first firsts.group by)) }
 {
@@ -179,6 +181,7 @@ fn begin_first<R: Rules>(
         by,
         undo,
         threat: None,
+        refuting,
     };
     Step {
         stage: TriesStage::Faced { first },

@@ -43,6 +43,17 @@ impl MoveSet {
             arrivals: self.arrivals | 1u64 << by.to.index(),
         }
     }
+
+    /// Returns the set with the move put into it if `passes`.
+    pub fn with_if(self, passes: bool, by: &Move) -> MoveSet
+        ensures put { passes ≡ true → may_hold result by.now ≡ true }
+        ensures kept { (m : Move) → may_hold self m ≡ true → may_hold result m ≡ true }
+    {
+        if passes {
+            return self.with(by);
+        }
+        self
+    }
 }
 
 /// Returns whether a move may be in the set; without a set nothing is known.

@@ -1,5 +1,5 @@
 //! Keys, tries and refutations: tests of first moves and of the replies to them.
-ghost use Rattle.std.specs.Prelude.{◌≡◌, ◌+◌, ◌≤◌, filter, not, min, true, length};
+ghost use Rattle.std.specs.Prelude.{◌≡◌, ◌+◌, ◌≤◌, filter, not, min, true, length, Some};
 ghost use Rattle.arrayvec.specs.ArrayVec.{array_vec_len};
 ghost use Rattle.chess_core.specs.WellFormed.{IsWellFormed};
 ghost use Rattle.chess_rules.specs.Legal.{is_legal, moves};
@@ -7,9 +7,12 @@ ghost use Rattle.pop_solve.specs.Tree.{is_in_set_play, keeps_win};
 ghost use Rattle.pop_tries.specs.Events.{chess_passing};
 ghost use Rattle.pop_tries.specs.Tries.{is_try, refutations};
 ghost use Rattle.pop_tries.specs.ties.Contests.{IsReady, Keeps, game_in};
+ghost use Rattle.chess_core.specs.declared.man.Move.{Move};
+ghost use Rattle.pop_tries.specs.ties.MoveSets.{may_hold, HoldAll};
 ghost use Rattle.pop_tries.specs.ties.FirstMoves.{gives_check, is_counted, is_refuted_by_stalemate, refutes, refutes_among};
 
 use crate::contest::Contest;
+use crate::move_set::MoveSet;
 use arrayvec::ArrayVec;
 use chess_core::board::Board;
 use chess_core::man::Move;
@@ -77,6 +80,29 @@ pub fn refutes<R: Rules, const N: usize>(
     refuted
 }
 
+/// Returns whether the legal reply `by` refutes the first move that led to the board's position; `refuting`
+/// holds the replies that do.
+#[tactic(auto, using(crate::proofs::MoveSets::not_held))]
+pub fn is_refutation<R: Rules, const N: usize>(
+    contest: Contest,
+    refuting: MoveSet,
+    by: Move,
+    board: &mut Board,
+    frames: &mut ArrayVec<Frame<R>, N>,
+    search_state: &mut SearchState<R>,
+) -> bool
+    requires ready { IsReady contest board.old (array_vec_len frames.old) N }
+    requires held { HoldAll R.rule board.old (refutes R.rule contest board.old) (Some refuting) }
+    requires legal { is_legal R.rule board.old by ≡ true }
+    ensures refutes { result ≡ refutes R.rule contest board.old by }
+    ensures rest { Keeps board.old board.new frames.old.items frames.new.items }
+{
+    if !refuting.may_hold(&by) {
+        return false;
+    }
+    refutes::<R, N>(contest, by, board, frames, search_state)
+}
+
 /// Returns whether the first move that led to the board's position is a key, if no reply refutes it.
 #[tactic(auto, using(crate::proofs::Contests::unrefuted))]
 pub fn is_key_unrefuted<R: Rules>(contest: Contest, board: &mut Board) -> bool
@@ -106,10 +132,12 @@ pub enum Counted {
 }
 
 /// A number of refutations, counted up to one more than `most`, which is 0 to 200.
-#[derive(Clone, Copy, Debug)]
+#[derive(Clone, Copy)]
 pub struct Tally {
     pub count: u32,
     pub most: u32,
+    /// Holds the refutations that were counted.
+    pub refuting: MoveSet,
 }
 
 /// Returns whether the legal move `by` gives check.
@@ -161,8 +189,8 @@ fn refutes_among<R: Rules, const N: usize>(
     refutes::<R, N>(contest, by, board, frames, search_state)
 }
 
-/// Returns the tally's count after the counted refutations of the first move that led to the board's position.
-#[tactic(auto, using(crate::proofs::Loops::counting, pop_battle::proofs::Boards::after_start))]
+/// Returns the tally after the counted refutations of the first move that led to the board's position.
+#[tactic(auto, using(crate::proofs::Loops::counting, crate::proofs::MoveSets::filling, pop_battle::proofs::Boards::after_start))]
 fn count_among<R: Rules, const N: usize>(
     contest: Contest,
     counted: Counted,
@@ -170,29 +198,43 @@ fn count_among<R: Rules, const N: usize>(
     board: &mut Board,
     frames: &mut ArrayVec<Frame<R>, N>,
     search_state: &mut SearchState<R>,
-) -> u32
+) -> Tally
     requires ready { IsReady contest board.old (array_vec_len frames.old) N }
     requires few { (tally.count ≤ tally.most) × (tally.most ≤ 200) }
-    ensures count { result ≡ min (tally.count + length (filter (refutes_among R.rule contest counted
-        board.old) (moves R.rule board.old))) (tally.most + 1) }
+    ensures count { result.count ≡ min (tally.count + length (filter (refutes_among R.rule contest
+        counted board.old) (moves R.rule board.old))) (tally.most + 1) }
+    ensures most { result.most ≡ tally.most }
+    ensures kept { (m : Move) → may_hold tally.refuting m ≡ true → may_hold result.refuting m ≡ true }
+    ensures held { result.count ≤ tally.most → HoldAll R.rule board.old (refutes_among R.rule contest
+        counted board.old) (Some result.refuting) }
     ensures rest { Keeps board.old board.new frames.old.items frames.new.items }
 {
     let mut known = None;
     let mut place = Moves::<R>::start();
     let mut count = tally.count;
+    let mut refuting = tally.refuting;
     while let Some(by) = next_move::<R>(&mut known, &mut place, board) {
         if refutes_among::<R, N>(contest, counted, by, board, frames, search_state) {
             count += 1;
+            refuting = refuting.with(&by);
             if count > tally.most {
-                return count;
+                return Tally {
+                    count,
+                    most: tally.most,
+                    refuting,
+                };
             }
         }
     }
-    count
+    Tally {
+        count,
+        most: tally.most,
+        refuting,
+    }
 }
 
-/// Returns the number of refutations of the first move that led to the board's position, counted up to one
-/// more than `most`. With two or more moves to come it begins with checks: they leave White few moves.
+/// Returns the refutations of the first move that led to the board's position, counted up to one more than
+/// `most`. With two or more moves to come it begins with checks: they leave White few moves.
 #[tactic(auto, using(crate::proofs::Counts::counting_parts))]
 pub fn count_refutations<R: Rules, const N: usize>(
     contest: Contest,
@@ -200,22 +242,27 @@ pub fn count_refutations<R: Rules, const N: usize>(
     board: &mut Board,
     frames: &mut ArrayVec<Frame<R>, N>,
     search_state: &mut SearchState<R>,
-) -> u32
+) -> Tally
     requires ready { IsReady contest board.old (array_vec_len frames.old) N }
     requires few { most ≤ 200 }
-    ensures count { result ≡ min (length (refutations contest.battle (game_in R.rule contest)
+    ensures count { result.count ≡ min (length (refutations contest.battle (game_in R.rule contest)
         contest.stipulation.n board.old)) (most + 1) }
+    ensures held { result.count ≤ most → HoldAll R.rule board.old (refutes R.rule contest board.old)
+        (Some result.refuting) }
     ensures rest { Keeps board.old board.new frames.old.items frames.new.items }
 {
-    let none = Tally { count: 0, most };
+    let none = Tally {
+        count: 0,
+        most,
+        refuting: MoveSet::none(),
+    };
     if contest.stipulation.half_moves() < 5 {
         return count_among::<R, N>(contest, Counted::All, none, board, frames, search_state);
     }
-    let count = count_among::<R, N>(contest, Counted::Checks, none, board, frames, search_state);
-    if count > most {
-        return count;
+    let some = count_among::<R, N>(contest, Counted::Checks, none, board, frames, search_state);
+    if some.count > most {
+        return some;
     }
-    let some = Tally { count, most };
     count_among::<R, N>(contest, Counted::Others, some, board, frames, search_state)
 }
 
@@ -234,11 +281,13 @@ fn is_refuted_by_stalemate<R: Rules>(contest: Contest, board: &mut Board) -> boo
 }
 
 /// Returns whether the first move that led to the board's position is a try with at most `most` refutations.
-/// A refuted move is no key, so the number of refutations decides, or stalemate where no reply refutes.
+/// A refuted move is no key, so the number of refutations decides, or stalemate where no reply refutes. Sets
+/// `refuting` to a set that holds the refutations of a try.
 #[tactic(auto, using(crate::proofs::Contests::trying))]
 pub fn is_try<R: Rules, const N: usize>(
     contest: Contest,
     most: u32,
+    refuting: &mut MoveSet,
     board: &mut Board,
     frames: &mut ArrayVec<Frame<R>, N>,
     search_state: &mut SearchState<R>,
@@ -247,14 +296,17 @@ pub fn is_try<R: Rules, const N: usize>(
     requires few { most ≤ 200 }
     ensures tried { result ≡ is_try contest.battle (game_in R.rule contest) contest.stipulation.n
         (chess_passing R.rule) most board.old }
+    ensures held { result ≡ true → HoldAll R.rule board.old (refutes R.rule contest board.old)
+        (Some refuting.new) }
     ensures rest { Keeps board.old board.new frames.old.items frames.new.items }
 {
     if most == 0 {
         return false;
     }
-    let count = count_refutations::<R, N>(contest, most, board, frames, search_state);
-    if count == 0 {
+    let tally = count_refutations::<R, N>(contest, most, board, frames, search_state);
+    *refuting = tally.refuting;
+    if tally.count == 0 {
         return is_refuted_by_stalemate::<R>(contest, board);
     }
-    count <= most
+    tally.count <= most
 }

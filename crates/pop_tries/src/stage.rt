@@ -8,6 +8,7 @@ use crate::below::{Base, WalkBelow};
 use crate::contest::Contest;
 use crate::first_moves::Group;
 use crate::move_set::MoveSet;
+use crate::threats::Threat;
 use chess_core::man::Move;
 use chess_core::square::Square;
 use chess_rules::{Moves, Rules, Undo};
@@ -94,7 +95,9 @@ pub struct First<R: Rules> {
     pub undo: Undo,
     /// The length of White's threats: the least number of half-moves within which they win. `None` if White
     /// threatens nothing, or before stage `Faced` has looked for threats.
-    pub threat: Option<usize>,
+    pub threat: Option<Threat>,
+    /// Holds the replies that refute.
+    pub refuting: MoveSet,
 }
 
 /// A reply that has been played.

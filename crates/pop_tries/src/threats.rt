@@ -1,5 +1,6 @@
 //! Threats, and defences against them: Black passes, and White's moves are tried.
-ghost use Rattle.std.specs.Prelude.{◌≡◌, ◌+◌, ◌-◌, ◌≤◌, true};
+ghost use Rattle.std.specs.Prelude.{◌≡◌, ◌+◌, ◌-◌, ◌≤◌, true, Some};
+ghost use Rattle.pop_tries.specs.ties.MoveSets.{HoldAll};
 ghost use Rattle.arrayvec.specs.ArrayVec.{array_vec_len};
 ghost use Rattle.chess_core.specs.WellFormed.{IsWellFormed};
 ghost use Rattle.chess_core.specs.Position.{Position};
@@ -10,10 +11,11 @@ ghost use Rattle.pop_stipulation.specs.Stipulations.{half_moves};
 ghost use Rattle.pop_solve.specs.Tree.{keeps_win, wins_in};
 ghost use Rattle.pop_tries.specs.Events.{chess_passing};
 ghost use Rattle.pop_tries.specs.Tries.{has_threat, is_defence, works};
-ghost use Rattle.pop_tries.specs.ties.Contests.{IsLength, IsReady, IsThreat, Keeps, game_in, moves_of};
+ghost use Rattle.pop_tries.specs.ties.Contests.{wins_within, AreThreats, IsLength, IsReady, IsThreat, Keeps, game_in, moves_of};
 ghost use Rattle.chess_rules.specs.ties.Places.{all_triples, triple_at};
 
 use crate::contest::Contest;
+use crate::move_set::MoveSet;
 use arrayvec::ArrayVec;
 use chess_core::board::Board;
 use chess_core::man::Move;
@@ -25,6 +27,15 @@ use pop_battle::search_state::SearchState;
 use pop_battle::value::value_of;
 use pop_solve::plan::Plan;
 use pop_solve::walk::walk_length;
+
+/// White's threats after a first move.
+#[derive(Clone, Copy)]
+pub struct Threat {
+    /// The least number of half-moves within which they win.
+    pub length: usize,
+    /// Holds them.
+    pub moves: MoveSet,
+}
 
 /// Lets the side to move pass. Returns the en passant square, which `unpass` needs.
 pub fn pass(board: &mut Board) -> Option<Square>
@@ -141,6 +152,55 @@ fn wins_by<R: Rules, const N: usize>(
     wins
 }
 
+/// Returns a set that holds each move with which White, to move, wins within `length` half-moves.
+#[tactic(auto, using(crate::proofs::MoveSets::filling, pop_battle::proofs::Boards::after_start))]
+fn winning_moves<R: Rules, const N: usize>(
+    contest: Contest,
+    length: usize,
+    board: &mut Board,
+    frames: &mut ArrayVec<Frame<R>, N>,
+    search_state: &mut SearchState<R>,
+) -> MoveSet
+    requires length { IsLength contest length }
+    requires well_formed { IsWellFormed board.old }
+    requires room { array_vec_len frames.old + length ≤ N }
+    ensures held { HoldAll R.rule board.old (wins_within R.rule contest length board.old)
+        (Some result) }
+    ensures rest { Keeps board.old board.new frames.old.items frames.new.items }
+{
+    let mut known = None;
+    let mut place = Moves::<R>::start();
+    let mut moves = MoveSet::none();
+    while let Some(by) = next_move::<R>(&mut known, &mut place, board) {
+        let wins = wins_by::<R, N>(contest, length, by, board, frames, search_state);
+        moves = moves.with_if(wins, &by);
+    }
+    moves
+}
+
+/// Returns what is known of White's threats after the first move that led to the board's position, or `None` if
+/// White threatens nothing.
+#[tactic(auto, using(crate::proofs::Contests::passed_well_formed))]
+pub fn find_threat<R: Rules, const N: usize>(
+    contest: Contest,
+    board: &mut Board,
+    frames: &mut ArrayVec<Frame<R>, N>,
+    search_state: &mut SearchState<R>,
+) -> Option<Threat>
+    requires ready { IsReady contest board.old (array_vec_len frames.old) N }
+    ensures threat { AreThreats R.rule contest board.old result }
+    ensures rest { Keeps board.old board.new frames.old.items frames.new.items }
+{
+    let found = threat_length::<R, N>(contest, board, frames, search_state);
+    let Some(length) = found else {
+        return None;
+    };
+    let crossed = pass(board);
+    let moves = winning_moves::<R, N>(contest, length, board, frames, search_state);
+    unpass(board, crossed);
+    Some(Threat { length, moves })
+}
+
 /// Returns whether the move at `place` is legal in the board's position and wins within `length` half-moves.
 #[tactic(auto, using(chess_rules::proofs::listing_moves::Between::stands_on, chess_rules::proofs::listing_moves::Between::stands_off))]
 fn works<R: Rules, const N: usize>(
@@ -165,19 +225,45 @@ fn works<R: Rules, const N: usize>(
     }
 }
 
-/// Returns whether the legal reply `by` to the first move that led to the board's position is a defence.
-/// `threat` is the least number of half-moves within which White's threats win, or `None` if White threatens
-/// nothing.
-#[tactic(auto, using(crate::proofs::Loops::looking, crate::proofs::Contests::defending, pop_battle::proofs::Boards::after_start))]
-pub fn is_defence<R: Rules, const N: usize>(
+/// Returns whether White, to move, threatened the legal move `by`: whether it wins within the length of the
+/// threats, which are known.
+#[tactic(auto, using(crate::proofs::MoveSets::not_held))]
+fn is_threat<R: Rules, const N: usize>(
     contest: Contest,
-    threat: Option<usize>,
+    threat: Threat,
     by: Move,
     board: &mut Board,
     frames: &mut ArrayVec<Frame<R>, N>,
     search_state: &mut SearchState<R>,
 ) -> bool
-    requires threat { IsThreat R.rule contest board.old threat }
+    requires length { IsLength contest threat.length }
+    requires well_formed { IsWellFormed board.old }
+    requires held { HoldAll R.rule board.old (wins_within R.rule contest threat.length board.old)
+        (Some threat.moves) }
+    requires legal { is_legal R.rule board.old by ≡ true }
+    requires room { array_vec_len frames.old + threat.length ≤ N }
+    ensures wins { result ≡ keeps_win contest.battle (game_in R.rule contest) (moves_of threat.length)
+        (position_after R.rule board.old by) }
+    ensures rest { Keeps board.old board.new frames.old.items frames.new.items }
+{
+    if !threat.moves.may_hold(&by) {
+        return false;
+    }
+    wins_by::<R, N>(contest, threat.length, by, board, frames, search_state)
+}
+
+/// Returns whether the legal reply `by` to the first move that led to the board's position is a defence.
+/// `threat` is what is known of White's threats, or `None` if White threatens nothing.
+#[tactic(auto, using(crate::proofs::Loops::looking, crate::proofs::Contests::defending, pop_battle::proofs::Boards::after_start))]
+pub fn is_defence<R: Rules, const N: usize>(
+    contest: Contest,
+    threat: Option<Threat>,
+    by: Move,
+    board: &mut Board,
+    frames: &mut ArrayVec<Frame<R>, N>,
+    search_state: &mut SearchState<R>,
+) -> bool
+    requires threat { AreThreats R.rule contest board.old threat }
     requires well_formed { IsWellFormed board.old }
     requires legal { is_legal R.rule board.old by ≡ true }
     requires room { array_vec_len frames.old + half_moves contest.stipulation ≤ N }
@@ -185,17 +271,17 @@ pub fn is_defence<R: Rules, const N: usize>(
         contest.stipulation.n (chess_passing R.rule) board.old by }
     ensures rest { Keeps board.old board.new frames.old.items frames.new.items }
 {
-    let Some(length) = threat else {
+    let Some(threats) = threat else {
         return true;
     };
     let mut known = None;
     let mut place = Moves::<R>::start();
     let mut crossed = pass(board);
     while let Some(tried) = next_move::<R>(&mut known, &mut place, board) {
-        if wins_by::<R, N>(contest, length, tried, board, frames, search_state) {
+        if is_threat::<R, N>(contest, threats, tried, board, frames, search_state) {
             unpass(board, crossed);
             let undo = play::<R>(board, by);
-            let still = works::<R, N>(contest, length, place, board, frames, search_state);
+            let still = works::<R, N>(contest, threats.length, place, board, frames, search_state);
             unplay::<R>(board, by, undo);
             if !still {
                 return true;

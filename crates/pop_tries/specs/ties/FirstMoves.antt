@@ -1,5 +1,5 @@
 -- The groups of first moves that a search shows, and the replies shown below one (own).
-use Rattle.std.specs.Prelude.{◌≡◌, ◌&&◌, ℕ, Bool, not, true, false, List, [], ◌∷◌, filter, Option, MatchOption}
+use Rattle.std.specs.Prelude.{◌≡◌, ◌&&◌, ℕ, Bool, not, true, false, List, [], ◌∷◌, filter, Option, Some, MatchOption}
 use Rattle.chess_core.specs.Position.{Position}
 use Rattle.chess_core.specs.declared.man.Move.{Move}
 use Rattle.chess_attacks.specs.Attacks.{in_check}
@@ -59,17 +59,6 @@ abbrev pub IsAsked : Group → ℕ → Type 0
 IsAsked Keys most = Unit {0}
 IsAsked (Tries some) most = some ≡ most
 
--- the next first move of a group after a place among the moves of p was found and played: `next` is its place
-abbrev pub IsPlayed : RuleSet → Contest → Group → (p board : Position) → (place next : ℕ)
-    → Option (Move × Undo) → Type 0
-IsPlayed rule contest group p board place next found = MatchOption found
-    ((firsts_after rule contest group p place ≡ []) × (board ≡ p))
-    (λ f. (firsts_after rule contest group p place
-    ≡ f.0 ∷ firsts_after rule contest group p next)
-    × (board ≡ position_after rule p f.0)
-    × (f.1 ≡ undo_of rule p f.0)
-    × (is_legal rule p f.0 ≡ true))
-
 -- the reply d to a first move that leads to q is shown: a defence that doesn't refute
 abbrev pub is_shown : RuleSet → Contest → Position → Move → Bool
 is_shown rule contest q d =
@@ -82,6 +71,19 @@ is_shown rule contest q d =
 abbrev pub refutes : RuleSet → Contest → Position → Move → Bool
 refutes rule contest q d = not (is_in_set_play contest.battle (game_in rule contest)
     contest.stipulation.n (position_after rule q d))
+
+-- the next first move of a group after a place among the moves of p was found and played: `next` is its place
+abbrev pub IsPlayed : RuleSet → Contest → Group → (p board : Position) → (place next : ℕ)
+    → Option (Move × Undo × MoveSet) → Type 0
+IsPlayed rule contest group p board place next found = MatchOption found
+    ((firsts_after rule contest group p place ≡ []) × (board ≡ p))
+    (λ f. (firsts_after rule contest group p place
+    ≡ f.0 ∷ firsts_after rule contest group p next)
+    × (board ≡ position_after rule p f.0)
+    × (f.1 ≡ undo_of rule p f.0)
+    × (is_legal rule p f.0 ≡ true)
+    × HoldAll rule (position_after rule p f.0) (refutes rule contest (position_after rule p f.0))
+    (Some f.2))
 
 -- the move d of q gives check
 abbrev pub gives_check : RuleSet → Position → Move → Bool

@@ -23,7 +23,7 @@ use Rattle.pop_solve.specs.ties.Walk.{IsWalking, to_come}
 use Rattle.pop_tries.specs.Tries.{Below, below_reply, refutation, reply, shown_refutations, stalemate, threatened}
 use Rattle.pop_tries.specs.Events.{BareTryEvent, attempt, below, events_of_tries, key, key_total, keys, no_tries, play_events, set_event, shown_below, tries, try_total}
 use Rattle.pop_tries.specs.Shown.{try_event_of}
-use Rattle.pop_tries.specs.ties.Contests.{IsContest, IsThreat}
+use Rattle.pop_tries.specs.ties.Contests.{AreThreats, IsContest}
 use Rattle.pop_tries.specs.ties.FirstMoves.{firsts_after as firsts_of, is_shown, is_try_after, refutes, AreCandidates, IsAsked}
 use Rattle.pop_tries.specs.ties.MoveSets.{HoldAll}
 use Rattle.pop_tries.specs.declared.move_set.MoveSet.{MoveSet}
@@ -262,19 +262,21 @@ module _ (rule : RuleSet) (task : Task) where
   pub record IsFirst {A : Type 0} (first : First A) : Type 0 where
     pub came : CameBy rule first.by first.undo (after_first first.by) (play_start task.problem)
     pub sound : IsWellFormed (after_first first.by)
+    pub refuted : HoldAll rule (after_first first.by)
+        (refutes rule (contest_of task) (after_first first.by)) (Some first.refuting)
     pub placed : IsPlaced first.firsts
 
   -- the board has the position after a first move, whose threats have been looked for
   pub record IsAnswered {A : Type 0} (first : First A) (items : List Frame) (board : Position) : Type 0 where
     pub first_is : IsFirst first
-    pub threat : IsThreat rule (contest_of task) (after_first first.by) first.threat
+    pub threat : AreThreats rule (contest_of task) (after_first first.by) first.threat
     pub bare : IsBare (after_first first.by) items board
 
   -- a walk from p below a first move
   pub record IsWalkedBelow {A : Type 0} (first : First A) (p : Position) (items : List Frame)
       (board : Position) : Type 0 where
     pub first_is : IsFirst first
-    pub threat : IsThreat rule (contest_of task) (after_first first.by) first.threat
+    pub threat : AreThreats rule (contest_of task) (after_first first.by) first.threat
     pub walking : IsWalking rule (half_moves task.problem.stipulation - 2) p (reverse items) board
 
   -- what holds of board and frames

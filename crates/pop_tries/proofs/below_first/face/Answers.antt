@@ -38,24 +38,25 @@ returns g c =
       firsts = c.args.first.firsts;
       by = c.args.first.by;
       undo = c.args.first.undo;
-      threat = c.threat_length-threat.result;
+      threat = c.find_threat-threat.result;
+      refuting = c.args.first.refuting;
     } in
-    let keeps = c.threat_length-threat.ensures.rest in
+    let keeps = c.find_threat-threat.ensures.rest in
     let at = keeps.board ∙ (c.has_legal_move.ensures.board ∙ h.1.board_at) in
-    let t = rw (c.contest.ensures, c.has_legal_move.ensures.board, h.1.board_at) at c.threat_length-threat.ensures.threat in
-    let none : is_some c.threat_length-threat.result ≡ false = search rules in
+    let t = rw (c.contest.ensures, c.has_legal_move.ensures.board, h.1.board_at) at c.find_threat-threat.ensures.threat in
+    let none : is_some c.find_threat-threat.result ≡ false = search rules in
     let some = rw h.1.board_at at (sym (has_reply _) ∙ (sym c.has_legal_move.ensures.answer ∙ c.if-not-has_legal_move.false)) in
     let no = goes.no_threat_is rule (contest_of task) (after_first rule task first.by) first.threat none t in
     let checked = rw (c.turn.ensures, at) at c.in_check-checked.ensures in
-    let holds : HoldsAt rule task (Reply first c.start.result) c.threat_length-threat.new.frames.items c.threat_length-threat.new.board = (
+    let holds : HoldsAt rule task (Reply first c.start.result) c.find_threat-threat.new.frames.items c.find_threat-threat.new.board = (
       h.0,
       record {
-        first_is = record { came = h.2.came; sound = h.2.sound; placed = h.2.placed };
+        first_is = record { came = h.2.came; sound = h.2.sound; refuted = h.2.refuted; placed = h.2.placed };
         threat = t;
         bare = record { board_at = at; none = keeps.frames ∙ h.1.none };
       },
     ) in
     with_event rule task (Faced c.args.first) _ _ _ _ holds _ _
-    (steps.faced_without rule task h.0 first c.start.result c.args.frames.now.items c.threat_length-threat.new.frames.items _ c.start.ensures
+    (steps.faced_without rule task h.0 first c.start.result c.args.frames.now.items c.find_threat-threat.new.frames.items _ c.start.ensures
     (steps.shown_without_threats rule task h.0 first some no))
     (c.faced_event.ensures ∙ ap event_of_faced checked ∙ goes.faced_shown task.problem.stipulation.goal rule (after_first rule task first.by) _)

@@ -20,8 +20,8 @@ returns-in_default g c =
     let h = c.requires.holds in
     let firsts = c.args.firsts in
     let next = rw h.1.board_at at c.in_default.ensures.next in
-    let bare : IsBare (play_start c.args.task.now.problem) c.play_next.new.frames.items c.play_next.new.board =
-    record { board_at = next.1; none = c.play_next.ensures.frames ∙ h.1.none } in
+    let bare : IsBare (play_start c.args.task.now.problem) c.play_next-found.new.frames.items c.play_next-found.new.board =
+    record { board_at = next.1; none = c.play_next-found.ensures.frames ∙ h.1.none } in
     goes.group_ended g.R.Rules.rule c.args.task.now firsts _ _ _ _ _ (c.end_group-in_default.ensures.goes _ _ bare)
     (c.end_group-in_default.ensures.emits _) c.end_group-in_default.ensures.event
     (steps.emptied_ends g.R.Rules.rule c.args.task.now firsts.group firsts.place firsts.count next.0)
@@ -36,8 +36,8 @@ returns g c =
     let next = rw h.1.board_at at c.in-Some.ensures.next in
     let noted = rw h.1.board_at at c.in-Some.ensures.noted in
     let open_yet = sym c.is_stopped.ensures ∙ c.if-is_stopped.false in
-    rw (c.begin_first.ensures.stage, c.begin_first.ensures.event, c.counted.ensures, c.play_next.ensures.group, c.play_next.ensures.count)
+    rw (c.begin_first.ensures.stage, c.begin_first.ensures.event, c.counted.ensures, c.play_next-found.ensures.group, c.play_next-found.ensures.count)
     (goes.with_event rule task _ _ _ _ _
-    (goes.first_holds rule task h.0 c.requires.is_task firsts h.2 _ _ _ _ next.0 open_yet noted next.3 next.2 _ _ (c.play_next.ensures.frames ∙ h.1.none)
+    (goes.first_holds rule task h.0 c.requires.is_task firsts h.2 _ _ _ _ _ next.0 open_yet noted next.3 next.2 next.4 _ _ (c.play_next-found.ensures.frames ∙ h.1.none)
     (c.begin_first.ensures.unchanged ∙ next.1))
-    _ (first_event firsts.group _) (goes.first_comes rule task h.0 c.requires.is_task firsts h.2 _ _ _ _ next.0 open_yet _ _) refl)
+    _ (first_event firsts.group _) (goes.first_comes rule task h.0 c.requires.is_task firsts h.2 _ _ _ _ _ next.0 open_yet _ _) refl)

@@ -9,14 +9,14 @@ use Rattle.pop_tries.proofs.threats.is_defence.Given as goal
 -- Black has passed; whether the reply stops a threat depends on the threats still to come
 abbrev pub invariant-loop-tried : goal.invariant-loop-tried
 invariant-loop-tried g l = (l.board ≡ set_start l.fn.board) × (l.crossed ≡ l.fn.board.crossed) × (l.frames.items ≡ l.fn.frames.items)
-    × IfSome l.known (λ k. IsPlaceIn g.R.Rules.rule (set_start l.fn.board) k) × (l.fn.threat ≡ Some l.length)
+    × IfSome l.known (λ k. IsPlaceIn g.R.Rules.rule (set_start l.fn.board) k) × (l.fn.threat ≡ Some l.threats)
     × (list_any (λ t. not (works l.fn.contest.battle (game_in g.R.Rules.rule l.fn.contest) l.fn.contest.stipulation.n (chess_passing g.R.Rules.rule)
-    (moves_of l.length) (position_after g.R.Rules.rule l.fn.board l.fn.by) t))
-    (filter (λ m. keeps_win l.fn.contest.battle (game_in g.R.Rules.rule l.fn.contest) (moves_of l.length)
+    (moves_of l.threats.length) (position_after g.R.Rules.rule l.fn.board l.fn.by) t))
+    (filter (λ m. keeps_win l.fn.contest.battle (game_in g.R.Rules.rule l.fn.contest) (moves_of l.threats.length)
     (position_after g.R.Rules.rule (set_start l.fn.board) m)) (moves_after g.R.Rules.rule (set_start l.fn.board) l.place))
     ≡ list_any (λ t. not (works l.fn.contest.battle (game_in g.R.Rules.rule l.fn.contest) l.fn.contest.stipulation.n (chess_passing g.R.Rules.rule)
-    (moves_of l.length) (position_after g.R.Rules.rule l.fn.board l.fn.by) t))
-    (filter (λ m. keeps_win l.fn.contest.battle (game_in g.R.Rules.rule l.fn.contest) (moves_of l.length)
+    (moves_of l.threats.length) (position_after g.R.Rules.rule l.fn.board l.fn.by) t))
+    (filter (λ m. keeps_win l.fn.contest.battle (game_in g.R.Rules.rule l.fn.contest) (moves_of l.threats.length)
     (position_after g.R.Rules.rule (set_start l.fn.board) m)) (legal_moves g.R.Rules.rule (set_start l.fn.board))))
 
 abbrev pub decreases-loop-tried : goal.decreases-loop-tried

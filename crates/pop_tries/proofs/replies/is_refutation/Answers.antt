@@ -1,0 +1,10 @@
+use Rattle.pop_tries.proofs.Words.{Some, sym, ◌∙◌}
+use Rattle.pop_tries.specs.ties.FirstMoves.{refutes}
+use Rattle.pop_tries.proofs.MoveSets.{not_held}
+use Rattle.pop_tries.proofs.replies.is_refutation.Goals as goal
+
+pub returns-then-not-may_hold-clause-refutes : goal.returns-then-not-may_hold-clause-refutes
+returns-then-not-may_hold-clause-refutes g c =
+    let p = c.args.board.now in
+    sym (not_held g.R.Rules.rule p (refutes g.R.Rules.rule c.args.contest p) (Some c.args.refuting) c.args.by c.requires.held c.requires.ready.well_formed
+    c.requires.legal (sym c.may_hold.ensures ∙ c.if-not-may_hold.true))
