@@ -1,10 +1,10 @@
--- Refutations counted in parts: checks, and the other replies.
+-- Refutations counted in parts: forcing replies, and the others.
 use Rattle.pop_tries.proofs.Words.{Bool, Some, false, true, List, Move, Position, RuleSet, [], arith, filter, length, legal_moves, not, refl, refutations, ℕ, ◌&&◌, ◌+◌, ◌<◌, ◌∷◌, ◌≡◌, ◌≤◌}
 use Rattle.std.proofs.Common.{min}
 use Rattle.pop_tries.specs.declared.contest.Contest.{Contest}
-use Rattle.pop_tries.specs.declared.replies.Counted.TheVariants.{All, Checks, Others}
+use Rattle.pop_tries.specs.declared.replies.Counted.TheVariants.{All, Forcing, Others}
 use Rattle.pop_tries.specs.ties.Contests.{game_in}
-use Rattle.pop_tries.specs.ties.FirstMoves.{gives_check, refutes, refutes_among}
+use Rattle.pop_tries.specs.ties.FirstMoves.{is_forcing, refutes, refutes_among}
 use Rattle.pop_tries.specs.declared.move_set.MoveSet.{MoveSet}
 use Rattle.pop_tries.specs.ties.MoveSets.{HoldAll, may_hold}
 
@@ -18,14 +18,14 @@ module _ (rule : RuleSet) (contest : Contest) (q : Position) where
   abbrev all : ℕ
   all = length (refutations contest.battle (game_in rule contest) contest.stipulation.n q)
 
-  abbrev checks : ℕ
-  checks = length (filter (refutes_among rule contest Checks q) (legal_moves rule q))
+  abbrev forced : ℕ
+  forced = length (filter (refutes_among rule contest Forcing q) (legal_moves rule q))
 
   abbrev others : ℕ
   others = length (filter (refutes_among rule contest Others q) (legal_moves rule q))
 
-  both : checks + others ≡ all
-  both = parts (gives_check rule q) (refutes rule contest q) (legal_moves rule q)
+  both : forced + others ≡ all
+  both = parts (is_forcing rule q) (refutes rule contest q) (legal_moves rule q)
 
   -- all at once
   pub counted_at_once : (count most : ℕ) → count ≡ min (0 + length (filter (refutes_among rule contest All q) (legal_moves rule q))) (most + 1)
@@ -33,24 +33,24 @@ module _ (rule : RuleSet) (contest : Contest) (q : Position) where
   counted_at_once count most e =
       let same : length (filter (refutes_among rule contest All q) (legal_moves rule q)) ≡ all = refl in omega (arith, e, same)
 
-  -- checks are too many
-  pub too_many_checks : (count most : ℕ) → count ≡ min (0 + checks) (most + 1) → most < count → count ≡ min all (most + 1)
-  too_many_checks count most e more = omega (arith, both, e, more)
+  -- the forcing replies are too many
+  pub too_many_forced : (count most : ℕ) → count ≡ min (0 + forced) (most + 1) → most < count → count ≡ min all (most + 1)
+  too_many_forced count most e more = omega (arith, both, e, more)
 
   -- the other replies too
-  pub counted_in_parts : (before count most : ℕ) → before ≡ min (0 + checks) (most + 1) → before ≤ most
+  pub counted_in_parts : (before count most : ℕ) → before ≡ min (0 + forced) (most + 1) → before ≤ most
       → count ≡ min (before + others) (most + 1) → count ≡ min all (most + 1)
   counted_in_parts before count most e few f = omega (arith, both, e, few, f)
 
-  -- checks that refute are held, and then the other replies that do
-  pub held_in_parts : (first both : MoveSet) → HoldAll rule q (refutes_among rule contest Checks q) (Some first)
+  -- forcing replies that refute are held, and then the others that do
+  pub held_in_parts : (first both : MoveSet) → HoldAll rule q (refutes_among rule contest Forcing q) (Some first)
       → ((m : Move) → may_hold first m ≡ true → may_hold both m ≡ true)
       → HoldAll rule q (refutes_among rule contest Others q) (Some both) → HoldAll rule q (refutes rule contest q) (Some both)
-  held_in_parts first both one kept two m c r = by (gives_check rule q m) refl
+  held_in_parts first both one kept two m c r = by (is_forcing rule q m) refl
     where
-      by : (b : Bool) → gives_check rule q m ≡ b → may_hold both m ≡ true
+      by : (b : Bool) → is_forcing rule q m ≡ b → may_hold both m ≡ true
       by true e = kept m (one m c (rw (e, r) refl))
       by false e = two m c (rw (e, r) refl)
 
 -- for a count in parts
-pub ruleset counting_parts = (counted_at_once, too_many_checks, counted_in_parts, held_in_parts)
+pub ruleset counting_parts = (counted_at_once, too_many_forced, counted_in_parts, held_in_parts)

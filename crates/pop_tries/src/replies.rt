@@ -9,13 +9,13 @@ ghost use Rattle.pop_tries.specs.Tries.{is_try, refutations};
 ghost use Rattle.pop_tries.specs.ties.Contests.{IsReady, Keeps, game_in};
 ghost use Rattle.chess_core.specs.declared.man.Move.{Move};
 ghost use Rattle.pop_tries.specs.ties.MoveSets.{may_hold, HoldAll};
-ghost use Rattle.pop_tries.specs.ties.FirstMoves.{gives_check, is_counted, is_refuted_by_stalemate, refutes, refutes_among};
+ghost use Rattle.pop_tries.specs.ties.FirstMoves.{gives_check, is_counted, is_forcing, is_heavy, is_refuted_by_stalemate, refutes, refutes_among};
 
 use crate::contest::Contest;
 use crate::move_set::MoveSet;
 use arrayvec::ArrayVec;
 use chess_core::board::Board;
-use chess_core::man::Move;
+use chess_core::man::{Kind, Man, Move};
 use chess_rules::{Moves, Rules, has_legal_move, in_check, is_stalemate, play, unplay};
 use pop_battle::chess::{next_move, reaches_goal};
 use pop_battle::frame::Frame;
@@ -125,8 +125,8 @@ pub fn is_key_unrefuted<R: Rules>(contest: Contest, board: &mut Board) -> bool
 #[derive(Clone, Copy, Debug)]
 pub enum Counted {
     All,
-    /// The replies that give check.
-    Checks,
+    /// The replies that give check or take a queen or a rook.
+    Forcing,
     /// The replies that don't.
     Others,
 }
@@ -154,6 +154,29 @@ fn gives_check<R: Rules>(by: Move, board: &mut Board) -> bool
     checks
 }
 
+/// Returns whether a man is a queen or a rook.
+fn is_heavy(man: Option<Man>) -> bool
+    ensures { result ≡ is_heavy man }
+{
+    match man {
+        Some(man) => man.kind.is(Kind::Queen) || man.kind.is(Kind::Rook),
+        None => false,
+    }
+}
+
+/// Returns whether the legal move `by` gives check or takes a queen or a rook.
+fn is_forcing<R: Rules>(by: Move, board: &mut Board) -> bool
+    requires well_formed { IsWellFormed board.old }
+    requires legal { is_legal R.rule board.old by ≡ true }
+    ensures forcing { result ≡ is_forcing R.rule board.old by }
+    ensures unchanged { board.new ≡ board.old }
+{
+    if is_heavy(board.man_at(by.to)) {
+        return true;
+    }
+    gives_check::<R>(by, board)
+}
+
 /// Returns whether the legal reply `by` is one of those that are counted.
 fn is_counted<R: Rules>(counted: Counted, by: Move, board: &mut Board) -> bool
     requires well_formed { IsWellFormed board.old }
@@ -163,8 +186,8 @@ fn is_counted<R: Rules>(counted: Counted, by: Move, board: &mut Board) -> bool
 {
     match counted {
         Counted::All => true,
-        Counted::Checks => gives_check::<R>(by, board),
-        Counted::Others => !gives_check::<R>(by, board),
+        Counted::Forcing => is_forcing::<R>(by, board),
+        Counted::Others => !is_forcing::<R>(by, board),
     }
 }
 
@@ -234,7 +257,7 @@ fn count_among<R: Rules, const N: usize>(
 }
 
 /// Returns the refutations of the first move that led to the board's position, counted up to one more than
-/// `most`. With two or more moves to come it begins with checks: they leave White few moves.
+/// `most`. With two or more moves to come it begins with forcing replies: they leave White few moves.
 #[tactic(auto, using(crate::proofs::Counts::counting_parts))]
 pub fn count_refutations<R: Rules, const N: usize>(
     contest: Contest,
@@ -259,7 +282,7 @@ pub fn count_refutations<R: Rules, const N: usize>(
     if contest.stipulation.half_moves() < 5 {
         return count_among::<R, N>(contest, Counted::All, none, board, frames, search_state);
     }
-    let some = count_among::<R, N>(contest, Counted::Checks, none, board, frames, search_state);
+    let some = count_among::<R, N>(contest, Counted::Forcing, none, board, frames, search_state);
     if some.count > most {
         return some;
     }

@@ -1,6 +1,8 @@
 -- The groups of first moves that a search shows, and the replies shown below one (own).
-use Rattle.std.specs.Prelude.{◌≡◌, ◌&&◌, ℕ, Bool, not, true, false, List, [], ◌∷◌, filter, Option, Some, MatchOption}
-use Rattle.chess_core.specs.Position.{Position}
+use Rattle.std.specs.Prelude.{◌≡◌, ◌&&◌, ℕ, Bool, not, true, false, List, [], ◌∷◌, filter, ◌||◌, Option, None, Some, MatchOption}
+use Rattle.chess_core.specs.Position.{Position, man_on, same_kind}
+use Rattle.chess_core.specs.declared.man.Kind.TheVariants.{Queen, Rook}
+use Rattle.chess_core.specs.declared.man.Man.{Man}
 use Rattle.chess_core.specs.declared.man.Move.{Move}
 use Rattle.chess_attacks.specs.Attacks.{in_check}
 use Rattle.chess_attacks.specs.RuleSet.{RuleSet}
@@ -20,7 +22,7 @@ use Rattle.pop_tries.specs.declared.first_moves.Group.{Group}
 use Rattle.pop_tries.specs.declared.first_moves.Group.TheVariants.{Keys, Tries}
 use Rattle.pop_tries.specs.declared.move_set.MoveSet.{MoveSet}
 use Rattle.pop_tries.specs.declared.replies.Counted.{Counted}
-use Rattle.pop_tries.specs.declared.replies.Counted.TheVariants.{All, Checks, Others}
+use Rattle.pop_tries.specs.declared.replies.Counted.TheVariants.{All, Forcing, Others}
 use Rattle.pop_tries.specs.ties.Contests.{game_in}
 use Rattle.pop_tries.specs.ties.MoveSets.{HoldAll, HoldBefore}
 
@@ -89,11 +91,20 @@ IsPlayed rule contest group p board place next found = MatchOption found
 abbrev pub gives_check : RuleSet → Position → Move → Bool
 gives_check rule q d = in_check rule (position_after rule q d).men (position_after rule q d).turn
 
+-- a man is a queen or a rook
+abbrev pub is_heavy : Option Man → Bool
+is_heavy None = false
+is_heavy (Some man) = same_kind man.kind Queen || same_kind man.kind Rook
+
+-- the move d of q gives check or takes a queen or a rook
+abbrev pub is_forcing : RuleSet → Position → Move → Bool
+is_forcing rule q d = is_heavy (man_on q.men d.to) || gives_check rule q d
+
 -- the move d of q is one of those that are counted
 abbrev pub is_counted : RuleSet → Position → Counted → Move → Bool
 is_counted rule q All d = true
-is_counted rule q Checks d = gives_check rule q d
-is_counted rule q Others d = not (gives_check rule q d)
+is_counted rule q Forcing d = is_forcing rule q d
+is_counted rule q Others d = not (is_forcing rule q d)
 
 -- the reply d is counted, and refutes
 abbrev pub refutes_among : RuleSet → Contest → Counted → Position → Move → Bool
