@@ -212,8 +212,8 @@ fn is_shown<R: Rules, const N: usize>(
 }
 
 /// Returns the next reply after `place` that is shown below the first move that led to the board's position,
-/// and moves `place` to it; after the last one `None`. The board is unchanged. Of `first` only what is known of
-/// threats and refutations is read.
+/// and moves `place` to it; after the last one `None`. The board is unchanged. It reads
+/// nothing of `first` but what is known of threats and refutations.
 #[tactic(auto, using(crate::proofs::Loops::filtering))]
 pub fn next_reply<R: Rules, const N: usize>(
     contest: Contest,
