@@ -188,7 +188,7 @@ pub fn play_next<R: Rules, const N: usize>(
 }
 
 /// Returns whether the legal reply `by` to the first move that led to the board's position is shown: a
-/// defence that doesn't refute. Of `first` only what is known of threats and refutations is read.
+/// defence that doesn't refute. It reads nothing of `first` but what is known of threats and refutations.
 fn is_shown<R: Rules, const N: usize>(
     contest: Contest,
     first: &First<R>,
