@@ -133,7 +133,7 @@ module _ (goal : Goal) (prey captured : ℕ) (p : Position) (q : Quest) (king : 
       let none : is_blocker p.men (other q.colour) king.from ≡ false = grind (arith, king_stands) in
       false≢true (sym none ∙ ap (is_blocker p.men (other q.colour)) same ∙ blocker)
 
-  -- the king's moves and those of a captured man
+  -- the king's moves, and the moves of a captured man
   king_and_captured : (s : ℕ) → s < 64 → is_blocker p.men (other q.colour) s ≡ true → (ends king.from).moves + (ends s).moves ≤ theirs
   unfolding price squares
   king_and_captured s small blocker =

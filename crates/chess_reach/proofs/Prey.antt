@@ -44,7 +44,7 @@ prey_up c w s t white small low on to = elim (or_cases (s == t) (is_ahead White 
       on_right w _ t (ap (λ b. b == 1) (bit_up w 8 t (omega (arith, is)) low ∙ ap (bit_at w) back) ∙ on)
 ]
 
--- nothing is asked without captured men's moves
+-- without moves of captured men there is no condition
 pub free_captures : (prey : ℕ) (p : Position) (c : Colour) (ends : Ends) → TakesOn (may_capture p.men c ends c) prey → Captures prey 0 p c ends
 free_captures prey p c ends on = record { on = on; moves = λ some. absurd (omega (arith, some)) }
 

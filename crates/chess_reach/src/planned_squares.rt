@@ -213,7 +213,6 @@ fn may_lure(theirs: usize, prey: Squares, lures: Squares, left: Squares) -> bool
 
 /// Returns the part of `squares` on which the king of the side to be mated may end by a plan: the mating
 /// side makes at most `ours` moves, the other at most `theirs`. It leaves out a square only if there is no plan.
-/// Where the guards get with one move more tells what they may guard.
 pub(crate) fn planned_squares(
     board: &Board,
     goal: Goal,

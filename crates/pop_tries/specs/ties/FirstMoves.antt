@@ -49,7 +49,7 @@ abbrev pub is_try_after : RuleSet → Contest → ℕ → Position → Move → 
 is_try_after rule contest most p m = belongs rule contest (Tries most) (position_after rule p m)
 
 -- what is known of the moves of p that may be tries, at a place among the first moves of a group: keys come
--- first, and tell it of the moves up to the place
+-- first, and with them it becomes known, for the moves up to the place
 abbrev pub AreCandidates : RuleSet → Contest → Group → ℕ → Position → Option MoveSet → ℕ → Type 0
 AreCandidates rule contest Keys most p set place =
     HoldBefore rule p (is_try_after rule contest most p) set place
