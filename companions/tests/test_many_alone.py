@@ -12,7 +12,7 @@ from tests import run_here, support
 
 # Some tenths of a second for pops.
 LONG = (support.REPOSITORY / "examples" / "help_mate_in_three.pop").read_bytes()
-LONG = LONG.replace(b"h#3", b"h#3.5")
+LONG = LONG.replace(b"h#3\n", b"h#3.5\nCondition Circe\n")
 
 
 class Alone(unittest.TestCase):
