@@ -20,7 +20,7 @@ from pops_companions.report.items import SoundItem
 from pops_companions.report.reader import read_report
 from pops_companions.report.tries import TriesItem, read_tries
 from pops_companions.sheet.languages import LANGUAGES, marked_as
-from pops_companions.sheet.solution import Solution
+from pops_companions.sheet.solution import Solution, TriesShown
 from pops_companions.show.authors import persons
 from tests import run_here, support
 from tests.plain_tries import plain_tries
@@ -57,7 +57,13 @@ def men_of(text: str) -> dict[Square, Man]:
     return {Square.of_name(it[1:]): Man.of_letter(it[0]) for it in text.split()}
 
 
-def lines(men: str, asked: str, play: str, tries: Optional[str] = None) -> list[str]:
+def lines(
+    men: str,
+    asked: str,
+    play: str,
+    tries: Optional[str] = None,
+    shown: TriesShown = TriesShown.ALL,
+) -> list[str]:
     """The lines of a solution in English, set in by two blanks a level; headings end in a colon."""
     (item,) = read_report(io.BytesIO(f"problem 1\n{asked}\n{play}\n".encode()))
     assert isinstance(item, SoundItem)
@@ -67,7 +73,7 @@ def lines(men: str, asked: str, play: str, tries: Optional[str] = None) -> list[
         assert isinstance(found, TriesItem)
         own = found
     language = LANGUAGES["en"]
-    blocks = Solution(men_of(men), item.condition, language).blocks(item, own)
+    blocks = Solution(men_of(men), item.condition, language, shown).blocks(item, own)
     told: list[str] = []
     for block in blocks:
         told += [f"{block.heading}:"] if len(blocks) > 1 else []
@@ -98,7 +104,7 @@ class Case(unittest.TestCase):
     def sheet(self, text: bytes, *words: str) -> support.Outcome:
         """The sheet of an input with its text of tries."""
         (self.room / "some.tries").write_bytes(tries_of(text))
-        return self.made(text, "--tries", str(self.room / "some.tries"), *words)
+        return self.made(text, "--tries-text", str(self.room / "some.tries"), *words)
 
     def made(self, text: bytes, *words: str) -> support.Outcome:
         """The sheet of an input, for which pops is run."""
@@ -283,10 +289,49 @@ class Lines(unittest.TestCase):
         self.assertEqual(
             lines("Kf7 Ra1 kh8 ph7", "#3", "play\n1.Ra1-a2\nsolutions: 1\n", tries),
             [
-                *("Tries:", "1.Rb1? zugzwang", "  but 1...Kg8!, h6!", "Solution:"),
+                *("Tries:", "1.Rb1? Kg8!, h6!", "Solution:"),
                 *("1.Ra2! threat:", "  2.Rb2 Kg8 3.Rb8#", "  2.Rc2 Kg8 3.Rc8#"),
                 "  1...Kg8 2.Ra8#",
             ],
+        )
+
+
+    def tries_of_a_king(self, *words: str) -> list[str]:
+        """The lines of some tries: three of the king and one of the rook with the same refutation."""
+        but = "  but\n    1...Kh8-g8!\n"
+        moves = ("Kf7-e6", "Kf7-e7", "Kf7-e8", "Ra1-b1")
+        same = "".join(f"1.{move}?\n  zugzwang\n{but}" for move in moves)
+        text = (
+            f"play\n1.Ra1-a2!\n  zugzwang\n  1...h7-h6\n    2.Ra2-a8#\nsolutions: 1\ntries\n{same}"
+            f"1.Ra1-c1?\n  threat\n    2.Rc1-c8#\n{but}1.Ra1-d1?\n  zugzwang\n"
+            f"  1...h7-h6\n    2.Rd1-d8#\n{but}1.Ra1-e1?\n  zugzwang\n  1...h7-h6\n    2.Re1-e8#\n"
+            f"{but}1.Ra1-f1?\n  zugzwang\n  but\n    1...h7-h6!\ntries: 8\n"
+        )
+        shown = TriesShown(*words) if words else TriesShown.ALL
+        told = lines("Kf7 Ra1 kh8 ph7", "#2", "play\n1.Ra1-a2\nsolutions: 1\n", text, shown)
+        return told[1 : told.index("Solution:")] if "Solution:" in told else []
+
+    def test_tries_with_the_same_refutation_and_variations_are_together(self) -> None:
+        of_content = [
+            *("1.Rc1? threat: 2.Rc8#", "  but 1...Kg8!"),
+            *("1.Rd1? zugzwang", "  1...h6 2.Rd8#", "  but 1...Kg8!"),
+            *("1.Re1? zugzwang", "  1...h6 2.Re8#", "  but 1...Kg8!"),
+        ]
+        wanted = ["1.K~/Rb1? Kg8!", *of_content, "1.Rf1? h6!"]
+        self.assertEqual(self.tries_of_a_king(), wanted)
+        self.assertEqual(self.tries_of_a_king("variations"), of_content)
+        self.assertEqual(self.tries_of_a_king("none"), [])
+
+    def test_tries_with_the_same_variations_are_together(self) -> None:
+        """The king has two squares, from which the same mate comes after the same defence."""
+        below = "  zugzwang\n  1...h7-h6\n    2.Ra1-a8#\n  but\n    1...h7-h5!\n"
+        text = (
+            "play\n1.Ra1-a2!\n  zugzwang\nsolutions: 1\n"
+            f"tries\n1.Kf7-e7?\n{below}1.Kf7-e8?\n{below}tries: 2\n"
+        )
+        self.assertEqual(
+            lines("Kf7 Ra1 kh8 ph7", "#2", "play\n1.Ra1-a2\nsolutions: 1\n", text)[1:4],
+            ["1.Ke7/Ke8? zugzwang", "  1...h6 2.Ra8#", "  but 1...h5!"],
         )
 
 
@@ -587,6 +632,10 @@ class Command(Case):
         self.assertIn(b"\\putsol", self.sheet(text, "--to", "latex").output)
 
     def test_mistakes(self) -> None:
+        self.assertNotIn("?", self.text(OF_THE_MANUAL, "--tries", "none").split("Authors")[0])
+        self.assertIn("1.Qh2?", self.text(OF_THE_MANUAL, "--tries", "variations"))
+        as_before = self.made(OF_THE_MANUAL, "--tries", str(self.room / "some.tries"))
+        self.assertEqual(as_before.output, self.sheet(OF_THE_MANUAL).output)
         for words in (["--refutations", "201"], ["--to", "odt"], ["--figures", "--to", "text"]):
             self.assertEqual(self.sheet(TWINS, *words).status, 2)
         outcome = self.sheet(b"problem 1\n")

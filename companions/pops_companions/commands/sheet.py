@@ -25,6 +25,7 @@ from pops_companions.sheet.as_latex import as_latex
 from pops_companions.sheet.as_text import as_text
 from pops_companions.sheet.entries import NOT_IN_REPORT, Entry, Sheet, boards_of
 from pops_companions.sheet.languages import LANGUAGES
+from pops_companions.sheet.solution import TriesShown
 from pops_companions.sheet.solving import Solving
 from pops_companions.show.twins import groups
 
@@ -41,7 +42,8 @@ class Settings(argparse.Namespace):
 
     input: str
     report: Optional[str]
-    tries: Optional[str]
+    tries: str
+    tries_text: Optional[str]
     refutations: int
     to: str
     language: str
@@ -116,7 +118,14 @@ def command_line() -> argparse.ArgumentParser:
     add = parser.add_argument
     add("input", metavar="INPUT", help="an input of pops")
     add("--report", metavar="REPORT", help="the report of pops (default: pops is run)")
-    add("--tries", metavar="TEXT", help="the text of pops-tries (default: pops-tries is run)")
+    add(
+        "--tries",
+        metavar="WHICH",
+        default=TriesShown.ALL.value,
+        help="the tries that are shown: all, variations (those with a threat, or with a defence that"
+        " doesn't refute), none; another word is a TEXT of --tries-text (all)",
+    )
+    add("--tries-text", metavar="TEXT", help="the text of pops-tries (default: pops-tries is run)")
     add(
         "--refutations",
         type=_refutations,
@@ -143,6 +152,8 @@ def arguments(words: list[str]) -> Settings:
     """Reads the words of the command line."""
     parser = command_line()
     settings = parser.parse_args(words, Settings())
+    if settings.tries not in (it.value for it in TriesShown):
+        settings.tries_text, settings.tries = settings.tries, TriesShown.ALL.value
     if settings.figures and settings.to == "text":
         parser.error("--figures goes with --to html, latex or pdf")
     if settings.per_row and settings.to not in ("html", "pdf"):
@@ -172,7 +183,7 @@ class Texts:
 
     def tries(self, items: list[AnyItem]) -> dict[int, TriesItem]:
         """Returns the tries of these items; none without pops-tries."""
-        named = self._settings.tries
+        named = self._settings.tries_text
         try:
             if named is None:
                 return self._solved_tries(items)
@@ -279,7 +290,8 @@ def sheet(settings: Settings) -> Status:
     tries = texts.tries(items) if any(map(is_battle, items)) else {}
     refuse_other_texts(items, tries, given, boards)
     items = with_missing(items, given)
-    made = Sheet(boards, tries, LANGUAGES[settings.language], settings.encoding)
+    shown = TriesShown(settings.tries)
+    made = Sheet(boards, tries, LANGUAGES[settings.language], settings.encoding, shown)
     found = groups(iter(items), given, settings.encoding, False)
     entries = made.entries(found, settings.first_number, settings.apart)
     written = written_as(settings, list(entries))

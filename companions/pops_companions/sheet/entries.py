@@ -14,7 +14,7 @@ from pops_companions.report.items import AnyItem, Board, FaultyItem, SoundItem
 from pops_companions.report.tries import TriesItem
 from pops_companions.sheet.languages import Language
 from pops_companions.sheet.sheet_words import WORDS, SheetWords
-from pops_companions.sheet.solution import Block, Solution
+from pops_companions.sheet.solution import Block, Solution, TriesShown
 from pops_companions.sheet.twin_changes import Placed, change_of
 from pops_companions.show.authors import Person, persons
 from pops_companions.show.diagram import numbers_of_men
@@ -91,6 +91,7 @@ class Sheet:
     tries: Mapping[int, TriesItem]
     language: Language
     encoding: str
+    shown: TriesShown = TriesShown.ALL
 
     def entries(self, groups: Iterable[Group], first: int, apart: bool) -> Iterator[Entry]:
         """Yields the problems of the sheet, numbered from `first`; `apart` numbers twins 1a, 1b."""
@@ -155,7 +156,7 @@ class Sheet:
             note = words.unfinished.format(item.unfinished)
         if not isinstance(item, SoundItem) or board is None:
             return Part(heading, (), note=note)
-        solution = Solution(board.men, item.condition, self.language)
+        solution = Solution(board.men, item.condition, self.language, self.shown)
         return Part(heading, tuple(solution.blocks(item, self.tries.get(item.number))), note=note)
 
 

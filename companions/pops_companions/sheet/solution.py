@@ -1,17 +1,19 @@
 """The solution of a problem in blocks: set play, tries, keys."""
 
-from collections.abc import Sequence
+from collections.abc import Iterator, Sequence
 from dataclasses import dataclass
+from enum import Enum
 from typing import Optional
 
 from pops_companions.chess.attacks import Men
+from pops_companions.chess.men import Kind, Square
 from pops_companions.chess.stipulation import Condition
 from pops_companions.report.events import Menace
 from pops_companions.report.items import HelpLine, Node, Phase, PhaseKind, SoundItem, Total
 from pops_companions.report.moves import prefix
 from pops_companions.report.tries import FirstMove, TriesItem
 from pops_companions.sheet.boards import after
-from pops_companions.sheet.languages import Language
+from pops_companions.sheet.languages import MARKS, Language
 from pops_companions.sheet.short import short
 from pops_companions.sheet.variations import Line, Variations
 
@@ -24,13 +26,26 @@ class Block:
     lines: tuple[Line, ...]
 
 
+class TriesShown(Enum):
+    """Which tries are shown; a try with variations has a threat, or a defence that doesn't refute."""
+
+    ALL = "all"
+    WITH_VARIATIONS = "variations"
+    NONE = "none"
+
+
+# So many moves of a man with the same refutation are shown as any of its moves.
+_ANY_MOVE = 3
+
+
 @dataclass(frozen=True)
 class Solution:
-    """How a solution is made: the men of the diagram, the condition, the language."""
+    """How a solution is made: the men of the diagram, the condition, the language, which tries."""
 
     men: Men
     condition: Optional[Condition]
     language: Language
+    shown: TriesShown = TriesShown.ALL
 
     def blocks(self, item: SoundItem, tries: Optional[TriesItem]) -> list[Block]:
         """Returns the blocks of a problem, by its tries where they are known."""
@@ -40,9 +55,9 @@ class Solution:
             lines = self._phase(phases[PhaseKind.SET])
             found.append(Block(self.language.set_play, lines))
         if tries is not None and tries.total is not None:
-            if tries.tries:
-                lines = tuple(line for it in tries.tries for line in self._first_move(it, "?"))
-                found.append(Block(self.language.tries, lines))
+            attempts = tuple(self._tries(tries.tries))
+            if attempts:
+                found.append(Block(self.language.tries, attempts))
             keys = [line for it in tries.keys for line in self._first_move(it, "!")]
             keys += self._remark(tries.total)
             found.append(Block(self.language.solution, tuple(keys)))
@@ -50,6 +65,35 @@ class Solution:
             lines = self._phase(phases[PhaseKind.PLAY])
             found.append(Block(self.language.solution, lines))
         return found
+
+    def _tries(self, tries: Sequence[FirstMove]) -> Iterator[Line]:
+        """Yields the lines of tries, those with the same refutations and variations together."""
+        groups: dict[tuple[str, tuple[Line, ...]], list[FirstMove]] = {}
+        for one in tries if self.shown is not TriesShown.NONE else ():
+            has_variations = bool(one.threats or one.defences)
+            said, below = self._below(one)
+            if not has_variations and one.refutations:
+                said, below = f" {self._refuting(one)}", []
+            if has_variations or self.shown is TriesShown.ALL:
+                groups.setdefault((said, tuple(below)), []).append(one)
+        for (said, lines), group in groups.items():
+            yield Line(f"{prefix(1)}{'/'.join(self._first_moves(group))}?{said}")
+            yield from (line.set_in() for line in lines)
+
+    def _first_moves(self, group: Sequence[FirstMove]) -> Iterator[str]:
+        """Yields the moves of a group; many of a man that isn't a pawn are any of its moves, `K~`."""
+        of_men: dict[Square, list[FirstMove]] = {}
+        for one in group:
+            of_men.setdefault(one.move.origin, []).append(one)
+        for origin, own in of_men.items():
+            kind = own[0].move.kind
+            castles = any(one.move.castling is not None for one in own)
+            if len(own) < _ANY_MOVE or kind is Kind.PAWN or castles:
+                yield from (short(self.men, one.move, self.condition) for one in own)
+                continue
+            man = self.men[origin]
+            is_alone = all(other != man or it == origin for it, other in self.men.items())
+            yield MARKS[kind] + ("" if is_alone else origin.name) + "~"
 
     def _phase(self, phase: Phase) -> tuple[Line, ...]:
         """Returns the lines of a phase of the report; its keys have a sign."""
@@ -74,26 +118,36 @@ class Solution:
         return [] if total.count else [Line(self.language.no_solution)]
 
     def _first_move(self, one: FirstMove, sign: str) -> list[Line]:
+        head = prefix(1) + short(self.men, one.move, self.condition) + sign
+        said, lines = self._below(one)
+        return [Line(head + said), *(line.set_in() for line in lines)]
+
+    def _below(self, one: FirstMove) -> tuple[str, list[Line]]:
+        """Returns what is said after a first move, and the lines below it."""
         variations = Variations(self.condition)
         moved = after(self.men, one.move)
-        head = prefix(1) + short(self.men, one.move, self.condition) + sign
+        said = ""
         lines: list[Line] = []
         if one.menace is Menace.ZUGZWANG:
-            head += f" {self.language.zugzwang}"
+            said = f" {self.language.zugzwang}"
         elif one.menace is Menace.THREAT:
             lines = variations.continuations(moved, one.threats)
             if sum(line.level == 0 for line in lines) == 1:
-                head += f" {self.language.threat} {lines.pop(0).text}"
+                said = f" {self.language.threat} {lines.pop(0).text}"
             else:
-                head += f" {self.language.threat}"
+                said = f" {self.language.threat}"
         lines += variations.defences(moved, one.defences)
-        lines += self._refutations(moved, one)
-        return [Line(head), *(line.set_in() for line in lines)]
+        lines += self._refutations(one)
+        return said, lines
 
-    def _refutations(self, men: Men, one: FirstMove) -> list[Line]:
+    def _refutations(self, one: FirstMove) -> list[Line]:
         if one.is_stalemate:
             return [Line(f"{self.language.but} {self.language.stalemate}")]
         if not one.refutations:
             return []
-        moves = (short(men, it.move, self.condition) + "!" for it in one.refutations)
-        return [Line(f"{self.language.but} {prefix(2)}{', '.join(moves)}")]
+        return [Line(f"{self.language.but} {prefix(2)}{self._refuting(one)}")]
+
+    def _refuting(self, one: FirstMove) -> str:
+        """Returns the refutations of a try, with nothing else below it: `Kg2!`."""
+        men = after(self.men, one.move)
+        return ", ".join(short(men, it.move, self.condition) + "!" for it in one.refutations)
