@@ -136,6 +136,87 @@ class Yaml(unittest.TestCase):
         self.assertEqual((node["stipulation"], node["intended-solutions"]), ("h#1", "2"))
         self.assertEqual(node["comments"], ['a note: "one" \\ two'])
 
+    def test_nothing_that_has_a_key_becomes_a_comment(self) -> None:
+        """As YACPDB has a problem; the second time nothing changes."""
+        yaml = b"""---
+id: 331234
+authors: ["Loyd, Samuel", "A. Muster & Roe, Bert"]
+source: {name: Die Schwalbe, volume: 12, issue: 3, problemid: 1234}
+date: 1977-08-09
+award:
+  tourney: {name: Jubilee}
+  distinction: 1st Prize
+distinction: Prize
+keywords: [Grimshaw]
+source-id: 12a
+algebraic:
+  white: [Kg6, Ra1]
+  black: [Kh8]
+stipulation: "h#1"
+intended-solutions: 2.1
+comments: ["Note: a version"]
+solution: |2
+     1.Kh8-g8 Ra1-a8 #
+
+  b) none
+"""
+        given = run_here.companion("pops-import", text=yaml)
+        self.assertEqual((given.status, given.error), (0, ""))
+        text = exported("yaml", text=given.output)
+        (document,) = documents(text)
+        node = document.node()
+        assert isinstance(node, dict)
+        wanted = {
+            "id": "331234",
+            "authors": ["Loyd, Samuel", "A. Muster", "Roe, Bert"],
+            "source": {
+                "name": "Die Schwalbe",
+                "problemid": "1234",
+                "volume": "12",
+                "issue": "3",
+            },
+            "date": "1977-08-09",
+            "award": {"tourney": {"name": "Jubilee"}, "distinction": "1st Prize"},
+            "distinction": "Prize",
+            "keywords": ["Grimshaw"],
+            "source-id": "12a",
+            "algebraic": {"white": ["Kg6", "Ra1"], "black": ["Kh8"]},
+            "stipulation": "h#1",
+            "intended-solutions": "2.1",
+            "comments": ["Note: a version"],
+            "solution": "   1.Kh8-g8 Ra1-a8 #\n\nb) none",
+        }
+        self.assertEqual(node, wanted)
+        back = run_here.companion("pops-import", text=text.encode())
+        self.assertEqual(exported("yaml", text=back.output), text)
+
+    def test_awards_dates_and_origins(self) -> None:
+        problem = "Pieces White Kg6 Ra1 Black Kh8\nStipulation h#1\n"
+        for texts, wanted in (
+            ("Origin Chess Monthly 1860", ['source: "Chess Monthly"', "date: 1860"]),
+            ("Origin Die Schwalbe, August 1977", ['source: "Die Schwalbe"', 'date: "1977-08"']),
+            ("Origin August 1977", ['date: "1977-08"']),
+            ("Origin 1856, as published since", ['source: "1856, as published since"']),
+            ("Origin A; B 1900", ['source: "A; B"', "date: 1900"]),
+            ("Remark Award 2nd Prize", ['award: "2nd Prize"']),
+            ("Remark distinction: 2nd Prize", ['distinction: "2nd Prize"']),
+            ("Remark award: 1\nRemark award.name: 2", ["award: 1", "comments:", '  - "award.name: 2"']),
+            ("Remark http://x.y: z", ["comments:", '  - "http://x.y: z"']),
+        ):
+            with self.subTest(texts):
+                text = exported("yaml", text=f"BeginProblem\n{texts}\n{problem}EndProblem\n".encode())
+                own = [line for line in text.split("\n")[1:-1] if line and "h#1" not in line]
+                men = ("algebraic:", "  white: [Kg6, Ra1]", "  black: [Kh8]")
+                self.assertEqual([line for line in own if line not in men], wanted)
+
+    def test_a_stored_solution_gives_way_to_that_of_a_report(self) -> None:
+        example = support.REPOSITORY / "examples" / "morphy_1856"
+        text = Path(f"{example}.pop").read_text().replace("Option", "Remark solution: old\nOption")
+        self.assertIn("solution: |\n  old\n", exported("yaml", text=text.encode()))
+        told = exported("yaml", "--report", f"{example}.report", text=text.encode())
+        self.assertNotIn("old", told)
+        self.assertIn("solution: |\n  1.Ra1-a6 !\n", told)
+
     def test_solutions(self) -> None:
         example = support.REPOSITORY / "examples" / "morphy_1856"
         report = f"{example}.report"

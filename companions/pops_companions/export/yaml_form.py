@@ -8,10 +8,14 @@ import re
 from collections.abc import Iterable, Iterator, Mapping, Sequence
 from typing import Optional
 
-from pops_companions.export.problems import Exported, Problem
+from pops_companions.export.problems import Exported
+from pops_companions.export.yaml_fields import Fields, Source, Value, fields_of, source_of
 from pops_companions.report.items import SoundItem
+from pops_companions.show.authors import persons
 
 _WANTED = re.compile("solutions ([1-9][0-9]{0,8})")
+# Keys whose texts are a list, also a single one.
+_LISTS = ("keywords",)
 _MAN = re.compile("([KQRBSPGN])((?:[a-h][1-8])+)")
 
 
@@ -23,12 +27,21 @@ def yaml_of(problems: Iterable[Exported], items: Mapping[int, SoundItem]) -> Ite
 
 def _document(one: Exported, items: Mapping[int, SoundItem]) -> Iterator[str]:
     problem = one.problem
+    origin = "; ".join(problem.origins)
+    remarks: Sequence[str] = problem.remarks
+    parted = source_of(origin, remarks) if origin else None
+    if parted is not None:
+        remarks = parted[1]
+    fields = fields_of(remarks)
+    yield from _field("id", fields.keys.pop("id", []))
     if problem.author:
-        yield from _list("authors", re.split(r"\s*;\s*", problem.author))
+        yield from _list("authors", [person.text for person in persons(problem.author)])
     if problem.title:
         yield f"title: {_quoted(problem.title)}"
-    if problem.origins:
-        yield f"source: {_quoted('; '.join(problem.origins))}"
+    if parted is not None:
+        yield from _origin(parted[0])
+    elif origin:
+        yield f"source: {_quoted(origin)}"
     yield "algebraic:"
     for colour, men in _men(problem.pieces).items():
         yield f"  {colour}: [{', '.join(men)}]"
@@ -41,8 +54,50 @@ def _document(one: Exported, items: Mapping[int, SoundItem]) -> Iterator[str]:
         yield "twins:"
         for twin in one.twins:
             yield f"  {twin.letter}: {_quoted(twin.changes)}"
-    yield from _remarks(problem)
-    yield from _solution(one, items)
+    stored = fields.keys.pop("solution", [])
+    yield from _remarks(fields)
+    solution = list(_solution(one, items))
+    yield from solution or _stored(stored)
+
+
+def _origin(source: Source) -> Iterator[str]:
+    """Yields the keys of source and date."""
+    if source.more:
+        yield "source:"
+        named = [("name", source.name)] * bool(source.name) + [*source.more]
+        yield from (f"  {key}: {_quoted(text)}" for key, text in named)
+    elif source.name:
+        yield f"source: {_quoted(source.name)}"
+    if source.date:
+        yield f"date: {_scalar(source.date)}"
+
+
+def _field(key: str, value: Value, indent: str = "") -> Iterator[str]:
+    """Yields a key with what is below it."""
+    if isinstance(value, dict):
+        yield f"{indent}{key}:"
+        for name, below in value.items():
+            yield from _field(name, below, f"{indent}  ")
+    elif len(value) == 1 and key.lower() not in _LISTS:
+        yield f"{indent}{key}: {_scalar(value[0])}"
+    elif value:
+        yield from (f"{indent}{line}" for line in _list(key, value))
+
+
+def _scalar(text: str) -> str:
+    return text if re.fullmatch("[1-9][0-9]{0,17}", text) else _quoted(text)
+
+
+def _stored(value: Value) -> Iterator[str]:
+    """Yields a solution that the input keeps, as it was."""
+    if isinstance(value, dict):
+        yield from _field("solution", value)
+    elif any(not line.isprintable() for line in value):
+        yield f"solution: {_quoted(chr(10).join(value))}"
+    elif value:
+        # (where the first line is set in, the number of blanks before each line has to be named)
+        yield f"solution: |{'2' if value[0][:1] in (' ', '') else ''}"
+        yield from (f"  {line}".rstrip() for line in value)
 
 
 def _quoted(text: str) -> str:
@@ -70,12 +125,15 @@ def _men(pieces: str) -> "dict[str, list[str]]":
     return men
 
 
-def _remarks(problem: Problem) -> Iterator[str]:
-    """Remarks are comments, but for the number of solutions."""
-    wanted = [found[1] for found in map(_WANTED.fullmatch, problem.remarks) if found]
-    comments = [text for text in problem.remarks if not _WANTED.fullmatch(text)]
-    if wanted:
+def _remarks(fields: Fields) -> Iterator[str]:
+    """Yields the keys that Remarks were made of, the number of solutions, and the other Remarks."""
+    found = list(map(_WANTED.fullmatch, fields.comments))
+    wanted = [number[1] for number in found if number]
+    comments = [text for text, number in zip(fields.comments, found) if not number]
+    if wanted and "intended-solutions" not in fields.keys:
         yield f"intended-solutions: {wanted[-1]}"
+    for key, value in fields.keys.items():
+        yield from _field(key, value)
     if comments:
         yield from _list("comments", comments)
 

@@ -4,7 +4,7 @@ import re
 from collections.abc import Sequence
 from typing import NamedTuple
 
-_MONTHS = (
+MONTHS = (
     "January",
     "February",
     "March",
@@ -65,7 +65,7 @@ def date_text(text: str) -> str:
     month = int(parts[2])
     if month == 0:
         return parts[1]
-    if month > len(_MONTHS):
+    if month > len(MONTHS):
         return text.strip()
     day = f"{int(parts[3])} " if parts[3] is not None and int(parts[3]) else ""
-    return f"{day}{_MONTHS[month - 1]} {parts[1]}"
+    return f"{day}{MONTHS[month - 1]} {parts[1]}"

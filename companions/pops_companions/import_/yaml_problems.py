@@ -70,6 +70,7 @@ def _read_key(key: str, value: Node, draft: Draft) -> None:
         "intended-solutions": _read_wanted,
         "comments": _read_comments,
         "id": _read_key_of_database,
+        "award": _read_award,
     }
     reader = readers.get(key.lower(), _read_other)
     try:
@@ -81,6 +82,13 @@ def _read_key(key: str, value: Node, draft: Draft) -> None:
 def _read_key_of_database(key: str, value: Node, draft: Draft) -> None:
     draft.key = draft.key or _one_line(value, " ")
     _read_other(key, value, draft)
+
+
+def _read_award(key: str, value: Node, draft: Draft) -> None:
+    if isinstance(value, Scalar):
+        draft.texts.append(TextLine(Command.AWARD, _one_line(value, " ")))
+    else:
+        _read_other(key, value, draft)
 
 
 def _read_later(_: str, __: Node, ___: Draft) -> None:
