@@ -19,7 +19,7 @@ from pops_companions.commands.many_options import (
     moment_of,
 )
 from pops_companions.files import Links
-from pops_companions.input.pieces import rest_of
+from pops_companions.input.pieces import rest_after
 from pops_companions.many.joining import Joined, Report, path_of_report, write_index
 from pops_companions.many.journal import Journal, JournalError, fingerprint
 from pops_companions.many.machines import Machines, MachinesError
@@ -38,9 +38,9 @@ UNFINISHED = ".unfinished"
 
 
 def read_source(name: Optional[str], progress: Progress) -> Source:
-    """Reads a whole input, and reports what follows its EndProblem.
+    """Reads a whole input.
 
-    An input that can't be opened or read is reported and left to pops.
+    One that can't be opened or read is reported and left to pops.
     """
     try:
         if name is None:
@@ -53,10 +53,17 @@ def read_source(name: Optional[str], progress: Progress) -> Source:
             raise
         progress.say(f"cannot open {name}: {error.strerror}")
         return Source(name, None)
-    rest = rest_of(source.text or b"")
-    if rest is not None:
-        progress.say(f"{source.shown}: {rest.text}")
     return source
+
+
+def say_of_rests(tasks: Sequence[Task], progress: Progress) -> None:
+    """Says of each input what follows its EndProblem."""
+    last_of = {id(task.source): task for task in tasks if task.piece is not None}
+    for task in last_of.values():
+        assert task.piece is not None and task.source.text is not None
+        rest = rest_after(task.source.text, task.piece)
+        if rest is not None:
+            progress.say(f"{task.source.shown}: {rest.text}")
 
 
 def reports_of(
@@ -216,6 +223,7 @@ class Solving:
         self._progress = Progress(NAME)
         sources = [read_source(name, self._progress) for name in settings.inputs]
         self._tasks = tasks_of(sources)
+        say_of_rests(self._tasks, self._progress)
         settings.split = settings.split or is_cut_unasked(settings, self._tasks)
         self._programs = programs_of(settings, self._options)
         self._jobs = settings.jobs or len(os.sched_getaffinity(0))

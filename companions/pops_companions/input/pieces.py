@@ -128,7 +128,11 @@ class Rest(NamedTuple):
 
 def rest_of(text: bytes) -> Optional[Rest]:
     """Returns what follows the EndProblem of an input; None where only blanks do."""
-    last = cut(text)[-1]
+    return rest_after(text, cut(text)[-1])
+
+
+def rest_after(text: bytes, last: Piece) -> Optional[Rest]:
+    """Returns what follows the last problem of an input; None where only blanks do."""
     if not last.closed:
         return None
     end = _MARKS.match(text, last.stop)
