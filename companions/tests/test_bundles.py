@@ -5,6 +5,7 @@ import unittest
 from pathlib import Path
 
 from pops_companions.many.bundles import bundles_of, is_small, text_of, wholes_in
+from pops_companions.many.machines import logins_of
 from pops_companions.many.tasks import Source, Task, tasks_of
 from tests import run_here, support
 
@@ -48,6 +49,14 @@ class Made(unittest.TestCase):
         self.assertEqual([len(it) for it in bundles_of(tasks(input_of(*[MATE] * 999)), 4)][0], 50)
         both = tasks_of([Source(name, input_of(*[MATE] * 8)) for name in ("a", "b")])
         self.assertEqual([len(it) for it in bundles_of(both, 1)], [4, 4, 4, 4])
+
+    def test_small_problems_share_logins(self) -> None:
+        """166 problems for two machines, which take eight logins at a time each."""
+        words = [str(number) for number in range(166)]
+        logins = logins_of(words, 16, 1, 200)
+        self.assertEqual([word for login in logins for word in login], words)
+        self.assertEqual({len(login) for login in logins}, {10, 6})
+        self.assertEqual(len(logins_of(words, 16)), 166)
 
     def test_the_report_of_a_bundle_in_its_problems(self) -> None:
         all_tasks = tasks(input_of(*KINDS))

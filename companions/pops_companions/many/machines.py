@@ -13,6 +13,7 @@ import threading
 from collections.abc import Callable, Sequence
 from typing import Optional
 
+from pops_companions.many.bundles import is_small
 from pops_companions.many.parallel import Ended, Parallel, machine_of
 from pops_companions.many.program import FAULTY, SOUND, Program, RunError
 from pops_companions.many.tasks import UNFINISHED, Result, Task, is_whole
@@ -39,6 +40,8 @@ _STATUS_OUT_OF_TIME = 124
 _PROBLEMS_AT_A_LOGIN = 20
 _LOGINS_OF_A_PLACE = 10
 _PLACES_OF_A_MACHINE = 8
+# A login costs more than many small problems: of these, more go together.
+_SMALL_AT_A_LOGIN = 200
 
 
 class MachinesError(Exception):
@@ -49,10 +52,15 @@ def coded(text: bytes) -> str:
     return base64.b64encode(text).decode("ascii")
 
 
-def logins_of(words: Sequence[str], places: int) -> list[list[str]]:
-    """Returns the words of each login, so that each of `places` gets some logins."""
-    wished = len(words) // (places * _LOGINS_OF_A_PLACE)
-    most = min(max(wished, 1), _PROBLEMS_AT_A_LOGIN)
+def logins_of(
+    words: Sequence[str],
+    places: int,
+    each: int = _LOGINS_OF_A_PLACE,
+    at_most: int = _PROBLEMS_AT_A_LOGIN,
+) -> list[list[str]]:
+    """Returns the words of each login, at most `at_most`, so that each of `places` gets `each`."""
+    wished = len(words) // (places * each)
+    most = min(max(wished, 1), at_most)
     logins: list[list[str]] = []
     length = 0
     for word in words:
@@ -62,6 +70,11 @@ def logins_of(words: Sequence[str], places: int) -> list[list[str]]:
             length = len(word)
         logins[-1].append(word)
     return logins
+
+
+def _word(task: Task) -> str:
+    """Returns a problem with its place, as a script takes it."""
+    return f"{task.place} {coded(task.text)}"
 
 
 def _decoded(line: bytes) -> Optional[tuple[int, int, bytes]]:
@@ -170,9 +183,11 @@ class Machines:
                 return
             done.add(place)
 
-        words = [f"{task.place} {coded(task.text)}" for task in tasks]
         places = len(self.alive) * (self._parallel.jobs or _PLACES_OF_A_MACHINE)
-        lines = map(" ".join, logins_of(words, places))
+        logins = logins_of([_word(task) for task in tasks if not is_small(task)], places)
+        small = [_word(task) for task in tasks if is_small(task)]
+        logins += logins_of(small, places, 1, _SMALL_AT_A_LOGIN)
+        lines = map(" ".join, logins)
         watch = Watch(self)
 
         def look(jobs: Sequence[Ended]) -> bool:
