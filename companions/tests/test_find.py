@@ -10,7 +10,7 @@ from typing import Optional
 from pops_companions.chess.men import Man, Square
 from pops_companions.find.boards import board_of, differences, men_of, variants
 from pops_companions.find.collection import Collection, CollectionError
-from pops_companions.find.entries import Entry, men_in, mirrored_play, plays_of
+from pops_companions.find.entries import Entry, items_of, men_in, mirrored_play, play_of
 from tests import run_here, support
 
 MORPHY = "White Kc8 Ra1 Pb6 Black Ka8 Bb8 Pa7b7"
@@ -46,6 +46,11 @@ def image(of: str) -> dict[str, str]:
         "one to the right": [file + rank for file in files[1:] + "a" for rank in ranks],
     }
     return dict(zip(names, images[of]))
+
+
+def plays_of(report: bytes) -> dict[int, str]:
+    found = ((number, play_of(item)) for number, item in items_of(report).items())
+    return {number: play for number, play in found if play is not None}
 
 
 class Positions(unittest.TestCase):

@@ -4,20 +4,26 @@ import argparse
 import re
 import sqlite3
 import sys
+from collections.abc import Callable
 from pathlib import Path
 from typing import NoReturn, Optional
 
 from pops_companions import command
 from pops_companions.command import CommandError, Status
+from pops_companions.find.boards import board_of
 from pops_companions.find.collection import Collection, CollectionError, Found, Wanted
-from pops_companions.find.entries import EntriesError, Entry, entries_of, men_in, plays_of
+from pops_companions.find.entries import EntriesError, Entry, entries_of, items_of, men_in
 from pops_companions.find.showing import Answer, as_page, as_text
 from pops_companions.review.naming import counted
 from pops_companions.show.titles import other_lines
 
 NAME = "pops-find"
 MOST = 50
-_WORDS = ("author", "title", "stipulation", "condition", "men", "count")
+_WORDS = (
+    *("author", "title", "source", "date", "keyword", "stipulation", "condition"),
+    *("men", "count", "fragment"),
+)
+_DATES = re.compile(r"(\d{4}(?:-\d\d(?:-\d\d)?)?)(?:\.\.(\d{4}(?:-\d\d(?:-\d\d)?)?))?")
 
 
 class Settings(argparse.Namespace):
@@ -30,6 +36,10 @@ class Settings(argparse.Namespace):
     report: Optional[str]
     author: Optional[str]
     title: Optional[str]
+    source: Optional[str]
+    date: Optional[str]
+    keyword: Optional[str]
+    fragment: Optional[str]
     stipulation: Optional[str]
     condition: Optional[str]
     men: Optional[str]
@@ -69,10 +79,17 @@ def command_line() -> argparse.ArgumentParser:
     add("--report", metavar="REPORT", help="with --add of one FILE: its report, for key and mates")
     add("--author", metavar="TEXT", help="find this in authors")
     add("--title", metavar="TEXT", help="find this in titles")
+    _add_sources(add)
     add("--stipulation", metavar="S", help="find this stipulation, such as h#2")
     add("--condition", metavar="C", help="find this condition")
     add("--men", metavar="MEN", help="find positions with these men, as 'White Kg6 Black Pa7'")
     add("--count", metavar="W+B", help="find positions by numbers of men, such as 3+4")
+    add(
+        "--fragment",
+        metavar="MEN",
+        help="find positions with these men anywhere: as they are, shifted, mirrored, turned or with"
+        " colours reversed",
+    )
     add(
         "--most",
         type=command.number_from_one,
@@ -83,6 +100,13 @@ def command_line() -> argparse.ArgumentParser:
     add("-o", "--output", metavar="PAGE", help="an HTML page with the diagrams of what was found")
     command.add_encoding(parser)
     return parser
+
+
+def _add_sources(add: Callable[..., object]) -> None:
+    """Adds the options for where and when a problem was published, and for what it is about."""
+    add("--source", metavar="TEXT", help="find this in origins")
+    add("--date", metavar="D[..D]", help="find this date, or from one to another: 1977-08, 1950..1959")
+    add("--keyword", metavar="TEXT", help="find this in keywords, also `ideal mates`, `echo`")
 
 
 def arguments(words: list[str]) -> Settings:
@@ -103,8 +127,9 @@ def wanted_of(parser: argparse.ArgumentParser, settings: Settings) -> Wanted:
     """Returns what found problems have to have."""
     try:
         men = dict(men_in(settings.men or ""))
+        fragment = dict(men_in(settings.fragment or ""))
     except ValueError:
-        parser.error("--men needs a colour and men, as 'White Kg6 Ra1 Black Kg8'")
+        parser.error("--men and --fragment need a colour and men, as 'White Kg6 Ra1 Black Kg8'")
     counts: Optional[tuple[int, int]] = None
     if settings.count is not None:
         parts = re.fullmatch(r"([0-9]{1,2})\+([0-9]{1,2})", settings.count)
@@ -118,7 +143,23 @@ def wanted_of(parser: argparse.ArgumentParser, settings: Settings) -> Wanted:
         settings.condition or "",
         men,
         counts,
+        settings.source or "",
+        settings.keyword or "",
+        dates_of(parser, settings.date),
+        board_of(fragment) if fragment else "",
     )
+
+
+def dates_of(
+    parser: argparse.ArgumentParser, text: Optional[str]
+) -> Optional[tuple[str, str]]:
+    """Returns the first and the last date."""
+    if text is None:
+        return None
+    parts = _DATES.fullmatch(text)
+    if parts is None:
+        parser.error("--date needs a date, as 1977 or 1977-08, or two, as 1950..1959")
+    return parts[1], parts[2] or parts[1]
 
 
 def read(file: str) -> bytes:
@@ -144,17 +185,17 @@ def entries_in(file: str, encoding: str) -> tuple[list[Entry], bool]:
 def add(collection: Collection, files: list[str], settings: Settings) -> Status:
     """Adds the problems of FILEs."""
     status = Status.GOOD
-    plays = {}
+    items = {}
     if settings.report is not None:
         try:
-            plays = plays_of(read(settings.report))
+            items = items_of(read(settings.report))
         except EntriesError as error:
             raise CommandError(Status.DEVICE, f"{settings.report}: {error}") from None
     for file in files:
         entries, is_whole = entries_in(file, settings.encoding)
         status = status if is_whole else Status.FAULTY
-        with_play = (entry.with_play(plays.get(entry.number)) for entry in entries)
-        print(f"{file}: {counted(collection.add(file, with_play), 'problem')} added")
+        whole = (entry.with_item(items.get(entry.number)) for entry in entries)
+        print(f"{file}: {counted(collection.add(file, whole), 'problem')} added")
     print(f"{settings.collection}: {counted(len(collection), 'problem')}")
     return status
 
@@ -168,6 +209,10 @@ def answers(collection: Collection, settings: Settings) -> list[Answer]:
             for name in _WORDS
             if getattr(settings, name) is not None
         )
+        if settings.wanted.fragment:
+            fragment = Entry("", 0, "", "", "", "", "", settings.wanted.fragment, None)
+            hits = list(collection.with_fragment(settings.wanted))
+            return [Answer(asked, fragment, hits[: settings.most])]
         found = [Found(entry, (), ()) for entry in collection.matching(settings.wanted)]
         return [Answer(asked, None, found[: settings.most])]
     entries, _ = entries_in(file, settings.encoding)

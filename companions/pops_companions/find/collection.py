@@ -12,7 +12,7 @@ from dataclasses import astuple, dataclass, field, fields
 from typing import NamedTuple, Optional
 
 from pops_companions.chess.men import Colour, Man, Square
-from pops_companions.find.boards import Variant, differences, hashes, men_of, variants
+from pops_companions.find.boards import EMPTY, Variant, differences, hashes, men_of, variants
 from pops_companions.find.entries import Entry, mirrored_play
 
 # The mark that the file is a collection of this form.
@@ -21,12 +21,13 @@ _SCHEMA = """
 CREATE TABLE problems (
   id INTEGER PRIMARY KEY, source TEXT NOT NULL, number INTEGER NOT NULL, title TEXT NOT NULL,
   author TEXT NOT NULL, origin TEXT NOT NULL, stipulation TEXT NOT NULL, condition TEXT NOT NULL,
-  board TEXT NOT NULL, play TEXT);
+  board TEXT NOT NULL, play TEXT, keywords TEXT NOT NULL DEFAULT '');
 CREATE TABLE positions (hash INTEGER NOT NULL, problem INTEGER NOT NULL,
   PRIMARY KEY (hash, problem)) WITHOUT ROWID;
 CREATE INDEX problems_by_source ON problems (source);
 CREATE INDEX problems_by_play ON problems (play) WHERE play IS NOT NULL;
 """
+_KEYWORDS = "ALTER TABLE problems ADD COLUMN keywords TEXT NOT NULL DEFAULT ''"
 _COLUMNS = ", ".join(one.name for one in fields(Entry))
 # How many hashes one question names.
 _HASHES_AT_ONCE = 500
@@ -40,7 +41,8 @@ class CollectionError(Exception):
 class Wanted:
     """What found problems have: these words in author and title, these men, this stipulation.
 
-    `counts` are the numbers of White's and Black's men.
+    `counts` are the numbers of White's and Black's men, `dates` the first and the last date,
+    `fragment` the men that stand somewhere, as they are or moved.
     """
 
     author: str = ""
@@ -49,6 +51,10 @@ class Wanted:
     condition: str = ""
     men: dict[Square, Man] = field(default_factory=dict)
     counts: Optional[tuple[int, int]] = None
+    source: str = ""
+    keyword: str = ""
+    dates: Optional[tuple[str, str]] = None
+    fragment: str = ""
 
 
 class Found(NamedTuple):
@@ -87,6 +93,18 @@ class Collection:
             raise CollectionError(f"cannot open {path}: {error}") from None
         if form != _FORM:
             raise CollectionError(f"{path} is no collection of pops-find")
+        self._add_keywords(path)
+
+    def _add_keywords(self, path: str) -> None:
+        """Makes room for keywords in a collection that an older version made."""
+        columns = [row[1] for row in self._data.execute("PRAGMA table_info(problems)")]
+        if "keywords" in columns:
+            return
+        try:
+            with self._data:
+                self._data.execute(_KEYWORDS)
+        except sqlite3.Error as error:
+            raise CollectionError(f"cannot make room for keywords in {path}: {error}") from None
 
     def _tables(self) -> int:
         return int(self._data.execute("SELECT count(*) FROM sqlite_master").fetchone()[0])
@@ -137,8 +155,23 @@ class Collection:
         question = f"SELECT {_COLUMNS} FROM problems{where} ORDER BY id"
         for row in self._data.execute(question, values):
             entry = Entry(*row)
-            if wanted.counts is None or wanted.counts == _counts(entry.board):
+            if wanted.counts is not None and wanted.counts != _counts(entry.board):
+                continue
+            if wanted.dates is None or _is_within(entry.date, wanted.dates):
                 yield entry
+
+    def with_fragment(self, wanted: Wanted) -> Iterator[Found]:
+        """Yields the matching problems that have a fragment's men, moved over the board or not."""
+        ways = [
+            ([(place, it) for place, it in enumerate(one.board) if it != EMPTY], one.how)
+            for one in sorted(variants(wanted.fragment), key=lambda one: len(one.how))
+        ]
+        for entry in self.matching(wanted):
+            board = entry.board
+            for men, how in ways:
+                if all(board[place] == letter for place, letter in men):
+                    yield Found(entry, how, ("with these men",))
+                    break
 
     def near(self, board: str) -> list[Found]:
         """Returns the problems of which at most one man differs, moved over the board or not."""
@@ -187,7 +220,12 @@ def _uri(path: str) -> str:
 def _conditions(wanted: Wanted) -> tuple[list[str], list[str]]:
     conditions: list[str] = []
     values: list[str] = []
-    for column, text in (("author", wanted.author), ("title", wanted.title)):
+    for column, text in (
+        ("author", wanted.author),
+        ("title", wanted.title),
+        ("origin", wanted.source),
+        ("keywords", wanted.keyword),
+    ):
         if text:
             conditions.append(f"{column} LIKE ? ESCAPE '\\'")
             values.append(f"%{_escaped(text)}%")
@@ -200,6 +238,12 @@ def _conditions(wanted: Wanted) -> tuple[list[str], list[str]]:
             conditions.append(f"substr(board, {place}, 1) = ?")
             values.append(wanted.men[square].letter)
     return conditions, values
+
+
+def _is_within(date: str, dates: tuple[str, str]) -> bool:
+    """Returns whether a date is from the first to the last one, which may name less of it."""
+    first, last = dates
+    return bool(date) and date >= first and date[: len(last)] <= last
 
 
 def _escaped(text: str) -> str:

@@ -8,16 +8,20 @@ from typing import Optional
 
 from pops_companions.chess.men import Colour, Kind, Man, Square
 from pops_companions.export.problems import Problem, read_problems
-from pops_companions.find.boards import board_of
+from pops_companions.export.yaml_fields import source_of
+from pops_companions.find.boards import board_of, men_of
 from pops_companions.import_.words import Unreadable
 from pops_companions.report.items import HelpLine, Node, PhaseKind, SoundItem
 from pops_companions.report.moves import Mark
 from pops_companions.report.reader import ReportError, read_report
+from pops_companions.review.mates import mates_in
 from pops_companions.show.titles import shown, text_of
 
 _REPORT = re.compile(rb"problem [1-9][0-9]*\r?\n")
 _MAN = re.compile("([KQRBSPGNkqrbspgn])((?:[a-h][1-8])+)")
 _FILES = str.maketrans("abcdefgh", "hgfedcba")
+_KEYWORD = re.compile(r"keywords?: (.+)", re.IGNORECASE)
+_YEAR = re.compile(r"\b(?:1[4-9]|20)\d\d\b")
 _SQUARE = re.compile("[a-h](?=[1-8])")
 
 
@@ -29,7 +33,8 @@ class EntriesError(ValueError):
 class Entry:
     """A problem of a collection. `source` is the file it is from, `number` its place there.
 
-    `play` is its key and mates, or its help lines, where a report shows them.
+    `play` is its key and mates, or its help lines, where a report shows them. `keywords` are those
+    of the input, and what the mates of help play are, parted by semicolons.
     """
 
     source: str
@@ -41,10 +46,23 @@ class Entry:
     condition: str
     board: str
     play: Optional[str]
+    keywords: str = ""
 
-    def with_play(self, play: Optional[str]) -> "Entry":
-        """Returns the problem with this play, if there is one."""
-        return self if play is None else replace(self, play=play)
+    def with_item(self, item: Optional[SoundItem]) -> "Entry":
+        """Returns the problem with the play of an item of a report, and with what its mates are."""
+        if item is None:
+            return self
+        known = filter(None, (self.keywords, *mates_in(item, men_of(self.board))))
+        return replace(self, play=play_of(item) or self.play, keywords="; ".join(known))
+
+    @property
+    def date(self) -> str:
+        """The date of its origin, as `1977-08`; empty where there is none."""
+        parted = source_of(self.origin, [])
+        if parted is not None and parted[0].date:
+            return parted[0].date
+        year = _YEAR.search(self.origin)
+        return "" if year is None else year[0]
 
     @property
     def name(self) -> str:
@@ -80,6 +98,7 @@ def _of_problem(source: str, problem: Problem) -> Entry:
         problem.condition,
         board_of(dict(men_in(problem.pieces))),
         None,
+        "; ".join(found[1] for found in map(_KEYWORD.fullmatch, problem.remarks) if found),
     )
 
 
@@ -120,19 +139,17 @@ def _of_item(source: str, item: SoundItem, encoding: str) -> Entry:
         item.stipulation.text,
         "" if item.condition is None else item.condition.value,
         "".join(item.board.ranks),
-        play_of(item),
-    )
+        None,
+    ).with_item(item)
 
 
-def plays_of(data: bytes) -> "dict[int, str]":
-    """Returns the play of each problem of a report, by its number. EntriesError for another text.
-    """
+def items_of(data: bytes) -> dict[int, SoundItem]:
+    """Returns the sound problems of a report by their numbers. EntriesError for another text."""
     try:
         items = [item for item in read_report(io.BytesIO(data)) if isinstance(item, SoundItem)]
     except ReportError as error:
         raise EntriesError(f"it is no report of pops: {error}") from None
-    found = ((item.number, play_of(item)) for item in items)
-    return {number: play for number, play in found if play is not None}
+    return {item.number: item for item in items}
 
 
 def play_of(item: SoundItem) -> Optional[str]:

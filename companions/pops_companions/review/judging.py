@@ -31,6 +31,7 @@ from pops_companions.review.duals import (
     reaches,
     tree_duals,
 )
+from pops_companions.review.mates import mates_in
 from pops_companions.review.naming import counted
 
 
@@ -90,6 +91,8 @@ class Judgement:
     is_zugzwang: bool = False
     # What the keys do, as `check` and `capture`.
     key_traits: tuple[str, ...] = ()
+    # What all mates of help play are, as `model mates`.
+    keywords: Sequence[str] = ()
 
     @property
     def verdict(self) -> Verdict:
@@ -150,6 +153,9 @@ def judged(
         _judge_duals_after_defences(judgement, item.stipulation, tries)
         _judge_tries(judgement, tries)
     _judge_set_play(judgement, item, play)
+    judgement.keywords = mates_in(item, {} if item.board is None else item.board.men)
+    if judgement.keywords:
+        judgement.find(Weight.NOTE, f"all mates: {', '.join(judgement.keywords)}")
     return judgement
 
 

@@ -1,0 +1,142 @@
+"""Pure, model and ideal mates and echoes, worked out by hand."""
+
+import tempfile
+import unittest
+from pathlib import Path
+
+from pops_companions.chess.attacks import Men
+from pops_companions.chess.men import Colour
+from pops_companions.find.entries import men_in
+from pops_companions.review.mates import Mate, keywords_of, mate_of
+from tests import run_here, support
+
+
+def men(text: str) -> Men:
+    return dict(men_in(text))
+
+
+def mate(text: str) -> Mate:
+    found = mate_of(men(text), Colour.BLACK)
+    assert found is not None
+    return found
+
+
+class Mates(unittest.TestCase):
+    def test_names(self) -> None:
+        for text, wanted in (
+            # The king guards a7 and b7, the rook b8 and, through the king, gives check.
+            ("White Kb6 Rh8 Black Ka8", "ideal"),
+            # A pawn and black men may be idle in a model mate, a white officer may not.
+            ("White Kb6 Rh8 Ph2 Black Ka8", "model"),
+            ("White Kb6 Rh8 Black Ka8 Sh3", "model"),
+            ("White Kb6 Rh8 Sh1 Black Ka8", "pure"),
+            # The second rook guards a7 and b7 as the king does.
+            ("White Kb6 Rh8 Rh7 Black Ka8", ""),
+            # Black's own pawn blocks a7, the king guards b7 and b8, the knight gives check.
+            ("White Kc7 Sb6 Black Ka8 Pa7", "ideal"),
+            # The bishop guards a7, which the pawn blocks.
+            ("White Kc7 Sb6 Bg1 Black Ka8 Pa7", "pure"),
+            ("White Kc7 Sb6 Bd4 Black Ka8 Pa7", "pure"),
+            # Two men give check.
+            ("White Kb6 Rh8 Bd5 Black Ka8", ""),
+        ):
+            with self.subTest(text):
+                self.assertEqual(mate(text).name, wanted)
+
+    def test_no_names_with_fairy_men(self) -> None:
+        self.assertIsNone(mate_of(men("White Kb6 Rh8 Gh1 Black Ka8"), Colour.BLACK))
+        self.assertIsNone(mate_of(men("White Kb6 Rh8"), Colour.BLACK))
+
+    def test_keywords(self) -> None:
+        left, right, up = (
+            mate("White Kb6 Rh8 Black Ka8"),
+            mate("White Kg6 Ra8 Black Kh8"),
+            mate("White Kc7 Sb6 Black Ka8 Pa7"),
+        )
+        model = mate("White Kb6 Rh8 Ph2 Black Ka8")
+        cases: list[tuple[list[Mate], list[str]]] = [
+            ([], []),
+            ([left], ["ideal mates"]),
+            ([left, up], ["ideal mates"]),
+            ([left, model], ["model mates", "echo"]),
+            # Mirrored; a8 is light, h8 dark.
+            ([left, right], ["ideal mates", "chameleon echo"]),
+            ([left, left], ["ideal mates", "echo"]),
+            ([mate("White Kb6 Rh8 Rh7 Black Ka8")], []),
+        ]
+        for mates, wanted in cases:
+            self.assertEqual(keywords_of(mates), wanted)
+
+
+class Programs(unittest.TestCase):
+    """pops-test says what the mates are, and pops-find finds them as keywords."""
+
+    def setUp(self) -> None:
+        room = tempfile.TemporaryDirectory()
+        self.addCleanup(room.cleanup)
+        self.room = Path(room.name)
+        self.text = self.room / "some.pop"
+        problem = "Pieces White Kg6 Ra1 Black Kh8\nStipulation h#1\n"
+        self.text.write_text(
+            f"BeginProblem\nOrigin Die Schwalbe, August 1977\nRemark keywords: Letztform\n{problem}"
+            f"NextProblem\nOrigin Chess Monthly 1860\n{problem.replace('Ra1', 'Ra1 Sb1')}EndProblem\n"
+        )
+        self.report = self.room / "some.report"
+        self.report.write_bytes(support.run([support.pops(), str(self.text)]).output)
+
+    def test_pops_test(self) -> None:
+        """1.Kg8 Ra8: king and rook guard each square once; the knight on b1 is idle."""
+        told = run_here.companion("pops-test", str(self.report)).output.decode()
+        self.assertEqual(told.count("all mates: "), 2)
+        self.assertIn("  all mates: ideal mates\n", told.split("problem 2")[0])
+        self.assertIn("  all mates: pure mates\n", told.split("problem 2")[1])
+
+    def numbers(self, *words: str) -> list[str]:
+        told = run_here.companion("pops-find", str(self.room / "some.db"), *words)
+        lines = told.output.decode().splitlines()
+        return [line.split("problem ")[1][0] for line in lines if ".pop, problem " in line]
+
+    def test_pops_find(self) -> None:
+        words = ("--add", str(self.text), "--report", str(self.report))
+        added = run_here.companion("pops-find", str(self.room / "some.db"), *words)
+        self.assertEqual((added.status, added.error), (0, ""))
+        for asked, wanted in (
+            (("--keyword", "ideal"), ["1"]),
+            (("--keyword", "mates"), ["1", "2"]),
+            (("--keyword", "letztform"), ["1"]),
+            (("--source", "schwalbe"), ["1"]),
+            (("--source", "1860"), ["2"]),
+            (("--date", "1977"), ["1"]),
+            (("--date", "1977-08"), ["1"]),
+            (("--date", "1977-09"), []),
+            (("--date", "1860..1977"), ["1", "2"]),
+            (("--date", "1861..1977-07"), []),
+            (("--date", "1850..1899", "--source", "Monthly"), ["2"]),
+        ):
+            with self.subTest(asked):
+                self.assertEqual(self.numbers(*asked), wanted)
+        wrong = run_here.companion("pops-find", str(self.room / "some.db"), "--date", "soon")
+        self.assertEqual(wrong.status, 2)
+
+    def test_a_fragment(self) -> None:
+        """Anywhere on the board, mirrored, turned or with colours reversed, also with other men."""
+        run_here.companion("pops-find", str(self.room / "some.db"), "--add", str(self.text))
+        for men_asked, wanted in (
+            ("White Kg6 Black Kh8", ["1", "2"]),
+            ("White Sb1 Black Kh8", ["2"]),
+            # One down and one to the left; mirrored left to right; colours reversed.
+            ("White Kf5 Black Kg7", ["1", "2"]),
+            ("White Kb6 Black Ka8", ["1", "2"]),
+            ("White Kh8 Black Kg6", ["1", "2"]),
+            ("White Kg5 Black Kh8", []),
+        ):
+            with self.subTest(men_asked):
+                self.assertEqual(self.numbers("--fragment", men_asked), wanted)
+        words = ("--fragment", "White Kb6 Black Ka8", "--count", "2+1")
+        self.assertEqual(self.numbers(*words), ["1"])
+        told = run_here.companion("pops-find", str(self.room / "some.db"), *words).output.decode()
+        self.assertIn("mirrored left to right; with these men", told)
+
+
+if __name__ == "__main__":
+    unittest.main()
