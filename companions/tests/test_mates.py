@@ -53,15 +53,19 @@ class Mates(unittest.TestCase):
             mate("White Kg6 Ra8 Black Kh8"),
             mate("White Kc7 Sb6 Black Ka8 Pa7"),
         )
+        one = mate("White Kc6 Rf8 Black Kc8")
+        shifted = mate("White Ke6 Rh8 Black Ke8")
         model = mate("White Kb6 Rh8 Ph2 Black Ka8")
         cases: list[tuple[list[Mate], list[str]]] = [
             ([], []),
             ([left], ["ideal mates"]),
             ([left, up], ["ideal mates"]),
-            ([left, model], ["model mates", "echo"]),
+            ([left, model], ["model mates"]),
             # Mirrored; a8 is light, h8 dark.
             ([left, right], ["ideal mates", "chameleon echo"]),
-            ([left, left], ["ideal mates", "echo"]),
+            # The same mate twice is no echo, one shifted is: c8 and e8 are both light.
+            ([left, left], ["ideal mates"]),
+            ([one, shifted], ["ideal mates", "echo"]),
             ([mate("White Kb6 Rh8 Rh7 Black Ka8")], []),
         ]
         for mates, wanted in cases:

@@ -379,9 +379,10 @@ class Collection(unittest.TestCase):
         ("sound", ["1 dual at the mate: 1 on move 2; 1 by promotion alone",
                    "set play: 0 moves of Black provided for"]),
         ("unsound", ["no solution", "set play not possible"]),
-        ("sound", ["set play: 1 solution"]),
+        ("sound", ["set play: 1 solution", "all mates: ideal mates"]),
         ("unsound", ["stopped: at least 2 solutions, 2 wanted", "1 short solution"]),
-        ("sound", ["5 duals before the mate: 3 on move 1, 2 on move 2"]),
+        # The queen guards f7, and nothing what Black's men block: but most of White's are idle.
+        ("sound", ["5 duals before the mate: 3 on move 1, 2 on move 2", "all mates: pure mates"]),
         ("undecided", ["stopped: at least 1 key, 1 wanted",
                        "duals not shown: they need Variation"]),
         ("faulty", ["line 46: fault 14: square expected"]),

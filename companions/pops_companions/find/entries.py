@@ -33,8 +33,8 @@ class EntriesError(ValueError):
 class Entry:
     """A problem of a collection. `source` is the file it is from, `number` its place there.
 
-    `play` is its key and mates, or its help lines, where a report shows them. `keywords` are those
-    of the input, and what the mates of help play are, parted by semicolons.
+    `play` is its key and mates, or its help lines, where a report shows them. `keywords` come
+    from the input and from what the mates of help play are, parted by semicolons.
     """
 
     source: str

@@ -21,11 +21,11 @@ Picture = frozenset[tuple[int, int, Man]]
 
 
 class Mate(NamedTuple):
-    """A mate: what it is called, as `ideal`, or nothing; its picture; the colour of its square."""
+    """A mate: what it is called, as `ideal`, or nothing; its picture, and the king's square."""
 
     name: str
     picture: Picture
-    is_dark: bool
+    king: Square
 
 
 def mate_of(men: Men, mated: Colour) -> Optional[Mate]:
@@ -55,7 +55,7 @@ def mate_of(men: Men, mated: Colour) -> Optional[Mate]:
     picture = frozenset(
         (square.file - king.file, square.rank - king.rank, men[square]) for square in taking_part
     )
-    return Mate(name, picture, (king.file + king.rank) % 2 == 0)
+    return Mate(name, picture, king)
 
 
 def _field(king: Square) -> Iterator[Square]:
@@ -97,13 +97,15 @@ def keywords_of(mates: list[Mate]) -> list[str]:
             break
     else:
         return []
-    shades: dict[tuple[tuple[int, int, str], ...], list[bool]] = {}
+    places: dict[tuple[tuple[int, int, str], ...], set[tuple[Square, Picture]]] = {}
     for mate in mates:
         first = min(map(_sorted, _turned(mate.picture)))
-        shades.setdefault(first, []).append(mate.is_dark)
-    if any(len(set(it)) == 2 for it in shades.values()):
+        places.setdefault(first, set()).add((mate.king, mate.picture))
+    echoes = [it for it in places.values() if len(it) > 1]
+    shades = [{(king.file + king.rank) % 2 for king, _ in it} for it in echoes]
+    if any(len(it) == 2 for it in shades):
         found.append("chameleon echo")
-    elif any(len(it) > 1 for it in shades.values()):
+    elif echoes:
         found.append("echo")
     return found
 
@@ -111,7 +113,7 @@ def keywords_of(mates: list[Mate]) -> list[str]:
 def mates_in(item: SoundItem, men: Men) -> list[str]:
     """Returns what the mates of a help mate are; nothing for other problems, or under a condition.
 
-    `men` are those of its diagram.
+    `men` are the men of its diagram.
     """
     is_help_mate = (item.stipulation.play, item.stipulation.goal) == (Play.HELP, Goal.MATE)
     if not is_help_mate or item.condition is not None or not men:

@@ -34,7 +34,7 @@ class TriesShown(Enum):
     NONE = "none"
 
 
-# So many moves of a man with the same refutation are shown as any of its moves.
+# Three moves of a man with the same refutation, or more, are shown as any of its moves.
 _ANY_MOVE = 3
 
 
