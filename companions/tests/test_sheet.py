@@ -461,14 +461,14 @@ class Forms(Case):
 
     def test_twins_in_languages(self) -> None:
         """A man moved, gone, new, exchanged, in place of another; another stipulation."""
-        first = "Pieces White Kg6 Ra1 Pc4 Black Kh8 Bc3\nStipulation h#2\n"
+        first = "Pieces White Kg6 Ra1 Pc4 Black Kh8 Bc3\nStipulation h#1\n"
         changes = (
-            ("Pieces White Kg6 Rb2 Pc4 Black Kh8 Bc3\nStipulation h#2\n", "Ta1→b2"),
-            ("Pieces White Kg6 Ra1 Black Kh8 Bc3\nStipulation h#3\n", "–Bc4, h#3"),
-            ("Pieces White Kg6 Ra1 Pc4 Black Kh8 Bc3 Qd8\nStipulation h#2\n", "+sDd8"),
-            ("Pieces White Kg6 Rc3 Pc4 Black Kh8 Ba1\nStipulation h#2\n", "Ta1↔Lc3"),
-            ("Pieces White Kg6 Qa1 Pc4 Black Kh8 Bc3\nStipulation h#2\n", "Ta1=D"),
-            ("Pieces White Kg6 Ra1 Bc3 Pc4 Black Kh8\nStipulation h#2\n", "Lc3=wL"),
+            ("Pieces White Kg6 Rb2 Pc4 Black Kh8 Bc3\nStipulation h#1\n", "Ta1→b2"),
+            ("Pieces White Kg6 Ra1 Black Kh8 Bc3\nStipulation h#1.5\n", "–Bc4, h#1.5"),
+            ("Pieces White Kg6 Ra1 Pc4 Black Kh8 Bc3 Qd8\nStipulation h#1\n", "+sDd8"),
+            ("Pieces White Kg6 Rc3 Pc4 Black Kh8 Ba1\nStipulation h#1\n", "Ta1↔Lc3"),
+            ("Pieces White Kg6 Qa1 Pc4 Black Kh8 Bc3\nStipulation h#1\n", "Ta1=D"),
+            ("Pieces White Kg6 Ra1 Bc3 Pc4 Black Kh8\nStipulation h#1\n", "Lc3=wL"),
         )
         texts = [f"Title T a)\n{first}"]
         for letter, (changed, _) in zip("bcdefg", changes):
