@@ -18,11 +18,11 @@ import { buildLive, liveChanged } from './page/live.js';
 import { loadEngine, showMost, showSaid, showSolve, solve, solveThis, stopSolving } from './page/solving.js';
 import { state, textNow } from './page/state.js';
 import { keep, kept } from './page/storage.js';
-import { board, buildViews, notes, tree } from './page/views.js';
+import { board, buildViews, note, notes, tree } from './page/views.js';
 import { beginVisit, drawVisit, openLink, storeVisit } from './page/visit.js';
 import { goBack, leave, showPlace } from './page/walk.js';
 import { fillPrint } from './printing.js';
-import { language, say } from './words.js';
+import { language, LANGUAGES, say, speak } from './words.js';
 
 const CHANGE_SIGNS = { left: '←', right: '→', up: '↑', down: '↓', mirror: '⇋', upright: '⇅', turn: '↻' };
 
@@ -110,8 +110,21 @@ function listen() {
   listenToFiles();
 }
 
+/** Fills the choice of languages; a choice loads the page again, which shows everything as before. */
+function buildLanguages() {
+  const list = element('language');
+  list.replaceChildren(...Object.entries(LANGUAGES).map(([code, name]) => new Option(name, code)));
+  list.value = language;
+  list.onchange = () => {
+    if (keep('pops.language', list.value)) location.reload();
+    else note(say('keptNot'));
+  };
+}
+
 function begin() {
+  speak(kept('pops.language') ?? navigator.language?.slice(0, 2) ?? 'en');
   fillWords();
+  buildLanguages();
   element('shapes').innerHTML = partText('men-shapes');
   buildButtons();
   buildFields();

@@ -576,6 +576,25 @@ def narrow(page: Page) -> None:
     page.picture("narrow_tries.png")
 
 
+def spoken(page: Page) -> None:
+    """The page in German and in French, also on a telephone; text, solutions and undo stay."""
+    browser = page.browser
+    browser.size(1280, 800)
+    page.open(MATE_IN_TWO)
+    browser.run("changeBoard('mirror'); changeBoard('mirror')")
+    page.solve()
+    for code, solve, found in (("de", "Lösen", "1 Schlüssel"), ("fr", "Résoudre", "1 clé"), ("en", "Solve", "1 key")):
+        browser.run("window.isBefore = true")
+        browser.run(f"(it => {{ it.value = '{code}'; it.dispatchEvent(new Event('change')); }})(document.getElementById('language'))")
+        browser.wait(f"!window.isBefore && {READY}")
+        page.holds(page.told("solve") == solve and found in page.told("tree"), f"{code}: {page.told('solve')}, {page.told('tree')}")
+        page.holds(page.text() == MATE_IN_TWO and not browser.run("document.getElementById('undo').disabled"), f"{code}: the text and undo stay")
+        page.picture(f"page_{code}.png")
+        browser.size(NARROW, 780)
+        fits(page)
+        browser.size(1280, 800)
+
+
 def fits(page: Page) -> None:
     """Nothing stands outside of the narrow page, and nothing is too small to press."""
     width = page.browser.run("document.documentElement.scrollWidth")
@@ -606,6 +625,7 @@ LOOKS: list[Callable[[Page], None]] = [
     without_engine,
     hostile,
     narrow,
+    spoken,
 ]
 
 

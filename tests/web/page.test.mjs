@@ -1,5 +1,6 @@
 // The modules that show the page, with a stand-in for a browser's document.
 import assert from 'node:assert/strict';
+import { readFileSync } from 'node:fs';
 import { test } from 'node:test';
 import { fill, kept, keptInTab, made, paste, send } from '../page_document.mjs';
 import { EXPLANATIONS } from '../page_imports.mjs';
@@ -33,8 +34,10 @@ const { beginVisit, drawVisit, openLink, storeVisit } = await import('../../web/
 const { leave, showPlace } = await import('../../web/page/walk.js');
 const { fillPrint } = await import('../../web/printing.js');
 const { fragmentOf } = await import('../../web/store.js');
+const { shortText } = await import('../../web/short.js');
+const { menOf } = await import('../../web/text.js');
 const { sayFound } = await import('../../web/tree.js');
-const { say } = await import('../../web/words.js');
+const { LANGUAGES, say, sayMan, speak } = await import('../../web/words.js');
 await import('../../web/page.js');
 send('DOMContentLoaded', {});
 
@@ -529,4 +532,40 @@ test('editing: clear removes title, source and squares of options too, and leave
   assert.equal(textNow(), 'BeginProblem\nAuthor B\nStipulation #2\nOption Variation\nEndProblem\n');
   goSteps(-1);
   assert.match(textNow(), /Title A/);
+});
+
+test('words: every language has every text, with the same values in it', () => {
+  const source = readFileSync(new URL('../../web/words.js', import.meta.url), 'utf8');
+  const tables = Object.keys(LANGUAGES).map(code => new RegExp(`^  ${code}: \\{\\n([^]*?)^  \\},$`, 'm').exec(source)[1]);
+  const names = text => [...text.matchAll(/(?:^ +|, )(?:'([a-z]+-[a-z#=]+)'|([A-Za-z0-9]+)): '/gm)].map(it => it[1] ?? it[2]);
+  const [english, ...others] = tables.map(text => new Set(names(text)));
+  assert.equal(english.size > 150, true);
+  for (const [at, other] of others.entries()) {
+    const code = Object.keys(LANGUAGES)[at + 1];
+    assert.deepEqual([...english].filter(it => !other.has(it)), []);
+    assert.deepEqual([...other].filter(it => !english.has(it) && it !== 'below-stalemate'), []);
+    for (const name of english) {
+      const values = () => (say(name).match(/\{\w+\}/g) ?? []).sort();
+      speak('en');
+      const wanted = values();
+      speak(code);
+      assert.deepEqual(values(), wanted, `${code} ${name}`);
+    }
+  }
+  speak('xx');
+  assert.equal(sayMan('bS'), 'black knight');
+  speak('de');
+  assert.equal(sayMan('bS'), 'Springer (Schwarz)');
+  speak('en');
+});
+
+test('words: the solution in short notation has the letters of its language', () => {
+  begin(TWO_MOVES, TRIES);
+  const [item] = state.items;
+  const men = menOf(blockNow()).men;
+  speak('de');
+  assert.equal(shortText(item, men), 'Verführungen\n  1.Db2? Zugzwang\n    aber 1...a5!\nLösung\n  1.Db6! droht: 2.Df6#\n    1...axb6\n');
+  speak('fr');
+  assert.match(shortText(item, men), /1\.Db6! menace : 2\.Df6#/);
+  speak('en');
 });
