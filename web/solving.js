@@ -92,7 +92,7 @@ export class Solving {
   async begin() {
     const tested = await this.ask({ call: 'report', check: true, noBoard: this.noBoard }, this.text);
     if (this.check) {
-      this.give(this.chosen(itemsIn(tested.text)).join('') || tested.text);
+      this.give(this.only ? this.chosen(itemsIn(tested.text)).join('') : tested.text);
       this.end({ status: tested.status });
       return;
     }

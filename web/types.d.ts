@@ -84,8 +84,9 @@ interface ItemTwin extends Given { item: Item; number: number; label: Label; who
 interface KeptText { text: string; time: number; isLinked?: boolean; tab?: string }
 /** The texts for undo and redo, and the place of the text that is shown. */
 interface StoredSteps { texts: string[]; place: number }
-/** A text that was solved, its report, whether more may follow it, and the number of the one problem that was solved, or 0. */
-interface StoredReport { text: string; report: string; isBeginning: boolean; only: number }
+/** A text that was solved, its report, whether more may follow it, the number of the one problem that was solved, or 0, and whether another
+    text had replaced it. */
+interface StoredReport { text: string; report: string; isBeginning: boolean; only: number; isReplaced: boolean }
 /** What a reload of the page shows again: the texts, the number of the problem on the board, the link opened last, the report. */
 interface Visit { steps: StoredSteps; number: number; link: string; solved: StoredReport | null }
 

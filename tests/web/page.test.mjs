@@ -336,6 +336,11 @@ test('visit: texts for undo, the problem and its report survive a reload', () =>
   beginVisit();
   assert.deepEqual([state.report, state.isBeginning], ['problem 1\n#1\n', true]);
   state.endReport(true);
+  takeText(TWO_MOVES.replace('Qb1', 'Qb2'));
+  storeVisit();
+  state.beginReport(textNow());
+  beginVisit();
+  assert.equal(state.isReplaced(), true);
 });
 
 test('keeping: a text in work of another tab is kept before it is replaced', () => {

@@ -85,8 +85,9 @@ class PageState {
    * Takes the report of an earlier visit.
    * @param {StoredReport} stored
    */
-  restoreReport({ text, report, isBeginning, only }) {
+  restoreReport({ text, report, isBeginning, only, isReplaced }) {
     this.takeSolved(text, only);
+    if (isReplaced) this.beginSheet();
     Object.assign(this, { report, isBeginning, isEnded: true });
   }
 

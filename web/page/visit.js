@@ -19,7 +19,7 @@ export function storeVisit() {
   endTyping();
   const { steps, number, solved, report, only } = state;
   const isBeginning = state.isBeginning || !state.isEnded;
-  const written = writtenVisit({ steps, number, link, solved: report ? { text: solved, report, isBeginning, only } : null });
+  const written = writtenVisit({ steps, number, link, solved: report ? { text: solved, report, isBeginning, only, isReplaced: state.isReplaced() } : null });
   keepInTab('pops.visit', written);
   keep('pops.visit', written);
 }
