@@ -3,25 +3,34 @@
 import { element, madeWith, makeButton } from './elements.js';
 import { goToProblem } from './page/editing.js';
 import { blockNow, textNow } from './page/state.js';
+import { inSlices } from './slices.js';
 import { blocksOf, fieldsOf, menOf, sidesOf, valueOf } from './text.js';
 import { givenOf, saidOfTwin, twinChange, twinGroups } from './twins.js';
 import { say } from './words.js';
 
 const LONGEST_NAME = 60;
+// No list of more problems is shown.
+const MOST_LISTED = 200000;
+
+/**
+ * Returns a problem of a text with its number and names.
+ * @param {string} text
+ * @param {Block} block
+ * @returns {Content}
+ */
+function contentOf(text, block) {
+  const fields = fieldsOf(text, block);
+  const { men } = menOf(block);
+  const asked = [valueOf(fields, 'stipulation'), valueOf(fields, 'condition')].filter(Boolean).join(' ') || null;
+  const [title, author] = ['title', 'author'].map(name => valueOf(fields, name) || null);
+  return { number: block.number, title, author, asked, men };
+}
 
 /**
  * Returns the problems of a text with their numbers and names.
  * @param {string} text
  */
-export function contentsOf(text) {
-  return blocksOf(text).map(block => {
-    const fields = fieldsOf(text, block);
-    const { men } = menOf(block);
-    const asked = [valueOf(fields, 'stipulation'), valueOf(fields, 'condition')].filter(Boolean).join(' ') || null;
-    const [title, author] = ['title', 'author'].map(name => valueOf(fields, name) || null);
-    return { number: block.number, title, author, asked, men };
-  });
-}
+export const contentsOf = text => blocksOf(text).map(block => contentOf(text, block));
 
 /**
  * Names a problem for the list: its number, then title and stipulation, or stipulation and men.
@@ -49,18 +58,46 @@ export function twinsOf(text, contents, number) {
   });
 }
 
-/** Shows the list if there is more than one problem, and the twins of the one on the board. */
+/** Ends the showing of an earlier list. */
+let endShowing = () => {};
+
+/** Shows the list if there is more than one problem, and the twins of the one on the board; a long list in slices. */
 export function showContents() {
-  const contents = contentsOf(textNow());
+  endShowing();
+  const text = textNow();
+  const { length } = blocksOf(text);
+  element('contents').hidden = length < 2 || length > MOST_LISTED;
+  if (length > MOST_LISTED) return;
+  endShowing = inSlices(text.length, shownContents(text), contents => {
+    element('problems').value = String(blockNow()?.number ?? 1);
+    showTwins(twinsOf(text, contents, blockNow()?.number));
+  });
+}
+
+/**
+ * Makes the list of a text's problems step by step, if it isn't shown already.
+ * @param {string} text
+ * @returns {Generator<void, Content[]>}
+ */
+function* shownContents(text) {
+  /** @type {Content[]} */
+  const contents = [];
+  for (const block of blocksOf(text)) {
+    contents.push(contentOf(text, block));
+    yield;
+  }
   const names = contents.map(nameOfProblem);
   const list = element('problems');
-  element('contents').hidden = contents.length < 2;
-  if (list.dataset.names !== names.join('\n')) {
-    list.dataset.names = names.join('\n');
-    list.replaceChildren(...names.map((name, index) => new Option(name, String(index + 1))));
+  if (list.dataset.names === names.join('\n')) return contents;
+  const options = [];
+  for (const [index, name] of names.entries()) {
+    options.push(new Option(name, String(index + 1)));
+    yield;
   }
-  list.value = String(blockNow()?.number ?? 1);
-  showTwins(twinsOf(textNow(), contents, blockNow()?.number));
+  list.replaceChildren();
+  for (const option of options) list.append(option);
+  list.dataset.names = names.join('\n');
+  return contents;
 }
 
 /** @param {ContentTwin[]} twins */

@@ -7,6 +7,8 @@ export const FILES = 'abcdefgh';
 const FEN_LETTERS = { K: 'K', Q: 'Q', R: 'R', B: 'B', S: 'N', P: 'P', G: 'G', N: '(N)' };
 /** @type {Record<string, string>} */
 const FEN_KINDS = { K: 'K', Q: 'Q', R: 'R', B: 'B', N: 'S', P: 'P', G: 'G' };
+// In letters, with some blanks between the fields.
+const LONGEST_FEN = 1000;
 const FEN_SQUARES = /\(([kqrbspgn])\)|[kqrbspgn]|[1-8]/gi;
 /** @type {Record<string, string>} */
 const CORNERS = { K: 'h1', Q: 'a1', k: 'h8', q: 'a8' };
@@ -148,7 +150,9 @@ function rightsOf(men, barred) {
  * @returns {Fen | null}
  */
 export function readFen(text) {
-  const [placement, turn = 'w', rights = null, crossed = '-', ...counts] = text.trim().split(/\s+/);
+  const said = text.trim();
+  if (said.length > LONGEST_FEN) return null;
+  const [placement, turn = 'w', rights = null, crossed = '-', ...counts] = said.split(/\s+/);
   const men = menOfPlacement(placement);
   if (!men || counts.length > 2 || !counts.every(field => /^\d+$/.test(field))) return null;
   if (!/^[wb]$/.test(turn) || !/^(-|[KQkq]+)$/.test(rights ?? '-') || !/^(-|[a-h][36])$/.test(crossed)) return null;

@@ -19,6 +19,8 @@ const HALF = /(?:([1-9][0-9]*)(\.\.\.|\.))?((?:[^ ]+)(?: ep\.[^ ]*)?)/g;
 // The words below a first move: what it threatens, or that it threatens nothing; what refutes it, a move or stalemate.
 const WORD = /^(?:  (threat|zugzwang|check|but)|    (stalemate))$/;
 const NO_TRIES = 'no tries in help play';
+// The lines of one step of reading.
+const LINES_A_STEP = 100;
 const ASKED = /^([sh]?)([#=])([0-9]+)(\.5)?(?: (Circe|Madrasi))?$/;
 
 /**
@@ -139,29 +141,79 @@ function readLine(line, item) {
   return Boolean(item.asked || item.fault || item.ranks.length);
 }
 
+/** A report that is read line by line, as it grows. A line that doesn't belong there ends the reading. */
+export class ReportReading {
+  /** @param {string} [report] the beginning of the report */
+  constructor(report = '') {
+    /** What isn't divided into lines yet. (Lines of the whole report would each keep a copy of it in memory.) */
+    this.left = report;
+    /** @type {Item[]} */
+    this.items = [];
+    /** @type {Item | null} the item that isn't whole yet */
+    this.item = null;
+    this.isOver = false;
+    /** @type {string[]} lines, the first of which are read */
+    this.lines = [];
+    this.at = 0;
+  }
+
+  /** @param {string} text the next part of the report */
+  add(text) {
+    this.left += text;
+  }
+
+  /**
+   * Reads the next line; returns whether it belongs there.
+   * @param {string} line
+   */
+  take(line) {
+    const { item } = this;
+    const number = /^problem ([1-9][0-9]*)$/.exec(line);
+    if (!item && number) {
+      this.item = { number: Number(number[1]), title: null, author: null, ranks: [], asked: null, phases: [], fault: null,
+        isChecked: false, isWhole: false };
+      this.items.push(this.item);
+    } else if (item && !line) {
+      item.isWhole = true;
+      this.item = null;
+    } else if (item && !item.author && !item.ranks.length && !item.asked && /^(title|author): ./.test(line)) {
+      item[line.startsWith('title') ? 'title' : 'author'] = line.slice(line.indexOf(':') + 2);
+    } else return item ? readLine(line, item) : !line;
+    return true;
+  }
+
+  /**
+   * Reads the lines that are whole, step by step; a later call goes on after a call that was broken off.
+   * @returns {Generator<void, void>}
+   */
+  *more() {
+    for (let count = 1; !this.isOver; count++) {
+      if (this.at === this.lines.length && !this.divide()) return;
+      this.isOver = !this.take(this.lines[this.at]);
+      this.at += 1;
+      if (count % LINES_A_STEP === 0) yield;
+    }
+  }
+
+  /** Divides what was added into lines; returns whether there are some. */
+  divide() {
+    const lines = this.left.split('\n');
+    this.left = lines.pop() ?? '';
+    Object.assign(this, { lines, at: 0 });
+    return lines.length > 0;
+  }
+}
+
 /**
  * Reads the items of a report, or of a beginning of one. A line that doesn't belong there ends the reading.
  * @param {string} report
  */
 export function itemsOf(report) {
-  /** @type {Item[]} */
-  const items = [];
-  /** @type {Item | null} */
-  let item = null;
+  const reading = new ReportReading();
   for (const line of report.split('\n')) {
-    const number = /^problem ([1-9][0-9]*)$/.exec(line);
-    if (!item && number) {
-      item = { number: Number(number[1]), title: null, author: null, ranks: [], asked: null, phases: [], fault: null,
-        isChecked: false, isWhole: false };
-      items.push(item);
-    } else if (item && !line) {
-      item.isWhole = true;
-      item = null;
-    } else if (item && !item.author && !item.ranks.length && !item.asked && /^(title|author): ./.test(line)) {
-      item[line.startsWith('title') ? 'title' : 'author'] = line.slice(line.indexOf(':') + 2);
-    } else if (!item ? line : !readLine(line, item)) break;
+    if (!reading.take(line)) break;
   }
-  return items;
+  return reading.items;
 }
 
 /** @param {Move} move */

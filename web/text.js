@@ -2,6 +2,7 @@
 // A text of problems: reads and replaces the men and fields of one problem. The rest of the text stays byte for byte.
 // Nothing here judges a problem: the engine does.
 import { fenOf } from './position.js';
+import { atOnce } from './slices.js';
 
 // Text lines that are fields of the page.
 const TEXT_FIELDS = ['title', 'author', 'origin'];
@@ -22,22 +23,33 @@ const commandOf = word => COMMANDS.find(command => isShort(word, command));
 const isTextCommand = command => command !== undefined && TEXT_LINES.includes(command);
 
 /**
- * Makes a function that keeps its last result: the page reads one text many times.
+ * Makes a function that keeps its last result: the page reads one text many times. `take` keeps a result that was made elsewhere.
  * @template T
  * @param {(text: string) => T} make
- * @returns {(text: string) => T}
+ * @returns {((text: string) => T) & { knows: (text: string) => boolean, take: (text: string, made: T) => void }}
  */
 export function remembered(make) {
   /** @type {{ text: string, made: T } | null} */
   let last = null;
-  return text => {
+  const of = (/** @type {string} */ text) => {
     if (last?.text !== text) last = { text, made: make(text) };
     return last.made;
   };
+  return Object.assign(of, {
+    knows: (/** @type {string} */ text) => last?.text === text,
+    take: (/** @type {string} */ text, /** @type {T} */ made) => { last = { text, made }; },
+  });
 }
 
-/** Reads the words of a text with their places; the rest of a text command's line is no word. */
-export const wordsOf = remembered(text => {
+// The words of one step of reading.
+const WORDS_A_STEP = 2000;
+
+/**
+ * Reads words step by step.
+ * @param {string} text
+ * @returns {Generator<void, Token[]>}
+ */
+function* readWords(text) {
   /** @type {Token[]} */
   const words = [];
   const pattern = /[^ \t\n\v\f\r]+/g;
@@ -51,17 +63,28 @@ export const wordsOf = remembered(text => {
       pattern.lastIndex = end < 0 ? text.length : end;
       token.end = pattern.lastIndex;
     }
+    if (words.length % WORDS_A_STEP === 0) yield;
   }
   return words;
-});
+}
 
-/** Returns the problems of a text: the words of each, between its opening and its closing word. */
-export const blocksOf = remembered(text => {
+/** Reads the words of a text with their places; the rest of a text command's line is no word. */
+export const wordsOf = remembered(text => atOnce(readWords(text)));
+
+/**
+ * Reads the problems of a text step by step.
+ * @param {string} text
+ * @param {Token[]} words its words
+ * @returns {Generator<void, Block[]>}
+ */
+function* readBlocks(text, words) {
   /** @type {Block[]} */
   const blocks = [];
   /** @type {Block | null} */
   let open = null;
-  for (const word of wordsOf(text)) {
+  for (let at = 0; at < words.length; at++) {
+    if (at % WORDS_A_STEP === 0) yield;
+    const word = words[at];
     const closes = word.command === 'nextproblem' || word.command === 'endproblem';
     if (open && closes) open.end = word.from;
     const opens = open ? word.command === 'nextproblem' : word.command === 'beginproblem' && !blocks.length;
@@ -72,7 +95,21 @@ export const blocksOf = remembered(text => {
     else if (open) open.words.push(word);
   }
   return blocks;
-});
+}
+
+/** Returns the problems of a text: the words of each, between its opening and its closing word. */
+export const blocksOf = remembered(text => atOnce(readBlocks(text, wordsOf(text))));
+
+/**
+ * Reads a text step by step; then its words and problems are known.
+ * @param {string} text
+ * @returns {Generator<void, void>}
+ */
+export function* readText(text) {
+  if (blocksOf.knows(text)) return;
+  wordsOf.take(text, yield* readWords(text));
+  blocksOf.take(text, yield* readBlocks(text, wordsOf(text)));
+}
 
 /**
  * Returns what a problem poses: its words without text lines, in small letters.
@@ -367,7 +404,7 @@ function withOption(text, block, name, value) {
   /** @type {Span[]} */
   const gone = [];
   for (let field = /** @type {Field | undefined} */ (value === null ? found : found.earlier); field; field = field.earlier) {
-    gone.push(...field.parts, ...commandAlone(block, field));
+    for (const part of [field.parts, commandAlone(block, field)].flat()) gone.push(part);
   }
   if (value === null) return without(text, gone);
   const [own, first, ...more] = found.parts;

@@ -154,7 +154,7 @@ export class Tree {
     const { things, drawn } = this.list.filling;
     const last = things.length - 1;
     if (last >= 0) things[last] = items[last];
-    things.push(...items.slice(things.length));
+    for (const item of items.slice(things.length)) things.push(item);
     if (last >= 0 && last < drawn) this.growItem(this.list.children[last], items[last]);
     this.refill(this.list);
   }
@@ -361,7 +361,7 @@ export class Tree {
     this.prepare(rows, null, group);
     if (last >= 0 && saidIn(rows[last]) !== saidIn(group.rows[last])) this.replaceRow(group, last, rows[last]);
     for (const row of rows.slice(last + 1)) keepOpen(row, this.opened);
-    group.rows.push(...rows.slice(last + 1));
+    for (const row of rows.slice(last + 1)) group.rows.push(row);
     group.rows.forEach(row => { row.siblings = group.rows; });
     this.refill(group.list);
   }

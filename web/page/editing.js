@@ -3,6 +3,7 @@
 import { element } from '../elements.js';
 import { imported } from '../import/importing.js';
 import { changed, countOf, exchanged, impossibleCounts, readFen } from '../position.js';
+import { LONG_TEXT } from '../slices.js';
 import {
   blockAt, blocksOf, fenOfBlock, lineOf, menOf, NEW_PROBLEM, tailOf, withFen, withField, withLine, withMen, withTail,
 } from '../text.js';
@@ -14,7 +15,6 @@ import { board, note, unchanged } from './views.js';
 import { leave } from './walk.js';
 
 const TYPING_PAUSE = 500;
-export const LONG_TEXT = 100000;
 /** @type {ReturnType<typeof setTimeout> | undefined} runs out when a pause in typing is long enough for a step of undo */
 let typing;
 

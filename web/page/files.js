@@ -3,10 +3,11 @@
 import { element } from '../elements.js';
 import { imported } from '../import/importing.js';
 import { readFen } from '../position.js';
+import { LONG_TEXT } from '../slices.js';
 import { MOST_FILE_BYTES, textOfBytes } from '../store.js';
 import { blocksOf } from '../text.js';
 import { say } from '../words.js';
-import { LONG_TEXT, takeFen, takeText } from './editing.js';
+import { takeFen, takeText } from './editing.js';
 import { textNow } from './state.js';
 import { note } from './views.js';
 

@@ -2,6 +2,7 @@
 // Draws the report: its text, its solutions and its faults. A growing report is drawn after pauses.
 import { element } from '../elements.js';
 import { menOfRanks } from '../position.js';
+import { inSlices } from '../slices.js';
 import { menOf } from '../text.js';
 import { showAge } from './age.js';
 import { drawnFault, markFaults } from './faults.js';
@@ -11,8 +12,8 @@ import { tree } from './views.js';
 // A growing report is drawn again after this many times the duration of the last drawing.
 const DRAWING_SHARE = 10;
 const LEAST_PAUSE = 200;
-/** @type {{ timer: ReturnType<typeof setTimeout> | null, pause: number }} the next drawing, and the pause before it */
-const drawing = { timer: null, pause: LEAST_PAUSE };
+/** @type {{ timer: ReturnType<typeof setTimeout> | null, pause: number, endReading: (() => void) | null }} the next drawing, the pause before it, what ends its reading */
+const drawing = { timer: null, pause: LEAST_PAUSE, endReading: null };
 
 /**
  * Returns the men of an item's diagram: from the report, or from the text if the report shows no board.
@@ -37,7 +38,8 @@ export function drawReport() {
 
 function endDrawing() {
   clearTimeout(drawing.timer ?? undefined);
-  drawing.timer = null;
+  drawing.endReading?.();
+  Object.assign(drawing, { timer: null, endReading: null });
 }
 
 /**
@@ -58,18 +60,32 @@ export function beginReport(text, only = 0) {
  */
 export function reportGrew(text) {
   state.addReport(text);
-  drawing.timer ??= setTimeout(drawGrowth, drawing.pause);
+  if (!drawing.endReading) drawing.timer ??= setTimeout(() => drawGrowth(), drawing.pause);
 }
 
-/** Draws the new part of the report. */
-export function drawGrowth() {
+/**
+ * Draws the new part of the report, which is read in slices.
+ * @param {() => void} [ended]
+ */
+export function drawGrowth(ended = () => {}) {
   endDrawing();
+  let isRead = false;
+  const endReading = inSlices(state.reading.left.length, state.readMore(), () => {
+    isRead = true;
+    drawRead();
+    ended();
+  });
+  if (!isRead) drawing.endReading = endReading;
+}
+
+/** Draws what was read of the report. */
+function drawRead() {
   const begun = performance.now();
-  state.readReport();
   const shown = (element('report').textContent ?? '').length;
   if (shown < state.report.length) element('report').append(state.report.slice(shown));
   element('beginning').hidden = !state.isBeginning;
   tree.grow(state.items);
   if (state.items.some(item => item.fault)) markFaults();
   drawing.pause = Math.max(LEAST_PAUSE, DRAWING_SHARE * (performance.now() - begun));
+  drawing.endReading = null;
 }

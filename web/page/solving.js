@@ -55,11 +55,20 @@ function endSolving(said, isOfReport = true) {
  * Receives how solving ended; the report so far is kept.
  * @param {Ended} ended
  */
-function solvingEnded({ status, failed, isStopped }) {
-  const seconds = secondsPassed();
+function solvingEnded(ended) {
+  const { status, failed, isStopped } = ended;
   const milliseconds = Math.round(performance.now() - run.begun);
   state.endReport(!failed && !isStopped && (status ?? 0) <= WHOLE_STATUS);
-  drawGrowth();
+  drawGrowth(() => solvingDrawn(ended, milliseconds));
+}
+
+/**
+ * Says how solving ended, once the report is drawn.
+ * @param {Ended} ended
+ * @param {number} milliseconds
+ */
+function solvingDrawn({ status, failed, isStopped }, milliseconds) {
+  const seconds = Math.round(milliseconds / 1000);
   if (failed) endSolving(say('failed', { fault: failed }));
   else if (isStopped) endSolving(say(state.report ? 'stopped' : 'stoppedEmpty', { seconds }));
   else endSolving(sayDone(say(`status${status}`), milliseconds));

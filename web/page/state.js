@@ -2,9 +2,10 @@
 // What the page shows: the problem on the board, the moves after it, and the report. Only its operations change it.
 import { element } from '../elements.js';
 import { after } from '../position.js';
-import { itemsOf } from '../report.js';
+import { ReportReading } from '../report.js';
+import { atOnce, inSlices } from '../slices.js';
 import { Steps } from '../store.js';
-import { blocksOf, posedIn } from '../text.js';
+import { blocksOf, posedIn, readText } from '../text.js';
 
 class PageState {
   constructor() {
@@ -32,10 +33,13 @@ class PageState {
     /** Whether solving has ended, and whether it did before the end of the report. */
     this.isEnded = true;
     this.isBeginning = false;
-    /** @type {Item[]} the items of the report when it was drawn last */
+    this.reading = new ReportReading();
+    /** @type {Item[]} the items of the report when it was read last */
     this.items = [];
     /** @type {(() => void)[]} */
     this.followers = [];
+    /** Ends what still follows an earlier change. */
+    this.endFollowing = () => {};
   }
 
   /**
@@ -107,6 +111,7 @@ class PageState {
    */
   addReport(text) {
     this.report += text;
+    this.reading.add(text);
   }
 
   /**
@@ -120,7 +125,17 @@ class PageState {
 
   /** Reads the items of the report as it is now. */
   readReport() {
-    this.items = itemsOf(this.report);
+    this.reading = new ReportReading(this.report);
+    atOnce(this.readMore());
+  }
+
+  /**
+   * Reads what was added to the report, step by step.
+   * @returns {Generator<void, void>}
+   */
+  *readMore() {
+    yield* this.reading.more();
+    this.items = this.reading.items;
   }
 
   /** Returns whether the text on the page is the one that was solved. */
@@ -158,9 +173,24 @@ class PageState {
     this.followers.push(...acts);
   }
 
-  /** Shows everything again after a change of text, problem or position. */
+  /** Shows everything again after a change of text, problem or position; a long text in slices, until the next change. */
   follow() {
-    for (const act of this.followers) act();
+    this.endFollowing();
+    const text = textNow();
+    this.endFollowing = inSlices(text.length, this.following(text));
+  }
+
+  /**
+   * Reads the text and shows everything, step by step.
+   * @param {string} text
+   * @returns {Generator<void, void>}
+   */
+  *following(text) {
+    yield* readText(text);
+    for (const act of this.followers) {
+      act();
+      yield;
+    }
   }
 }
 
