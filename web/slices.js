@@ -1,5 +1,5 @@
 // @ts-check
-// Long work in slices: between two slices the page answers what the user does.
+// Long work in slices: between two slices the page reacts to the user.
 
 // In letters: what takes longer than a moment with a longer text isn't done at each letter that is typed, nor all at once.
 export const LONG_TEXT = 100000;
