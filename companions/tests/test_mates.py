@@ -63,7 +63,7 @@ class Mates(unittest.TestCase):
             ([left, model], ["model mates"]),
             # Mirrored; a8 is light, h8 dark.
             ([left, right], ["ideal mates", "chameleon echo"]),
-            # The same mate twice is no echo, one shifted is: c8 and e8 are both light.
+            # A mate that comes again is no echo, a shifted one is: c8 and e8 are both light.
             ([left, left], ["ideal mates"]),
             ([one, shifted], ["ideal mates", "echo"]),
             ([mate("White Kb6 Rh8 Rh7 Black Ka8")], []),
