@@ -18,8 +18,8 @@ _pops_options() {
         --pops-part --resume --journal --pops --sshlogin --remote-pops --remote-pops-part --ssh'
       ;;
     pops-sheet)
-      own='--report --tries --refutations --to --language --figures --heading --apart --first-number --per-row --seconds
-        --jobs --output --pops --pops-tries --encoding'
+      own='--report --tries --tries-text --refutations --to --language --figures --heading --apart --first-number --per-row
+        --seconds --jobs --output --pops --pops-tries --encoding'
       ;;
     pops-page) own='--output --heading --input --unfinished --apart --encoding' ;;
     pops-diagram) own='--svg --png --latex --output --width --input --apart --encoding' ;;
@@ -33,8 +33,8 @@ _pops_options() {
     popeye-py) own='-maxtime -maxmem -maxpos --pops --pops-tries' ;;
     pops-export) own='--to --report --apart --output --encoding' ;;
     pops-find)
-      own='--add --near --play --report --author --title --stipulation --condition --men --count --most --output
-        --encoding'
+      own='--add --near --play --report --author --title --source --date --keyword --stipulation --condition --fragment
+        --men --count --most --output --encoding'
       ;;
     pops-explain) own='--output --all --fix --json --pops' ;;
   esac
@@ -50,6 +50,7 @@ _pops() {
     fen2pop,--condition | fen2pop,-c) mapfile -t COMPREPLY < <(compgen -W 'Circe Madrasi' -- "$word") ;;
     pops-export,--to) mapfile -t COMPREPLY < <(compgen -W 'popeye yaml' -- "$word") ;;
     pops-sheet,--to) mapfile -t COMPREPLY < <(compgen -W 'html latex pdf text' -- "$word") ;;
+    pops-sheet,--tries) mapfile -t COMPREPLY < <(compgen -W 'all variations none' -- "$word") ;;
     pops-sheet,--language) mapfile -t COMPREPLY < <(compgen -W 'en de fr' -- "$word") ;;
     pops-part,--phase) mapfile -t COMPREPLY < <(compgen -W 'set play' -- "$word") ;;
     pops-part,--depth) mapfile -t COMPREPLY < <(compgen -W '1 2 3 4' -- "$word") ;;
