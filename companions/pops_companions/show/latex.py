@@ -35,7 +35,7 @@ _SPECIAL = {
 
 
 class Sheet(NamedTuple):
-    """What a sheet says of a problem: number, award, what is asked for, and in LaTeX what makes its
+    """What a sheet says of a problem: number, award, stipulation, and in LaTeX what makes its
     twins and the lines of its solution.
 
     `fairy_men` are the names of the fairy men.
