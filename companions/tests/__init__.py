@@ -1,1 +1,1 @@
-"""The tests of the companions; `companions/test` runs them."""
+"""The tests of the companions; `tests/companions` runs them."""

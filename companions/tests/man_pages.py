@@ -20,7 +20,7 @@ def companions() -> list[str]:
     """The names of all companions that are installed."""
     files = (path for path in support.COMPANIONS.iterdir() if path.is_file())
     names = (path.name for path in files if path.stat().st_mode & 0o100)
-    return sorted(name for name in names if name != "test" and not name.startswith("try-"))
+    return sorted(name for name in names if not name.startswith("try-"))
 
 
 class _Parser(Exception):

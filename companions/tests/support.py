@@ -31,7 +31,7 @@ ROWS = Path(_ROOM.name)
 
 def _written_rows() -> list[Path]:
     """Writes the files of all rows; returns their inputs."""
-    place = importlib.util.spec_from_file_location("row_table", REPOSITORY / "tests/row_table.py")
+    place = importlib.util.spec_from_file_location("row_table", REPOSITORY / "tests/helpers/row_table.py")
     assert place is not None and place.loader is not None
     row_table = importlib.util.module_from_spec(place)
     place.loader.exec_module(row_table)
@@ -63,7 +63,7 @@ def has_latex() -> bool:
 
 
 def pops() -> str:
-    """The program that the tests ask; `companions/test` sets it."""
+    """The program that the tests ask; `tests/companions` sets it."""
     return os.environ["POPS"]
 
 

@@ -20,9 +20,10 @@ try:
 except MissingError as error:
     print("missing:", error)
 """
-
-
-# What a repository's script needs.
+# A companion and a suite: both look for pops.
+TAKE_PROGRAMS = (support.COMPANIONS / "pops-many", support.REPOSITORY / "tests" / "companions")
+FIND_PROGRAM = Path("scripts", "find-program")
+# What it needs.
 TOOLS = "bash cut dirname find grep readlink sed sh sha256sum sort uname xargs".split()
 
 
@@ -63,7 +64,8 @@ class Room(unittest.TestCase):
             source = root / "crates" / name / "src" / "main.rt"
             source.parent.mkdir(parents=True)
             source.write_text("fn main() {}\n")
-        shutil.copy(support.REPOSITORY / "find-program", root)
+        (root / "scripts").mkdir()
+        shutil.copy(support.REPOSITORY / FIND_PROGRAM, root / FIND_PROGRAM)
         self.program(root / "pops")
         return root
 
@@ -73,7 +75,7 @@ class Room(unittest.TestCase):
         for name in ("pops", "pops-part"):
             (root / "release" / name).write_text("#!/bin/sh\necho a report\n")
             (root / "release" / name).chmod(0o755)
-        words = [str(root / "find-program"), "--sources"]
+        words = [str(root / FIND_PROGRAM), "--sources"]
         sources = subprocess.run(words, capture_output=True, check=True).stdout.decode()
         sums = [
             f"{hashlib.sha256((root / 'release' / name).read_bytes()).hexdigest()}  {name}\n"
@@ -204,7 +206,8 @@ class PartPrograms(Room):
         crates = self.room / "other" / "crates"
         crates.mkdir(parents=True)
         (crates.parent / "crates.txt").write_text("pops:\npops_part:\n")
-        shutil.copy(support.REPOSITORY / "find-program", crates.parent)
+        (crates.parent / "scripts").mkdir()
+        shutil.copy(support.REPOSITORY / FIND_PROGRAM, crates.parent / FIND_PROGRAM)
         other = self.program(crates / "pops_part" / "out" / "pops_part")
         pops = self.program(crates / "pops" / "out" / "pops")
         self.assertEqual(self.found_part(companions, pops), str(other))
@@ -233,21 +236,22 @@ class PartPrograms(Room):
 
 class Told(unittest.TestCase):
     def test_help_says_where(self) -> None:
-        for name in ("pops-many", "test"):
-            said = " ".join(support.companion(name, "--help").output.decode().split())
+        for path in TAKE_PROGRAMS:
+            said = " ".join(support.run([str(path), "--help"]).output.decode().split())
             for place in ("$POPS", "built in this repository", "../../../bin/pops", "on the PATH"):
                 self.assertIn(place, said)
 
     def test_a_program_that_is_missing_is_told(self) -> None:
-        for name in ("pops-many", "test"):
+        for path in TAKE_PROGRAMS:
             done = subprocess.run(
-                [sys.executable, str(support.COMPANIONS / name)],
+                [sys.executable, str(path)],
                 stdin=subprocess.DEVNULL,
                 capture_output=True,
                 env={**os.environ, "POPS": "nowhere"},
             )
             self.assertIn(done.returncode, (2, 3))
-            self.assertEqual(done.stderr.decode(), f"{name}: there is no program nowhere\n")
+            said = f"{path.name}: there is no program nowhere\n"
+            self.assertEqual(done.stderr.decode(), said)
 
 
 if __name__ == "__main__":

@@ -21,7 +21,7 @@ if int(setuptools.__version__.split(".")[0]) < 71:
 """
 LICENCES = ("LICENSE-MIT", "LICENSE-APACHE", "THIRD-PARTY")
 PACKAGES = ("companions/pops", "companions/pops_companions")
-SOURCES = ("pyproject.toml", "MANIFEST.in", "VERSION", "build", "docs/API.md", *LICENCES, *PACKAGES)
+SOURCES = ("pyproject.toml", "MANIFEST.in", "VERSION", "docs/API.md", *LICENCES, *PACKAGES)
 PROGRAMS = ("pops", "pops-part", "pops-tries")
 MATE = support.REPOSITORY / "examples" / "mate_in_one.pop"
 
@@ -165,13 +165,13 @@ class Sources(unittest.TestCase):
 class Wheel(unittest.TestCase):
     def test_it_has_programs_companions_and_module(self) -> None:
         """It is made twice with the same bytes, and installed without other programs in sight."""
-        made = support.run([str(support.REPOSITORY / "make-release"), "--wheel"])
+        made = support.run([str(support.REPOSITORY / "scripts" / "make-release"), "--wheel"])
         if made.status == 5 and "of these sources" in made.error:
             self.skipTest(made.error.strip())
         self.assertEqual((made.status, made.error), (0, ""))
         wheel = support.REPOSITORY / made.output.decode().split(":")[0]
         before = wheel.read_bytes()
-        support.run([str(support.REPOSITORY / "make-release"), "--wheel"])
+        support.run([str(support.REPOSITORY / "scripts" / "make-release"), "--wheel"])
         self.assertEqual(wheel.read_bytes(), before)
         self.assertTrue(is_accepted(wheel))
         with tempfile.TemporaryDirectory() as room:

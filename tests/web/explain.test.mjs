@@ -1,7 +1,7 @@
 // Explanations of faults, and texts of other programs. The sentences come from a stand-in for the browser's document.
 import assert from 'node:assert/strict';
 import { test } from 'node:test';
-import { makeDocument } from '../page_imports.mjs';
+import { makeDocument } from '../helpers/page_imports.mjs';
 
 makeDocument();
 const { attacks } = await import('../../web/explain/attacks.js');

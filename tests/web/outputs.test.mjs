@@ -1,7 +1,7 @@
 // Solutions in short notation, and problems in YAML and LaTeX.
 import assert from 'node:assert/strict';
 import { test } from 'node:test';
-import { makeDocument } from '../page_imports.mjs';
+import { makeDocument } from '../helpers/page_imports.mjs';
 
 makeDocument();
 const { latexOf, yamlOf } = await import('../../web/outputs.js');

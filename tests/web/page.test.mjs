@@ -2,8 +2,8 @@
 import assert from 'node:assert/strict';
 import { readFileSync } from 'node:fs';
 import { test } from 'node:test';
-import { fill, kept, keptInTab, made, paste, send } from '../page_document.mjs';
-import { EXPLANATIONS } from '../page_imports.mjs';
+import { fill, kept, keptInTab, made, paste, send } from '../helpers/page_document.mjs';
+import { EXPLANATIONS } from '../helpers/page_imports.mjs';
 
 const TEXT = 'BeginProblem\nPieces White Kg6 Ra1 Black Kg8\nStipulation #1\nEndProblem\n';
 const REPORT = 'problem 1\n#1\nplay\n1.Ra1-a8#\nsolutions: 1\n\n';

@@ -90,7 +90,7 @@ def _is_repository(folder: Path) -> bool:
 
 def _of_sources(repository: Path, name: str) -> Optional[str]:
     """Returns the program of a repository's sources, built or released, if there is one."""
-    script = repository / "find-program"
+    script = repository / "scripts" / "find-program"
     if not _is_repository(repository) or not script.is_file():
         return None
     found = outcome_of([str(script), name], errors=None)

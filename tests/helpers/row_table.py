@@ -1,7 +1,7 @@
 #!/usr/bin/env python3
 """Reads the table of rows, tests/rows/*.txt, whose form tests/rows/README.md has.
 
-    tests/row_table.py FOLDER   writes the rows as files: NAME.in, NAME.out, NAME.status and NAME.options, one option per line
+    tests/helpers/row_table.py FOLDER   writes the rows as files: NAME.in, NAME.out, NAME.status and NAME.options, one option per line
 """
 
 import re
@@ -9,7 +9,7 @@ import sys
 from pathlib import Path
 from typing import NamedTuple, Optional
 
-FOLDER = Path(__file__).resolve().parent / "rows"
+FOLDER = Path(__file__).resolve().parents[1] / "rows"
 OPTIONS = ("--check", "--no-board")
 ESCAPE = re.compile(r"\\(?:\((.+?)\*(\d+)\)|x([0-9a-f]{2})|([rt])|(.?))")
 LETTERS = {"r": "\r", "t": "\t"}

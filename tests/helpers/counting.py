@@ -1,4 +1,4 @@
-"""Counts what passed and what failed, for the scripts of this folder; `./check` adds the counts of their last lines."""
+"""Counts what passed and what failed, for the suites in Python; `./check` adds the counts of their last lines."""
 
 
 class Count:

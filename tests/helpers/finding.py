@@ -1,11 +1,11 @@
-"""Finds what the scripts of this folder try: the repository, and its programs."""
+"""Finds what the suites try: the repository, and its programs."""
 
 import os
 import subprocess
 import sys
 from pathlib import Path
 
-ROOT = Path(__file__).resolve().parent.parent
+ROOT = Path(__file__).resolve().parents[2]
 
 
 def said_by(*words: str) -> str:
@@ -22,7 +22,7 @@ def argument_or_said(place: int, *words: str) -> str:
 
 def program(place: int, name: str) -> str:
     """Returns the path of a program: the script's argument at this place, or else the program of these sources."""
-    found = argument_or_said(place, "./find-program", name)
+    found = argument_or_said(place, "scripts/find-program", name)
     if not found:
-        sys.exit(f"{sys.argv[0]}: there is no {name} of these sources: ./build builds it, or name it as an argument")
+        sys.exit(f"{sys.argv[0]}: there is no {name} of these sources: scripts/build builds it, or name it as an argument")
     return os.path.abspath(found)

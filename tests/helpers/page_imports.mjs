@@ -1,8 +1,8 @@
 // Imports the page's modules in Node. Before, a stand-in for the browser's document gives them the texts that the page contains.
 import { readdirSync, readFileSync } from 'node:fs';
 
-const WEB = new URL('../web/', import.meta.url);
-export const EXPLANATIONS = readFileSync(new URL('../companions/pops_companions/explain/explanations.json', import.meta.url), 'utf8');
+const WEB = new URL('../../web/', import.meta.url);
+export const EXPLANATIONS = readFileSync(new URL('../../companions/pops_companions/explain/explanations.json', import.meta.url), 'utf8');
 
 /** Makes a document that has only the sentences of explanations. */
 export function makeDocument() {

@@ -9,10 +9,10 @@
 import { spawnSync } from 'node:child_process';
 import { readFileSync } from 'node:fs';
 import * as threads from 'node:worker_threads';
-import { Crew } from '../web/crew.js';
-import { limitOf } from '../web/parts.js';
-import { Solving } from '../web/solving.js';
-import { withField } from '../web/text.js';
+import { Crew } from '../../web/crew.js';
+import { limitOf } from '../../web/parts.js';
+import { Solving } from '../../web/solving.js';
+import { withField } from '../../web/text.js';
 
 const CUT_STATUS = 3;
 const SECONDS_A_TEXT = 1800;
