@@ -1,9 +1,7 @@
 // @ts-check
 // A fault as the page shows it: the lines at fault, with their words marked, and the explanation.
 import { madeWith, makeButton } from './elements.js';
-import { characters } from './explain/characters.js';
-import { explaining } from './explain/explaining.js';
-import { mendedProblem } from './mending.js';
+import { explain, markedLines, mendedProblem, shown } from './explaining.js';
 import { lineAt } from './text.js';
 import { say } from './words.js';
 
@@ -26,7 +24,7 @@ function drawnLine({ line, pieces }) {
  */
 function bareLine(text, line) {
   const { from, to } = lineAt(text, line);
-  const said = characters.shown(text.slice(from, Math.min(to, from + LONGEST_QUOTED_LINE)).replace(/[\t\v\f\r]/g, ' '));
+  const said = shown(text.slice(from, Math.min(to, from + LONGEST_QUOTED_LINE)).replace(/[\t\v\f\r]/g, ' '));
   return { line, pieces: [{ text: said, isMarked: false }] };
 }
 
@@ -66,8 +64,8 @@ function mendingBox(text, number, take) {
  */
 export function faultBox(text, item, general, goToLine, take) {
   const { fault } = item;
-  const explanation = explaining.explain(text, item);
-  const marked = explanation?.marks.length ? explaining.markedLines(text, explanation.marks) : [bareLine(text, fault.line)];
+  const explanation = explain(text, item);
+  const marked = explanation?.marks.length ? markedLines(text, explanation.marks) : [bareLine(text, fault.line)];
   const label = say('goToLine', fault);
   const button = makeButton(label, () => goToLine(fault.line));
   button.textContent = label;

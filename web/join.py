@@ -14,9 +14,11 @@ import re
 import sys
 from typing import NamedTuple
 
+import from_python
+
 HERE = os.path.dirname(os.path.realpath(__file__))
 IMPORT = re.compile(r"^import \{([^}]*)\} from '(\.[^']*)';\n", re.M)
-DECLARED = re.compile(r"^(export )?(?:async )?(?:const|let|class|function\*?) (\w+)", re.M)
+DECLARED = re.compile(r"^(export )?(?:async )?(?:const|let|class|function\*?) ([\w$]+)", re.M)
 EXPORT = re.compile(r"^export (?=(?:async )?(?:const|let|class|function)\b)", re.M)
 OTHER_FORM = re.compile(r"^(?:import|export)\b.*", re.M)
 
@@ -34,16 +36,24 @@ class Module(NamedTuple):
     body: str
 
 
+def text_of(path: str) -> str:
+    if os.path.abspath(path) == from_python.MADE:
+        return from_python.made()
+    with open(path, encoding="utf-8") as file:
+        return file.read()
+
+
 def read_module(path: str, importer: str = "") -> Module:
     """Reads a module.
 
     Raises JoinError if the file is missing, or if it imports or exports in another form.
     """
     try:
-        with open(path, encoding="utf-8") as file:
-            text = file.read()
+        text = text_of(path)
     except FileNotFoundError as fault:
         raise JoinError(f"{importer or 'the page'} imports {path}, which is missing") from fault
+    except from_python.UntranslatedError as fault:
+        raise JoinError(str(fault)) from fault
     imports: dict[str, list[str]] = {}
     for names, source in IMPORT.findall(text):
         wanted = os.path.normpath(os.path.join(os.path.dirname(path), source))

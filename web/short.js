@@ -1,6 +1,6 @@
 // @ts-check
 // Solutions in short notation, as pops-sheet prints them: one line a variation, replies with the same continuations together.
-import { attacks } from './explain/attacks.js';
+import { attackers } from './attacks.js';
 import { after, manAt, other } from './position.js';
 import { rowsOf } from './report.js';
 import { KINDS } from './text.js';
@@ -24,11 +24,12 @@ const countOfFirst = lines => lines.filter(it => it.level === 0).length;
 function rivalsOf(men, move, isMadrasi) {
   const { from, to, colour } = move;
   const man = manAt(men, from);
+  if ([...men.values()].filter(it => it === man).length < 2) return [];
   const isExposed = (/** @type {Square} */ origin) => {
     const moved = after(men, { ...move, from: origin });
-    return [...moved].some(([square, it]) => it === `${colour}K` && attacks.attackers(moved, square, other(colour), isMadrasi).length);
+    return [...moved].some(([square, it]) => it === `${colour}K` && attackers(moved, square, other(colour), isMadrasi).length);
   };
-  return attacks.attackers(men, to, colour, isMadrasi).filter(it => it !== from && men.get(it) === man && !isExposed(it));
+  return attackers(men, to, colour, isMadrasi).filter(it => it !== from && men.get(it) === man && !isExposed(it));
 }
 
 /**

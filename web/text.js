@@ -524,3 +524,21 @@ export function lineAt(text, line) {
   const end = text.indexOf('\n', from);
   return { from, to: end < 0 ? text.length : end };
 }
+
+/**
+ * Returns the problems of a text as pops numbers them: the words and text lines of each, with the word that ends it.
+ * @param {string} text
+ */
+export function problemsOf(text) {
+  /** @type {ProblemWords[]} */
+  const problems = [{ tokens: [], isClosed: false }];
+  for (const token of wordsOf(text)) {
+    const problem = problems[problems.length - 1];
+    problem.tokens.push(token);
+    if (token.command !== 'nextproblem' && token.command !== 'endproblem') continue;
+    problem.isClosed = true;
+    if (token.command === 'endproblem') return problems;
+    problems.push({ tokens: [], isClosed: false });
+  }
+  return problems;
+}

@@ -1,8 +1,8 @@
 // @ts-check
 // Twins as one problem, as pops-page shows them: consecutive problems whose titles differ only in their labels.
 // A label is `a)`, `b)` .. or a number, with or without `duplex`, at the end of the title.
-import { reading } from './explain/reading.js';
 import { COLOUR_NAMES } from './report.js';
+import { problemsOf } from './text.js';
 
 const LABEL = /^(?:([^]*) )??(?:([a-z]|[0-9]{2,3})\)( duplex)?|(duplex))$/;
 // A twin with more changed squares has its own diagram.
@@ -14,9 +14,9 @@ const MOST_CHANGES = 4;
  * @returns {Given[]}
  */
 export function givenOf(text) {
-  return reading.problemsOf(text).map(({ tokens, isFirst }) => {
+  return problemsOf(text).map(({ tokens }, index) => {
     // Text lines before BeginProblem have no effect.
-    const first = isFirst ? tokens.findIndex(token => !reading.isTextLine(token)) : 0;
+    const first = index === 0 ? tokens.findIndex(token => token.end === undefined) : 0;
     /** @param {string} name */
     const lines = name => tokens.slice(Math.max(first, 0)).filter(token => token.command === name).map(token => text.slice(token.to, token.end).trim()).filter(Boolean);
     /** @param {string} name */

@@ -133,45 +133,14 @@ interface Solved { status: number | null; report: string | Uint8Array; stopped: 
 /** What is wrong and what to do, with the places to look at. */
 interface Explanation { text: string; marks: Span[] }
 /** The words of a problem, and whether a word ends it. */
-interface ProblemWords { tokens: Token[]; isFirst: boolean; isClosed: boolean }
-/** A man where the text names it. */
-interface PlacedMan { man: Man; word: Token; place: number }
-/** The men that the text names; `get` is called for squares that have one. */
-interface PlacedMen extends Map<Square, PlacedMan> { get(square: Square): PlacedMan }
-/** A stipulation: the sides that start and that are to be mated. */
-interface ReadStipulation { play: string; goal: string; starter: Colour; mated: Colour }
-/** A problem read up to its fault. What is read before a fault of a kind can occur is typed as known. */
-interface Read {
-  tokens: Token[]; isFirst: boolean; fault: number | null; at: Token | null; section: string | null; opener: Token; awaited: string | null;
-  option: Token; colour: Colour; colours: { colour: Colour; word: Token }[]; men: PlacedMen; square: Square;
-  squarePlace: number; stipulation: ReadStipulation; stipulationWord: Token;
-  condition: string; conditionWord: Token; crossed: Square; crossedWord: Token; openers: Token[];
-}
+interface ProblemWords { tokens: Token[]; isClosed: boolean }
 /** A line of the text, in pieces. */
 interface MarkedLine { line: number; pieces: { text: string; isMarked: boolean }[] }
-/** The fault of one problem. */
-interface TextFault { line: number; fault: number; read: Read }
-
-/** A step on the board, in files and ranks. */
-type Step = [number, number];
 
 // Texts of other programs.
 
-/** What twins change: the men, the stipulation, the conditions. */
-interface Setting { men: Men; stipulation: string; conditions: string[] }
-interface Change { text: string; make: (setting: Setting) => Setting }
-interface DraftTwin { label: string; isContinued: boolean; changes: Change[] }
-/** The letters of the men in a language. */
-interface Alphabet { letters: string; languages: string[] }
-/** A problem of another program. */
-interface Draft {
-  texts: [string, string][]; setting: Setting; options: string[]; notes: string[]; twins: DraftTwin[]; isZero: boolean;
-}
-
 /** A line of YAML with content. */
 interface YamlLine { indent: number; text: string; raw: string }
-type YamlValue = string | YamlValue[] | YamlObject;
-interface YamlObject { [key: string]: YamlValue }
 
 // What the page shows.
 
@@ -221,7 +190,6 @@ interface RowPlace { row: TreeRow; index: number }
 // Classes of modules, by name.
 
 type Crew = import('./crew.js').Crew;
-type FaultCase = import('./explain/case.js').FaultCase;
 
 // What browsers have and the checker's library lacks.
 

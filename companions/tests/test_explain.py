@@ -9,10 +9,9 @@ import unittest
 from pathlib import Path
 
 from pops_companions.explain.explaining import ExplainedFault, explain
-from pops_companions.explain.sentences import DATA
 from pops_companions.explain.showing import marked
 from pops_companions.explain.vocabulary import foreign
-from pops_companions.import_.language import LANGUAGES, Twinning, foreign_words, meaning
+from pops_companions.import_.language import foreign_words
 from pops_companions.report.reader import read_report
 from tests import made_inputs, support
 from tests.slips import in_base, slips
@@ -86,13 +85,6 @@ class Documents(unittest.TestCase):
             self.assertIsNotNone(known, wanted)
             if wanted.language == "German":
                 self.assertEqual(known, wanted)
-
-
-    def test_every_change_of_twins_in_another_language_is_known(self) -> None:
-        for name, words in DATA["twinnings"].items():
-            table = next(it for it in LANGUAGES if it.name == name).twinnings
-            for word, english in words.items():
-                self.assertEqual(meaning(word.lower(), table), Twinning(english))
 
 
 class Marks(unittest.TestCase):

@@ -292,12 +292,12 @@ BENCH: list[Use] = [
     ("a text that was tested alone", EMPTY, "problem 1\n#1\nsound\n\n", [("element('tree').textContent.includes('sound')", False), ("sayDone(say('status0'), 5)", "no faults in the text; 5 ms")]),
 ]
 SHIFT = "BeginProblem\nPieces White Kg6 Rb1 Black Kg8\nStipulation h#1\nTwin Shift b1 a1\nEndProblem\n"
-IMPORTS: list[tuple[str, str]] = [("twins", PAIR), ("a shift", SHIFT), ("German", GERMAN), ("French", FRENCH), ("a zero position", ZERO), ("a wanted number", WANTED), ("YAML", YAML)]
+IMPORTS: list[tuple[str, str]] = [("twins", PAIR), ("a shift", SHIFT), ("German", GERMAN), ("French", FRENCH), ("a zero position", ZERO), ("a wanted number", WANTED), ("YAML", YAML), ("duplex", PAIR.replace("Try", "Duplex"))]
 REFUSED: list[tuple[str, str, str]] = [
-    ("an unknown man", PAIR.replace("Ra1", "Ra1 LEb1"), "pops knows no man LEb1"), ("duplex", PAIR.replace("Try", "Duplex"), "the option Duplex isn’t read"),
-    ("a condition", PAIR.replace("Option Try", "Condition Koeko"), "pops knows no condition Koeko"), ("no man to move", PAIR.replace("Move a1", "Move a3"), "no man is on a3"),
-    ("a fault", PAIR.replace("Black Kh8", "Black Pa7"), "Problem 1 a) was left out: In `h#1` Black is to be mated"), ("neutral men", YAML.replace("white: [Kg3", "neutral: [Kg3"), "pops knows no man neutral"),
-    ("a key twice", YAML.replace("source:", "conditions: [Circe]\nsource:"), "a line of YAML isn’t read: conditions"), ("men of no side", YAML.replace("white: [Kg3", "red: [Kg3"), "pops knows no man red"),
-    ("an alias", YAML.replace("source: Die Schwalbe", "source: *one"), "a line of YAML isn’t read: *one"),
+    ("an unknown man", PAIR.replace("Ra1", "Ra1 LEb1"), "pops knows no white LE, on b1"), ("quodlibet", PAIR.replace("Try", "Quodlibet"), "pops knows no option Quodlibet"),
+    ("a condition", PAIR.replace("Option Try", "Condition Koeko"), "pops knows no condition Koeko"), ("no man to move", PAIR.replace("Move a1", "Move a3"), "there is no man on a3 to move"),
+    ("a fault", PAIR.replace("Black Kh8", "Black Pa7"), "Problem 1 a) was left out: there is no black king"), ("neutral men", YAML.replace("white: [Kg3", "neutral: [Kg3"), "pops knows no neutral K, on g3"),
+    ("a key twice", YAML.replace("source:", "conditions: [Circe]\nsource:"), "this isn't read as YAML: conditions"), ("men of no side", YAML.replace("white: [Kg3", "red: [Kg3"), "red is none of white, black and neutral"),
+    ("an alias", YAML.replace("source: Die Schwalbe", "source: *one"), "this isn't read as YAML: *one"), ("check", PAIR.replace("Black Kh8", "Black Kh8 Rg1"), "Problem 1 a) was left out: In `h#1` Black moves first, and could take the white king on g6: the rook on g1 attacks it."),
 ]
 OWN = [posed("White Kg6 Ra1 Black Kg8", "Stipulation #1"), posed("White Kg6 Ta1 Black Kg8", "Stipulation #1"), "", "Hello", "title: a\nauthor: b\n"]

@@ -1,123 +1,90 @@
 // Explanations of faults, and texts of other programs. The sentences come from a stand-in for the browser's document.
 import assert from 'node:assert/strict';
+import { readFileSync } from 'node:fs';
 import { test } from 'node:test';
 import { makeDocument } from '../helpers/page_imports.mjs';
 
 makeDocument();
-const { attacks } = await import('../../web/explain/attacks.js');
-const { explained, FaultCase, quoted } = await import('../../web/explain/case.js');
-const { characters } = await import('../../web/explain/characters.js');
-const { endingCauses } = await import('../../web/explain/endings.js');
-const { explaining } = await import('../../web/explain/explaining.js');
-const { mendedProblem } = await import('../../web/mending.js');
+const { attackers } = await import('../../web/attacks.js');
+const { explanationOf, faultsOf, markedLines, mendedProblem, shown } = await import('../../web/explaining.js');
+const { DATA, sentence } = await import('../../web/explanations.js');
 const { ownAdvice } = await import('../../web/faults.js');
-const { EXPLANATIONS } = await import('../../web/explain/explanations.js');
-const { menCauses } = await import('../../web/explain/men.js');
-const { misplacedCauses } = await import('../../web/explain/misplaced.js');
-const { optionCauses } = await import('../../web/explain/options.js');
-const { reading } = await import('../../web/explain/reading.js');
-const { listed, sentence } = await import('../../web/explain/sentences.js');
-const { stipulationCauses } = await import('../../web/explain/stipulations.js');
-const { vocabulary } = await import('../../web/explain/vocabulary.js');
-const { wordings } = await import('../../web/explain/wordings.js');
-const { drafts } = await import('../../web/import/drafts.js');
-const { imported } = await import('../../web/import/importing.js');
-const { popeye } = await import('../../web/import/popeye.js');
-const { yaml } = await import('../../web/import/yaml.js');
+const { companions } = await import('../../web/out/companions.js');
+const { py } = await import('../../web/python.js');
+const { imported } = await import('../../web/importing.js');
+const { documents } = await import('../../web/yaml.js');
 const { contentsOf, twinsOf } = await import('../../web/contents.js');
 const { givenOf, saidOfTwin, twinChange, twinGroups } = await import('../../web/twins.js');
 
 const posed = (...lines) => `BeginProblem\n${lines.join('\n')}\nEndProblem\n`;
-/** Returns the fault of a text: its number, and its case. */
-const caseOf = text => {
-  const [{ fault, read }] = explaining.faultsOf(text);
-  return [fault, new FaultCase(text, read)];
-};
 
 test('attacks: lines, hops and paralysed men', () => {
   const men = new Map([['a1', 'wR'], ['a4', 'wP'], ['a8', 'bK'], ['b8', 'wG'], ['h2', 'wN']]);
-  assert.deepEqual(attacks.attackers(men, 'a5', 'w', false), []);
-  assert.deepEqual(attacks.attackers(new Map([['a1', 'wR'], ['b3', 'wN']]), 'a5', 'w', false), ['a1', 'b3']);
-  assert.deepEqual(attacks.attackers(new Map([['a1', 'wR'], ['a2', 'bR']]), 'a2', 'w', true), []);
+  assert.deepEqual(attackers(men, 'a5', 'w', false), []);
+  assert.deepEqual(attackers(new Map([['a1', 'wR'], ['b3', 'wN']]), 'a5', 'w', false), ['a1', 'b3']);
+  assert.deepEqual(attackers(new Map([['a1', 'wR'], ['a2', 'bR']]), 'a2', 'w', true), []);
 });
 
-test('case: marks in order and once, quoted words', () => {
-  assert.deepEqual(explained('x', { from: 5, to: 6 }, { from: 1, to: 2 }, { from: 5, to: 6 }).marks, [{ from: 1, to: 2 }, { from: 5, to: 6 }]);
-  assert.equal(quoted({ word: 'Ta1' }), '`Ta1`');
-  const [fault, it] = caseOf(posed('Pieces White Kg6 Ra1 Black Kg8 Tb1', 'Stipulation #1'));
-  assert.deepEqual([fault, it.plain, it.before.word, it.fits('Rb1'), it.fits('Xb1')], [2, 'Tb1', 'Kg8', true, false]);
+test('companions: what the module uses of Python is there', () => {
+  const text = readFileSync(new URL('../../web/out/companions.js', import.meta.url), 'utf8');
+  const used = new Set(text.match(/\bpy(?:\.[A-Za-z_]+)+/g));
+  assert.ok(used.size > 50);
+  for (const path of used) assert.notEqual(path.split('.').slice(1).reduce((all, name) => all?.[name], py), undefined, path);
 });
 
-test('characters: what does not show, and look-alikes', () => {
-  assert.equal(characters.invisible('a\u200bb').length, 1);
-  assert.equal(characters.plain('К'), 'K');
+test('python: equal values are one key, texts and their bytes, patterns', () => {
+  const { Colour, Kind, Man, Square } = companions;
+  const men = py.dict([[Square.of_name('e4'), new Man(Colour.WHITE, Kind.PAWN)]]);
+  assert.ok(py.has(men, new Square(5, 4)) && !py.has(men, new Square(4, 5)));
+  assert.ok(py.eq(men.get(new Square(5, 4)), new Man(Colour.WHITE, Kind.PAWN)));
+  assert.equal(py.decode(py.encode('Kб', 'utf-8'), 'utf-8'), 'Kб');
+  assert.throws(() => py.decode('\xff', 'utf-8'), py.ValueError);
+  assert.deepEqual([...py.re.compile('(?P<a>x)|y', py.re.IGNORECASE).finditer('Xy')].map(it => [it.start(), it.lastgroup]), [[0, 'a'], [1, null]]);
+  assert.equal(py.re.sub('(.)(.)', '\\2\\1', 'abcd'), 'badc');
+  assert.deepEqual(py.sorted([3, 1, 2], { key: it => -it }), [3, 2, 1]);
 });
 
-test('sentences and their table', () => {
-  assert.equal(listed(['a', 'b', 'c']), 'a, b and c');
-  assert.equal(listed(['a', 'b'], 'or'), 'a or b');
-  assert.equal(sentence('counted', { first: 'h#2', second: 3 }).includes('h#2'), true);
-  assert.equal(typeof EXPLANATIONS.sentences.counted, 'string');
-});
-
-test('vocabulary: words of Popeye and other languages', () => {
-  assert.equal(vocabulary.foreign('Forderung').english, 'Stipulation');
-  assert.equal(vocabulary.unread('Duplex').name, 'Duplex');
-  assert.equal(vocabulary.unread('wh'), null);
-});
-
-test('reading: the first fault of a problem', () => {
-  const faultOf = text => explaining.faultsOf(text)[0]?.fault ?? null;
+test('explaining: the first fault of a problem, what it is and where', () => {
+  const faultOf = text => faultsOf(text)[0]?.fault ?? null;
   assert.equal(faultOf(posed('Pieces White Kg6 Ra1 Black Kg8', 'Stipulation #1')), null);
-  assert.equal(faultOf(posed('Pieces White Kg6 Ka1')), reading.FAULT.secondKing);
-  assert.equal(faultOf(posed('Stipulation #0')), reading.FAULT.badStipulation);
-  assert.equal(faultOf('BeginProblem\n'), reading.FAULT.endMissing);
-  assert.deepEqual(reading.squaresIn('a1h8'), ['a1', 'h8']);
+  assert.equal(faultOf(posed('Pieces White Kg6 Ka1')), 7);
+  assert.equal(faultOf(posed('Stipulation #0')), 8);
+  assert.equal(faultOf('BeginProblem\n'), 19);
+  const text = posed('Title Ä', 'Pieces White Kg6 Ra1 Black Kg8 Tb1', 'Stipulation #1');
+  const [{ line, fault, read }] = faultsOf(text);
+  const { marks } = explanationOf(text, read);
+  assert.deepEqual([line, fault, marks.map(({ from, to }) => text.slice(from, to))], [3, 2, ['Tb1']]);
+  assert.equal(explanationOf('B\0e\0g\0', faultsOf('B\0e\0g\0')[0].read).text, sentence('utf_16'));
 });
 
-for (const [what, text, causes] of [
-  ['misplaced', posed('Pieces White Kg6 Ra1 Black Kg8 xyz'), () => misplacedCauses.misplaced],
-  ['men', posed('Pieces Kg6'), () => menCauses.colourMissing],
-  ['stipulations', posed('Pieces White Kg6', 'Stipulation mate'), () => stipulationCauses.bad],
-  ['options', posed('Stipulation #1', 'Option MaxSolutions many'), () => optionCauses.badNumber],
-  ['endings', posed('Pieces White Kg6'), () => endingCauses.stipulationMissing],
-]) {
-  test(`${what}: a fault has a cause that marks the text`, () => {
-    const [, it] = caseOf(text);
-    const found = [...causes()(it)].find(Boolean);
-    assert.ok(found.text.length > 10);
-    assert.ok(found.marks.every(({ from, to }) => from >= 0 && from < to && to <= text.length));
-  });
-}
-
-test('wordings: a text in UTF-16', () => {
-  const [, it] = caseOf('B\0e\0g\0');
-  assert.equal(wordings.charactersIn(it).next().value.text, sentence('utf_16'));
-});
-
-test('explaining: marked lines', () => {
-  assert.deepEqual(explaining.markedLines('a\nb c\n', [{ from: 4, to: 5 }]).map(({ line, pieces }) => [line, pieces.map(it => it.text + (it.isMarked ? '!' : ''))]),
+test('explaining: marked lines, and what does not show', () => {
+  assert.deepEqual(markedLines('a\nb c\n', [{ from: 4, to: 5 }]).map(({ line, pieces }) => [line, pieces.map(it => it.text + (it.isMarked ? '!' : ''))]),
     [[2, ['b ', 'c!']]]);
+  assert.equal(shown('a\u200bб'), 'a<U+200B>б');
 });
 
-test('drafts and popeye: twins, and what is left out', () => {
-  const text = 'BeginProblem\nPieces White Kg6 Ra1 Black Kh8\nStipulation h#1\nTwin Move a1 b2\nEndProblem\n';
-  const { text: made, lost } = drafts.textOf(popeye.readersOf(text));
-  assert.deepEqual(lost, []);
-  assert.deepEqual(made.match(/^Pieces.*$/gm), ['Pieces White Kg6 Ra1 Black Kh8', 'Pieces White Kg6 Rb2 Black Kh8']);
-  assert.equal(drafts.letterOf(1), 'b)');
+test('explanations: sentences and their table', () => {
+  assert.equal(sentence('counted', { first: 'h#2', second: 3 }).includes('h#2'), true);
+  assert.equal(typeof DATA.sentences.counted, 'string');
 });
 
-test('yaml: a collection; other texts are none', () => {
-  const made = drafts.textOf(yaml.readersOf("algebraic:\n  white: [Kg6, Ra1]\n  black: [Kg8]\nstipulation: '#1'\n"));
+test('importing: twins, what is left out, YAML; our own texts stay', () => {
+  const twins = imported('BeginProblem\nPieces White Kg6 Ra1 Black Kh8\nStipulation h#1\nTwin Move a1 b2\nEndProblem\n');
+  assert.deepEqual(twins.lost, []);
+  assert.deepEqual(twins.text.match(/^Pieces.*$/gm), ['Pieces White Kg6 Ra1 Black Kh8', 'Pieces White Kg6 Rb2 Black Kh8']);
+  const made = imported("algebraic:\n  white: [Kg6, Ra1]\n  black: [Kg8]\nstipulation: '#1'\n");
   assert.match(made.text, /^Pieces White Kg6 Ra1 Black Kg8$/m);
   assert.match(made.text, /^Stipulation #1$/m);
-  assert.equal(yaml.readersOf('title: a\n'), null);
+  assert.equal(imported('title: a\n'), null);
+  assert.equal(imported(posed('Pieces White Kg6', 'Stipulation #1')), null);
 });
 
-test('importing: our own texts stay', () => {
-  assert.equal(imported(posed('Pieces White Kg6', 'Stipulation #1')), null);
-  assert.equal(imported(posed('Pieces White Kg6 Ra1 Black Kh8', 'Stipulation h#1', 'Twin Move a1 b1')).lost.length, 0);
+test('yaml: documents, their keys and lists', () => {
+  const [{ node }] = documents('---\na: [b, "c: d"]\ne: |\n  f\n  g\nh:\n - i: j\n');
+  const found = node();
+  assert.deepEqual([...found], ['a', 'e', 'h']);
+  assert.deepEqual([found.get('a'), found.get('e'), found.get('h').length], [['b', 'c: d'], 'f\ng', 1]);
+  assert.throws(() => documents('a: *b\n')[0].node(), /\*b/);
 });
 
 test('twins: groups, remarks and changes', () => {
@@ -164,8 +131,8 @@ test('mending: a byte order mark, letters of another language, a mistyped word; 
 });
 
 test('mending: advice names the page\'s own switch and field', () => {
-  const [{ read }] = explaining.faultsOf(withOptions('Option Try\n'));
-  const said = ownAdvice(explaining.explanationOf(withOptions('Option Try\n'), read).text);
+  const [{ read }] = faultsOf(withOptions('Option Try\n'));
+  const said = ownAdvice(explanationOf(withOptions('Option Try\n'), read).text);
   assert.match(said, /Leave it out: the switch “tries and threats” of this page shows tries with their refutations\.$/);
   assert.match(ownAdvice('Leave it out: `pops-tries` shows threats.'), /this page shows threats\.$/);
   assert.equal(ownAdvice('`8/8` is FEN. `fen2pop --stipulation \'#2\' \'8/8\'` makes a problem of it.'), '`8/8` is FEN. The field FEN of this page makes a problem of it.');

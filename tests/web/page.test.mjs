@@ -449,7 +449,7 @@ test('faults: corrected by a click, which switches tries on if an option asked f
   goSteps(-1);
   element('tries').checked = false;
   press('Convert the whole text');
-  assert.deepEqual([textNow(), element('tries').checked], [good.replace('BeginProblem', 'BeginProblem\nRemark Try left out'), true]);
+  assert.deepEqual([textNow(), element('tries').checked], [good.replace('BeginProblem', 'BeginProblem\nRemark Try left out: pops-tries shows tries'), true]);
   element('tries').checked = false;
   showMost();
 });

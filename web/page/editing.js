@@ -1,7 +1,7 @@
 // @ts-check
 // Changes of the text: by typing, by the board, by a FEN, by undo and redo. All else on the page follows the text.
 import { element } from '../elements.js';
-import { imported } from '../import/importing.js';
+import { imported } from '../importing.js';
 import { changed, countOf, exchanged, impossibleCounts, readFen } from '../position.js';
 import { LONG_TEXT } from '../slices.js';
 import {

@@ -2,7 +2,7 @@
 // The faults of the report: their marks beside the text, and their explanations in the solutions.
 import { element, makeButton, partText } from '../elements.js';
 import { faultBox } from '../faults.js';
-import { imported } from '../import/importing.js';
+import { imported } from '../importing.js';
 import { lineAt, remembered } from '../text.js';
 import { say } from '../words.js';
 import { state, textNow } from './state.js';

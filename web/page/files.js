@@ -1,7 +1,7 @@
 // @ts-check
 // Texts from elsewhere: files that are opened or dropped, and pasted texts.
 import { element } from '../elements.js';
-import { imported } from '../import/importing.js';
+import { imported } from '../importing.js';
 import { readFen } from '../position.js';
 import { LONG_TEXT } from '../slices.js';
 import { MOST_FILE_BYTES, textOfBytes } from '../store.js';

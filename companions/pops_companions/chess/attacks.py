@@ -53,7 +53,7 @@ def _reached(men: Men, origin: Square) -> Iterator[Square]:
         yield from _squares(_at(origin, step) for step in _LEAPERS[man.kind])
     elif man.kind is Kind.GRASSHOPPER:
         for step in _LINES + _DIAGONALS:
-            *_, hurdle = [origin, *_ride(men, origin, step)]
+            hurdle = [origin, *_ride(men, origin, step)][-1]
             if hurdle in men and hurdle != origin:
                 yield from _squares([_at(hurdle, step)])
     else:

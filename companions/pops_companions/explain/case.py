@@ -1,11 +1,12 @@
 """A fault with all that is known of its problem, and what an explanation is made of."""
 
 import re
-from collections.abc import Iterable, Sequence
+from collections.abc import Callable, Iterable, Iterator, Sequence
 from dataclasses import dataclass, replace
 from typing import Optional
 
 from pops_companions.explain.characters import decoded, shown
+from pops_companions.explain.sentences import sentence
 from pops_companions.input.reading import COMMANDS, CONDITIONS, OPTIONS, Reading, Section, step
 from pops_companions.input.words import TEXT_WORDS, Span, TextLine, Word, named
 
@@ -57,7 +58,9 @@ class Case:
         """Where the word before the faulty one stands, also where it ends the problem before."""
         start = max(self.word.start - _NEAR, 0)
         found = _LAST_WORD.search(self.text[start : self.word.start])
-        return None if found is None else Span(start + found.start(1), start + found.end(1))
+        if found is None:
+            return None
+        return Span(start + found.start(), start + found.start() + len(found[1]))
 
     @property
     def line_above(self) -> Optional[TextLine]:
@@ -69,6 +72,10 @@ class Case:
     def says(self, text: str, *marks: Span) -> Explanation:
         """Returns an explanation that marks the faulty word, and these places too."""
         return at(text, self.word.span, *marks)
+
+    def tells(self, which: str, *marks: Span, **values: object) -> Explanation:
+        """Returns a sentence with these values, and the faulty word as `word`, as an explanation."""
+        return self.says(sentence(which, word=self.quoted, **values), *marks)
 
     def fits(self, text: str) -> bool:
         """Returns whether these words could stand in place of the faulty one."""
@@ -92,9 +99,7 @@ class Case:
 
     def _copied(self) -> Reading:
         old = self.reading
-        return replace(
-            old, colours=list(old.colours), men=dict(old.men), openers=list(old.openers)
-        )
+        return replace(old, colours=list(old.colours), men=dict(old.men), openers=list(old.openers))
 
     def names_here(self) -> list[str]:
         """Returns the words of pops that could stand in place of the faulty one."""
@@ -130,3 +135,10 @@ def listed(names: Sequence[str], last: str = "and") -> str:
 def first_of(found: Iterable[Optional[Explanation]]) -> Explanation:
     """Returns the first explanation that there is."""
     return next(it for it in found if it is not None)
+
+
+def first_cause(
+    causes: Callable[[Case], Iterator[Optional[Explanation]]],
+) -> Callable[[Case], Explanation]:
+    """Makes a function of causes return the first explanation that there is."""
+    return lambda case: first_of(causes(case))

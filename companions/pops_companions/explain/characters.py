@@ -74,10 +74,7 @@ def is_wide_blank(character: str) -> bool:
 
 def with_blanks(text: str) -> str:
     """Returns the text with a blank for each invisible character that takes room, without the others."""
-    changed = (
-        (" " if is_wide_blank(it) else "") if _is_invisible(it) else it
-        for it in text
-    )
+    changed = ((" " if is_wide_blank(it) else "") if _is_invisible(it) else it for it in text)
     return " ".join("".join(changed).split())
 
 

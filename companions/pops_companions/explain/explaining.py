@@ -56,7 +56,7 @@ def explanation(text: bytes, reading: Reading) -> Explanation:
     """Returns what is wrong with a faulty problem, and what to do."""
     assert reading.number is not None
     if reading.at is None:
-        if reading.number is FaultKind.END_MISSING:
+        if reading.number is FaultKind.END_PROBLEM_MISSING:
             return endings.end_missing(text, reading)
         return misplaced.no_problem(text, bool(reading.text_lines))
     return _of_a_word(reading)(Case(text, reading))
@@ -92,22 +92,22 @@ _WITHOUT_WORD: dict[int, Callable[[], Explanation]] = {
     FaultKind.DEVICE_FAILED: endings.device_failed,
 }
 _BY_WORD: dict[FaultKind, Callable[[Case], Explanation]] = {
-    FaultKind.BEGIN_MISSING: misplaced.begin_missing,
-    FaultKind.MISPLACED: misplaced.word_misplaced,
-    FaultKind.TOO_LONG: misplaced.too_long,
+    FaultKind.BEGIN_PROBLEM_MISSING: misplaced.begin_missing,
+    FaultKind.WORD_MISPLACED: misplaced.word_misplaced,
+    FaultKind.WORD_TOO_LONG: misplaced.too_long,
     FaultKind.COLOUR_MISSING: men.colour_missing,
     FaultKind.SQUARE_TAKEN: men.square_taken,
-    FaultKind.PAWN_OUTSIDE: men.pawn_outside,
+    FaultKind.PAWN_ON_OUTER_RANK: men.pawn_outside,
     FaultKind.SECOND_KING: men.second_king,
     FaultKind.BAD_STIPULATION: stipulations.bad,
     FaultKind.SECOND_STIPULATION: stipulations.second,
     FaultKind.STIPULATION_MISSING: endings.stipulation_missing,
     FaultKind.NO_MEN: endings.no_men,
     FaultKind.SECOND_CONDITION: options.second_condition,
-    FaultKind.BAD_NUMBER: options.bad_number,
+    FaultKind.BAD_LIMIT: options.bad_number,
     FaultKind.SQUARE_MISSING: options.square_missing,
     FaultKind.EN_PASSANT_IMPOSSIBLE: options.en_passant_impossible,
-    FaultKind.NO_CASTLING_SQUARE: options.no_castling_square,
+    FaultKind.NONE_CASTLES_THERE: options.no_castling_square,
     FaultKind.KING_MISSING: men.king_missing,
-    FaultKind.IN_CHECK: men.in_check,
+    FaultKind.WAITING_SIDE_IN_CHECK: men.in_check,
 }

@@ -7,7 +7,7 @@ from typing import Optional
 from pops_companions.chess.men import Colour, Kind, Square
 from pops_companions.chess.stipulation import Condition, Play
 from pops_companions.explain import wordings
-from pops_companions.explain.case import Case, Explanation, at, first_of, listed, quoted
+from pops_companions.explain.case import Case, Explanation, at, first_cause, listed, quoted
 from pops_companions.explain.characters import decoded, shown
 from pops_companions.explain.other_men import man_by_name, two_letters
 from pops_companions.explain.sentences import sentence
@@ -27,39 +27,27 @@ from pops_companions.input.words import TEXT_WORDS, Span, named
 _DIGITS_FIRST = re.compile(r"([KQRBSPGN])((?:[1-8][a-h])+)", re.IGNORECASE)
 
 
-def colour_missing(case: Case) -> Explanation:
+@first_cause
+def colour_missing(case: Case) -> Iterator[Optional[Explanation]]:
     """Explains fault 4."""
-    return first_of(_causes_of_no_colour(case))
-
-
-def _causes_of_no_colour(case: Case) -> Iterator[Optional[Explanation]]:
     opener = case.reading.opener
     assert opener is not None
     yield from wordings.characters_in(case)
     yield _colour_before_man(case)
     yield _short_command(case)
     if len(case.openers_of(Section.PIECES)) > 1:
-        yield case.says(
-            sentence("colour_of_each", opener=quoted(opener)),
-            opener.span,
-        )
+        yield case.tells("colour_of_each", opener.span, opener=quoted(opener))
     after = case.after
     if after is not None and named(after.bytes, COLOURS, 1):
-        yield case.says(
-            sentence("colour_first", colour=decoded(after.bytes), word=case.quoted),
-            after.span,
-        )
-    yield case.says(
-        sentence("no_colour", word=case.quoted, opener=quoted(opener)),
-        opener.span,
-    )
+        yield case.tells("colour_first", after.span, colour=decoded(after.bytes))
+    yield case.tells("no_colour", opener.span, opener=quoted(opener))
 
 
 def _colour_before_man(case: Case) -> Optional[Explanation]:
     word = case.word.bytes
     if word[:1] not in (b"b", b"B") or not is_man(word[1:]):
         return None
-    return case.says(sentence("black_apart", rest=case.plain[1:], word=case.quoted))
+    return case.tells("black_apart", rest=case.plain[1:])
 
 
 def _short_command(case: Case) -> Optional[Explanation]:
@@ -67,7 +55,7 @@ def _short_command(case: Case) -> Optional[Explanation]:
     names = [it for it in (*COMMANDS, *TEXT_WORDS) if it.lower().startswith(word)]
     if len(word) != 2 or not names:
         return None
-    return case.says(sentence("too_short", word=case.quoted, short=names[0][:3], name=names[0]))
+    return case.tells("too_short", short=names[0][:3], name=names[0])
 
 
 def square_taken(case: Case) -> Explanation:
@@ -143,12 +131,9 @@ def span_of(placed: Placed) -> Span:
     return placed.word.part(*placed.square_span)
 
 
-def square_missing(case: Case) -> Explanation:
+@first_cause
+def square_missing(case: Case) -> Iterator[Optional[Explanation]]:
     """Explains fault 14 among men."""
-    return first_of(_causes_of_no_square(case))
-
-
-def _causes_of_no_square(case: Case) -> Iterator[Optional[Explanation]]:
     yield from wordings.characters_in(case)
     yield _colour_before_man(case)
     yield _letter_alone(case)
@@ -168,13 +153,10 @@ def _letter_alone(case: Case) -> Optional[Explanation]:
     if case.after is not None:
         whole = case.plain + decoded(case.after.bytes)
         if case.fits(whole):
-            return case.says(
-                sentence("squares_parted", whole=whole),
-                case.after.span,
-            )
+            return case.tells("squares_parted", case.after.span, whole=whole)
     if len(case.word.bytes) > 1:
         return None
-    return case.says(sentence("no_square", word=case.quoted, plain=case.plain))
+    return case.tells("no_square", plain=case.plain)
 
 
 def _rank_first(case: Case) -> Optional[Explanation]:
@@ -182,14 +164,14 @@ def _rank_first(case: Case) -> Optional[Explanation]:
     if found is None:
         return None
     mended = found[1] + re.sub("(.)(.)", r"\2\1", found[2])
-    return case.says(sentence("rank_first", mended=mended))
+    return case.tells("rank_first", mended=mended)
 
 
 def _line_of_squares(case: Case) -> Optional[Explanation]:
     found = re.match(r"[A-Za-z](?:[a-h][1-8])+(?:-|\.\.+|–)[a-h][1-8]", case.plain)
     if found is None:
         return None
-    return case.says(sentence("range_of_squares", letter=case.plain[0].upper()))
+    return case.tells("range_of_squares", letter=case.plain[0].upper())
 
 
 def _bad_square(case: Case) -> Explanation:
@@ -221,9 +203,8 @@ def king_missing(case: Case) -> Explanation:
     for line in case.reading.text_lines:
         kings = [it for it in line.text.split() if is_man(it) and kind_of(it) is Kind.KING]
         if kings:
-            return case.says(
-                sentence("king_in_text", head=head, opener=line.name, king=shown(kings[-1])),
-                line.span,
+            return case.tells(
+                "king_in_text", line.span, head=head, opener=line.name, king=shown(kings[-1])
             )
     men = [placed for placed in case.reading.men.values() if placed.man.colour is side]
     last = max(case.reading.men.values(), key=lambda placed: placed.word.start).word
@@ -232,10 +213,8 @@ def king_missing(case: Case) -> Explanation:
         text = sentence("no_colour_of_king", head=head, name=name)
         return case.says(f"{text} {quoted(last)}.", last.span)
     if not men:
-        return case.says(
-            sentence(
-                "no_man_of_colour", head=head, after=quoted(words[0]), other=other
-            ), words[0].span
+        return case.tells(
+            "no_man_of_colour", words[0].span, head=head, after=quoted(words[0]), other=other
         )
     rooks = [placed for placed in men if placed.man.kind is Kind.ROOK]
     here = listed([f"{it.man.kind.value}{_square_name(case, it)}" for it in men])

@@ -60,7 +60,7 @@ _AT_THE_END = (
     FaultKind.NO_MEN,
     FaultKind.EN_PASSANT_IMPOSSIBLE,
     FaultKind.KING_MISSING,
-    FaultKind.IN_CHECK,
+    FaultKind.WAITING_SIDE_IN_CHECK,
 )
 
 
@@ -166,7 +166,7 @@ def _proposed(text: bytes, reading: Reading, said: Explanation) -> Iterator[Edit
     """Yields what an explanation says to write, as edits."""
     yield from _of_whole_text(text, said)
     if reading.at is None:
-        if reading.number is FaultKind.END_MISSING and "has no `EndProblem`" in said.text:
+        if reading.number is FaultKind.END_PROBLEM_MISSING and "has no `EndProblem`" in said.text:
             end = Span(len(text), len(text))
             yield Edit(end, (b"" if text.endswith(b"\n") else b"\n") + b"EndProblem\n")
         yield from _in_place(text, said.marks, said.text)
@@ -297,7 +297,7 @@ def further_faults(text: bytes, number: int) -> Iterator[FurtherFault]:
             return
         if is_passed_over and reading.number in _AT_THE_END:
             return
-        if fault > 0 and not (is_passed_over and reading.number is FaultKind.BEGIN_MISSING):
+        if fault > 0 and not (is_passed_over and reading.number is FaultKind.BEGIN_PROBLEM_MISSING):
             said = explanation(changed, reading)
             marks = tuple(back.span(mark, len(text)) for mark in said.marks)
             at = len(changed) if reading.at is None else reading.word.start
@@ -325,7 +325,7 @@ def _passing_over(reading: Reading) -> list[Edit]:
     An option that awaits its value goes with the word, and alone where the word can't be its value.
     """
     word, option = reading.word, reading.option
-    if reading.number is FaultKind.NO_CASTLING_SQUARE:
+    if reading.number is FaultKind.NONE_CASTLES_THERE:
         return [Edit(word.span, CASTLING_SQUARES[0].encode("ascii"))]
     if option is None or reading.awaited is None:
         return [Edit(word.span, b"")]

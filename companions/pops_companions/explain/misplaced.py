@@ -6,7 +6,7 @@ from collections.abc import Iterator
 from typing import Optional
 
 from pops_companions.explain import wordings
-from pops_companions.explain.case import Case, Explanation, at, first_of, listed, quoted
+from pops_companions.explain.case import Case, Explanation, at, first_cause, listed, quoted
 from pops_companions.explain.characters import decoded
 from pops_companions.explain.other_men import foreign_letter, man_by_name, two_letters
 from pops_companions.explain.sentences import DATA, sentence
@@ -29,26 +29,18 @@ _COLLECTION = re.compile(DATA["collection"].encode("ascii"))
 _FILES = tuple((head.encode("latin-1"), what) for head, what in DATA["files"])
 
 
-def begin_missing(case: Case) -> Explanation:
-    """Explains fault 1, with a word."""
-    return first_of(_causes_at_the_beginning(case))
-
-
 def no_problem(text: bytes, has_text_lines: bool) -> Explanation:
     """Explains fault 1 at the end of a text."""
     if has_text_lines:
         if wordings.old_mac(text):
-            return at(
-                sentence("old_mac"),
-                Span(0, len(text)),
-            )
-        return at(
-            sentence("only_text_lines")
-        )
+            return at(sentence("old_mac"), Span(0, len(text)))
+        return at(sentence("only_text_lines"))
     return at(sentence("empty_text"))
 
 
-def _causes_at_the_beginning(case: Case) -> Iterator[Optional[Explanation]]:
+@first_cause
+def begin_missing(case: Case) -> Iterator[Optional[Explanation]]:
+    """Explains fault 1, with a word."""
     yield _collection(case)
     yield from wordings.characters_in(case)
     yield _other_file(case)
@@ -60,34 +52,34 @@ def _causes_at_the_beginning(case: Case) -> Iterator[Optional[Explanation]]:
     yield wordings.parted(case)
     yield wordings.in_another_language(case)
     yield from wordings.spelling(case)
-    yield case.says(sentence("first_word", word=case.quoted))
+    yield case.tells("first_word")
 
 
 def _collection(case: Case) -> Optional[Explanation]:
     """Explains a collection in YAML or JSON, as Olive and YACPDB have them."""
     if not _COLLECTION.search(case.text):
         return None
-    return case.says(sentence("collection"))
+    return case.tells("collection")
 
 
 def _other_file(case: Case) -> Optional[Explanation]:
     for head, what in _FILES:
         if case.text.startswith(head):
-            return case.says(sentence("other_file", what=what))
+            return case.tells("other_file", what=what)
     return None
 
 
 def _report(case: Case) -> Optional[Explanation]:
     if not re.match(rb"problem 1\n", case.text):
         return None
-    return case.says(sentence("report"))
+    return case.tells("report")
 
 
 def _command_first(case: Case) -> Optional[Explanation]:
     name = named(case.word.bytes, COMMANDS)
     if name is None and unread(case.plain) is None and not _belongs_inside(case):
         return None
-    return case.says(sentence("begin_missing", word=case.quoted))
+    return case.tells("begin_missing")
 
 
 def _belongs_inside(case: Case) -> bool:
@@ -96,12 +88,9 @@ def _belongs_inside(case: Case) -> bool:
     return named(word, names) is not None or is_man(word) or looks_like_stipulation(case.plain)
 
 
-def word_misplaced(case: Case) -> Explanation:
+@first_cause
+def word_misplaced(case: Case) -> Iterator[Optional[Explanation]]:
     """Explains fault 2."""
-    return first_of(_causes_of_a_word(case))
-
-
-def _causes_of_a_word(case: Case) -> Iterator[Optional[Explanation]]:
     section = case.reading.section
     yield _second_begin(case)
     yield from wordings.characters_in(case)
@@ -125,8 +114,8 @@ def _second_begin(case: Case) -> Optional[Explanation]:
     if named(case.word.bytes, ["BeginProblem"]) is None:
         return None
     if case.before is None:
-        return case.says(sentence("begin_again"))
-    return case.says(sentence("begin_once"))
+        return case.tells("begin_again")
+    return case.tells("begin_once")
 
 
 def _wrong_section(case: Case) -> Optional[Explanation]:
@@ -139,14 +128,14 @@ def _wrong_section(case: Case) -> Optional[Explanation]:
     if section is not Section.PIECES and named(word, COLOURS, 3):
         return _belongs(case, sentence("a_colour"), Section.PIECES)
     if section is not Section.PIECES and is_man(word):
-        return case.says(sentence("man_outside", word=case.quoted))
+        return case.tells("man_outside")
     if looks_like_stipulation(case.plain):
         return _belongs(case, sentence("a_stipulation"), Section.STIPULATION)
     return None
 
 
 def _belongs(case: Case, what: str, section: Section) -> Explanation:
-    return case.says(sentence("belongs", word=case.quoted, what=what, section=section.value))
+    return case.tells("belongs", what=what, section=section.value)
 
 
 def _causes_among_men(case: Case) -> Iterator[Optional[Explanation]]:
@@ -163,11 +152,8 @@ def _bishop_or_black(case: Case) -> Optional[Explanation]:
     before = case.before
     if before is None or before.bytes not in (b"B", b"b") or not squares_of(case.word.bytes):
         return None
-    return case.says(
-        sentence(
-            "bishop_or_black", before=decoded(before.bytes), word=case.quoted, plain=case.plain
-        ),
-        before.span,
+    return case.tells(
+        "bishop_or_black", before.span, before=decoded(before.bytes), plain=case.plain
     )
 
 
@@ -175,14 +161,14 @@ def _colour_letter(case: Case) -> Optional[Explanation]:
     word = case.word.bytes
     if word[:1] not in (b"w", b"W") or not is_man(word[1:]):
         return None
-    return case.says(sentence("white_apart", rest=case.plain[1:], word=case.quoted))
+    return case.tells("white_apart", rest=case.plain[1:])
 
 
 def _letter_for_digit(case: Case) -> Optional[Explanation]:
-    mended = re.sub("(?<=[a-hA-H])[lI|]", "1", case.plain)
+    mended = re.sub("([a-hA-H])[lI|]", r"\g<1>1", case.plain)
     if mended == case.plain or not case.fits(mended):
         return None
-    return case.says(sentence("letter_for_digit", word=case.quoted, mended=mended))
+    return case.tells("letter_for_digit", mended=mended)
 
 
 def _pawn_without_letter(case: Case) -> Optional[Explanation]:
@@ -190,54 +176,46 @@ def _pawn_without_letter(case: Case) -> Optional[Explanation]:
         return None
     if case.before is not None and is_man(case.before.bytes):
         whole = decoded(case.before.bytes) + case.plain
-        return case.says(
-            sentence("pawn_or_square", word=case.quoted, plain=case.plain, whole=whole),
-            case.before.span,
-        )
-    return case.says(sentence("pawn_without_letter", word=case.quoted, plain=case.plain))
+        return case.tells("pawn_or_square", case.before.span, plain=case.plain, whole=whole)
+    return case.tells("pawn_without_letter", plain=case.plain)
 
 
 def _value_without_option(case: Case) -> Optional[Explanation]:
     if case.reading.section is not Section.OPTION:
         return None
     if is_number(case.word.bytes):
-        return case.says(sentence("number_alone", word=case.quoted))
+        return case.tells("number_alone")
     if squares_of(case.word.bytes):
-        return case.says(sentence("square_alone", word=case.quoted))
+        return case.tells("square_alone")
     return None
 
 
 def _unknown(case: Case) -> Explanation:
     section = case.reading.section
     if section is None:
-        return case.says(sentence("before_sections", word=case.quoted, sections=listed(SECTIONS)))
+        return case.tells("before_sections", sections=listed(SECTIONS))
     if section is Section.PIECES:
-        return case.says(sentence("unknown_among_men", word=case.quoted))
+        return case.tells("unknown_among_men")
     if section is Section.STIPULATION:
         given = case.reading.stipulation_word
         assert given is not None
-        return case.says(
-            sentence("unknown_after_stipulation", given=quoted(given), word=case.quoted)
-        )
+        return case.tells("unknown_after_stipulation", given=quoted(given))
     if section is Section.CONDITION:
-        return case.says(sentence("unknown_condition", word=case.quoted, names=listed(CONDITIONS)))
-    return case.says(sentence("unknown_option", word=case.quoted, names=listed(OPTIONS)))
+        return case.tells("unknown_condition", names=listed(CONDITIONS))
+    return case.tells("unknown_option", names=listed(OPTIONS))
 
 
-def too_long(case: Case) -> Explanation:
+@first_cause
+def too_long(case: Case) -> Iterator[Optional[Explanation]]:
     """Explains fault 3."""
-    return first_of(_causes_of_length(case))
-
-
-def _causes_of_length(case: Case) -> Iterator[Optional[Explanation]]:
     head = sentence("long_word", bytes=len(case.word.bytes), most=LONGEST_WORD)
     yield wordings.utf_16(case)
     blanks = [it for it in case.plain if it in "\u00a0\u202f\u2007\u3000"]
     if blanks:
-        yield case.says(sentence("long_spaces", head=head, count=len(blanks)))
+        yield case.tells("long_spaces", head=head, count=len(blanks))
     if re.search(rb"[\x00-\x08\x0e-\x1f]", case.word.bytes):
-        yield case.says(sentence("long_bytes", head=head))
+        yield case.tells("long_bytes", head=head)
     commas = re.findall(r"[,;/|]", case.plain)
     if len(commas) > 5:
-        yield case.says(sentence("long_signs", head=head, count=len(commas), sign=commas[0]))
-    yield case.says(sentence("long_blanks", head=head))
+        yield case.tells("long_signs", head=head, count=len(commas), sign=commas[0])
+    yield case.tells("long_blanks", head=head)

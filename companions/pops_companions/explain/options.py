@@ -6,7 +6,7 @@ from typing import Optional
 
 from pops_companions.chess.men import Colour, Square
 from pops_companions.explain import wordings
-from pops_companions.explain.case import Case, Explanation, at, first_of, listed, quoted
+from pops_companions.explain.case import Case, Explanation, at, first_cause, listed, quoted
 from pops_companions.explain.men import span_of
 from pops_companions.explain.sentences import sentence
 from pops_companions.explain.vocabulary import unread
@@ -32,19 +32,13 @@ def second_condition(case: Case) -> Explanation:
     given = case.reading.condition_word
     assert given is not None and case.reading.condition is not None
     if named(case.word.bytes, [case.reading.condition.value]):
-        return case.says(sentence("condition_twice", given=quoted(given)), given.span)
-    return case.says(
-        sentence("second_condition", given=quoted(given)),
-        given.span,
-    )
+        return case.tells("condition_twice", given.span, given=quoted(given))
+    return case.tells("second_condition", given.span, given=quoted(given))
 
 
-def bad_number(case: Case) -> Explanation:
+@first_cause
+def bad_number(case: Case) -> Iterator[Optional[Explanation]]:
     """Explains fault 13."""
-    return first_of(_causes_of_no_number(case))
-
-
-def _causes_of_no_number(case: Case) -> Iterator[Optional[Explanation]]:
     option = case.reading.option
     assert option is not None
     yield wordings.invisible(case)
@@ -57,9 +51,9 @@ def _causes_of_no_number(case: Case) -> Iterator[Optional[Explanation]]:
         )
     digits = re.sub(r"[,.'_’]", "", case.plain)
     if digits != case.plain and case.fits(digits):
-        yield case.says(sentence("digits_only", digits=digits))
+        yield case.tells("digits_only", digits=digits)
     yield wordings.signs(case)
-    yield case.says(sentence("number_wanted", word=case.quoted), option.span)
+    yield case.tells("number_wanted", option.span)
 
 
 def _missing(case: Case, option: Word, what: str, example: str) -> Optional[Explanation]:
@@ -75,12 +69,9 @@ def _missing(case: Case, option: Word, what: str, example: str) -> Optional[Expl
     return case.says(text, option.span)
 
 
-def square_missing(case: Case) -> Explanation:
+@first_cause
+def square_missing(case: Case) -> Iterator[Optional[Explanation]]:
     """Explains fault 14 after EnPassant and NoCastling."""
-    return first_of(_causes_of_no_square(case))
-
-
-def _causes_of_no_square(case: Case) -> Iterator[Optional[Explanation]]:
     option = case.reading.option
     assert option is not None
     one = case.reading.awaited is Awaited.SQUARE
@@ -91,19 +82,13 @@ def _causes_of_no_square(case: Case) -> Iterator[Optional[Explanation]]:
     yield wordings.parted(case)
     yield _missing(case, option, "square", example)
     if one and len(squares_of(case.word.bytes)) > 1:
-        yield case.says(sentence("one_square", wanted=wanted, word=case.quoted))
+        yield case.tells("one_square", wanted=wanted)
     if one and is_man(case.word.bytes):
-        yield case.says(sentence("only_square", wanted=wanted, rest=case.plain[1:]))
+        yield case.tells("only_square", wanted=wanted, rest=case.plain[1:])
     if _SIDES.fullmatch(case.plain):
-        yield case.says(
-            sentence(
-                "square_names_none", name=name, wanted=wanted, example=example, word=case.quoted
-            )
-        )
+        yield case.tells("square_names_none", name=name, wanted=wanted, example=example)
     yield wordings.signs(case)
-    yield case.says(
-        sentence("square_wanted", name=name, wanted=wanted, example=example, word=case.quoted)
-    )
+    yield case.tells("square_wanted", name=name, wanted=wanted, example=example)
 
 
 def en_passant_impossible(case: Case) -> Explanation:

@@ -22,7 +22,7 @@ def foreign_letter(case: Case) -> Optional[Explanation]:
         return None
     letter, squares = found[1], found[2]
     if letter[0] in _CYRILLIC_MEN or letter == "Кр":
-        return case.says(sentence("cyrillic_man", letter=letter))
+        return case.tells("cyrillic_man", letter=letter)
     possible = alphabets_with(letter) if len(letter) == 1 else []
     if not possible:
         return None
@@ -36,8 +36,8 @@ def foreign_letter(case: Case) -> Optional[Explanation]:
         ways = [sentence(
             "kind_in", kind=_kind(it, letter).word, languages=listed(it.languages)
         ) for it in possible]
-        return case.says(sentence("letter_of_several", text=text, ways=listed(ways, 'or')))
-    kind = kinds.pop()
+        return case.tells("letter_of_several", text=text, ways=listed(ways, 'or'))
+    (kind,) = kinds
     languages = [language for it in possible for language in it.languages]
     text = sentence(
         "letter_of_one",
@@ -60,7 +60,7 @@ def man_by_name(case: Case) -> Optional[Explanation]:
     for name in sorted(_NAMES, key=len, reverse=True):
         letter, rest = _NAMES[name].value, word[len(name) :]
         if word.startswith(name) and (rest in ("", "s") or case.fits(letter + rest)):
-            return case.says(sentence("man_by_name", name=name, letter=letter))
+            return case.tells("man_by_name", name=name, letter=letter)
     return None
 
 
@@ -70,8 +70,8 @@ def two_letters(case: Case) -> Optional[Explanation]:
     if not re.fullmatch(r"[a-z]{2}(?:[a-h][1-8])+", word, re.IGNORECASE):
         return None
     if word[:2].lower() in ("kt", "kn"):
-        return case.says(sentence("knight_is_s", squares=word[2:]))
-    return case.says(sentence("two_letters", word=case.quoted))
+        return case.tells("knight_is_s", squares=word[2:])
+    return case.tells("two_letters")
 
 
 def _kind(alphabet: Alphabet, letter: str) -> Kind:

@@ -6,7 +6,7 @@ from collections.abc import Iterator
 from typing import Any, Optional
 
 from pops_companions.explain import wordings
-from pops_companions.explain.case import Case, Explanation, first_of, quoted
+from pops_companions.explain.case import Case, Explanation, first_cause, first_of, quoted
 from pops_companions.explain.characters import decoded
 from pops_companions.explain.sentences import DATA, sentence
 from pops_companions.input.reading import (
@@ -40,9 +40,7 @@ def solution_numbers(case: Case) -> Optional[Explanation]:
     """Explains a number of solutions after a stipulation, as `2.1.1.1`."""
     if case.reading.section is not Section.STIPULATION or not _COUNTS.fullmatch(case.plain):
         return None
-    return case.says(
-        sentence("count_of_solutions", word=case.quoted, count=_product(case.plain))
-    )
+    return case.tells("count_of_solutions", count=_product(case.plain))
 
 
 def _product(numbers: str) -> int:
@@ -50,12 +48,9 @@ def _product(numbers: str) -> int:
     return math.prod(int(it) for it in re.findall("[0-9]+", numbers))
 
 
-def bad(case: Case) -> Explanation:
+@first_cause
+def bad(case: Case) -> Iterator[Optional[Explanation]]:
     """Explains fault 8."""
-    return first_of(_causes(case))
-
-
-def _causes(case: Case) -> Iterator[Optional[Explanation]]:
     yield wordings.utf_16(case)
     yield wordings.invisible(case)
     yield _half(case)
@@ -76,7 +71,7 @@ def _causes(case: Case) -> Iterator[Optional[Explanation]]:
     yield _in_words(case)
     yield wordings.in_another_language(case)
     yield wordings.comment(case)
-    yield case.says(sentence("no_stipulation", word=case.quoted, forms=_FORMS))
+    yield case.tells("no_stipulation", forms=_FORMS)
 
 
 def _half(case: Case) -> Optional[Explanation]:
@@ -84,15 +79,15 @@ def _half(case: Case) -> Optional[Explanation]:
         return None
     mended = re.sub(r"½|[- ]?1/2$", ".5", case.plain)
     if not case.fits(mended):
-        return case.says(sentence("half_only_help"))
-    return case.says(sentence("half", mended=mended))
+        return case.tells("half_only_help")
+    return case.tells("half", mended=mended)
 
 
 def _sign_of_mate(case: Case) -> Optional[Explanation]:
     mended = re.sub(f"[{_SIGNS_OF_MATE}]|\\+\\+", "#", case.plain)
     if mended == case.plain or not case.fits(mended):
         return None
-    return case.says(sentence("sign_of_mate", mended=mended, word=case.quoted))
+    return case.tells("sign_of_mate", mended=mended)
 
 
 def _section_empty(case: Case) -> Optional[Explanation]:
@@ -105,15 +100,12 @@ def _section_empty(case: Case) -> Optional[Explanation]:
     )
     for what, holds, section in kinds:
         if holds and opener is not None:
-            return case.says(
-                sentence(
-                    "stipulation_missing_after",
-                    word=case.quoted,
-                    what=what,
-                    opener=quoted(opener),
-                    section=section,
-                ),
+            return case.tells(
+                "stipulation_missing_after",
                 opener.span,
+                what=what,
+                opener=quoted(opener),
+                section=section,
             )
     return None
 
@@ -124,11 +116,8 @@ def _without_number(case: Case) -> Optional[Explanation]:
     if case.after is not None:
         whole = case.plain + decoded(case.after.bytes)
         if case.fits(whole):
-            return case.says(
-                sentence("number_parted", whole=whole),
-                case.after.span,
-            )
-    return case.says(sentence("number_missing_in_word", plain=case.plain))
+            return case.tells("number_parted", case.after.span, whole=whole)
+    return case.tells("number_missing_in_word", plain=case.plain)
 
 
 def _number(case: Case) -> Optional[Explanation]:
@@ -137,38 +126,34 @@ def _number(case: Case) -> Optional[Explanation]:
         return None
     play, number, half = found[1].lower(), found[3], found[4]
     if half and play != "h":
-        return case.says(sentence("half_in_help", first=found[1], second=found[2], number=number))
+        return case.tells("half_in_help", first=found[1], second=found[2], number=number)
     if len(number) > 1 and number.startswith("0"):
         mended = f"{found[1]}{found[2]}{int(number)}{half or ''}"
         if case.fits(mended):
-            return case.says(sentence("leading_zeros", mended=mended))
+            return case.tells("leading_zeros", mended=mended)
     least, most = (0, MOST_MOVES - 1) if half else (1, MOST_MOVES)
     form = f"{found[1]}{found[2]}n{half or ''}"
-    return case.says(
-        sentence("number_out_of_range", form=form, least=least, most=most, number=int(number))
-    )
+    return case.tells("number_out_of_range", form=form, least=least, most=most, number=int(number))
 
 
 def _star(case: Case) -> Optional[Explanation]:
     found = re.fullmatch(r"(.*?)\*+(.*)", case.plain)
     if found is None or not case.fits(found[1] + found[2]):
         return None
-    return case.says(sentence("star", first=found[1], second=found[2]))
+    return case.tells("star", first=found[1], second=found[2])
 
 
 def _counted(case: Case) -> Optional[Explanation]:
     found = re.fullmatch(r"(.+?)[;:,(\[/]+([1-9][0-9]*(?:[.,][1-9][0-9]*)*)\.*[)\]]?", case.plain)
     if found is None or not case.fits(found[1]) or re.fullmatch(r"h[#=]\d+,5", case.plain):
         return None
-    return case.says(
-        sentence("counted", second=found[2], first=found[1], count=_product(found[2]))
-    )
+    return case.tells("counted", second=found[2], first=found[1], count=_product(found[2]))
 
 
 def _other_play(case: Case) -> Optional[Explanation]:
     for pattern, what in _OTHER_PLAY:
         if pattern.match(case.plain):
-            return case.says(sentence("other_play", what=what, forms=_FORMS))
+            return case.tells("other_play", what=what, forms=_FORMS)
     return None
 
 
@@ -177,22 +162,22 @@ def _exact(case: Case) -> Optional[Explanation]:
     if found is None:
         return None
     if found[1].lower().startswith("h"):
-        return case.says(sentence("exact_help", first=found[1]))
-    return case.says(sentence("exact", first=found[1]))
+        return case.tells("exact_help", first=found[1])
+    return case.tells("exact", first=found[1])
 
 
 def _other_goal(case: Case) -> Optional[Explanation]:
     found = _OTHER_GOALS.fullmatch(case.plain)
     if found is None or (found[1].lower() == "k" and is_man(case.word.bytes)):
         return None
-    return case.says(sentence("other_goal", first=found[1], forms=_FORMS))
+    return case.tells("other_goal", first=found[1], forms=_FORMS)
 
 
 def _comma(case: Case) -> Optional[Explanation]:
     mended = re.sub(r",5$", ".5", case.plain)
     if mended == case.plain or not case.fits(mended):
         return None
-    return case.says(sentence("half_point", mended=mended))
+    return case.tells("half_point", mended=mended)
 
 
 def _reversed(case: Case) -> Optional[Explanation]:
@@ -205,13 +190,13 @@ def _reversed(case: Case) -> Optional[Explanation]:
         mended = found[4] + found[7] + found[5] + (found[6] or "")
     if not case.fits(mended):
         return None
-    return case.says(sentence("sign_first", mended=mended))
+    return case.tells("sign_first", mended=mended)
 
 
 def _in_words(case: Case) -> Optional[Explanation]:
     word = case.plain.lower().strip("-")
     if is_number(case.word.bytes):
-        return case.says(sentence("only_number", word=case.quoted, plain=case.plain))
+        return case.tells("only_number", plain=case.plain)
     found = re.fullmatch(r"([a-z]+?)[-#=]*(?:in)?-*([0-9]*)", word)
     sign = _WORDS.get(found[1]) if found is not None else None
     if found is None or sign is None:
@@ -224,7 +209,7 @@ def _in_words(case: Case) -> Optional[Explanation]:
         ),
         "2",
     )
-    return case.says(sentence("in_words", sign=sign, number=number))
+    return case.tells("in_words", sign=sign, number=number)
 
 
 def second(case: Case) -> Explanation:
@@ -242,7 +227,4 @@ def _causes_of_a_second(case: Case, given: Word) -> Iterator[Optional[Explanatio
     if case.word.bytes.lower() == given.bytes.lower():
         text = sentence("stipulation_twice", given=quoted(given))
         yield case.says(text, given.span)
-    yield case.says(
-        sentence("second_stipulation", given=quoted(given), word=case.quoted),
-        given.span,
-    )
+    yield case.tells("second_stipulation", given.span, given=quoted(given))

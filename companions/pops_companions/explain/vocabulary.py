@@ -5,7 +5,7 @@ from typing import Any, NamedTuple, Optional
 
 from pops_companions.chess.men import Kind
 from pops_companions.explain.sentences import DATA, sentence
-from pops_companions.import_.language import ForeignWord, folded
+from pops_companions.import_.language import ForeignWord, folded, foreign_words
 
 _KNOWN: dict[str, Any] = DATA["popeye"]
 _COLOURS = ("white", "black")
@@ -30,9 +30,7 @@ _UNREAD: dict[str, Unread] = {
     **_unread("a_kind_of_men", dict.fromkeys(_KNOWN["kinds"], sentence("two_colours"))),
 }
 _FOREIGN: dict[str, ForeignWord] = {
-    folded(word): ForeignWord(language, word, english)
-    for language, words in reversed(DATA["foreign"].items())
-    for word, english in words.items()
+    folded(it.word): it for it in reversed(list(foreign_words()))
 }
 
 
@@ -72,7 +70,7 @@ _ALPHABETS = tuple(Alphabet(tuple(it["languages"]), it["letters"]) for it in DAT
 
 def alphabets_of(letters: str) -> list[Alphabet]:
     """Returns the languages in whose letters these men may be written, the likeliest first."""
-    return [it for it in _ALPHABETS if set(letters.upper()) <= set(it.letters)]
+    return [it for it in _ALPHABETS if all(letter in it.letters for letter in letters.upper())]
 
 
 def alphabets_with(letter: str) -> list[Alphabet]:

@@ -22,7 +22,7 @@ def utf_16(case: Case) -> Optional[Explanation]:
     """Explains a text in UTF-16, two bytes a letter."""
     if not _HALVES.match(case.text):
         return None
-    return case.says(sentence("utf_16"))
+    return case.tells("utf_16")
 
 
 def invisible(case: Case) -> Optional[Explanation]:
@@ -34,13 +34,13 @@ def invisible(case: Case) -> Optional[Explanation]:
     if odd.character == "\ufeff":
         where = sentence("mark_first" if odd.place == 0 else "mark_inside")
         cure = sentence("mark_joined" if case.word.start > 0 else "mark_save")
-        return case.says(sentence("mark", where=where, word=case.quoted, cure=cure))
+        return case.tells("mark", where=where, cure=cure)
     blanks = characters.with_blanks(case.plain)
     mended = next((it for it in (blanks, blanks.replace(" ", "")) if case.fits(it)), None)
     cure = sentence("blank_in_place") if mended is None else sentence("write", mended=mended)
     is_wide = characters.is_wide_blank(odd.character)
     looks = sentence("looks_like_blank" if is_wide else "does_not_show")
-    return case.says(sentence("invisible", word=case.quoted, name=odd.name, looks=looks, cure=cure))
+    return case.tells("invisible", name=odd.name, looks=looks, cure=cure)
 
 
 def look_alike(case: Case) -> Optional[Explanation]:
@@ -52,17 +52,14 @@ def look_alike(case: Case) -> Optional[Explanation]:
     if not characters.is_figurine(odd.character) and not case.fits(mended):
         return None
     if characters.is_figurine(odd.character):
-        return case.says(sentence("figurine", letter=odd.character, mended=mended))
+        return case.tells("figurine", letter=odd.character, mended=mended)
     script = characters.script_of(odd.character)
-    return case.says(
-        sentence(
-            "look_alike",
-            letter=odd.character,
-            word=case.quoted,
-            script=script,
-            like=characters.plain(odd.character),
-            mended=mended,
-        )
+    return case.tells(
+        "look_alike",
+        letter=odd.character,
+        script=script,
+        like=characters.plain(odd.character),
+        mended=mended,
     )
 
 
@@ -71,14 +68,14 @@ def comment(case: Case) -> Optional[Explanation]:
     found = _COMMENT.match(case.plain)
     if found is None or case.fits(case.plain.strip("".join(_SIGNS))):
         return None
-    return case.says(sentence("comment", first=found[1]))
+    return case.tells("comment", first=found[1])
 
 
 def position(case: Case) -> Optional[Explanation]:
     """Explains a position in FEN."""
     if not _FEN.fullmatch(case.plain):
         return None
-    return case.says(sentence("position", word=case.quoted, plain=case.plain))
+    return case.tells("position", plain=case.plain)
 
 
 def signs(case: Case) -> Optional[Explanation]:
@@ -95,12 +92,12 @@ def signs(case: Case) -> Optional[Explanation]:
     kinds = {_SIGNS[it] for it in inside}
     if len(kinds) > 1:
         listed_signs = " ".join(dict.fromkeys(inside))
-        return case.says(sentence("signs", signs=listed_signs, word=case.quoted, mended=mended))
+        return case.tells("signs", signs=listed_signs, mended=mended)
     (kind,) = kinds
     if len(inside) == 1:
-        return case.says(sentence("sign", kind=kind, word=case.quoted, mended=mended))
+        return case.tells("sign", kind=kind, mended=mended)
     kinds_said = kind + ("es" if kind.endswith("sh") else "s")
-    return case.says(sentence("sign_often", kinds=kinds_said, word=case.quoted, mended=mended))
+    return case.tells("sign_often", kinds=kinds_said, mended=mended)
 
 
 def parted(case: Case) -> Optional[Explanation]:
@@ -109,12 +106,12 @@ def parted(case: Case) -> Optional[Explanation]:
     if case.after is not None:
         whole = word + characters.decoded(case.after.bytes)
         if case.fits(whole) and _is_name(whole):
-            return case.says(sentence("parted", whole=whole), case.after.span)
+            return case.tells("parted", case.after.span, whole=whole)
     before = case.span_before
     if before is not None:
         whole = characters.decoded(case.text[before.start : before.stop]) + word
         if _is_name(whole):
-            return case.says(sentence("parted", whole=whole), before)
+            return case.tells("parted", before, whole=whole)
     return None
 
 
@@ -126,13 +123,13 @@ def joined(case: Case) -> Optional[Explanation]:
     """Explains two words without a blank between them."""
     word = case.plain
     if re.fullmatch("endproblembeg[a-z]*", word, re.IGNORECASE):
-        return case.says(sentence("texts_joined", word=case.quoted))
+        return case.tells("texts_joined")
     for place in range(len(word) - 1, 0, -1):
         first, second = word[:place], word[place:]
         if second.islower() and (len(second) < 3 or named(first.encode("utf-8"), TEXT_WORDS)):
             continue
         if case.fits(f"{first} {second}"):
-            return case.says(sentence("joined", word=case.quoted, first=first, second=second))
+            return case.tells("joined", first=first, second=second)
     return None
 
 
@@ -142,14 +139,11 @@ def of_popeye(case: Case) -> Optional[Explanation]:
     if found is None:
         return None
     is_whole = case.plain.lower() == found.name.lower()
-    return case.says(
-        sentence(
-            "unread" if is_whole else "unread_short",
-            word=case.quoted,
-            what=found.what,
-            name=found.name,
-            instead=found.instead,
-        )
+    return case.tells(
+        "unread" if is_whole else "unread_short",
+        what=found.what,
+        name=found.name,
+        instead=found.instead,
     )
 
 
@@ -161,10 +155,8 @@ def in_another_language(case: Case) -> Optional[Explanation]:
     text = sentence("foreign", word=case.quoted, language=found.language)
     there = unread(found.english)
     if there is not None:
-        return case.says(
-            sentence("foreign_unread", text=text, name=there.name, instead=there.instead)
-        )
-    return case.says(sentence("foreign_written", text=text, english=found.english))
+        return case.tells("foreign_unread", text=text, name=there.name, instead=there.instead)
+    return case.tells("foreign_written", text=text, english=found.english)
 
 
 def accented(case: Case) -> Optional[Explanation]:
@@ -172,7 +164,7 @@ def accented(case: Case) -> Optional[Explanation]:
     plain = characters.without_accents(case.plain)
     if plain == case.plain or not case.fits(plain):
         return None
-    return case.says(sentence("accented", plain=plain, word=case.quoted))
+    return case.tells("accented", plain=plain)
 
 
 def lengthened(case: Case) -> Optional[Explanation]:
@@ -181,7 +173,7 @@ def lengthened(case: Case) -> Optional[Explanation]:
     for name in NAMES:
         if word.startswith(name.lower()) and word[len(name) :].isalpha():
             if case.fits(name) and not _names_more(word, name):
-                return case.says(sentence("lengthened", name=name, word=case.quoted))
+                return case.tells("lengthened", name=name)
     return None
 
 
@@ -192,7 +184,7 @@ def too_short(case: Case) -> Optional[Explanation]:
         return None
     for name in case.names_here():
         if name.lower().startswith(word.lower()):
-            return case.says(sentence("too_short", word=case.quoted, short=name[:3], name=name))
+            return case.tells("too_short", short=name[:3], name=name)
     return None
 
 
@@ -206,7 +198,7 @@ def misspelt(case: Case) -> Optional[Explanation]:
         return None
     if _names_more(word, best):
         return None
-    return case.says(sentence("misspelt", word=case.quoted, best=best))
+    return case.tells("misspelt", best=best)
 
 
 def _names_more(word: str, name: str) -> bool:
@@ -245,10 +237,7 @@ def rest_of_a_text(case: Case) -> Optional[Explanation]:
     above = case.line_above
     if above is None or above.word.line != case.word.line - 1:
         return None
-    return case.says(
-        sentence("rest_of_a_text", name=above.name),
-        above.span,
-    )
+    return case.tells("rest_of_a_text", above.span, name=above.name)
 
 
 def characters_in(case: Case) -> Iterator[Optional[Explanation]]:

@@ -6,9 +6,8 @@ from pops_companions.import_.draft import Draft
 from pops_companions.import_.language import OWN_OPTIONS, Option, meaning
 from pops_companions.import_.men import is_of_squares, squares_of, take_squares
 from pops_companions.import_.words import Message, Unreadable, Words
+from pops_companions.input.reading import CASTLING_SQUARES, MOST_SOLUTIONS
 
-MOST_SOLUTIONS = 4_000_000_000
-_CASTLING_SQUARES = ("a1", "e1", "h1", "a8", "e8", "h8")
 _LEAST_LETTERS = 3
 _LONGEST_NUMBER = 10
 
@@ -107,7 +106,7 @@ def _read_no_castling(words: Words, draft: Draft) -> None:
             break
         squares += squares_of(words.take().key)
     for square in squares:
-        if square.name not in _CASTLING_SQUARES:
+        if square.name not in CASTLING_SQUARES:
             text = f"NoCastling {square.name} left out: no man on {square.name} can castle"
             draft.notes.append(Message(words.line, text))
         elif square not in draft.options.may_not_castle:

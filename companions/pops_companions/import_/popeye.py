@@ -4,10 +4,10 @@ import re
 from collections.abc import Iterable
 from typing import Optional
 
-from pops_companions.chess.fen import read_position
 from pops_companions.chess.men import Kind, Man
 from pops_companions.import_.draft import Draft, Twin
 from pops_companions.import_.language import (
+    ENGLISH,
     LANGUAGES,
     TEXT_COMMANDS,
     Command,
@@ -23,7 +23,7 @@ from pops_companions.import_.words import Message, Unreadable, Word, Words
 
 _FIRST_WORD = re.compile(r"^[^\w\n]*([^\W\d_]+)", re.MULTILINE)
 _LEAST_LETTERS = 3
-_GAME_ARRAY = "rnbqkbnr/pppppppp/8/8/8/8/PPPPPPPP/RNBQKBNR"
+_GAME_ARRAY = "rsbqkbsr/pppppppp/8/8/8/8/PPPPPPPP/RSBQKBSR"
 # Where Popeye writes; a file's name may follow.
 _OUTPUTS = (Command.PROTOCOL, Command.LATEX, Command.LATEX_PIECES, Command.TRACE)
 _SECOND_BLOCK = (
@@ -50,7 +50,7 @@ def read_popeye(text: str) -> list[Draft]:
     for number, line in enumerate(text[:start].split("\n")[:-1], start=1):
         if line.strip():
             before.append(Message(number, f"skipped before the first problem: {line.strip()}"))
-    drafts[0].notes[:0] = before
+    drafts[0].notes = before + drafts[0].notes
     return drafts
 
 
@@ -176,7 +176,7 @@ class _Reader:
         elif command is Command.FORSYTH:
             place(draft, self._forsyth(draft))
         elif command is Command.ARRAY:
-            men = read_position(_GAME_ARRAY).men
+            men = read_forsyth(_GAME_ARRAY, ENGLISH.letters)
             place(draft, [PlacedMan(square, man, words.line) for square, man in men.items()])
         elif command is Command.STIPULATION:
             if setting.stipulation is not None:

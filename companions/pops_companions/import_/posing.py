@@ -11,10 +11,9 @@ from pops_companions.import_.draft import Draft, Impossible, Options, Setting
 from pops_companions.import_.language import Command
 from pops_companions.import_.twins import with_other_colour
 from pops_companions.import_.words import Message
+from pops_companions.input.given import LONGEST_TEXT
+from pops_companions.input.reading import MOST_MOVES
 from pops_companions.input.writing import pieces_line
-
-LONGEST_TEXT = 200
-_MOST_MOVES = 16
 
 
 class Posed(NamedTuple):
@@ -161,7 +160,7 @@ class _Checked:
             return None
         if self._version.options.white_to_play:
             stipulation = self._with_white_to_play(stipulation)
-        least, most = (0, _MOST_MOVES - 1) if stipulation.half_more else (1, _MOST_MOVES)
+        least, most = (0, MOST_MOVES - 1) if stipulation.half_more else (1, MOST_MOVES)
         if not least <= stipulation.moves <= most:
             self.faults.append(f"stipulation {text} has more or fewer moves than {least} to {most}")
         return stipulation

@@ -12,10 +12,10 @@ from pops_companions.input.words import BLANKS, TEXT_WORDS, Token, short_forms, 
 # The most bytes that pops reads of an input. A longer one is left to one run of pops.
 LONGEST_INPUT = 1 << 30
 
-_WORD_BEGINS = rb"(?<![^" + BLANKS + rb"])"
+_BEFORE = rb"(^|[" + BLANKS + rb"])"
 _WORD_ENDS = rb"(?![^" + BLANKS + rb"])"
 _MARKS = re.compile(
-    _WORD_BEGINS
+    _BEFORE
     + rb"(?:(?:"
     + b"|".join(map(short_forms, TEXT_WORDS))
     + rb")"
@@ -94,10 +94,11 @@ def cut(text: bytes) -> list[Piece]:
     for mark in _MARKS.finditer(text):
         if mark.lastgroup is None:
             continue
-        pieces.append(Piece(len(pieces) + 1, start, mark.start(), line_ends, True))
+        stop = mark.start() + len(mark[1])
+        pieces.append(Piece(len(pieces) + 1, start, stop, line_ends, True))
         if mark.lastgroup == "end":
             return pieces
-        line_ends += text.count(b"\n", start, mark.start())
+        line_ends += text.count(b"\n", start, stop)
         start = mark.end()
     pieces.append(Piece(len(pieces) + 1, start, len(text), line_ends, False))
     return pieces
@@ -135,7 +136,7 @@ def rest_after(text: bytes, last: Piece) -> Optional[Rest]:
     """Returns what follows the last problem of an input; None where only blanks do."""
     if not last.closed:
         return None
-    end = _MARKS.match(text, last.stop)
+    end = _MARKS.match(text, max(last.stop - 1, 0))
     assert end is not None
     first = _NO_BLANK.search(text, end.end())
     if first is None:

@@ -55,25 +55,25 @@ OPTIONS = ("SetPlay", "Variation", "NoBoard", *_AWAITED)
 class FaultKind(IntEnum):
     """What a fault is about; its value is the number in a report."""
 
-    BEGIN_MISSING = 1
-    MISPLACED = 2
-    TOO_LONG = 3
+    BEGIN_PROBLEM_MISSING = 1
+    WORD_MISPLACED = 2
+    WORD_TOO_LONG = 3
     COLOUR_MISSING = 4
     SQUARE_TAKEN = 5
-    PAWN_OUTSIDE = 6
+    PAWN_ON_OUTER_RANK = 6
     SECOND_KING = 7
     BAD_STIPULATION = 8
     SECOND_STIPULATION = 9
     STIPULATION_MISSING = 10
     NO_MEN = 11
     SECOND_CONDITION = 12
-    BAD_NUMBER = 13
+    BAD_LIMIT = 13
     SQUARE_MISSING = 14
     EN_PASSANT_IMPOSSIBLE = 15
-    NO_CASTLING_SQUARE = 16
+    NONE_CASTLES_THERE = 16
     KING_MISSING = 17
-    IN_CHECK = 18
-    END_MISSING = 19
+    WAITING_SIDE_IN_CHECK = 18
+    END_PROBLEM_MISSING = 19
     INPUT_TOO_LONG = 20
     DEVICE_FAILED = 21
 
@@ -195,12 +195,12 @@ def read_piece(text: bytes, piece: Piece) -> Reading:
         if isinstance(token, TextLine):
             continue
         if len(token.bytes) > LONGEST_WORD:
-            fault: Optional[FaultKind] = FaultKind.TOO_LONG
+            fault: Optional[FaultKind] = FaultKind.WORD_TOO_LONG
         elif begun:
             fault = step(reading, token)
         else:
             is_begin = named(token.bytes, ["BeginProblem"]) is not None
-            fault = None if is_begin else FaultKind.BEGIN_MISSING
+            fault = None if is_begin else FaultKind.BEGIN_PROBLEM_MISSING
             begun = True
         if fault is None and place == len(reading.tokens) - 1 and closed:
             fault = _end_fault(reading)
@@ -208,7 +208,7 @@ def read_piece(text: bytes, piece: Piece) -> Reading:
             reading.number, reading.at = fault, place
             return reading
     if not closed:
-        reading.number = FaultKind.END_MISSING if begun else FaultKind.BEGIN_MISSING
+        reading.number = FaultKind.END_PROBLEM_MISSING if begun else FaultKind.BEGIN_PROBLEM_MISSING
     return reading
 
 
@@ -223,7 +223,7 @@ def step(reading: Reading, word: Word) -> Optional[FaultKind]:
         reading.awaited = reading.option = None
     command = named(word.bytes, COMMANDS)
     if command == "BeginProblem":
-        return FaultKind.MISPLACED
+        return FaultKind.WORD_MISPLACED
     if command in SECTIONS:
         reading.section, reading.opener = Section(command), word
         reading.openers.append(word)
@@ -232,7 +232,7 @@ def step(reading: Reading, word: Word) -> Optional[FaultKind]:
     if command is not None:
         return None
     if reading.section is None:
-        return FaultKind.MISPLACED
+        return FaultKind.WORD_MISPLACED
     return _READERS[reading.section](reading, word)
 
 
@@ -248,7 +248,7 @@ def _value(reading: Reading, word: Word, squares: list[Square]) -> Optional[Faul
             return FaultKind.SQUARE_MISSING
         reading.crossed, reading.crossed_word = squares[0], word
     elif not is_number(word.bytes) or not 1 <= int(word.bytes) <= MOST_SOLUTIONS:
-        return FaultKind.BAD_NUMBER
+        return FaultKind.BAD_LIMIT
     else:
         reading.limit = int(word.bytes)
     reading.awaited = reading.option = None
@@ -259,7 +259,7 @@ def _barred(reading: Reading, word: Word, squares: list[Square]) -> Optional[Fau
     for place, square in enumerate(squares):
         if square.name not in CASTLING_SQUARES:
             reading.square, reading.square_place = square, 2 * place
-            return FaultKind.NO_CASTLING_SQUARE
+            return FaultKind.NONE_CASTLES_THERE
     return None
 
 
@@ -271,9 +271,9 @@ def _piece(reading: Reading, word: Word) -> Optional[FaultKind]:
         return None
     kind, squares = kind_of(word.bytes), squares_of(word.bytes[1:])
     if kind is None:
-        return FaultKind.MISPLACED
+        return FaultKind.WORD_MISPLACED
     if not squares and len(word.bytes) > 2 and not re.search(rb"[0-9]", word.bytes):
-        return FaultKind.MISPLACED
+        return FaultKind.WORD_MISPLACED
     if reading.colour is None:
         return FaultKind.COLOUR_MISSING
     if not squares:
@@ -292,7 +292,7 @@ def _man_fault(reading: Reading, man: Man, square: Square) -> Optional[FaultKind
     if square in reading.men:
         return FaultKind.SQUARE_TAKEN
     if man.kind is Kind.PAWN and square.rank in (1, 8):
-        return FaultKind.PAWN_OUTSIDE
+        return FaultKind.PAWN_ON_OUTER_RANK
     if man.kind is Kind.KING and king_of(reading, man.colour) is not None:
         return FaultKind.SECOND_KING
     return None
@@ -307,7 +307,7 @@ def king_of(reading: Reading, colour: Colour) -> Optional[Square]:
 def _stipulation(reading: Reading, word: Word) -> Optional[FaultKind]:
     if reading.stipulation is not None:
         second = b"#" in word.bytes or b"=" in word.bytes
-        return FaultKind.SECOND_STIPULATION if second else FaultKind.MISPLACED
+        return FaultKind.SECOND_STIPULATION if second else FaultKind.WORD_MISPLACED
     reading.stipulation, reading.stipulation_word = stipulation_of(word.bytes), word
     return FaultKind.BAD_STIPULATION if reading.stipulation is None else None
 
@@ -315,7 +315,7 @@ def _stipulation(reading: Reading, word: Word) -> Optional[FaultKind]:
 def _condition(reading: Reading, word: Word) -> Optional[FaultKind]:
     name = named(word.bytes, CONDITIONS)
     if name is None:
-        return FaultKind.MISPLACED
+        return FaultKind.WORD_MISPLACED
     if reading.condition is not None:
         return FaultKind.SECOND_CONDITION
     reading.condition, reading.condition_word = Condition(name), word
@@ -325,7 +325,7 @@ def _condition(reading: Reading, word: Word) -> Optional[FaultKind]:
 def _option(reading: Reading, word: Word) -> Optional[FaultKind]:
     name = named(word.bytes, OPTIONS)
     if name is None:
-        return FaultKind.MISPLACED
+        return FaultKind.WORD_MISPLACED
     reading.awaited = _AWAITED.get(name)
     reading.option = word
     return None
@@ -350,7 +350,7 @@ def _end_fault(reading: Reading) -> Optional[FaultKind]:
     if king_of(reading, to_be_mated(reading.stipulation)) is None:
         if reading.stipulation.goal.value == "#":
             return FaultKind.KING_MISSING
-    return FaultKind.IN_CHECK if checkers(reading) else None
+    return FaultKind.WAITING_SIDE_IN_CHECK if checkers(reading) else None
 
 
 @dataclass(frozen=True)

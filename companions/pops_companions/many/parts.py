@@ -81,7 +81,7 @@ def phases_listed(listed: bytes) -> list[Phase]:
 def limit_of(text: bytes) -> Optional[int]:
     """Returns the limit of the last MaxSolutions of a sound problem, where it has one."""
     reading = read_piece(text, cut(text)[0])
-    if reading.number is FaultKind.BAD_NUMBER:
+    if reading.number is FaultKind.BAD_LIMIT:
         raise PartsError("no number after MaxSolutions")
     return reading.limit
 

@@ -1,0 +1,147 @@
+// @ts-check
+// Explains and mends the faults of a text, as pops-explain does: by its own code, translated (web/from_python.py), which counts bytes.
+import { companions } from './out/companions.js';
+import { lineAt, lineOf, problemsOf, remembered } from './text.js';
+
+const LONGEST_LINE = 160;
+const ROOM_BEFORE = 60;
+const MOST_EDITS = 50;
+// A longer problem isn't mended.
+const MOST_LETTERS = 20000;
+// Words that ask for what the page shows with tries.
+const ASKS_FOR_TRIES = /shows? (?:tries with|threats)/;
+// What stands before the words of a later problem.
+const BEFORE_LATER = 'BeginProblem NextProblem';
+
+// A text in UTF-16, whose bytes the page took for letters.
+const OF_TWO_BYTES = /^(?:\xff\xfe|\xfe\xff)[\0-\xff]*$/;
+/** @param {string} text @returns {string} */
+const bytesOf = text => (OF_TWO_BYTES.test(text) ? text : companions.encoded(text));
+const allBytesOf = remembered(bytesOf);
+/** @param {string} bytes @returns {string} */
+const textOf = bytes => companions.decoded(bytes);
+
+/**
+ * Writes each invisible character of a text as `<U+00A0>`.
+ * @param {string} text
+ */
+export const shown = text => companions.shown(bytesOf(text));
+
+/**
+ * Returns the faults of a text as read here: problem, line, number, and the problem as far as it was read.
+ * @param {string} text
+ */
+export function faultsOf(text) {
+  const bytes = allBytesOf(text);
+  return companions.cut(bytes).flatMap((/** @type {any} */ piece) => {
+    const read = companions.readPiece(bytes, piece);
+    return read.number ? [{ problem: piece.number, line: lineOfFault(bytes, read), fault: read.number.value, read }] : [];
+  });
+}
+
+/** @param {string} bytes @param {any} read */
+const lineOfFault = (bytes, read) => (read.at === null ? bytes.split('\n').length : read.word.line);
+
+/**
+ * Returns the explanation of a fault.
+ * @param {string} text
+ * @param {any} read the problem up to its fault
+ * @returns {Explanation}
+ */
+export function explanationOf(text, read) {
+  const bytes = allBytesOf(text);
+  const said = companions.explanation(bytes, read);
+  const placeOf = (/** @type {number} */ place) => textOf(bytes.slice(0, place)).length;
+  return { text: said.text, marks: said.marks.map((/** @type {any} */ mark) => ({ from: placeOf(mark.start), to: placeOf(mark.stop) })) };
+}
+
+/**
+ * Explains the fault of a problem of a text; returns null if this reading finds another fault than the report.
+ * @param {string} text
+ * @param {{ number: number, fault: { line: number, number: number } }} item
+ */
+export function explain(text, { number, fault }) {
+  const bytes = allBytesOf(text);
+  const read = companions.readNumber(bytes, number);
+  if (read?.number?.value !== fault.number || lineOfFault(bytes, read) !== fault.line) return null;
+  return explanationOf(text, read);
+}
+
+/**
+ * Returns the lines of a text with marks, each in pieces: { text, isMarked }. Invisible characters are made visible.
+ * @param {string} text
+ * @param {Span[]} marks
+ */
+export function markedLines(text, marks) {
+  const lines = new Map();
+  for (const mark of marks) {
+    const line = lineOf(text, mark.from);
+    lines.set(line, [...(lines.get(line) ?? []), mark]);
+  }
+  return [...lines].map(([line, own]) => ({ line, pieces: piecesOf(text, lineAt(text, line), own) }));
+}
+
+/**
+ * Divides a line into pieces, a long line only around its first mark.
+ * @param {string} text
+ * @param {Span} line
+ * @param {Span[]} marks
+ */
+function piecesOf(text, { from, to }, marks) {
+  const start = to - from > LONGEST_LINE ? Math.max(from, marks[0].from - ROOM_BEFORE) : from;
+  const stop = Math.min(to, start + LONGEST_LINE);
+  const pieces = [{ text: start > from ? '..' : '', isMarked: false }];
+  let place = start;
+  /** @param {number} end @param {boolean} isMarked */
+  const add = (end, isMarked) => {
+    pieces.push({ text: shown(text.slice(place, end).replace(/[\t\v\f\r]/g, ' ')), isMarked });
+    place = end;
+  };
+  for (const mark of marks.filter(it => it.from < stop)) {
+    add(Math.max(place, mark.from), false);
+    add(Math.min(Math.max(place, mark.to), stop), true);
+  }
+  add(stop, false);
+  pieces.push({ text: stop < to ? '..' : '', isMarked: false });
+  return pieces.filter(piece => piece.text);
+}
+
+/**
+ * Mends the faults of a problem, as many as can be; null if the first one can't. `line` is the first line that changes, or the number of
+ * lines that are left; `asksForTries` says whether a word that was left out asks for tries or threats.
+ * @param {string} text
+ * @param {number} number
+ */
+export function mendedProblem(text, number) {
+  const { from, to } = placeOfProblem(text, number);
+  const own = text.slice(from, to);
+  const head = number === 1 ? '' : BEFORE_LATER;
+  const place = Math.min(number, 2);
+  let bytes = bytesOf(head + own);
+  let asksForTries = false;
+  for (let count = 0; count < MOST_EDITS && own.length < MOST_LETTERS; count++) {
+    const read = companions.readNumber(bytes, place);
+    const edit = read?.number ? companions.editFor(bytes, place, read) : null;
+    if (!edit) break;
+    asksForTries ||= ASKS_FOR_TRIES.test(companions.explanation(bytes, read).text);
+    bytes = edit.of(bytes);
+  }
+  const made = textOf(bytes).slice(head.length);
+  if (made === own) return null;
+  let same = 0;
+  while (same < made.length && made[same] === own[same]) same++;
+  const whole = text.slice(0, from) + made + text.slice(to);
+  return { text: whole, asksForTries, line: lineOf(whole, from + same) };
+}
+
+/**
+ * Returns where a problem's words begin and end: from the closing word before it to its own.
+ * @param {string} text
+ * @param {number} number
+ */
+function placeOfProblem(text, number) {
+  const problems = problemsOf(text);
+  const [before, own] = [problems[number - 2]?.tokens.at(-1), problems[number - 1]];
+  const last = own?.isClosed ? own.tokens.at(-1) : null;
+  return { from: before?.to ?? 0, to: last?.to ?? text.length };
+}

@@ -1,0 +1,68 @@
+// @ts-check
+// Turns texts of other programs into problems of pops, as pops-import does: inputs of Popeye, collections in YAML.
+import { explanationOf, faultsOf } from './explaining.js';
+import { companions } from './out/companions.js';
+import { wordsOf } from './text.js';
+import { say } from './words.js';
+
+const TRIES_OPTIONS = ['Try', 'Defence', 'Threat'];
+const OF_YAML = /^\s*algebraic\s*:/m;
+
+/** @param {string} word */
+const optionOf = word => (companions.unread(word) ?? companions.unread(companions.foreign(word)?.english ?? ''))?.name;
+
+/**
+ * Returns whether a text that begins as ours has words that only Popeye reads, or is in another language.
+ * @param {string} text
+ */
+function isOfPopeye(text) {
+  const words = wordsOf(text).filter(token => token.end === undefined);
+  const [first] = words;
+  if (!first || !companions.begins(first.word)) return false;
+  return first.command !== 'beginproblem' || words.some(({ word, command }) => !command && companions.unread(word) !== null)
+    || words.some(({ word }, index) => /^[1-9][0-9]*\.[0-9.]*$/.test(word) && /[#=]/.test(words[index - 1]?.word ?? ''));
+}
+
+/**
+ * Returns why pops wouldn't solve a problem; empty if it would.
+ * @param {{ lines: string[], faults: { text: string }[] }} posed
+ */
+function reasonOf({ lines, faults }) {
+  if (faults.length) return faults.map(it => it.text).join('; ');
+  const text = companions.textOfProblems([lines]);
+  const [fault] = faultsOf(text);
+  return fault ? explanationOf(text, fault.read).text : '';
+}
+
+/**
+ * Returns the text of drafts, and why some were left out.
+ * @param {any[]} drafts
+ */
+function posedText(drafts) {
+  const posed = drafts.flatMap(draft => companions.posed(draft).map((/** @type {any} */ one) => ({ ...one, number: draft.number, reason: reasonOf(one) })));
+  const lines = posed.filter(it => !it.reason).map(it => it.lines);
+  const lost = posed.filter(it => it.reason)
+    .map(({ number, label, reason }) => say('lostProblem', { number: [number, label].filter(Boolean).join(' '), reason }));
+  return { text: lines.length ? companions.textOfProblems(lines) : null, lost };
+}
+
+/**
+ * Reads the problems of a text of another program; null for any other text.
+ * @param {string} text
+ */
+function draftsOf(text) {
+  if (OF_YAML.test(text)) return companions.readYaml(text.replaceAll('\r\n', '\n'));
+  return isOfPopeye(text) ? companions.readPopeye(text.replaceAll('\r\n', '\n')) : null;
+}
+
+/**
+ * Returns the problems of a text of another program, why some were left out, and whether an option asks for tries or threats; null for any
+ * other text. The result's text is null if no problem can be posed.
+ * @param {string} given
+ * @returns {{ text: string | null, lost: string[], asksForTries: boolean } | null}
+ */
+export function imported(given) {
+  const text = given.replace(/^\ufeff/, '');
+  const drafts = draftsOf(text);
+  return drafts && { ...posedText(drafts), asksForTries: TRIES_OPTIONS.some(it => wordsOf(text).some(({ word }) => optionOf(word) === it)) };
+}

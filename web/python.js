@@ -1,0 +1,321 @@
+// @ts-nocheck
+// What Python's own types and modules do, for the module that web/from_python.py makes: only what that module uses. Bytes are strings of
+// characters up to U+00FF, tuples are arrays.
+
+/** @type {any} */
+export const py = (() => {
+  class Exception extends Error {
+    toString() { return this.message; }
+  }
+
+  class ValueError extends Exception {}
+  class UnicodeDecodeError extends ValueError {}
+  const numbers = new WeakMap();
+  let most = 0;
+
+  /** Returns a number for an object, always the same. */
+  const numberOf = it => numbers.get(it) ?? (numbers.set(it, ++most), most);
+
+  /** Returns what stands for a value as a key: equal values have the same. */
+  function keyOf(it) {
+    if (typeof it === 'string') return `'${it}`;
+    if (it === null || typeof it !== 'object') return it;
+    if (!(it instanceof Record) && !Array.isArray(it)) return it;
+    let key = '(';
+    for (const name of it instanceof Record ? fieldsOf(it) : it.keys()) key += `${partOfKey(it[name])},`;
+    return key;
+  }
+
+  function partOfKey(it) {
+    const key = typeof it === 'number' ? it : typeof it === 'string' ? JSON.stringify(it) : keyOf(it);
+    return key !== null && typeof key === 'object' ? `#${numberOf(key)}` : key;
+  }
+
+  function eq(one, next) {
+    if (one === next || one === null || next === null || typeof one !== 'object') return one === next;
+    if (one instanceof Record) return one.constructor === next.constructor && fieldsOf(one).every(name => eq(one[name], next[name]));
+    return Array.isArray(one) && Array.isArray(next) && one.length === next.length && one.every((it, place) => eq(it, next[place]));
+  }
+
+  function has(all, one) {
+    if (typeof all === 'string') return all.includes(one);
+    if (all instanceof Dict) return all.has(one);
+    for (const it of iter(all)) if (eq(it, one)) return true;
+    return false;
+  }
+
+  /** A class with fields: equal if its fields are. */
+  class Record {
+    static fields = [];
+    [Symbol.iterator]() {
+      return fieldsOf(this).map(name => this[name])[Symbol.iterator]();
+    }
+  }
+
+  const fieldsOf = it => it.constructor.fields;
+
+  class Enum {
+    static members = {};
+    name = '';
+    value = null;
+    static [Symbol.iterator]() {
+      return Object.values(this.members)[Symbol.iterator]();
+    }
+
+    static of(value) {
+      const found = Object.values(this.members).find(it => it.value === value);
+      if (!found) throw new ValueError(`${value} is no ${this.name}`);
+      return found;
+    }
+  }
+
+  class Dict {
+    constructor(pairs) {
+      this.pairs = new Map();
+      for (const [key, value] of pairs) this.put(key, value);
+    }
+
+    get size() { return this.pairs.size; }
+    has(key) { return this.pairs.has(keyOf(key)); }
+    get(key, absent = null) {
+      const pair = this.pairs.get(keyOf(key));
+      return pair ? pair[1] : absent;
+    }
+
+    put(key, value) {
+      const pair = this.pairs.get(keyOf(key));
+      this.pairs.set(keyOf(key), [pair ? pair[0] : key, value]);
+    }
+
+    drop(key) { this.pairs.delete(keyOf(key)); }
+    * [Symbol.iterator]() {
+      for (const [key] of this.pairs.values()) yield key;
+    }
+  }
+
+  class PySet extends Dict {}
+
+  class Match {
+    constructor(found, groups) {
+      this.all = found;
+      this.named = groups;
+    }
+
+    start() { return this.all.index; }
+    end() { return this.all.index + this.all[0].length; }
+    groups() { return this.all.slice(1).map(it => it ?? null); }
+    /** Returns the group that took part, if it has a name. */
+    get lastgroup() { return Object.keys(this.named).find(name => this.named[name] !== undefined) ?? null; }
+  }
+
+  /** Letters and digits of all languages, where Python's patterns mean them. */
+  const OF_ALL_LANGUAGES = [['[^\\W\\d_]', '\\p{L}'], ['[^\\W_]', '[\\p{L}\\p{N}]'], ['[^\\w\\n]', '[^\\p{L}\\p{N}_\\n]']];
+  const IGNORECASE = 2;
+  const MULTILINE = 8;
+
+  class Pattern {
+    constructor(text, flags) {
+      const plain = OF_ALL_LANGUAGES.reduce((made, [ours, theirs]) => made.replaceAll(ours, theirs), text.replaceAll('(?P<', '(?<'));
+      this.text = plain.replace(/^\(\?i\)/, '');
+      const isFolded = (flags & IGNORECASE) !== 0 || plain !== this.text;
+      this.flags = (isFolded ? 'i' : '') + (flags & MULTILINE ? 'm' : '') + (plain.includes('\\p{') ? 'u' : '');
+      this.made = {};
+    }
+
+    found(text, from, to, mark, whole) {
+      const pattern = (this.made[mark + whole] ??= new RegExp(whole ? `(?:${this.text})$` : this.text, mark + (whole ? this.flags.replace('m', '') : this.flags)));
+      pattern.lastIndex = from;
+      const found = pattern.exec(to === undefined ? text : text.slice(0, to));
+      return found && new Match(found, found.groups ?? {});
+    }
+
+    search(text, from = 0, to = undefined) { return this.found(text, from, to, 'g', ''); }
+    match(text, from = 0, to = undefined) { return this.found(text, from, to, 'y', ''); }
+    fullmatch(text) { return this.found(text, 0, undefined, 'y', '$'); }
+    * finditer(text, from = 0) {
+      for (let found = this.search(text, from); found; found = this.search(text, Math.max(found.end(), found.start() + 1))) yield found;
+    }
+
+    findall(text, from = 0) { return [...this.finditer(text, from)].map(it => it.all[it.all.length > 1 ? 1 : 0]); }
+    sub(made, text) {
+      const said = typeof made === 'string' ? made.replaceAll('$', '$$$$').replace(/\\(?:g<)?([0-9])>?/g, '$$$1') : made;
+      return text.replace(this.made.all ??= new RegExp(this.text, `g${this.flags}`), said);
+    }
+  }
+
+  const compiled = new Map();
+  function compile(pattern, flags = 0) {
+    if (pattern instanceof Pattern) return pattern;
+    const key = `${flags} ${pattern}`;
+    if (!compiled.has(key)) compiled.set(key, new Pattern(pattern, flags));
+    return compiled.get(key);
+  }
+
+
+  const re = {
+    IGNORECASE, MULTILINE, ASCII: 0, compile,
+    search: (pattern, text, flags = 0) => compile(pattern, flags).search(text),
+    match: (pattern, text, flags = 0) => compile(pattern, flags).match(text),
+    fullmatch: (pattern, text, flags = 0) => compile(pattern, flags).fullmatch(text),
+    findall: (pattern, text, flags = 0) => compile(pattern, flags).findall(text),
+    sub: (pattern, made, text) => compile(pattern).sub(made, text),
+    escape: text => text.replace(/[\]\\^$.*+?()[{}|/-]/g, '\\$&'),
+  };
+
+  const CATEGORIES = ['Zs', 'Zl', 'Zp', 'Cf', 'Cc', 'Co', 'Cs', 'Cn'].map(name => [name, new RegExp(`^\\p{${name}}`, 'u')]);
+  const unicodedata = {
+    category: letter => CATEGORIES.find(([, pattern]) => pattern.test(letter))?.[0] ?? 'other',
+    combining: letter => /^\p{Mn}/u.test(letter),
+    east_asian_width: letter => (/^[\uff01-\uff60\uffe0-\uffe6]/.test(letter) ? 'F' : 'other'),
+    normalize: (form, text) => text.normalize(form),
+  };
+
+  const iter = it => (it instanceof Object && !(Symbol.iterator in it) ? Object.keys(it) : it);
+  const list = (it = []) => [...iter(it)];
+  const len = it => it.length ?? it.size;
+  function bool(it) {
+    if (it === null || typeof it !== 'object') return Boolean(it);
+    return Array.isArray(it) || it instanceof Dict ? len(it) > 0 : true;
+  }
+
+  function at(it, place) {
+    if (it instanceof Dict) return it.get(place);
+    if (it instanceof Match) return (typeof place === 'number' ? it.all[place] : it.named[place]) ?? null;
+    if (typeof it === 'function') return it.members[place];
+    const all = it instanceof Record ? [...it] : it;
+    return typeof place === 'number' && place < 0 ? all[all.length + place] : all[place];
+  }
+
+  function compare(one, next) {
+    if (!Array.isArray(one)) return one < next ? -1 : one > next ? 1 : 0;
+    const place = one.findIndex((it, index) => it !== next[index]);
+    return place < 0 ? 0 : compare(one[place], next[place]);
+  }
+
+  function withOptions(given) {
+    const last = given.at(-1);
+    const isLast = last !== null && typeof last === 'object' && Object.getPrototypeOf(last) === Object.prototype;
+    const all = isLast ? given.slice(0, -1) : given;
+    const { key = it => it, default: absent = null, reverse = false } = isLast ? last : {};
+    return { all: all.length === 1 ? list(all[0]) : all, key, absent, reverse };
+  }
+
+  function sorted(...given) {
+    const { all, key, reverse } = withOptions(given);
+    return all.sort((one, next) => (reverse ? compare(key(next), key(one)) : compare(key(one), key(next))));
+  }
+
+  function min(...given) {
+    const { all, key, absent } = withOptions(given);
+    return all.length ? all.reduce((one, next) => (compare(key(next), key(one)) < 0 ? next : one)) : absent;
+  }
+
+  function max(...given) {
+    const { all, key, absent } = withOptions(given);
+    return all.length ? all.reduce((one, next) => (compare(key(next), key(one)) > 0 ? next : one)) : absent;
+  }
+
+  function range(one, end, step = 1) {
+    const [from, to] = end === undefined ? [0, one] : [one, end];
+    return Array.from({ length: Math.max(Math.ceil((to - from) / step), 0) }, (_, index) => from + index * step);
+  }
+
+  const isAscii = text => /^[\0-\x7f]*$/.test(text);
+  function decode(text, coding, errors = 'strict') {
+    if (coding === 'latin-1' || !coding.startsWith('utf-16') && isAscii(text)) return text;
+    if (coding === 'ascii') throw new UnicodeDecodeError('no ASCII');
+    const known = { 'utf-16': text.startsWith('\xfe\xff') ? 'utf-16be' : 'utf-16le', 'utf-16-le': 'utf-16le', 'utf-16-be': 'utf-16be' }[coding];
+    try {
+      const decoder = new TextDecoder(known ?? 'utf-8', { fatal: errors === 'strict', ignoreBOM: coding !== 'utf-16' });
+      return decoder.decode(Uint8Array.from(text, letter => letter.charCodeAt(0))).replaceAll(errors === 'ignore' ? '\ufffd' : '', '');
+    } catch {
+      throw new UnicodeDecodeError(`no ${coding}`);
+    }
+  }
+
+  function encode(text, coding) {
+    if (coding !== 'utf-8' || isAscii(text)) return text;
+    return Array.from(new TextEncoder().encode(text), byte => String.fromCharCode(byte)).join('');
+  }
+
+  const endsOf = signs => (signs === null ? '\\s' : `[${re.escape(signs)}]`);
+  const lstrip = (text, signs = null) => text.replace(new RegExp(`^${endsOf(signs)}+`), '');
+  const rstrip = (text, signs = null) => text.replace(new RegExp(`${endsOf(signs)}+$`), '');
+
+  function format(it, shape) {
+    if (shape === ',') return String(it).replace(/\B(?=(\d{3})+$)/g, ',');
+    return it.toString(16).toUpperCase().padStart(4, '0');
+  }
+
+  /** Makes the members of a class of constants. */
+  function members(kind, values) {
+    kind.members = Object.fromEntries(Object.entries(values).map(([name, value]) => [name, Object.assign(new kind(), { name, value })]));
+    Object.assign(kind, Object.fromEntries(Object.entries(kind.members).filter(([name]) => name !== 'name')));
+  }
+
+  function isinstance(it, kind) {
+    if (Array.isArray(kind)) return kind.some(one => isinstance(it, one));
+    return kind === str ? typeof it === 'string' : kind === list ? Array.isArray(it) : it instanceof (kind === dict ? Dict : kind);
+  }
+
+  const str = String;
+  const dict = Object.assign((pairs = []) => new Dict(pairs instanceof Dict ? pairs.pairs.values() : pairs), {
+    fromkeys: (keys, value = null) => new Dict(list(keys).map(key => [key, value])),
+  });
+  const items = it => (it instanceof Dict ? [...it.pairs.values()] : Object.entries(it));
+  const set = (it = []) => new PySet(list(it).map(key => [key, null]));
+
+  return {
+    Exception, ValueError, UnicodeDecodeError, Record, Enum, re, unicodedata, members, iter, list, tuple: list, len, bool, at, sorted, min, max, range,
+    decode, encode, lstrip, rstrip, format, isinstance, str, dict, items, set, frozenset: set,
+    math: { prod: all => list(all).reduce((one, next) => one * next, 1) },
+    dataclasses: {
+      replace: (it, changes) => new it.constructor(...it.constructor.fields.map(name => (name in changes ? changes[name] : it[name]))),
+    },
+    eq, has,
+    plus: (one, next) => (Array.isArray(one) ? [...one, ...next] : one + next),
+    joined: (one, next) => (typeof one === 'number' ? one | next : set([...one, ...next])),
+    common: (one, next) => set([...one].filter(it => has(next, it))),
+    times: (one, next) => (typeof one === 'string' ? one.repeat(next) : Array.isArray(one) ? range(Number(next)).flatMap(() => one) : one * next),
+    slice: (it, from, to) => it.slice(from ?? 0, to ?? undefined),
+    put: (it, key, value) => (it instanceof Dict ? it.put(key, value) : (it[key] = value)),
+    or: (one, next) => (bool(one) ? one : next()),
+    and: (one, next) => (bool(one) ? next() : one),
+    any: all => list(all).some(bool),
+    all: all => list(all).every(bool),
+    next: (all, absent = null) => { for (const it of all) return it; return absent; },
+    enumerate: (all, { start = 0 } = {}) => list(all).map((it, index) => [index + start, it]),
+    zip: (one, next) => list(one).slice(0, list(next).length).map((it, index) => [it, list(next)[index]]),
+    map: (act, all) => list(all).map(it => act(it)),
+    reversed: all => list(all).reverse(),
+    abs: Math.abs, int: Number, ord: letter => letter.codePointAt(0), chr: String.fromCodePoint, repr: it => `'${it}'`,
+    fields: it => (it instanceof Dict ? Object.fromEntries(items(it)) : it),
+    append: (all, it) => { all.push(it); },
+    count: (all, one, from = 0, to = Infinity) => (typeof all === 'string' ? all.slice(from, to).split(one).length - 1 : all.filter(it => eq(it, one)).length),
+    index: (all, one) => (typeof all === 'string' ? all.indexOf(one) : all.findIndex(it => eq(it, one))),
+    find: (text, one, from = 0, to = Infinity) => text.slice(0, to).indexOf(one, from),
+    rfind: (text, one, from = 0, to = Infinity) => { const place = text.slice(0, to).lastIndexOf(one); return place < from ? -1 : place; },
+    get: (all, key, absent = null) => (all instanceof Dict ? all.get(key, absent) : Object.hasOwn(all, key) ? all[key] : absent),
+    values: all => items(all).map(([, value]) => value),
+    pop: (all, key = -1, absent = null) => { const it = at(all, key) ?? absent; if (all instanceof Dict) all.drop(key); else all.splice(key, 1); return it; },
+    join: (between, all) => list(all).join(between),
+    split: (text, between = null) => (between === null ? text.split(/[ \t\n\v\f\r]+/).filter(Boolean) : text.split(between)),
+    strip: (text, signs = null) => lstrip(rstrip(text, signs), signs),
+    extend: (all, more) => { all.push(...iter(more)); },
+    filter: (_, all) => list(all).filter(bool),
+    setdefault: (all, key, value) => { if (!all.has(key)) all.put(key, value); return all.get(key); },
+    rpartition: (text, sign) => { const at = text.lastIndexOf(sign); return at < 0 ? ['', '', text] : [text.slice(0, at), sign, text.slice(at + sign.length)]; },
+    replace: (text, one, next) => text.replaceAll(one, () => next),
+    lower: text => text.toLowerCase(),
+    upper: text => text.toUpperCase(),
+    title: text => text.toLowerCase().replace(/\p{L}+/gu, word => word[0].toUpperCase() + word.slice(1)),
+    startswith: (text, one) => text.startsWith(one),
+    endswith: (text, one) => text.endsWith(one),
+    isalpha: text => /^\p{L}+$/u.test(text),
+    isalnum: text => /^[\p{L}\p{N}]+$/u.test(text),
+    isdecimal: text => /^\p{Nd}+$/u.test(text),
+    isascii: isAscii,
+    islower: text => text === text.toLowerCase() && text !== text.toUpperCase(),
+    isupper: text => text === text.toUpperCase() && text !== text.toLowerCase(),
+  };
+})();

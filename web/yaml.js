@@ -1,0 +1,161 @@
+// @ts-check
+// Reads collections in YAML in the form of Olive and YACPDB, written from memory: what pops-import has of PyYAML, by the same names. It
+// knows no lines.
+import { py } from './python.js';
+
+/** Why a text isn't read. */
+export class YamlError extends py.ValueError {
+  /** @param {string} line the line's text */
+  constructor(line) {
+    super(line);
+    this.line = 1;
+  }
+}
+
+/** Returns a text of a collection. @param {string} text */
+export const Scalar = Object.defineProperty((/** @type {string} */ text) => text, Symbol.hasInstance, { value: (/** @type {any} */ it) => typeof it === 'string' });
+export const line_of = () => 1;
+
+const KEY = /^("[^"]*"|'[^']*'|[^\s"'[\]{},:#][^:#]*?)\s*:(?:\s+(.*))?$/;
+
+/** @param {string} line */
+const withoutComment = line => line.replace(/(^|\s)#(?=[^"']*$).*/, '$1').trimEnd();
+
+/**
+ * Returns the lines of a document with content: { indent, text }.
+ * @param {string} document
+ */
+function yamlLines(document) {
+  return document.split('\n').filter(line => !line.startsWith('%')).map(line => ({ indent: line.length - line.trimStart().length, text: withoutComment(line).trim(), raw: line }));
+}
+
+/** @param {string} text */
+function scalar(text) {
+  if (/^".*"$/.test(text)) return text.slice(1, -1).replace(/\\(["\\])/g, '$1');
+  if (/^'.*'$/.test(text)) return text.slice(1, -1).replaceAll("''", "'");
+  if (/^[&*!|>%@`]/.test(text)) throw new YamlError(text);
+  return text;
+}
+
+/**
+ * Reads `[a, b]` or `{a: b}`, also nested.
+ * @param {string} text
+ */
+function flow(text) {
+  const parts = text.match(/\s*(?:"(?:[^"\\]|\\.)*"|'(?:[^']|'')*'|[[\]{},]|:(?=\s|$)|(?:[^[\]{},:]|:(?!\s|$))+)/g)?.map(it => it.trim()).filter(Boolean) ?? [];
+  const value = flowValue(parts);
+  if (parts.length) throw new YamlError(text);
+  return value;
+}
+
+/** @param {string[]} parts @returns {any} */
+function flowValue(parts) {
+  const first = parts.shift();
+  if (first === undefined) throw new YamlError('the text ends too early');
+  if (first !== '[' && first !== '{') return scalar(first);
+  const isList = first === '[';
+  /** @type {any[]} */
+  const list = [];
+  const found = py.dict();
+  while (parts[0] !== (isList ? ']' : '}')) {
+    if (isList) list.push(flowValue(parts));
+    else {
+      const key = scalar(parts.shift() ?? '');
+      if (parts.shift() !== ':') throw new YamlError(key);
+      found.put(key, flowValue(parts));
+    }
+    if (parts[0] === ',') parts.shift();
+    if (!parts.length) throw new YamlError('the text ends too early');
+  }
+  parts.shift();
+  return isList ? list : found;
+}
+
+class YamlReader {
+  /** @param {YamlLine[]} lines */
+  constructor(lines) {
+    this.lines = lines;
+    this.at = 0;
+  }
+
+  get line() {
+    while (this.lines[this.at] && !this.lines[this.at].text) this.at++;
+    return this.lines[this.at];
+  }
+
+  /**
+   * Returns the value after a key: on its line, or in the lines below that are indented more.
+   * @param {string} text
+   * @param {number} indent
+   * @returns {any}
+   */
+  value(text, indent) {
+    if (/^[|>]/.test(text)) return this.block(indent);
+    if (/^[[{]/.test(text)) return flow(this.toEnd(text, text[0] === '[' ? ']' : '}'));
+    if (text) return scalar(text);
+    const next = this.line;
+    if (!next || next.indent < indent || (next.indent === indent && !next.text.startsWith('-'))) return null;
+    return next.text.startsWith('-') ? this.list(next.indent) : this.mapping(next.indent);
+  }
+
+  /** @param {string} text @param {string} sign */
+  toEnd(text, sign) {
+    let whole = text;
+    while (!whole.endsWith(sign)) {
+      if (!this.line) throw new YamlError('the text ends too early');
+      whole += ` ${this.line.text}`;
+      this.at++;
+    }
+    return whole;
+  }
+
+  /** @param {number} indent */
+  block(indent) {
+    const texts = [];
+    for (; this.lines[this.at] && (!this.lines[this.at].raw.trim() || this.lines[this.at].indent > indent); this.at++) {
+      texts.push(this.lines[this.at].raw.trim());
+    }
+    return texts.join('\n').trim();
+  }
+
+  /** @param {number} indent @returns {any[]} */
+  list(indent) {
+    const items = [];
+    for (let next = this.line; next && next.indent === indent && next.text.startsWith('-'); next = this.line) {
+      this.at++;
+      items.push(this.value(next.text.slice(1).trim(), indent));
+    }
+    return items;
+  }
+
+  /** @param {number} indent @returns {any} */
+  mapping(indent) {
+    const found = py.dict();
+    for (let next = this.line; next && next.indent === indent; next = this.line) {
+      const key = KEY.exec(next.text);
+      if (!key) throw new YamlError(next.text);
+      this.at++;
+      const name = scalar(key[1]);
+      if (found.has(name)) throw new YamlError(next.text);
+      found.put(name, this.value(key[2] ?? '', indent));
+    }
+    return found;
+  }
+}
+
+/**
+ * Returns the documents of a collection: each has what it holds as `node`.
+ * @param {string} text
+ */
+export function documents(text) {
+  const all = text.replaceAll('\r\n', '\n').split(/^---.*$|^\.\.\.\s*$/m).filter(document => document.replace(/^%.*$/gm, '').trim());
+  return all.map(document => ({ line: 1, node: () => nodeOf(document) }));
+}
+
+/** @param {string} document */
+function nodeOf(document) {
+  const reader = new YamlReader(yamlLines(document));
+  const found = reader.line ? reader.mapping(reader.line.indent) : py.dict();
+  if (reader.line) throw new YamlError(reader.line.text);
+  return found;
+}
