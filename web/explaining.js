@@ -7,11 +7,11 @@ const LONGEST_LINE = 160;
 const ROOM_BEFORE = 60;
 const MOST_EDITS = 50;
 // A longer problem isn't mended.
-const MOST_LETTERS = 20000;
+const MOST_MENDED = 20000;
+// A problem is read up to here; a fault that comes later isn't explained.
+const MOST_LETTERS = 100000;
 // Words that ask for what the page shows with tries.
 const ASKS_FOR_TRIES = /shows? (?:tries with|threats)/;
-// What stands before the words of a later problem.
-const BEFORE_LATER = 'BeginProblem NextProblem';
 
 // A text in UTF-16, whose bytes the page took for letters.
 const OF_TWO_BYTES = /^(?:\xff\xfe|\xfe\xff)[\0-\xff]*$/;
@@ -59,12 +59,32 @@ export function explanationOf(text, read) {
  * Explains the fault of a problem of a text; returns null if this reading finds another fault than the report.
  * @param {string} text
  * @param {{ number: number, fault: { line: number, number: number } }} item
+ * @returns {Explanation | null}
  */
 export function explain(text, { number, fault }) {
-  const bytes = allBytesOf(text);
-  const read = companions.readNumber(bytes, number);
-  if (read?.number?.value !== fault.number || lineOfFault(bytes, read) !== fault.line) return null;
-  return explanationOf(text, read);
+  const { from, to, alone, place, start } = aloneOf(text, number);
+  const bytes = allBytesOf(alone);
+  const read = companions.readNumber(bytes, place);
+  const line = read && lineOfFault(bytes, read) + lineOf(text, from) - 1;
+  const isCut = start + alone.length < to && read?.at !== null && read?.word.span.stop === bytes.length;
+  if (read?.number?.value !== fault.number || line !== fault.line || isCut) return null;
+  const said = explanationOf(alone, read);
+  return { text: said.text, marks: said.marks.map(mark => ({ from: mark.from + start, to: mark.to + start })) };
+}
+
+/**
+ * Returns a problem as a text of its own, up to a limit, with the word that closes the problem before it: where its words begin and end in
+ * the whole text, its place in its own, and how far its own begins in the whole.
+ * @param {string} text
+ * @param {number} number
+ */
+function aloneOf(text, number) {
+  const problems = problemsOf(text);
+  const [before, own] = [problems[number - 2]?.tokens.at(-1), problems[number - 1]];
+  const last = own?.isClosed ? own.tokens.at(-1) : null;
+  const [from, to] = [before?.to ?? 0, last?.to ?? text.length];
+  const head = before ? `BeginProblem ${before.word}` : '';
+  return { from, to, alone: head + text.slice(from, Math.min(to, from + MOST_LETTERS)), place: before ? 2 : 1, start: from - head.length };
 }
 
 /**
@@ -113,35 +133,21 @@ function piecesOf(text, { from, to }, marks) {
  * @param {number} number
  */
 export function mendedProblem(text, number) {
-  const { from, to } = placeOfProblem(text, number);
-  const own = text.slice(from, to);
-  const head = number === 1 ? '' : BEFORE_LATER;
-  const place = Math.min(number, 2);
-  let bytes = bytesOf(head + own);
+  const { from, to, alone, place, start } = aloneOf(text, number);
+  if (to - from > MOST_MENDED) return null;
+  let bytes = bytesOf(alone);
   let asksForTries = false;
-  for (let count = 0; count < MOST_EDITS && own.length < MOST_LETTERS; count++) {
+  for (let count = 0; count < MOST_EDITS; count++) {
     const read = companions.readNumber(bytes, place);
     const edit = read?.number ? companions.editFor(bytes, place, read) : null;
     if (!edit) break;
     asksForTries ||= ASKS_FOR_TRIES.test(companions.explanation(bytes, read).text);
     bytes = edit.of(bytes);
   }
-  const made = textOf(bytes).slice(head.length);
-  if (made === own) return null;
-  let same = 0;
-  while (same < made.length && made[same] === own[same]) same++;
-  const whole = text.slice(0, from) + made + text.slice(to);
-  return { text: whole, asksForTries, line: lineOf(whole, from + same) };
-}
-
-/**
- * Returns where a problem's words begin and end: from the closing word before it to its own.
- * @param {string} text
- * @param {number} number
- */
-function placeOfProblem(text, number) {
-  const problems = problemsOf(text);
-  const [before, own] = [problems[number - 2]?.tokens.at(-1), problems[number - 1]];
-  const last = own?.isClosed ? own.tokens.at(-1) : null;
-  return { from: before?.to ?? 0, to: last?.to ?? text.length };
+  const made = textOf(bytes);
+  if (made === alone) return null;
+  let same = from - start;
+  while (same < made.length && made[same] === alone[same]) same++;
+  const whole = text.slice(0, from) + made.slice(from - start) + text.slice(to);
+  return { text: whole, asksForTries, line: lineOf(whole, same + start) };
 }

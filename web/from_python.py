@@ -198,12 +198,19 @@ def fields_of(node: ast.ClassDef) -> list[ast.AnnAssign]:
     return [it for it in node.body if isinstance(it, ast.AnnAssign) and isinstance(it.target, ast.Name)]
 
 
+def is_plain(node: ast.expr) -> bool:
+    """Returns whether a value is a number or a text for certain."""
+    if isinstance(node, ast.BinOp):
+        return isinstance(node.op, ast.Add) and (is_plain(node.left) or is_plain(node.right))
+    return isinstance(node, ast.JoinedStr) or isinstance(node, ast.Constant) and isinstance(node.value, (str, bytes, int))
+
+
 def is_docstring(node: ast.stmt) -> bool:
     return isinstance(node, ast.Expr) and isinstance(node.value, ast.Constant)
 
 
 def indented(lines: Iterable[str]) -> list[str]:
-    return [f"  {it}" for it in lines]
+    return [f" {it}" for it in lines]
 
 
 class Writer:
@@ -266,9 +273,7 @@ class Writer:
         return self.name(node, node.id)
 
     def value_Attribute(self, node: ast.Attribute) -> str:
-        if self.place_of(node) or self.place_of(node.value) and self.program.definition(self.place_of(node.value)) is None:
-            return self.name(node, node.attr) if self.place_of(node) else f"{self.value(node.value)}.{node.attr}"
-        return f"{self.value(node.value)}.{node.attr}"
+        return self.name(node, node.attr) if self.place_of(node) else f"{self.value(node.value)}.{node.attr}"
 
     def value_Tuple(self, node: Union[ast.Tuple, ast.List]) -> str:
         return f"[{self.values(node.elts)}]"
@@ -315,6 +320,8 @@ class Writer:
 
     def value_BinOp(self, node: ast.BinOp) -> str:
         one, two = self.value(node.left), self.value(node.right)
+        if isinstance(node.op, ast.Add) and (is_plain(node.left) or is_plain(node.right)):
+            return f"({one} + {two})"
         if type(node.op) in RUN_BY_PYTHON:
             return f"py.{RUN_BY_PYTHON[type(node.op)]}({one}, {two})"
         if isinstance(node.op, ast.FloorDiv):
@@ -351,11 +358,14 @@ class Writer:
         return f"({self.test(node.test)} ? {self.value(node.body)} : {self.value(node.orelse)})"
 
     def value_Compare(self, node: ast.Compare) -> str:
-        sides = [self.value(it) for it in (node.left, *node.comparators)]
+        sides = [node.left, *node.comparators]
         found = [self.compared(op, one, two) for op, one, two in zip(node.ops, sides, sides[1:])]
         return found[0] if len(found) == 1 else f"({' && '.join(found)})"
 
-    def compared(self, op: ast.cmpop, one: str, two: str) -> str:
+    def compared(self, op: ast.cmpop, left: ast.expr, right: ast.expr) -> str:
+        one, two = self.value(left), self.value(right)
+        if isinstance(op, (ast.Eq, ast.NotEq)) and (is_plain(left) or is_plain(right)):
+            return f"({one} {'===' if isinstance(op, ast.Eq) else '!=='} {two})"
         if isinstance(op, (ast.Eq, ast.NotEq)):
             return f"{'' if isinstance(op, ast.Eq) else '!'}py.eq({one}, {two})"
         if isinstance(op, (ast.In, ast.NotIn)):
@@ -549,12 +559,12 @@ class Writer:
             said[-1] = "} catch ($fault) {"
             for place, it in enumerate(node.handlers):
                 said += indented(self.handler(it, "if" if place == 0 else "else if"))
-            said += ["  else throw $fault;", "}"]
+            said += [" else throw $fault;", "}"]
         return said if not node.finalbody else [*said[:-1], *self.block("} finally", node.finalbody)]
 
     def handler(self, node: ast.ExceptHandler, when: str) -> list[str]:
         kind = self.value(node.type) if node.type else "Error"
-        named = [f"  {node.name} = $fault;"] if node.name else []
+        named = [f" {node.name} = $fault;"] if node.name else []
         return [f"{when} (py.isinstance($fault, {kind})) {{", *named, *self.body(node.body), "}"]
 
     def write_FunctionDef(self, node: ast.FunctionDef) -> list[str]:
@@ -571,9 +581,9 @@ class Writer:
         head = f"{head}({', '.join(self.parameters(node))})"
         self.scopes.pop()
         names = [f"{it}$" if it in RESERVED else it for it in own]
-        starts = [f"  let {', '.join(names)};"] if names else []
-        if "self" in arguments_of(node) and not any(it.startswith("  super(") for it in said):
-            starts.insert(0, "  const self = this;")
+        starts = [f" let {', '.join(names)};"] if names else []
+        if "self" in arguments_of(node) and not any(it.startswith(" super(") for it in said):
+            starts.insert(0, " const self = this;")
         return [f"{head} {{", *starts, *said, "}"]
 
     # Definitions.
@@ -596,8 +606,8 @@ class Writer:
     def record(self, node: ast.ClassDef) -> list[str]:
         names = [it.target.id for it in fields_of(node) if isinstance(it.target, ast.Name)]
         given = [name + (f" = {self.default(it.value)}" if it.value else "") for name, it in zip(names, fields_of(node))]
-        sets = [f"  this.{it} = {it};" for it in names]
-        return [f"static fields = {json.dumps(names)};", f"constructor({', '.join(given)}) {{", "  super();", *sets, "}"]
+        sets = [f" this.{it} = {it};" for it in names]
+        return [f"static fields = {json.dumps(names)};", f"constructor({', '.join(given)}) {{", " super();", *sets, "}"]
 
     def default(self, node: ast.expr) -> str:
         """Returns the value of a field that isn't given."""
@@ -662,9 +672,9 @@ def made() -> str:
     writer = Writer(program)
     said = writer.all()
     hand = [f"import {{ {', '.join(sorted(names))} }} from '{path}';" for path, names in sorted(writer.by_hand.items())]
-    parts = [f"  {in_camel(name)}: {writer.global_name(module, name)}," for module, names in PARTS.items() for name in names]
+    parts = [f" {in_camel(name)}: {writer.global_name(module, name)}," for module, names in PARTS.items() for name in names]
     head = ["// @ts-nocheck", "// Made by web/from_python.py.", "import { py } from '../python.js';", *hand]
-    return "\n".join([*head, "", *said, "", "/** @type {any} */", "export const companions = {", *parts, "  dict: py.dict,", "  encoded: text => py.encode(text, 'utf-8'),", "};", ""])
+    return "\n".join([*head, "", *said, "", "/** @type {any} */", "export const companions = {", *parts, " dict: py.dict,", " encoded: text => py.encode(text, 'utf-8'),", "};", ""])
 
 
 def write() -> None:

@@ -19,7 +19,8 @@ function isOfPopeye(text) {
   const words = wordsOf(text).filter(token => token.end === undefined);
   const [first] = words;
   if (!first || !companions.begins(first.word)) return false;
-  return first.command !== 'beginproblem' || words.some(({ word, command }) => !command && companions.unread(word) !== null)
+  const others = new Set(words.filter(it => !it.command).map(it => it.word));
+  return first.command !== 'beginproblem' || [...others].some(word => companions.unread(word) !== null)
     || words.some(({ word }, index) => /^[1-9][0-9]*\.[0-9.]*$/.test(word) && /[#=]/.test(words[index - 1]?.word ?? ''));
 }
 
@@ -64,5 +65,7 @@ function draftsOf(text) {
 export function imported(given) {
   const text = given.replace(/^\ufeff/, '');
   const drafts = draftsOf(text);
-  return drafts && { ...posedText(drafts), asksForTries: TRIES_OPTIONS.some(it => wordsOf(text).some(({ word }) => optionOf(word) === it)) };
+  if (!drafts) return null;
+  const words = new Set(wordsOf(text).map(it => it.word));
+  return { ...posedText(drafts), asksForTries: [...words].some(word => TRIES_OPTIONS.includes(optionOf(word))) };
 }

@@ -6,7 +6,7 @@ import { makeDocument } from '../helpers/page_imports.mjs';
 
 makeDocument();
 const { attackers } = await import('../../web/attacks.js');
-const { explanationOf, faultsOf, markedLines, mendedProblem, shown } = await import('../../web/explaining.js');
+const { explain, explanationOf, faultsOf, markedLines, mendedProblem, shown } = await import('../../web/explaining.js');
 const { DATA, sentence } = await import('../../web/explanations.js');
 const { ownAdvice } = await import('../../web/faults.js');
 const { companions } = await import('../../web/out/companions.js');
@@ -55,6 +55,15 @@ test('explaining: the first fault of a problem, what it is and where', () => {
   const { marks } = explanationOf(text, read);
   assert.deepEqual([line, fault, marks.map(({ from, to }) => text.slice(from, to))], [3, 2, ['Tb1']]);
   assert.equal(explanationOf('B\0e\0g\0', faultsOf('B\0e\0g\0')[0].read).text, sentence('utf_16'));
+});
+
+test('explaining: a later problem with the word before it; a fault far down is not explained', () => {
+  const text = posed('Pieces White Kg6 Ra1 Black Kg8', 'Stipulation #1', 'Next Problem', 'Ä');
+  const { text: said, marks } = explain(text, { number: 2, fault: { line: 4, number: 2 } });
+  assert.deepEqual([said, marks.map(({ from, to }) => text.slice(from, to))], ['`NextProblem` is one word, without a blank.', ['Next', 'Problem']]);
+  const long = posed(...Array(20000).fill('Remark a'), 'x');
+  assert.equal(explain(long, { number: 1, fault: { line: 20002, number: 2 } }), null);
+  assert.equal(explain(posed('x'), { number: 1, fault: { line: 2, number: 2 } }).marks[0].from, 'BeginProblem\n'.length);
 });
 
 test('explaining: marked lines, and what does not show', () => {
