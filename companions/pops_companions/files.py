@@ -1,7 +1,6 @@
 """Files that get their names once all of them is written."""
 
 import os
-import secrets
 import stat
 from collections.abc import Iterator
 from contextlib import contextmanager, suppress
@@ -50,7 +49,7 @@ def written_whole(
         return
     real = real_of(path, links)
     before = _kept(real)
-    name = unfinished or f"{real}.{secrets.token_hex(6)}"
+    name = unfinished or f"{real}.{os.urandom(6).hex()}"
     if unfinished is not None:
         remove(unfinished)
     try:

@@ -1,6 +1,5 @@
 """Where the companions are: their folder, their version, the other commands."""
 
-import importlib.metadata
 import shutil
 import sys
 from pathlib import Path
@@ -17,7 +16,12 @@ _DISTRIBUTION = "pops"
 
 def number() -> str:
     """Returns the number of this version, as `1.6.0`."""
-    return NUMBER or importlib.metadata.version(_DISTRIBUTION)
+    if NUMBER:
+        return NUMBER
+    # (loaded only where pip installed the package: it takes longer than a small run)
+    import importlib.metadata
+
+    return importlib.metadata.version(_DISTRIBUTION)
 
 
 def version() -> str:
@@ -38,6 +42,8 @@ def command(name: str) -> str:
 
 def program(name: str) -> Optional[str]:
     """Returns the path of a program that pip installed with this package, if it did."""
+    import importlib.metadata
+
     try:
         files = importlib.metadata.files(_DISTRIBUTION) or []
     except importlib.metadata.PackageNotFoundError:

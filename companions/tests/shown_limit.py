@@ -7,9 +7,11 @@ from pathlib import Path
 from typing import Optional
 from unittest import mock
 
+from pops_companions.many.bundle_run import BundleRun
 from pops_companions.many.child_process import ChildProcess
 
 _SECONDS_BETWEEN_LOOKS = 0.05
+_MILLISECONDS = 50
 
 
 def shown(room: Path) -> str:
@@ -40,5 +42,10 @@ def limit_when_shown(room: Path) -> Iterator[None]:
                     mark.unlink()
                     raise
 
+    def is_out_of_time(run: BundleRun, now: float) -> bool:
+        return (room / f"shown-{run._child.run.pid}").exists()
+
     with mock.patch.object(ChildProcess, "_ended", ended):
-        yield
+        with mock.patch.object(BundleRun, "_is_out_of_time", is_out_of_time):
+            with mock.patch.object(BundleRun, "_milliseconds", lambda run: _MILLISECONDS):
+                yield

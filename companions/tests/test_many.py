@@ -9,8 +9,10 @@ import sys
 import tempfile
 import unittest
 from pathlib import Path
+from unittest import mock
 
 from pops_companions.input.pieces import Rest, cut, rest_of
+from pops_companions.many.cutting import cut_quickly
 from pops_companions.many.progress import Progress, duration
 from tests import made_inputs, support
 from tests.six_problems import SIX, SixProblems
@@ -84,6 +86,24 @@ class Cutting(unittest.TestCase):
             with self.subTest(word):
                 self.assertEqual(len(self.blocks(b"Beg " + word + b" Nex End\nNex End")), 2)
                 self.assertEqual(len(self.blocks(b"Beg " + word + b" Nex x\nNex End")), 3)
+
+    def test_the_quick_way_finds_the_same(self) -> None:
+        """Also where few lines are looked through at a time."""
+        chance = random.Random(11)
+        words = [b"Nex", b"nextproblem", b"NEXTP", b"End", b"endproblem", b"EndProblems", b"Tit", b"Remark"]
+        words += [b"Author", b"Origin x", b"xNext", b"Next,", b"\xa0Next", b"Ne", b"En", b"legend", b"a"]
+        gaps = [b" ", b"\n", b"\n", b"\r\n", b"\t", b"\x0b", b"\x0c", b"\xa0", b"\x00", b"", b"\x1c"]
+        for lines_at_once in (1, 7, 1 << 18):
+            with mock.patch("pops_companions.many.cutting._LINES_AT_ONCE", lines_at_once):
+                for number in range(3000):
+                    text = b"".join(
+                        chance.choice(words) + chance.choice(gaps) for _ in range(chance.randrange(15))
+                    )
+                    if number % 2:
+                        text = re.sub(b"(?i)end", b"foo", text)
+                    self.assertEqual(cut_quickly(text), cut(text), text)
+                    made = made_inputs.made_input(chance)
+                    self.assertEqual(cut_quickly(made), cut(made), made)
 
     def test_a_problem_alone_keeps_its_lines(self) -> None:
         text = b"BeginProblem\na\n\nNextProblem b\nc\nNextProblem d"

@@ -1,13 +1,18 @@
 """pops-many on one problem alone: it is cut into parts unasked, and says how far it is."""
 
 import io
+import re
 import tempfile
 import time
 import unittest
+from collections.abc import Callable
 from pathlib import Path
 from unittest import mock
 
-from pops_companions.many.progress import Progress
+from pops_companions.many.parts import Part, Phase
+from pops_companions.many.progress import HowFar, Progress
+from pops_companions.many.split_problem import Cutting, SplitProblem
+from pops_companions.many.tasks import Source, tasks_of
 from tests import run_here, support
 
 # Some tenths of a second for pops.
@@ -24,18 +29,31 @@ class Alone(unittest.TestCase):
 
     def lines(self, *words: str) -> tuple[support.Outcome, list[str]]:
         """What pops-many writes of the problem, and what it would show on a terminal."""
-        with mock.patch("pops_companions.many.progress.Progress._tell") as told:
-            with mock.patch("pops_companions.many.progress.sys.stderr.isatty", lambda: True):
-                outcome = run_here.companion("pops-many", *words, str(self.input))
-        return outcome, [call.args[0](2.0) for call in told.call_args_list]
+        told: list[str] = []
+
+        def tell(progress: Progress, line: Callable[[float], str], is_last: bool) -> None:
+            told.append(line(2.0))
+
+        with mock.patch.object(Progress, "_tell", tell):
+            outcome = run_here.companion("pops-many", *words, str(self.input))
+        return outcome, told
 
     def test_one_problem_is_cut_into_parts(self) -> None:
         outcome, told = self.lines("--jobs", "2")
         wanted = support.run([support.pops(), str(self.input)])
         self.assertEqual((outcome.status, outcome.output), (wanted.status, wanted.output))
-        parts = [line for line in told if " parts, " in line]
-        self.assertTrue(parts, told)
-        self.assertRegex(parts[0], r"problem 1 \(.*line 1\): 0 of \d+ parts, 0 solutions, 0:02 so far")
+        moves = [line for line in told if " first moves, " in line]
+        self.assertTrue(moves, told)
+        first = r"problem 1 \(.*line 1\): about 0 of (\d+) first moves, 0 solutions, 0:02 so far"
+        self.assertRegex(moves[0], first)
+        found = re.search(first, moves[0])
+        assert found is not None
+        # The first moves are those by which the problem is cut once.
+        part = str(Path(support.pops()).with_name("pops-part"))
+        if Path(part).exists():
+            listed = support.run([part, "--list", str(self.input)]).output
+            self.assertEqual(listed, b"1: play %d\n" % int(found[1]))
+        self.assertIn(f"about {found[1]} of {found[1]} first moves", moves[-1])
 
     def test_not_with_a_limit_nor_among_others(self) -> None:
         both = LONG.replace(b"EndProblem", b"NextProblem") + LONG.partition(b"\n")[2]
@@ -47,7 +65,7 @@ class Alone(unittest.TestCase):
             self.input.write_bytes(text)
             outcome, told = self.lines(*words)
             self.assertEqual(outcome.status, 0, outcome.error)
-            self.assertEqual([line for line in told if " parts, " in line], [])
+            self.assertEqual([line for line in told if " first moves" in line], [])
 
     def test_a_pops_of_another_build_is_left_alone(self) -> None:
         """The program of parts that it would take isn't of that build."""
@@ -56,7 +74,7 @@ class Alone(unittest.TestCase):
         other.chmod(0o755)
         outcome, told = self.lines("--pops", str(other))
         self.assertEqual(outcome.status, 0)
-        self.assertEqual([line for line in told if " parts, " in line], [])
+        self.assertEqual([line for line in told if " first moves" in line], [])
 
 
 class Heartbeat(unittest.TestCase):
@@ -66,25 +84,52 @@ class Heartbeat(unittest.TestCase):
             progress.is_shown = True
             progress.begin(0, 1)
             progress.begin_parts(31)
-            progress.part("problem 1", (0, 31), 0, 31)
+            progress.part("problem 1", lambda: HowFar(0, 31, True, 0, 31))
             with progress.beating():
                 time.sleep(2.7)
-            progress.part("problem 1", (1, 31), 0, 30)
+            progress.part("problem 1", lambda: HowFar(1, 31, True, 0, 30))
             with progress.beating():
                 time.sleep(1.7)
         told = [line.strip() for line in shown.getvalue().split("\r") if line]
-        self.assertEqual(told[0], "pops-many: problem 1: 0 of 31 parts, 0 solutions")
-        self.assertIn("pops-many: problem 1: 0 of 31 parts, 0 solutions, 0:02 so far", told)
-        self.assertRegex(told[-1], r"1 of 31 parts, 0 solutions, about \d:\d\d left$")
+        self.assertEqual(told[0], "pops-many: problem 1: 0 of 31 first moves, 0 solutions")
+        self.assertIn("pops-many: problem 1: 0 of 31 first moves, 0 solutions, 0:02 so far", told)
+        self.assertRegex(told[-1], r": 1 of 31 first moves, 0 solutions, about \d:\d\d left$")
         self.assertGreaterEqual(len(told), 5)
 
-    def test_without_a_terminal_it_is_still(self) -> None:
+    def said_elsewhere(self, seconds: float) -> str:
+        """What is said in 0.7 seconds of a problem in parts where a line comes every `seconds`."""
         with mock.patch("sys.stderr", io.StringIO()) as shown:
-            progress = Progress("pops-many")
-            progress.begin(0, 1)
-            with progress.beating():
-                time.sleep(0.7)
-        self.assertEqual(shown.getvalue(), "")
+            with mock.patch("pops_companions.many.progress.SECONDS_ELSEWHERE", seconds):
+                progress = Progress("pops-many")
+                progress.begin(0, 1)
+                with progress.beating():
+                    time.sleep(0.7)
+                progress.begin_parts(31)
+                progress.part("problem 1", lambda: HowFar(3, 31, True, 1, 28))
+                with progress.beating():
+                    time.sleep(0.7)
+        return shown.getvalue()
+
+    def test_without_a_terminal_it_comes_seldom_in_lines(self) -> None:
+        """Many problems have none, a short problem neither."""
+        self.assertEqual(self.said_elsewhere(30), "")
+        line = r"pops-many: problem 1: 3 of 31 first moves, 1 solution, about 0:\d\d left\n"
+        self.assertRegex(self.said_elsewhere(0.1), f"^({line})+$")
+
+    def test_first_moves_of_deeper_parts(self) -> None:
+        """As many of the first moves as of the parts; with a limit up to the last that matters."""
+        phases = [Phase("set", 100), Phase("play", 400)]
+        cut = Cutting(phases, [Phase("set", 10), Phase("play", 20)], 2)
+        task = tasks_of([Source(None, b"")])[0]
+        problem = SplitProblem(task, b"", cut, 2)
+        self.assertFalse(problem.is_by_first_moves)
+        self.assertEqual(problem.first_moves, (0, 30))
+        for number in range(1, 40):
+            problem.keep(Part(task, "play", number, 2), b"solutions: 0\n")
+        self.assertEqual(problem.first_moves, (1, 30))
+        problem.keep(Part(task, "play", 100, 2), b"1.a\n1.b\nsolutions: 2, stopped\n")
+        self.assertEqual(problem.first_moves, (2, 15))
+        self.assertTrue(SplitProblem(task, b"", Cutting(phases, phases, 2), None).is_by_first_moves)
 
 
 if __name__ == "__main__":

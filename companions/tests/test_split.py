@@ -10,6 +10,7 @@ from pathlib import Path
 from typing import Any, Optional
 from unittest import mock
 
+from pops_companions.many import part_program
 from pops_companions.many.batches import Batch, Batches, numbers_of
 from pops_companions.many.part_program import PartProgram
 from pops_companions.many.parts import (
@@ -25,8 +26,8 @@ from pops_companions.many.parts import (
 )
 from pops_companions.many.child_process import Outcome
 from pops_companions.many.program import PAUSE, Program
-from pops_companions.many.progress import Progress
-from pops_companions.many.split_problem import Reader, SplitProblem
+from pops_companions.many.progress import HowFar, Progress
+from pops_companions.many.split_problem import Cutting, Reader, SplitProblem
 from pops_companions.many.tasks import UNFINISHED, Source, Task, tasks_of
 from tests import made_inputs, parts_told, problems_in_parts, support
 
@@ -71,7 +72,7 @@ def split(path: Path, *words: str) -> tuple[int, bytes]:
         ["--pops", support.pops(), "--pops-part", NAMED, "--split", "--jobs", "2", *words]
         + [str(path)]
     )
-    with mock.patch.multiple(MANY, Program=Slow, PartProgram=Told):
+    with mock.patch.object(MANY, "Program", Slow), mock.patch.object(part_program, "PartProgram", Told):
         status = MANY.solve(settings, target)
     return status, target.getvalue()
 
@@ -255,13 +256,12 @@ class Texts(unittest.TestCase):
         progress.begin_parts(40)
         name = "problem 14 (x.pop, line 3)"
         self.assertEqual(
-            progress.line_of_parts(name, (0, 31), 1, 5),
-            f"pops-many: {name}: 0 of 31 parts, 1 solution, 0:05 so far",
+            progress.line_of_parts(name, HowFar(0, 31, True, 1, 40), 5),
+            f"pops-many: {name}: 0 of 31 first moves, 1 solution, 0:05 so far",
         )
-        progress.part(name, (10, 31), 3, 30)
         self.assertEqual(
-            progress.line_of_parts(name, (10, 31), 3, 20),
-            f"pops-many: {name}: 10 of 31 parts, 3 solutions, about 1:00 left",
+            progress.line_of_parts(name, HowFar(10, 31, False, 3, 30), 20),
+            f"pops-many: {name}: about 10 of 31 first moves, 3 solutions, about 1:00 left",
         )
 
 
@@ -384,7 +384,8 @@ class Problems(unittest.TestCase):
 
     def problem(self, limit: Optional[int]) -> SplitProblem:
         self.task: Task = tasks_of([Source(None, b"")])[0]
-        return SplitProblem(self.task, b"", [Phase("set", 2), Phase("play", 8)], limit, 1)
+        phases = [Phase("set", 2), Phase("play", 8)]
+        return SplitProblem(self.task, b"", Cutting(phases, phases, 1), limit)
 
     def part(self, number: int, phase: str = "play") -> Part:
         return Part(self.task, phase, number, 1)

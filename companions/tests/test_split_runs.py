@@ -252,10 +252,10 @@ class Ends(SplitRoom):
         for columns, name in ((0, shown), (400, shown), (60, "problem 1")):
             with self.subTest(columns):
                 said = self.on_terminal(columns)
-                self.assertRegex(said, rf"\rpops-many: {name}: 0 of 26 parts, 0 solutions")
+                self.assertRegex(said, rf"\rpops-many: {name}: 0 of 26 first moves, 0 solutions")
                 self.assertRegex(
                     said,
-                    rf"\rpops-many: {name}: \d+ of 26 parts, \d+ solutions?, about \d+:\d\d left",
+                    rf"\rpops-many: {name}: \d+ of 26 first moves, \d+ solutions?, about \d+:\d\d left",
                 )
                 self.assertTrue(said.rstrip().endswith("\rpops-many: 1 of 1 problems"), said)
                 self.forget()

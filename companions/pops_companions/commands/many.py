@@ -2,11 +2,10 @@
 
 import os
 import sys
-import tempfile
 from collections.abc import Sequence
-from dataclasses import dataclass
+from contextlib import ExitStack
 from pathlib import Path
-from typing import BinaryIO, NoReturn, Optional
+from typing import BinaryIO, NamedTuple, NoReturn, Optional
 
 from pops_companions import command
 from pops_companions.command import CommandError, Status
@@ -22,12 +21,8 @@ from pops_companions.files import Links
 from pops_companions.input.pieces import rest_after
 from pops_companions.many.joining import Joined, Report, path_of_report, write_index
 from pops_companions.many.journal import Journal, JournalError, fingerprint
-from pops_companions.many.machines import Machines, MachinesError
-from pops_companions.many.parallel import Parallel, ParallelError
-from pops_companions.many.part_program import PartProgram
 from pops_companions.many.program import MissingError, Program, find, find_part_program
 from pops_companions.many.progress import Progress
-from pops_companions.many.remote_parts import RemoteParts
 from pops_companions.many.running import Elsewhere, PartPrograms, Programs, Run
 from pops_companions.many.targets import Target
 from pops_companions.many.tasks import Source, Task, tasks_of
@@ -110,6 +105,8 @@ def open_journal(
     """Returns the run's journal; that of a run that stopped isn't overwritten."""
     try:
         if path is None:
+            import tempfile
+
             handle, path = tempfile.mkstemp(prefix=f"{NAME}-", suffix=".journal")
             os.close(handle)
         return Journal(path, run, settings.resume, settings.seconds)
@@ -168,6 +165,8 @@ def programs_of(settings: Settings, options: list[str]) -> Programs:
         pops = find(settings.pops)
         if not settings.split:
             return Programs(Program(pops, options, settings.seconds), None)
+        from pops_companions.many.part_program import PartProgram
+
         part_program = PartProgram(find_part_program(settings.pops_part, pops), depth_of(settings))
     except MissingError as error:
         raise CommandError(Status.DEVICE, str(error)) from None
@@ -185,22 +184,29 @@ def elsewhere_of(
     """Returns the programs on other machines, where any are asked for."""
     if not settings.sshlogin:
         return None
+    # (what small runs don't need is loaded only where it is needed)
+    from pops_companions.many.machines import Machines, MachinesError
+    from pops_companions.many.parallel import Parallel, ParallelError
+    from pops_companions.many.remote_parts import RemoteParts
+
     say, pops_part = progress.say, settings.remote_pops_part or "pops-part"
-    try:
-        parallel = Parallel(settings.jobs, settings.ssh)
-        machines = Machines(
-            settings.sshlogin, parallel, settings.remote_pops, options, programs.whole, say
-        )
-        if programs.parts is None:
-            return Elsewhere(machines, None)
-        there = RemoteParts(machines, parallel, pops_part, programs.parts.parts, say)
-    except (MachinesError, ParallelError) as error:
-        raise CommandError(Status.DEVICE, str(error)) from None
-    return Elsewhere(machines, there)
+    with ExitStack() as opened:
+        try:
+            parallel = Parallel(settings.jobs, settings.ssh)
+            opened.callback(parallel.close)
+            machines = Machines(
+                settings.sshlogin, parallel, settings.remote_pops, options, programs.whole, say
+            )
+            there = None
+            if programs.parts is not None:
+                there = RemoteParts(machines, parallel, pops_part, programs.parts.parts, say)
+        except (MachinesError, ParallelError) as error:
+            raise CommandError(Status.DEVICE, str(error)) from None
+        opened.pop_all()
+        return Elsewhere(machines, there)
 
 
-@dataclass(frozen=True)
-class Files:
+class Files(NamedTuple):
     """What a run writes besides its journal."""
 
     reports: list[Report]
@@ -240,6 +246,20 @@ class Solving:
         beside = [journal_path, *[journal_path + UNFINISHED] * settings.split] if journal_path else []
         refuse_shared(settings.files, [file.path for file in files.targets] + beside)
         elsewhere = elsewhere_of(settings, self._options, self._programs, self._progress)
+        try:
+            return self._solve(files, journal_path, output, elsewhere)
+        finally:
+            if elsewhere is not None:
+                elsewhere.machines.close()
+
+    def _solve(
+        self,
+        files: Files,
+        journal_path: Optional[str],
+        output: BinaryIO,
+        elsewhere: Optional[Elsewhere],
+    ) -> int:
+        settings = self._settings
         journal = open_journal(journal_path, settings, self._name)
         try:
             try_out(files.targets)
@@ -250,7 +270,7 @@ class Solving:
         if settings.split:
             second = Target(journal.path + UNFINISHED, self._name, Links.REPLACED)
             reports = [it._replace(unfinished=it.unfinished or second) for it in reports]
-        return self._go(journal, Joined(journal, reports, output), index, elsewhere)
+        return self._go(journal, Joined(journal, reports, output), files.index, elsewhere)
 
     def _go(
         self, journal: Journal, joined: Joined, index: Optional[Target], where: Optional[Elsewhere]
@@ -277,7 +297,7 @@ class Solving:
         except OSError as fault:
             self._progress.say(f"cannot write: {fault.strerror}")
         self._progress.end()
-        if complete and self._done(journal) == len(self._tasks):
+        if complete and journal.finished == len(self._tasks):
             worst = max(journal.statuses())
             journal.close(kept=False)
             return worst
@@ -285,9 +305,6 @@ class Solving:
             self._say_unfinished(joined, kept_in)
         journal.close(kept=True)
         raise error(Status.UNFINISHED, self._what_is_kept(journal, complete))
-
-    def _done(self, journal: Journal) -> int:
-        return sum(journal.is_finished(task.place) for task in self._tasks)
 
     def _say_unfinished(self, joined: Joined, kept_in: Sequence[str]) -> None:
         """Says how many problems are unfinished, and in which files their solutions are."""
@@ -303,7 +320,7 @@ class Solving:
         """Returns how much is done, and how to go on."""
         more = ", and more --seconds or none" if complete else ""
         return (
-            f"{self._done(journal)} of {len(self._tasks)} problems are done and kept in"
+            f"{journal.finished} of {len(self._tasks)} problems are done and kept in"
             f" {journal.path}: go on with --resume --journal {journal.path}{more}"
         )
 

@@ -1,75 +1,59 @@
-"""Bundles: neighbouring small problems of an input that one run of pops solves.
+"""Bundles: neighbouring problems of an input that one run of pops solves.
 
-A problem whose stipulation is long is no bundle's. A bundle that takes longer than a moment is
-stopped: what it has solved is kept, the problem at work is solved alone, the rest is a bundle again.
+A bundle has about a tenth of a second's work, by the time that the ones before it took. Where its
+run takes much longer, the problem at work stays with it, and those after it are a bundle again.
 """
 
-import re
-from collections.abc import Iterator, Sequence
+import threading
+from collections import deque
+from collections.abc import Sequence
 from typing import NamedTuple, Optional
 
-from pops_companions.input.words import short_forms
 from pops_companions.many.tasks import Task
 from pops_companions.report import lines
 
-# The most problems of a bundle, the fewest bundles of each processor, and the seconds of a bundle.
-_MOST = 50
+# The seconds of work of a bundle, at most and at least; after MOMENT it gives the rest back.
+_SECONDS = 0.1
+_LEAST_SECONDS = 0.01
+MOMENT = 0.5
+# The problems of the first bundles, and how many bundles of each processor there are at least.
+_FIRST = 16
 _BUNDLES_OF_A_JOB = 4
-SECONDS = 1.0
+# How much a bundle may differ in size from the one before it, and how much its time counts.
+_MOST_GROWTH = 8.0
+_WEIGHT = 0.4
 # The most bytes of a bundle.
-_LONGEST = 1 << 20
-_STIPULATION = re.compile(
-    rb"(?<!\S)(?:" + short_forms("Stipulation") + rb")\s+(?P<play>[sh]?)[#=](?P<moves>[0-9]{1,3})(?P<half>\.5)?(?!\S)",
-    re.IGNORECASE,
-)
-# The most half-moves of a small problem, by who helps whom.
-_MOST_HALF_MOVES = {b"": 5, b"s": 4, b"h": 5}
+_LONGEST = 60_000
+_HEAD = b"problem "
+_BETWEEN = lines.ITEM_END + _HEAD
 
 
-class Whole(NamedTuple):
-    """A problem of a bundle that was solved: its status, and its report with the number 1."""
+class Items(NamedTuple):
+    """The whole problems at the beginning of a bundle's report, as one report.
 
+    They are numbered as in their input, and faults have its lines.
+    """
+
+    count: int
     status: int
     report: bytes
 
 
-def is_small(task: Task) -> bool:
-    """Returns whether a problem may take a moment only; one that hasn't a stipulation is faulty."""
-    piece, text = task.piece, task.source.text
-    if piece is None or text is None or not piece.closed:
+def neighbours(tasks: Sequence[Task]) -> list[list[Task]]:
+    """Returns the tasks in runs of problems that follow each other in an input and are closed."""
+    runs: list[list[Task]] = []
+    begin = 0
+    for place in range(1, len(tasks) + 1):
+        if place == len(tasks) or not _follows(tasks[place - 1], tasks[place]):
+            runs.append(list(tasks[begin:place]))
+            begin = place
+    return runs
+
+
+def _follows(before: Task, task: Task) -> bool:
+    if task.piece is None or not task.piece.closed or task.source is not before.source:
         return False
-    found = _STIPULATION.search(text, piece.start, piece.stop)
-    if found is None:
-        return True
-    play = found["play"].lower()
-    half_moves = 2 * int(found["moves"]) - (play == b"") + bool(found["half"])
-    return half_moves <= _MOST_HALF_MOVES[play]
-
-
-def bundles_of(tasks: Sequence[Task], jobs: int) -> Iterator[list[Task]]:
-    """Yields the tasks in bundles, in their order: long ones alone, small neighbours together."""
-    most = min(max(len(tasks) // (_BUNDLES_OF_A_JOB * jobs), 1), _MOST)
-    bundle: list[Task] = []
-    is_open = False
-    for task in tasks:
-        small = most > 1 and is_small(task)
-        if bundle and not (is_open and small and len(bundle) < most and _fits(bundle, task)):
-            yield bundle
-            bundle = []
-        bundle.append(task)
-        is_open = small
-    if bundle:
-        yield bundle
-
-
-def _fits(bundle: list[Task], task: Task) -> bool:
-    """Returns whether a task follows a bundle in its input, and the text doesn't become too long."""
-    first, last = bundle[0].piece, bundle[-1].piece
-    if bundle[-1].source is not task.source:
-        return False
-    assert first is not None and last is not None and task.piece is not None
-    is_next = task.piece.number == last.number + 1
-    return is_next and task.piece.stop - first.start <= _LONGEST
+    return task.place == before.place + 1
 
 
 def text_of(bundle: Sequence[Task]) -> bytes:
@@ -80,20 +64,112 @@ def text_of(bundle: Sequence[Task]) -> bytes:
     return b"".join([begin, text[first.start : last.stop], b"End"])
 
 
-def wholes_in(report: bytes, number: int) -> list[Optional[Whole]]:
-    """Returns the problems that a report of `number` problems has whole, in their order.
-
-    None stands for a faulty one, whose line is that in another text. Only the first problems of a
-    report that was cut are whole; a text that is no report has none.
+def items_in(report: bytes, bundle: Sequence[Task], may_go_on: bool = False) -> Optional[Items]:
+    """Returns the whole problems that a report of a bundle begins with; None where it is no report of
+    it. It may go on with problems that are no longer the bundle's.
     """
-    items = report.split(b"\n\n")[:-1]
-    found: list[Optional[Whole]] = []
-    for place, item in enumerate(items[:number], start=1):
-        head = lines.problem_line(place)
-        if not item.startswith(head):
-            return []
-        body = item[len(head) :]
-        is_faulty = lines.FAULT.fullmatch(body.partition(b"\n")[0]) is not None
-        whole = Whole(0, b"".join([lines.problem_line(1), body, b"\n\n"]))
-        found.append(None if is_faulty else whole)
-    return found if len(items) <= number else []
+    stop = report.rfind(lines.ITEM_END)
+    if stop < 0:
+        return Items(0, 0, b"") if _HEAD.startswith(report[: len(_HEAD)]) else None
+    bodies = report[:stop].split(_BETWEEN)
+    if may_go_on:
+        del bodies[len(bundle) :]
+    if not bodies[0].startswith(_HEAD) or len(bodies) > len(bundle):
+        return None
+    bodies[0] = bodies[0][len(_HEAD) :]
+    first = bundle[0].piece
+    assert first is not None
+    is_faulty = False
+    for place, body in enumerate(bodies):
+        number, _, rest = body.partition(b"\n")
+        if number != b"%d" % (place + 1):
+            return None
+        if rest.startswith(b"line ") and (fault := lines.FAULT.match(rest)) is not None:
+            is_faulty = True
+            rest = b"line %d%s" % (int(fault[1]) + first.line_ends, rest[fault.end(1) :])
+        bodies[place] = b"%d\n%s" % (first.number + place, rest)
+    whole = b"".join([_HEAD, _BETWEEN.join(bodies), lines.ITEM_END])
+    return Items(len(bodies), int(is_faulty), whole)
+
+
+class Bundles:
+    """Hands out tasks in bundles, to several threads; sizes follow from the time that bundles take."""
+
+    def __init__(self, tasks: Sequence[Task], jobs: int):
+        self._jobs = jobs
+        self._most = len(tasks) // (_BUNDLES_OF_A_JOB * jobs)
+        runs = neighbours(tasks) if self._most > 1 else [[task] for task in tasks]
+        self._waiting = deque(runs)
+        self._left = len(tasks)
+        self._at_work = 0
+        self._seconds_each: Optional[float] = None
+        self._size = float(_FIRST)
+        self._is_closed = False
+        self._changed = threading.Condition()
+
+    def next(self) -> Optional[Sequence[Task]]:
+        """Returns the next bundle, once there is one; None where all problems are done."""
+        with self._changed:
+            while not self._waiting and self._at_work and not self._is_closed:
+                self._changed.wait()
+            if not self._waiting or self._is_closed:
+                return None
+            run = self._waiting.popleft()
+            size = self._size_in(run)
+            if size < len(run):
+                self._waiting.appendleft(run[size:])
+            self._at_work += 1
+            self._left -= size
+            return run[:size]
+
+    def _size_in(self, run: Sequence[Task]) -> int:
+        """Returns how many problems of a run are the next bundle."""
+        most = min(len(run), self._most, max(self._left // (2 * self._jobs), self._least))
+        size = max(min(int(self._size), most), 1)
+        first = run[0].piece
+        while size > 1:
+            last = run[size - 1].piece
+            assert first is not None and last is not None
+            if last.stop - first.start <= _LONGEST:
+                break
+            size //= 2
+        return size
+
+    @property
+    def _least(self) -> int:
+        """The fewest problems for which a process is worth its while."""
+        return int(_LEAST_SECONDS / self._seconds_each) if self._seconds_each else 1
+
+    def note(self, count: int, seconds: float) -> None:
+        """Notes how long some problems of a bundle took."""
+        with self._changed:
+            each = max(seconds / max(count, 1), 1e-6)
+            before = self._seconds_each or each
+            self._seconds_each = before ** (1 - _WEIGHT) * each**_WEIGHT
+            wanted = _SECONDS / self._seconds_each
+            self._size = max(min(wanted, self._size * _MOST_GROWTH), self._size / _MOST_GROWTH, 1)
+
+    def give_back(self, tasks: Sequence[Task]) -> None:
+        """Takes back the problems of a bundle that its run doesn't solve."""
+        if tasks:
+            with self._changed:
+                self._waiting.appendleft(list(tasks))
+                self._left += len(tasks)
+                self._changed.notify_all()
+
+    def give_back_apart(self, tasks: Sequence[Task]) -> None:
+        """Takes back problems that are no bundle again."""
+        for task in reversed(tasks):
+            self.give_back([task])
+
+    def end(self) -> None:
+        """Notes that a bundle is done, but for what was given back."""
+        with self._changed:
+            self._at_work -= 1
+            self._changed.notify_all()
+
+    def close(self) -> None:
+        """Hands out nothing more."""
+        with self._changed:
+            self._is_closed = True
+            self._changed.notify_all()

@@ -4,7 +4,7 @@ import os
 from collections.abc import Callable, Sequence
 from typing import BinaryIO, NamedTuple, Optional
 
-from pops_companions.many.journal import Journal
+from pops_companions.many.journal import Journal, Kept
 from pops_companions.many.targets import Target
 from pops_companions.many.tasks import Task
 from pops_companions.report import lines
@@ -50,14 +50,14 @@ class Joined:
 
     def begin(self) -> None:
         """Writes what is due before the first run."""
-        for place in self._report_of:
+        for place in self._report_of if self._journal.kept else ():
             if self._journal.is_settled(place):
                 self.settle(place)
 
-    def settle(self, place: int) -> None:
-        """Writes what is due now that this task is done or stopped."""
+    def settle(self, place: int, tasks: int = 1) -> None:
+        """Writes what is due now that some tasks of a report are done or stopped."""
         report = self._report_of[place]
-        self._unsettled[id(report)] -= 1
+        self._unsettled[id(report)] -= tasks
         if report.file is None:
             self._stream(report)
         if self._unsettled[id(report)] == 0:
@@ -71,17 +71,22 @@ class Joined:
             place = report.tasks[self._streamed].place
             if not self._journal.is_settled(place):
                 break
-            if self._journal.is_finished(place):
-                self._output.write(self._journal.report(place))
-            self._streamed += 1
+            self._streamed += self._copy(place, self._output)
         if self._streamed > before:
             self._output.flush()
 
+    def _copy(self, place: int, output: BinaryIO) -> int:
+        """Writes the record that begins with a task; returns how many tasks it has."""
+        if not self._journal.is_finished(place):
+            return 1
+        output.write(self._journal.report(place))
+        return self._journal.kept[place].tasks
+
     def _write(self, report: Report, target: Target) -> None:
+        done = 0
         with target.opened() as file:
-            for task in report.tasks:
-                if self._journal.is_finished(task.place):
-                    file.write(self._journal.report(task.place))
+            while done < len(report.tasks):
+                done += self._copy(report.tasks[done].place, file)
 
     @property
     def complete(self) -> bool:
@@ -123,14 +128,33 @@ class Joined:
 
 def write_index(target: Target, tasks: Sequence[Task], journal: Journal) -> None:
     """Writes a table of the items of a report on all tasks: their places and their sources."""
-    start = 0
+    start = place = 0
     with target.opened() as file:
         file.write(row_of(_COLUMNS).encode("ascii"))
-        for task in tasks:
-            if not journal.is_finished(task.place):
+        while place < len(tasks):
+            if not journal.is_finished(place):
+                place += 1
                 continue
-            kept = journal.kept[task.place]
-            number, line = ("", "") if task.piece is None else (task.piece.number, task.piece.line)
-            row = (start, kept.length, kept.status, number, line, task.source.shown)
-            file.write(os.fsencode(row_of(row)))
-            start += kept.length
+            kept = journal.kept[place]
+            for item in _items_of(journal.report(place), kept):
+                task = tasks[place]
+                piece = task.piece
+                number, line = ("", "") if piece is None else (piece.number, piece.line)
+                row = (start, len(item), _status_of(item, kept), number, line, task.source.shown)
+                file.write(os.fsencode(row_of(row)))
+                start += len(item)
+                place += 1
+
+
+def _items_of(report: bytes, kept: Kept) -> list[bytes]:
+    """Returns the reports of the tasks of a record."""
+    if kept.tasks == 1:
+        return [report]
+    return [item + lines.ITEM_END for item in report.split(lines.ITEM_END)[:-1]]
+
+
+def _status_of(item: bytes, kept: Kept) -> int:
+    """Returns the exit status of a task of a record, which has the greatest of all its tasks."""
+    if kept.tasks == 1:
+        return kept.status
+    return int(lines.FAULT.match(item, item.index(b"\n") + 1) is not None)

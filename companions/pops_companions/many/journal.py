@@ -2,8 +2,9 @@
 
 Its first line is a fingerprint of the run's inputs and options. Each report follows a line with its
 task, status, length and checksum, so that a cut report is noticed; an unfinished report's line also
-has the seconds that its run took. Parts of a problem are kept in the same way, each with its phase,
-its number and the number of moves by which the problem was cut.
+has the seconds that its run took. The reports of tasks in turn may be one record. Parts of a problem
+are kept in the same way, each with its phase, its number and the number of moves by which the problem
+was cut.
 """
 
 import fcntl
@@ -19,6 +20,7 @@ from pops_companions.many.tasks import Result, Source
 
 _HEAD = b"pops-many journal 1 "
 _RECORD = re.compile(rb"task (\d+) status (\d+)(?: seconds (\d+\.\d+))? bytes (\d+) sum (\d+)\n")
+_RECORD_OF_SOME = re.compile(rb"tasks (\d+) number (\d+) status (\d+) bytes (\d+) sum (\d+)\n")
 _PART = re.compile(rb"part (\d+) (set|play) (\d+) depth (\d+) bytes (\d+) sum (\d+)\n")
 _LONGEST_HEAD = 200
 # (its name is made of the report's: a link by that name isn't followed)
@@ -30,12 +32,13 @@ class JournalError(Exception):
 
 
 class Kept(NamedTuple):
-    """Where a report is in the journal, and the seconds of an unfinished problem."""
+    """Where a report is in the journal, of how many tasks, and the seconds of an unfinished problem."""
 
     status: int
     seconds: Optional[float]
     start: int
     length: int
+    tasks: int = 1
 
 
 def fingerprint(sources: Sequence[Source], options: Sequence[str]) -> bytes:
@@ -66,7 +69,9 @@ class Journal:
         No other run opens it meanwhile.
         """
         self.path = path
+        # By their first tasks.
         self.kept: dict[int, Kept] = {}
+        self._finished: set[int] = set()
         self.parts: dict[Key, Kept] = {}
         self._seconds = seconds
         self._head = _HEAD + run + b"\n"
@@ -117,8 +122,9 @@ class Journal:
     def _read_record(self) -> bool:
         """Reads a record; False at the end of those that are whole."""
         line = self._file.readline(_LONGEST_HEAD)
-        of_task, of_part = _RECORD.fullmatch(line), _PART.fullmatch(line)
-        found = of_task or of_part
+        of_task, of_some = _RECORD.fullmatch(line), _RECORD_OF_SOME.fullmatch(line)
+        of_part = _PART.fullmatch(line)
+        found = of_task or of_some or of_part
         if found is None:
             return False
         length, checksum = (int(part) for part in found.groups()[-2:])
@@ -128,26 +134,35 @@ class Journal:
             return False
         if of_task:
             seconds = None if of_task[3] is None else float(of_task[3])
-            self.kept[int(of_task[1])] = Kept(int(of_task[2]), seconds, start, length)
+            self._note(int(of_task[1]), Kept(int(of_task[2]), seconds, start, length))
+        elif of_some:
+            place, tasks, status = (int(part) for part in of_some.group(1, 2, 3))
+            self._note(place, Kept(status, None, start, length, tasks))
         elif of_part:
             place, number, depth = (int(part) for part in of_part.group(1, 3, 4))
             key = Key(place, of_part[2].decode("ascii"), number, depth)
             self.parts[key] = Kept(0, None, start, length)
         return True
 
+    def _note(self, place: int, kept: Kept) -> None:
+        """Notes a record; unfinished reports of its tasks no longer count."""
+        self.kept[place] = kept
+        if kept.seconds is None:
+            self._finished.update(range(place, place + kept.tasks))
+            for of_task in range(place + 1, place + kept.tasks):
+                self.kept.pop(of_task, None)
+
     def keep(self, result: Result) -> None:
         """Adds a report; it takes the place of an unfinished one of the same problem."""
-        place, report = result.task.place, result.report
-        seconds = b"" if result.seconds is None else b" seconds %f" % result.seconds
-        head = b"task %d status %d%s bytes %d sum %d\n" % (
-            place,
-            result.status,
-            seconds,
-            len(report),
-            zlib.crc32(report),
-        )
+        place, report, checksum = result.task.place, result.report, zlib.crc32(result.report)
+        if result.tasks > 1:
+            head = b"tasks %d number %d status %d" % (place, result.tasks, result.status)
+        else:
+            seconds = b"" if result.seconds is None else b" seconds %f" % result.seconds
+            head = b"task %d status %d%s" % (place, result.status, seconds)
+        head += b" bytes %d sum %d\n" % (len(report), checksum)
         start = self._add(head, report)
-        self.kept[place] = Kept(result.status, result.seconds, start, len(report))
+        self._note(place, Kept(result.status, result.seconds, start, len(report), result.tasks))
 
     def keep_part(self, part: Part, report: bytes) -> None:
         """Adds the report of a part."""
@@ -172,7 +187,7 @@ class Journal:
         return end - len(report)
 
     def report(self, place: int) -> bytes:
-        """Returns the kept report of a task."""
+        """Returns the kept report of a task, with the tasks that share its record."""
         return self._read(self.kept[place])
 
     def part(self, part: Part) -> bytes:
@@ -186,18 +201,23 @@ class Journal:
             place += len(piece)
         return b"".join(pieces)
 
+    @property
+    def finished(self) -> int:
+        """How many tasks have their whole report kept."""
+        return len(self._finished)
+
     def is_finished(self, place: int) -> bool:
         """Returns whether the whole report of a task is kept."""
-        return place in self.kept and self.kept[place].seconds is None
+        return place in self._finished
 
     def is_settled(self, place: int) -> bool:
         """Returns whether a task needs no run: it is finished, or had as much time as runs have
         now.
         """
-        if place not in self.kept:
-            return False
-        had = self.kept[place].seconds
-        return had is None or (self._seconds is not None and self._seconds <= had)
+        if place in self._finished:
+            return True
+        had = self.kept[place].seconds if place in self.kept else None
+        return had is not None and self._seconds is not None and self._seconds <= had
 
     def has_unfinished(self, place: int) -> bool:
         """Returns whether an unfinished report of a task is kept."""

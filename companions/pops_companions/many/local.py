@@ -1,11 +1,12 @@
 """Runs tasks on the processors of this machine."""
 
+import threading
+import time
 from collections.abc import Callable, Iterable, Sequence
-from concurrent.futures import Future, ThreadPoolExecutor
 from queue import Empty, SimpleQueue
-from typing import Optional, Union
+from typing import NamedTuple, Optional, Union
 
-from pops_companions.many.bundles import bundles_of
+from pops_companions.many.bundles import Bundles
 from pops_companions.many.program import Program, RunError
 from pops_companions.many.tasks import Result, Task
 
@@ -17,8 +18,16 @@ _SECONDS_OF_SILENCE = 0.5
 
 # A task that came to no end, with the reason.
 Failed = tuple[Task, str]
-# What the runs of bundles hand on; at the end of each, itself.
-Came = Union[Result, Failed, "Future[None]"]
+
+
+class _End(NamedTuple):
+    """The end of a thread, and the fault that ended it, if one did."""
+
+    fault: Optional[BaseException]
+
+
+# What the runs hand on.
+Came = Union[Result, Failed, _End]
 
 
 def _solved(program: Program, task: Task) -> Result:
@@ -31,29 +40,62 @@ def _solved(program: Program, task: Task) -> Result:
     raise AssertionError("a task is tried at least once")
 
 
-def _solved_bundle(
-    program: Program, bundle: Sequence[Task], hand_on: Callable[[Union[Result, Failed]], None]
-) -> None:
-    """Hands on what comes of each task of a bundle.
+class _Workers:
+    """Threads that go through bundles, each with one run at a time."""
 
-    What a run of the bundle doesn't solve is solved alone, the problem at work first.
-    """
-    left = list(bundle)
-    while left:
-        if len(left) > 1:
-            try:
-                results = program.solve_bundle(left)
-            except RunError:
-                results = []
-            for result in results:
-                hand_on(result)
-            del left[: len(results)]
-        if left:
-            task = left.pop(0)
-            try:
-                hand_on(_solved(program, task))
-            except RunError as error:
-                hand_on((task, str(error)))
+    def __init__(self, program: Program, bundles: Bundles, number: int):
+        self._program = program
+        self._bundles = bundles
+        self.came: "SimpleQueue[Came]" = SimpleQueue()
+        self._threads = [threading.Thread(target=self._work) for _ in range(number)]
+        for thread in self._threads:
+            thread.start()
+
+    def join(self) -> None:
+        """Waits until all have ended."""
+        for thread in self._threads:
+            thread.join()
+
+    def stop(self) -> None:
+        """Ends all runs, and waits until all threads have ended."""
+        self._bundles.close()
+        self._program.stop()
+        self.join()
+
+    def _work(self) -> None:
+        """Goes through bundles as long as there are any."""
+        fault: Optional[BaseException] = None
+        try:
+            while (bundle := self._bundles.next()) is not None:
+                try:
+                    self._solve(bundle)
+                finally:
+                    self._bundles.end()
+        except BaseException as error:
+            fault = error
+        self.came.put(_End(fault))
+
+    def _solve(self, bundle: Sequence[Task]) -> None:
+        if len(bundle) == 1:
+            begun = time.monotonic()
+            self._solve_alone(bundle[0])
+            self._bundles.note(1, time.monotonic() - begun)
+            return
+        try:
+            results, failed = self._program.solve_bundle(bundle, self._bundles)
+        except RunError:
+            self._bundles.give_back(bundle[1:])
+            results, failed = [], bundle[0]
+        for result in results:
+            self.came.put(result)
+        if failed is not None:
+            self._solve_alone(failed)
+
+    def _solve_alone(self, task: Task) -> None:
+        try:
+            self.came.put(_solved(self._program, task))
+        except RunError as error:
+            self.came.put((task, str(error)))
 
 
 def run_locally(
@@ -65,31 +107,22 @@ def run_locally(
 ) -> list[tuple[Task, str]]:
     """Runs tasks, `jobs` at a time, and passes each result on as it comes.
 
-    Returns the tasks that failed, with the reasons.
+    A result is of some tasks in turn. Returns the tasks that failed, with the reasons.
     """
     failed: list[Failed] = []
-    waiting = bundles_of(list(tasks), jobs)
-    running: "set[Future[None]]" = set()
-    came: "SimpleQueue[Came]" = SimpleQueue()
-    with ThreadPoolExecutor(jobs) as pool:
-        try:
-            while True:
-                while len(running) < 2 * jobs:
-                    bundle = next(waiting, None)
-                    if bundle is None:
-                        break
-                    future = pool.submit(_solved_bundle, program, bundle, came.put)
-                    future.add_done_callback(came.put)
-                    running.add(future)
-                if not running:
-                    return failed
-                ended = _take(came, keep, failed, wait_on)
-                if ended is not None:
-                    running.remove(ended)
-                    ended.result()
-        except BaseException:
-            program.stop()
-            raise
+    waiting = list(tasks)
+    at_work = min(jobs, len(waiting))
+    workers = _Workers(program, Bundles(waiting, jobs), at_work)
+    try:
+        while at_work:
+            at_work -= _take(workers.came, keep, failed, wait_on)
+        workers.join()
+    except BaseException as error:
+        workers.stop()
+        if isinstance(error, KeyboardInterrupt):
+            _take_rest(workers.came, keep)
+        raise
+    return failed
 
 
 def _take(
@@ -97,18 +130,27 @@ def _take(
     keep: Callable[[Result], None],
     failed: list[Failed],
     wait_on: Callable[[], None],
-) -> "Optional[Future[None]]":
-    """Takes what came of a task, or waits for it for a while; returns the run of a bundle that ended.
-    """
+) -> bool:
+    """Takes what came, or waits for it for a while; returns whether it is the end of a thread."""
     try:
         one = came.get(timeout=_SECONDS_OF_SILENCE)
     except Empty:
         wait_on()
-        return None
-    if isinstance(one, Future):
-        return one
+        return False
     if isinstance(one, Result):
         keep(one)
+    elif isinstance(one, _End):
+        if one.fault is not None:
+            raise one.fault
+        return True
     else:
         failed.append(one)
-    return None
+    return False
+
+
+def _take_rest(came: "SimpleQueue[Came]", keep: Callable[[Result], None]) -> None:
+    """Takes what came while the runs were stopped."""
+    while not came.empty():
+        one = came.get()
+        if isinstance(one, Result):
+            keep(one)

@@ -1,19 +1,21 @@
 """Runs tasks on other machines, through GNU parallel and ssh.
 
-A machine needs pops, sh, base64 and perl (which GNU parallel wants there), and timeout where
-a time limit is set; nothing is stored on it.
-Problems go out as words of a command line, a few at a login where there are many, and each report
-comes back as a line, both in base64. A machine that fails is reported and left out; what it had at hand
-goes to the others.
+A machine needs pops, sh, base64, timeout, and perl (which GNU parallel wants there); nothing is stored
+on it.
+Problems go out as words of a command line, small neighbours in bundles, a few at a login where there
+are many, and each report comes back as a line, both in base64. A machine that fails is reported and left
+out; what it had at hand goes to the others.
 """
 
 import base64
 import binascii
+import re
 import threading
 from collections.abc import Callable, Sequence
 from typing import Optional
 
-from pops_companions.many.bundles import is_small
+from pops_companions.input.words import short_forms
+from pops_companions.many.bundles import items_in, neighbours, text_of
 from pops_companions.many.parallel import Ended, Parallel, machine_of
 from pops_companions.many.program import FAULTY, SOUND, Program, RunError
 from pops_companions.many.tasks import UNFINISHED, Result, Task, is_whole
@@ -27,21 +29,34 @@ ROUNDS_WITHOUT_REPORT = 3
 PROBE = b"BeginProblem Pieces White Kg6 Ra1 Black Kg8 Stipulation #1 EndProblem"
 # Only where a machine hangs: the probe takes a moment, but a busy machine may need many times that.
 _SECONDS_OF_A_PROBE = 600
-# The program is $0; the one word after it holds number and text of each problem in turn.
+# The program is $0; the one word after it holds number, seconds and text of each input in turn.
+# Without --foreground timeout would leave the process group, with which GNU parallel ends a run.
 _SCRIPT = (
-    'set -f; set -- $1; while [ $# -gt 1 ]; do printf "%s " "$1"; '
-    '{{ printf %s "$2" | base64 -d | {limit}"$0" {options}; printf "\\n%d" "$?"; }} | base64 -w 0; '
-    "echo; shift 2; done"
+    'set -f; set -- $1; while [ $# -gt 2 ]; do printf "%s " "$1"; '
+    '{{ printf %s "$3" | base64 -d | case $2 in {without}) "$0" {options} ;; '
+    '*) timeout --foreground "$2" "$0" {options} ;; esac; printf "\\n%d" "$?"; }} | base64 -w 0; '
+    "echo; shift 3; done"
 )
-# Without --foreground it would leave the process group, with which GNU parallel ends a run.
-_LIMIT = "timeout --foreground {seconds} "
+_WITHOUT_LIMIT = "-"
 _STATUS_OUT_OF_TIME = 124
 # The most problems of a login, and the fewest logins of each place.
 _PROBLEMS_AT_A_LOGIN = 20
 _LOGINS_OF_A_PLACE = 10
 _PLACES_OF_A_MACHINE = 8
-# A login costs more than many small problems: of these, more go together.
+# The most problems of a bundle, the most small problems of a login, and the fewest logins of each
+# place for these.
+_MOST_OF_A_BUNDLE = 50
 _SMALL_AT_A_LOGIN = 200
+_LOGINS_FOR_SMALL = 2
+# What a bundle hasn't solved after these seconds is solved elsewhere.
+_SECONDS_OF_A_BUNDLE = 5.0
+_STIPULATION = re.compile(
+    rb"(?<!\S)(?:" + short_forms("Stipulation") + rb")\s+"
+    rb"(?P<play>[sh]?)[#=](?P<moves>[0-9]{1,3})(?P<half>\.5)?(?!\S)",
+    re.IGNORECASE,
+)
+# The most half-moves of a small problem, by who helps whom.
+_MOST_HALF_MOVES = {b"": 5, b"s": 4, b"h": 5}
 
 
 class MachinesError(Exception):
@@ -50,6 +65,19 @@ class MachinesError(Exception):
 
 def coded(text: bytes) -> str:
     return base64.b64encode(text).decode("ascii")
+
+
+def is_small(task: Task) -> bool:
+    """Returns whether a problem may take a moment only; one that hasn't a stipulation is faulty."""
+    piece, text = task.piece, task.source.text
+    if piece is None or text is None or not piece.closed:
+        return False
+    found = _STIPULATION.search(text, piece.start, piece.stop)
+    if found is None:
+        return True
+    play = found["play"].lower()
+    half_moves = 2 * int(found["moves"]) - (play == b"") + bool(found["half"])
+    return half_moves <= _MOST_HALF_MOVES[play]
 
 
 def logins_of(
@@ -72,9 +100,9 @@ def logins_of(
     return logins
 
 
-def _word(task: Task) -> str:
-    """Returns a problem with its place, as a script takes it."""
-    return f"{task.place} {coded(task.text)}"
+def _word(number: int, text: bytes, seconds: Optional[float]) -> str:
+    """Returns an input with its number and the seconds that it has, as a script takes it."""
+    return f"{number} {_WITHOUT_LIMIT if seconds is None else seconds} {coded(text)}"
 
 
 def _decoded(line: bytes) -> Optional[tuple[int, int, bytes]]:
@@ -85,9 +113,95 @@ def _decoded(line: bytes) -> Optional[tuple[int, int, bytes]]:
         place, status = int(number), int(ended)
     except (binascii.Error, ValueError):
         return None
-    if status == _STATUS_OUT_OF_TIME:
-        return place, UNFINISHED, report
-    return (place, status, report) if status in (SOUND, FAULTY) and is_whole(report) else None
+    return place, UNFINISHED if status == _STATUS_OUT_OF_TIME else status, report
+
+
+def bundles_of(tasks: Sequence[Task], places: int) -> list[Sequence[Task]]:
+    """Returns small problems in bundles of neighbours, so that each of `places` gets some."""
+    wished = len(tasks) // (places * _LOGINS_FOR_SMALL)
+    most = min(max(wished, 1), _MOST_OF_A_BUNDLE)
+    bundles: list[Sequence[Task]] = []
+    for run in neighbours(tasks):
+        while run:
+            size = min(most, len(run))
+            while size > 1 and not _fits(text_of(run[:size])):
+                size //= 2
+            bundles.append(run[:size])
+            run = run[size:]
+    return bundles
+
+
+def _fits(text: bytes) -> bool:
+    """Returns whether a text is short enough for a word of a command line."""
+    return len(text) * 4 // 3 + 4 <= _LONGEST_WORD
+
+
+class _Round:
+    """Problems that are handed out once, and what comes back of them."""
+
+    def __init__(
+        self,
+        tasks: Sequence[Task],
+        places: int,
+        alone: set[int],
+        program: Program,
+        keep: Callable[[Result], None],
+    ):
+        """Makes bundles of the problems but of those `alone`, to which it adds what fails in one."""
+        self._alone = alone
+        self._program = program
+        self._keep = keep
+        self.done: set[int] = set()
+        # Whether anything came back that gets the run on.
+        self.has_come = False
+        single = [task for task in tasks if task.place in alone]
+        bundles = bundles_of([task for task in tasks if task.place not in alone], places)
+        self._bundles = {it[0].place: it for it in [*bundles, *([task] for task in single)]}
+        logins = logins_of([self._word(task) for task in single], places)
+        words = [self._word(*bundle) for bundle in bundles]
+        most = _SMALL_AT_A_LOGIN // max(map(len, bundles), default=1)
+        logins += logins_of(words, places, _LOGINS_FOR_SMALL, most)
+        self.lines = list(map(" ".join, logins))
+
+    def _word(self, *bundle: Task) -> str:
+        seconds = self._program.seconds
+        if len(bundle) == 1:
+            return _word(bundle[0].place, bundle[0].text, seconds)
+        limit = _SECONDS_OF_A_BUNDLE if seconds is None else min(seconds, _SECONDS_OF_A_BUNDLE)
+        return _word(bundle[0].place, text_of(bundle), limit)
+
+    def take(self, line: bytes) -> None:
+        """Takes a line that came back."""
+        answer = _decoded(line)
+        if answer is None or answer[0] not in self._bundles or answer[0] in self.done:
+            return
+        place, status, report = answer
+        bundle = self._bundles[place]
+        if len(bundle) > 1:
+            self._take_bundle(bundle, status, report)
+        elif status == UNFINISHED or (status in (SOUND, FAULTY) and is_whole(report)):
+            try:
+                self._settle(self._program.told_anew(bundle[0], status, report))
+            except RunError:
+                pass
+
+    def _take_bundle(self, bundle: Sequence[Task], status: int, report: bytes) -> None:
+        """Keeps what a bundle has solved; the problem after it is alone from now on, or all are."""
+        items = items_in(report, bundle)
+        self.has_come = True
+        if items is None or (status in (SOUND, FAULTY) and items.count < len(bundle)):
+            self._alone.update(task.place for task in bundle)
+            return
+        if items.count:
+            self._settle(Result(bundle[0], items.status, items.report, None, items.count))
+        if items.count < len(bundle):
+            self._alone.add(bundle[items.count].place)
+
+    def _settle(self, result: Result) -> None:
+        self.has_come = True
+        self._keep(result)
+        place = result.task.place
+        self.done.update(range(place, place + result.tasks))
 
 
 class Machines:
@@ -111,12 +225,8 @@ class Machines:
         self._parallel = parallel
         self._lock = threading.Lock()
 
-        def script(seconds: Optional[float]) -> list[str]:
-            limit = _LIMIT.format(seconds=seconds) if seconds else ""
-            return [_SCRIPT.format(options=" ".join(options), limit=limit), pops]
-
-        self._script = script(program.seconds)
-        self._probe = script(program.seconds and max(program.seconds, _SECONDS_OF_A_PROBE))
+        script = _SCRIPT.format(options=" ".join(options), without=_WITHOUT_LIMIT)
+        self._script = [script, pops]
         named = [name for login in logins for name in login.split(",") if name]
         self.alive = [login for login in dict.fromkeys(named) if self._is_sound(login)]
         self.expect_some()
@@ -140,10 +250,11 @@ class Machines:
 
         def take(line: bytes) -> None:
             answer = _decoded(line)
-            if answer is not None:
+            if answer is not None and answer[1] in (SOUND, FAULTY):
                 answers[answer[0]] = answer[2]
 
-        self._parallel.run([login], self._probe, [f"0 {coded(PROBE)}"], take)
+        seconds = self._program.seconds and max(self._program.seconds, _SECONDS_OF_A_PROBE)
+        self._parallel.run([login], self._script, [_word(0, PROBE, seconds)], take, shared=True)
         return answers.get(0)
 
     def expect_some(self) -> None:
@@ -154,40 +265,28 @@ class Machines:
     @staticmethod
     def takes(task: Task) -> bool:
         """Returns whether a task can go to another machine."""
-        return task.piece is not None and len(task.text) * 4 // 3 + 4 <= _LONGEST_WORD
+        return task.piece is not None and 0 < len(task.text) and _fits(task.text)
 
     def run(self, tasks: Sequence[Task], keep: Callable[[Result], None]) -> list[tuple[Task, str]]:
         """Runs tasks and passes each result on; returns the tasks without a report, with the reasons."""
         left = list(tasks)
+        alone = {task.place for task in left if not is_small(task)}
         rounds_without = 0
         while left and self.alive and rounds_without < ROUNDS_WITHOUT_REPORT:
-            done = self._round(left, keep)
-            rounds_without = 0 if done else rounds_without + 1
-            left = [task for task in left if task.place not in done]
+            now = _Round(left, self._places, alone, self._program, keep)
+            self._hand_out(now)
+            rounds_without = 0 if now.has_come else rounds_without + 1
+            left = [task for task in left if task.place not in now.done]
         reason = "no machine is left" if not self.alive else "no report came back"
         return [(task, reason) for task in left]
 
-    def _round(self, tasks: Sequence[Task], keep: Callable[[Result], None]) -> set[int]:
-        """Hands out all tasks once; returns the places of the tasks that are done."""
-        done: set[int] = set()
-        task_at = {task.place: task for task in tasks}
+    @property
+    def _places(self) -> int:
+        """How many jobs the machines take at a time, as far as it is known."""
+        return len(self.alive) * (self._parallel.jobs or _PLACES_OF_A_MACHINE)
 
-        def take(line: bytes) -> None:
-            answer = _decoded(line)
-            if answer is None or answer[0] not in task_at or answer[0] in done:
-                return
-            place, status, report = answer
-            try:
-                keep(self._program.told_anew(task_at[place], status, report))
-            except RunError:
-                return
-            done.add(place)
-
-        places = len(self.alive) * (self._parallel.jobs or _PLACES_OF_A_MACHINE)
-        logins = logins_of([_word(task) for task in tasks if not is_small(task)], places)
-        small = [_word(task) for task in tasks if is_small(task)]
-        logins += logins_of(small, places, 1, _SMALL_AT_A_LOGIN)
-        lines = map(" ".join, logins)
+    def _hand_out(self, now: "_Round") -> None:
+        """Hands out all inputs of a round once."""
         watch = Watch(self)
 
         def look(jobs: Sequence[Ended]) -> bool:
@@ -195,8 +294,11 @@ class Machines:
                 watch.note(machine, well)
             return bool(self.alive)
 
-        self._parallel.run(self.alive, self._script, lines, take, look)
-        return done
+        self._parallel.run(self.alive, self._script, now.lines, now.take, look, shared=True)
+
+    def close(self) -> None:
+        """Ends all connections."""
+        self._parallel.close()
 
     def leave_out(self, machine: str) -> None:
         """Hands out nothing more to a machine that failed."""

@@ -18,6 +18,7 @@ from typing import NamedTuple, Optional
 
 from pops_companions.many import sessions
 from pops_companions.many.child_process import ChildProcess, outcome_of
+from pops_companions.many.connections import Connections
 
 _SECONDS_BETWEEN_LOOKS = 0.3
 _SECONDS_TO_END = 3.0
@@ -85,6 +86,7 @@ class Parallel:
         self._words = [parallel, "--will-cite", "--line-buffer"]
         self._words += ["--jobs", str(jobs)] if jobs else []
         self._ssh = ssh or _SSH
+        self._connections = Connections(self._ssh)
         # About the run at hand.
         self._room: Optional[Path] = None
         self._session = 0
@@ -97,22 +99,21 @@ class Parallel:
         lines: Iterable[str],
         take: Callable[[bytes], None],
         look: Callable[[list[Ended]], bool] = lambda ended: True,
+        shared: bool = False,
     ) -> None:
         """Runs a script with its own words and a line's words, once for each line.
 
         `take` gets each line that comes back, at once. `look` gets the jobs that ended now and
         then; it may take logins out of their list, and ends the run where it returns False.
+        Where connections are `shared`, what a job runs on its machine isn't ended by `stop`.
         """
         with tempfile.TemporaryDirectory(prefix="pops-many-") as name:
             room = Path(name)
             (room / "tasks").write_text("".join(line + "\n" for line in lines), "ascii")
-            (room / "ssh").write_text(f'{UNLESS_OVER}exec {self._ssh} "$@"\n')
+            options = self._connections.options if shared else ""
+            (room / "ssh").write_text(f'{UNLESS_OVER}exec {self._ssh}{options} "$@"\n')
             _write_logins(room, logins)
-            environment = {**os.environ, "PARALLEL_HOME": name}
-            environment["PARALLEL_SSH"] = f"sh {shlex.quote(str(room / 'ssh'))}"
-            environment.pop(_NUMBER, None)
-            # (without it, jobs on machines where SHELL isn't set do nothing, and say nothing)
-            environment["PARALLEL_SHELL"] = "/bin/sh"
+            environment = _environment(room)
             with open(room / "errors", "wb") as errors:
                 words = self._command(room, script)
                 child = ChildProcess(words, subprocess.DEVNULL, errors, environment)
@@ -127,6 +128,10 @@ class Parallel:
                     child.release()
                     self._said = self.last_error
                     self._room = None
+
+    def close(self) -> None:
+        """Ends the connections that logins share."""
+        self._connections.close()
 
     def _command(self, room: Path, script: Sequence[str]) -> list[str]:
         return self._words + [
@@ -177,6 +182,15 @@ class Parallel:
 
 def _is_gnu(parallel: str) -> bool:
     return outcome_of([parallel, "--version"]).output.startswith(b"GNU parallel")
+
+
+def _environment(room: Path) -> dict[str, str]:
+    environment = {**os.environ, "PARALLEL_HOME": str(room)}
+    environment["PARALLEL_SSH"] = f"sh {shlex.quote(str(room / 'ssh'))}"
+    environment.pop(_NUMBER, None)
+    # (without it, jobs on machines where SHELL isn't set do nothing, and say nothing)
+    environment["PARALLEL_SHELL"] = "/bin/sh"
+    return environment
 
 
 def _write_logins(room: Path, logins: Sequence[str]) -> None:

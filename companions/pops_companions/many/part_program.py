@@ -5,6 +5,7 @@ import subprocess
 import tempfile
 from collections.abc import Callable, Generator, Iterator, Sequence
 from contextlib import closing
+from typing import Optional
 
 from pops_companions.many.batches import Batch, numbers_of
 from pops_companions.many.child_process import ChildProcess
@@ -61,11 +62,11 @@ class PartProgram(Runs):
         self._at_work: dict[Key, ChildProcess] = {}
         self._dropped: set[Key] = set()
 
-    def phases(self, text: bytes) -> list[Phase]:
-        """Returns the phases of the one problem of an input. PartsError where pops-part doesn't
-        list them.
+    def phases(self, text: bytes, depth: Optional[int] = None) -> list[Phase]:
+        """Returns the phases of the one problem of an input, cut by `depth` moves. PartsError where
+        pops-part doesn't list them.
         """
-        run = self.outcome(["--list", "--depth", str(self.depth)], text)
+        run = self.outcome(["--list", "--depth", str(depth or self.depth)], text)
         if run.status != SOUND:
             raise PartsError(self._reason(run.status, run.errors))
         return phases_listed(run.output)

@@ -9,7 +9,6 @@ from collections.abc import Iterable, Iterator
 from typing import NamedTuple, Optional
 
 from pops_companions.input.pieces import cut
-from pops_companions.input.reading import FaultKind, read_piece
 from pops_companions.many.tasks import Task
 from pops_companions.report import lines
 
@@ -80,6 +79,9 @@ def phases_listed(listed: bytes) -> list[Phase]:
 
 def limit_of(text: bytes) -> Optional[int]:
     """Returns the limit of the last MaxSolutions of a sound problem, where it has one."""
+    # (loaded only here: it takes longer than a small run)
+    from pops_companions.input.reading import FaultKind, read_piece
+
     reading = read_piece(text, cut(text)[0])
     if reading.number is FaultKind.BAD_LIMIT:
         raise PartsError("no number after MaxSolutions")

@@ -11,7 +11,8 @@ from pathlib import Path
 from typing import Optional
 
 from pops_companions import places
-from pops_companions.many import bundles
+from pops_companions.many.bundle_run import BundleRun, Came
+from pops_companions.many.bundles import Bundles, text_of
 from pops_companions.many.child_process import ChildProcess, Outcome, Stream, outcome_of
 from pops_companions.many.tasks import UNFINISHED, Result, Task, is_whole, whole_lines
 from pops_companions.places import COMPANIONS
@@ -225,23 +226,17 @@ class Program(Runs):
             return self._whole(task)
         return self.told_anew(task, *self._one(task.text))
 
-    def solve_bundle(self, bundle: Sequence[Task]) -> list[Result]:
-        """Runs a bundle in one process; returns the results of its first problems, as far as it went.
-
-        There are none where pops didn't write a report of the bundle. RunError where a faulty
-        problem, which is run again alone, fails.
-        """
-        limit = bundles.SECONDS if self.seconds is None else min(bundles.SECONDS, self.seconds)
-        run = self.outcome([], bundles.text_of(bundle), limit)
-        if run.in_time and run.status not in (SOUND, FAULTY):
-            return []
-        found = bundles.wholes_in(run.output, len(bundle))
-        if run.in_time and len(found) != len(bundle):
-            return []
-        return [
-            self.solve(task) if whole is None else self.told_anew(task, *whole)
-            for task, whole in zip(bundle, found)
-        ]
+    def solve_bundle(self, bundle: Sequence[Task], bundles: Bundles) -> Came:
+        """Runs a bundle in one process; what it doesn't solve goes back to the bundles."""
+        child = self._started([], subprocess.PIPE, subprocess.DEVNULL)
+        try:
+            if self.seconds is not None:
+                child.limit(self.seconds * len(bundle))
+            child.feed(text_of(bundle))
+            return BundleRun(child, bundle, self.seconds, bundles).go()
+        finally:
+            with self._lock:
+                self._running.discard(child)
 
     def told_anew(self, task: Task, status: int, report: bytes) -> Result:
         """Returns the result of a first run; for the line of a fault it runs the problem again, here.

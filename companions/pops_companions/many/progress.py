@@ -1,4 +1,4 @@
-"""Shows how far a run is, only on a terminal."""
+"""Shows how far a run is on a terminal; elsewhere only of a long problem, now and then."""
 
 import os
 import sys
@@ -6,9 +6,24 @@ import threading
 import time
 from collections.abc import Callable, Iterator
 from contextlib import contextmanager
-from typing import Optional
+from typing import NamedTuple, Optional
 
 _SECONDS_BETWEEN = 0.5
+# Where standard error is no terminal.
+SECONDS_ELSEWHERE = 30.0
+
+
+class HowFar(NamedTuple):
+    """How far a problem in parts is: the first moves that are done, of how many, its solutions, and
+    how many parts of all problems are left.
+    """
+
+    done: int
+    moves: int
+    # Whether each part has a first move of its own: otherwise those done are reckoned.
+    is_exact: bool
+    solutions: int
+    parts_left: int
 
 
 def duration(seconds: float) -> str:
@@ -52,7 +67,11 @@ class Progress:
 
     def one_more(self) -> None:
         """Counts another problem as done."""
-        self._done += 1
+        self.more(1)
+
+    def more(self, number: int) -> None:
+        """Counts this many problems more as done."""
+        self._done += number
         is_last = self._done == self._total
         if is_last or self._line_of_parts is None:
             self._tell(self.line, is_last)
@@ -71,14 +90,12 @@ class Progress:
                 self.wait_on()
 
         heart = threading.Thread(target=beat, daemon=True)
-        if self.is_shown:
-            heart.start()
+        heart.start()
         try:
             yield
         finally:
             ended.set()
-            if heart.ident is not None:
-                heart.join()
+            heart.join()
 
     def line(self, seconds: float) -> str:
         """Returns the line after `seconds` of this run."""
@@ -94,31 +111,34 @@ class Progress:
         """Begins to count the `left` parts of all problems in parts."""
         self._parts_before = self._parts_left = left
         self._began = self._next = time.monotonic()
+        if not self.is_shown:
+            self._next += SECONDS_ELSEWHERE
 
-    def part(self, problem: str, tally: tuple[int, int], found: int, left: int) -> None:
-        """Shows how far a problem is, in parts and solutions; `left` parts are left in all."""
-        self._parts_left = left
+    def part(self, problem: str, how_far: Callable[[], HowFar]) -> None:
+        """Shows how far a problem is; `how_far` is called only when a line is due."""
 
         def line(seconds: float) -> str:
-            text = self.line_of_parts(problem, tally, found, seconds)
+            now = how_far()
+            self._parts_left = now.parts_left
+            text = self.line_of_parts(problem, now, seconds)
             # In a narrow terminal without the FILE: a broken line can't be rewritten.
             if len(text) < _columns() or not _columns():
                 return text
-            return self.line_of_parts(problem.partition(" (")[0], tally, found, seconds)
+            return self.line_of_parts(problem.partition(" (")[0], now, seconds)
 
         self._line_of_parts = line
         self._tell(line, False)
 
-    def line_of_parts(
-        self, problem: str, tally: tuple[int, int], found: int, seconds: float
-    ) -> str:
+    def line_of_parts(self, problem: str, now: HowFar, seconds: float) -> str:
         """Returns the line of a problem in parts after `seconds`."""
-        plural = "" if found == 1 else "s"
-        text = f"{self._name}: {problem}: {tally[0]} of {tally[1]} parts, {found} solution{plural}"
-        done = self._parts_before - self._parts_left
-        if done > 0 and self._parts_left > 0:
-            text += f", about {duration(seconds / done * self._parts_left)} left"
-        elif self._parts_left > 0 and seconds >= 1:
+        about = "" if now.is_exact else "about "
+        plural = "" if now.solutions == 1 else "s"
+        text = f"{self._name}: {problem}: {about}{now.done} of {now.moves} first moves"
+        text += f", {now.solutions} solution{plural}"
+        done = self._parts_before - now.parts_left
+        if done > 0 and now.parts_left > 0:
+            text += f", about {duration(seconds / done * now.parts_left)} left"
+        elif now.parts_left > 0 and seconds >= 1:
             text += f", {duration(seconds)} so far"
         return text
 
@@ -131,6 +151,9 @@ class Progress:
                 text = line(now - self._began)
                 _tell("\r" + text.ljust(self._width))
                 self._width = len(text)
+            elif not self.is_shown and self._line_of_parts and now >= self._next:
+                self._next = now + SECONDS_ELSEWHERE
+                _tell(line(now - self._began) + "\n")
 
     def say(self, message: str) -> None:
         """A message of its own line."""

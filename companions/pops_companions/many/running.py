@@ -1,18 +1,21 @@
 """Solves the problems that the journal lacks."""
 
 from collections.abc import Sequence
-from typing import NamedTuple, Optional
+from typing import TYPE_CHECKING, NamedTuple, Optional
 
 from pops_companions.many.joining import Joined
 from pops_companions.many.journal import Journal
 from pops_companions.many.local import run_locally
-from pops_companions.many.machines import Machines
-from pops_companions.many.part_program import PartProgram
 from pops_companions.many.program import Program
 from pops_companions.many.progress import Progress
-from pops_companions.many.remote_parts import RemoteParts
-from pops_companions.many.splitting import Splitting
 from pops_companions.many.tasks import Result, Task
+
+if TYPE_CHECKING:
+    # (loaded only by runs that need them: they take longer than a small run)
+    from pops_companions.many.machines import Machines
+    from pops_companions.many.part_program import PartProgram
+    from pops_companions.many.remote_parts import RemoteParts
+    from pops_companions.many.splitting import Splitting
 
 # At most this many failed problems are reported one by one.
 _FAILURES_TOLD = 10
@@ -22,7 +25,7 @@ class PartPrograms(NamedTuple):
     """The programs that problems in parts need: pops with --check, pops-part."""
 
     checking: Program
-    parts: PartProgram
+    parts: "PartProgram"
 
 
 class Programs(NamedTuple):
@@ -35,8 +38,8 @@ class Programs(NamedTuple):
 class Elsewhere(NamedTuple):
     """The programs on other machines."""
 
-    machines: Machines
-    parts: Optional[RemoteParts]
+    machines: "Machines"
+    parts: "Optional[RemoteParts]"
 
 
 class Run:
@@ -57,15 +60,18 @@ class Run:
         self._joined = joined
         self._progress = progress
         self._program = programs.whole
-        self._splitting: Optional[Splitting] = None
+        self._splitting: "Optional[Splitting]" = None
         if programs.parts is not None:
+            from pops_companions.many.splitting import Splitting
+
             checking, parts = programs.parts
             self._splitting = Splitting(checking, parts, journal, progress, self._settle)
             joined.in_parts = self._splitting.lines_found
         left = [task for task in tasks if not journal.is_settled(task.place)]
         progress.begin(len(tasks) - len(left), len(tasks))
-        self._long = [task for task in left if self._is_long(task)]
-        self._left = [task for task in left if not self._is_long(task)]
+        self._long = [task for task in left if self._splitting and self._is_long(task)]
+        long = {task.place for task in self._long}
+        self._left = [task for task in left if task.place not in long]
 
     def _is_long(self, task: Task) -> bool:
         """Returns whether an earlier run found that a problem takes longer than a moment."""
@@ -76,8 +82,8 @@ class Run:
 
     def _settle(self, result: Result) -> None:
         self._journal.keep(result)
-        self._joined.settle(result.task.place)
-        self._progress.one_more()
+        self._joined.settle(result.task.place, result.tasks)
+        self._progress.more(result.tasks)
 
     def _keep(self, result: Result) -> None:
         if result.seconds is not None and self._splitting is not None:
@@ -94,8 +100,9 @@ class Run:
         here = self._left
         failed: list[tuple[Task, str]] = []
         if elsewhere is not None:
-            here = [task for task in self._left if not Machines.takes(task)]
-            there = [task for task in self._left if Machines.takes(task)]
+            takes = elsewhere.machines.takes
+            here = [task for task in self._left if not takes(task)]
+            there = [task for task in self._left if takes(task)]
             failed.extend(elsewhere.machines.run(there, self._keep))
         failed.extend(run_locally(self._program, here, jobs, self._keep, self._progress.wait_on))
         if self._splitting is not None:

@@ -33,6 +33,17 @@ def members(session: int) -> list[int]:
     return found
 
 
+def end_connections(folder: str) -> None:
+    """Kills the ssh processes that hold shared connections in a folder: they name it in their titles."""
+    title = b"ssh: " + os.fsencode(folder) + b"/"
+    for process in Path("/proc").glob("[0-9]*"):
+        try:
+            if (process / "cmdline").read_bytes().startswith(title):
+                os.kill(int(process.name), signal.SIGKILL)
+        except OSError:
+            pass
+
+
 def end(session: int) -> None:
     """Kills all processes of a session, new ones too."""
     for _ in range(_ROUNDS):
@@ -49,7 +60,9 @@ def end(session: int) -> None:
 
 @contextmanager
 def watched(session: int, folder: str) -> Iterator[None]:
-    """Ends the session and removes the folder if this process is killed meanwhile."""
+    """Ends the session, unless it is 0, and the connections in the folder, and removes the folder, if
+    this process is killed meanwhile.
+    """
     watcher = subprocess.Popen(
         [sys.executable, "-I", __file__, str(session), folder],
         stdin=subprocess.PIPE,
@@ -67,7 +80,9 @@ def watched(session: int, folder: str) -> Iterator[None]:
 def main() -> None:
     session, folder = sys.argv[1:]
     sys.stdin.buffer.read()
-    end(int(session))
+    if int(session):
+        end(int(session))
+    end_connections(folder)
     shutil.rmtree(folder, ignore_errors=True)
 
 

@@ -35,11 +35,20 @@ class Tally(NamedTuple):
     of_all: int
 
 
+class Cutting(NamedTuple):
+    """How a problem is cut: its phases with their parts, and with their first moves."""
+
+    phases: Sequence[Phase]
+    moves: Sequence[Phase]
+    depth: int
+
+
 class _PhaseInParts:
     """The parts of a phase that are done, up to the last one that matters."""
 
-    def __init__(self, parts: int, limit: float):
+    def __init__(self, parts: int, moves: int, limit: float):
         self._all = parts
+        self._moves = moves
         self._limit = limit
         self._done: set[int] = set()
         # The parts that have solutions, in their order, and how many.
@@ -78,7 +87,17 @@ class _PhaseInParts:
     def tally(self) -> Tally:
         if self._last == self._all:
             return Tally(len(self._done), self._all)
-        return Tally(sum(number <= self._last for number in self._done), self._last)
+        # (a list: another thread may add to them meanwhile)
+        return Tally(sum(number <= self._last for number in list(self._done)), self._last)
+
+    @property
+    def first_moves(self) -> Tally:
+        """The first moves that are done, of how many: by the parts that are, where these are more."""
+        done, last = self.tally
+        if self._moves == self._all:
+            return Tally(done, last)
+        each = max(self._all, 1)
+        return Tally(done * self._moves // each, -(-last * self._moves // each))
 
     @property
     def found(self) -> int:
@@ -94,15 +113,18 @@ class _PhaseInParts:
 class SplitProblem:
     """A problem that is cut into parts, of which it knows how many solutions they have."""
 
-    def __init__(
-        self, task: Task, head: bytes, phases: Sequence[Phase], limit: Optional[int], depth: int
-    ):
+    def __init__(self, task: Task, head: bytes, cut: Cutting, limit: Optional[int]):
         self.task = task
         self._head = head
-        self._phases = phases
+        self._phases = cut.phases
         self._limit = math.inf if limit is None else limit
-        self._depth = depth
-        self._of = {phase.name: _PhaseInParts(phase.parts or 0, self._limit) for phase in phases}
+        self._depth = cut.depth
+        self._of = {
+            phase.name: _PhaseInParts(phase.parts or 0, moves.parts or 0, self._limit)
+            for phase, moves in zip(cut.phases, cut.moves)
+        }
+        # Whether each part has a first move of its own.
+        self.is_by_first_moves = list(cut.phases) == list(cut.moves)
 
     def _part(self, phase: Phase, number: int) -> Part:
         return Part(self.task, phase.name, number, self._depth)
@@ -129,6 +151,12 @@ class SplitProblem:
     @property
     def tally(self) -> Tally:
         tallies = [phase.tally for phase in self._of.values()]
+        return Tally(sum(it.done for it in tallies), sum(it.of_all for it in tallies))
+
+    @property
+    def first_moves(self) -> Tally:
+        """The first moves of all phases that are done, of how many."""
+        tallies = [phase.first_moves for phase in self._of.values()]
         return Tally(sum(it.done for it in tallies), sum(it.of_all for it in tallies))
 
     @property

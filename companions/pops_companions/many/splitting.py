@@ -11,9 +11,9 @@ from pops_companions.many.machines import Machines, MachinesError
 from pops_companions.many.part_program import PartProgram
 from pops_companions.many.parts import Part, PartsError, head_of, limit_of
 from pops_companions.many.program import SOUND, Program, RunError
-from pops_companions.many.progress import Progress
+from pops_companions.many.progress import HowFar, Progress
 from pops_companions.many.remote_parts import RemoteParts
-from pops_companions.many.split_problem import SplitProblem, Tally
+from pops_companions.many.split_problem import Cutting, SplitProblem
 from pops_companions.many.tasks import Result, Task
 
 # How often a part that fails is tried on this machine in all.
@@ -69,7 +69,9 @@ class Splitting:
             return
         text = task.text_without_line_ends
         head, phases = head_of(checked.report), self._program.phases(text)
-        problem = SplitProblem(task, head, phases, limit_of(text), self._program.depth)
+        moves = phases if self._program.depth == 1 else self._program.phases(text, 1)
+        cut = Cutting(phases, moves, self._program.depth)
+        problem = SplitProblem(task, head, cut, limit_of(text))
         self._problems[task.place] = problem
         for part in problem.parts():
             if part.key in self._journal.parts:
@@ -111,11 +113,18 @@ class Splitting:
         for _, problem in sorted(self._problems.items()):
             if not problem.is_done:
                 self._progress.begin_parts(self._parts_left())
-                self._progress.part(*self._how_far(problem))
+                self._show(problem)
                 return
 
-    def _how_far(self, problem: SplitProblem) -> tuple[str, Tally, int, int]:
-        return problem.task.shown, problem.tally, problem.found, self._parts_left()
+    def _show(self, problem: SplitProblem) -> None:
+        """Shows how far a problem is."""
+
+        def how_far() -> HowFar:
+            done, moves = problem.first_moves
+            left = self._parts_left()
+            return HowFar(done, moves, problem.is_by_first_moves, problem.found, left)
+
+        self._progress.part(problem.task.shown, how_far)
 
     def _parts_left(self) -> int:
         tallies = [problem.tally for problem in self._problems.values()]
@@ -134,8 +143,7 @@ class Splitting:
         problem = self._problems[part.task.place]
         self._journal.keep_part(part, report)
         fewer = problem.keep(part, report)
-        if self._progress.is_shown:
-            self._progress.part(*self._how_far(problem))
+        self._show(problem)
         self._join(problem)
         return fewer
 

@@ -4,7 +4,8 @@ from collections.abc import Sequence
 from typing import NamedTuple, Optional
 
 from pops_companions.command import Status
-from pops_companions.input.pieces import LONGEST_INPUT, Piece, cut
+from pops_companions.input.pieces import LONGEST_INPUT, Piece
+from pops_companions.many.cutting import cut_quickly
 from pops_companions.report import lines
 
 # The most line ends that a first run gets before its problem. A problem further down first runs
@@ -75,13 +76,16 @@ class Task(NamedTuple):
 
     def numbered(self, report: bytes) -> bytes:
         """Returns the report with the problem's number in its input."""
-        if self.piece is None:
-            return report
-        return lines.problem_line(self.piece.number) + report[len(_HEAD) :]
+        return report if self.piece is None else self.under_its_number(report[len(_HEAD) :])
+
+    def under_its_number(self, rest: bytes) -> bytes:
+        """Returns the lines of a report after their first one, which has the problem's number."""
+        assert self.piece is not None
+        return lines.problem_line(self.piece.number) + rest
 
 
 class Result(NamedTuple):
-    """A task's report, with its number, and the exit status of its run.
+    """The report of a task, or of some in turn, with their numbers, and the exit status of their run.
 
     The report of an unfinished problem is the lines that were written in `seconds`.
     """
@@ -90,11 +94,13 @@ class Result(NamedTuple):
     status: int
     report: bytes
     seconds: Optional[float] = None
+    # How many tasks it is of, from `task` on.
+    tasks: int = 1
 
 
 def is_whole(report: bytes) -> bool:
     """Returns whether a run on one problem came to its end: its report is one item."""
-    return report.startswith(_HEAD) and report.endswith(b"\n\n")
+    return report.startswith(_HEAD) and report.endswith(lines.ITEM_END)
 
 
 def whole_lines(report: bytes) -> bytes:
@@ -109,6 +115,6 @@ def tasks_of(sources: Sequence[Source]) -> list[Task]:
         if source.text is None or len(source.text) > LONGEST_INPUT:
             tasks.append(Task(len(tasks), source, None))
         else:
-            for piece in cut(source.text):
+            for piece in cut_quickly(source.text):
                 tasks.append(Task(len(tasks), source, piece))
     return tasks

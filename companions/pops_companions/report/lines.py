@@ -11,6 +11,8 @@ FILES = b"  abcdefgh"
 SOUND = b"sound"
 NOT_POSSIBLE = b"not possible"
 TOTAL = re.compile(rb"solutions: (0|[1-9][0-9]{0,17})(, stopped)?")
+# Ends each item.
+ITEM_END = b"\n\n"
 # How a total begins.
 SOLUTIONS = b"solutions: "
 # How the line begins that pops-many writes after the last line of a problem that it stopped.

@@ -40,7 +40,7 @@ class Solving:
 
         def keep(result: Result) -> None:
             results.append(result)
-            progress.one_more()
+            progress.more(result.tasks)
 
         try:
             failed = run_locally(program, tasks, self._jobs, keep, progress.wait_on)

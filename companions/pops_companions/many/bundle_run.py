@@ -1,0 +1,163 @@
+"""A run of pops on a bundle: reads what it writes, and ends it once it has done what is wanted."""
+
+import os
+import select
+import signal
+import time
+from collections.abc import Sequence
+from typing import NamedTuple, Optional
+
+from pops_companions.many.bundles import MOMENT, Bundles, items_in
+from pops_companions.many.child_process import ChildProcess
+from pops_companions.many.tasks import UNFINISHED, Result, Task, whole_lines
+from pops_companions.report import lines
+
+# In milliseconds: a program that writes line by line is read after pauses.
+_PAUSE = 20
+_PIECE = 1 << 16
+# The statuses of runs that wrote every byte of their report.
+_WELL = (0, 1)
+
+
+class Came(NamedTuple):
+    """What came of a bundle: results, and the problem at which pops failed, to be solved alone."""
+
+    results: list[Result]
+    failed: Optional[Task]
+
+
+class BundleRun:
+    """A run on a bundle, whose problems each have `seconds`, if there is a limit.
+
+    What it doesn't solve goes back to the bundles.
+    """
+
+    def __init__(
+        self,
+        child: ChildProcess,
+        tasks: Sequence[Task],
+        seconds: Optional[float],
+        bundles: Bundles,
+    ):
+        self._child = child
+        self._tasks = tasks
+        self._seconds = seconds
+        self._bundles = bundles
+        self._written: list[bytes] = []
+        # How many problems are whole, and since when the next one is at work.
+        self._whole = 0
+        self._begun = self._since = time.monotonic()
+        # Whether problems were given back, and whether the one at work took too long.
+        self._is_cut = False
+        self._is_late = False
+
+    def go(self) -> Came:
+        """Reads until the end of the run."""
+        assert self._child.run.stdout is not None
+        output = self._child.run.stdout.fileno()
+        try:
+            self._read(output)
+        except BaseException:
+            self._child.send(signal.SIGKILL)
+            raise
+        finally:
+            self._child.run.stdout.close()
+            self._child.run.wait()
+            self._child.release()
+        self._note()
+        return self._came()
+
+    def _read(self, output: int) -> None:
+        ready, end = select.poll(), select.poll()
+        ready.register(output, select.POLLIN)
+        # (without an event of its own it reports only the end)
+        end.register(output, 0)
+        while not self._is_over():
+            if not ready.poll(self._milliseconds()):
+                continue
+            piece = os.read(output, _PIECE)
+            if not piece:
+                return
+            self._take(piece)
+            if len(piece) < _PIECE // 2:
+                end.poll(_PAUSE)
+        self._child.send(signal.SIGKILL)
+        while piece := os.read(output, _PIECE):
+            self._written.append(piece)
+
+    def _take(self, piece: bytes) -> None:
+        """Takes what was written, and notes which problem is at work."""
+        last = self._written[-1][-1:] if self._written else b""
+        ends = (last + piece).count(lines.ITEM_END)
+        self._written.append(piece)
+        if ends:
+            self._whole += ends
+            self._since = time.monotonic()
+
+    def _is_over(self) -> bool:
+        """Returns whether the run is to be ended; after a moment gives back what can be."""
+        if self._whole >= len(self._tasks):
+            return self._is_cut
+        now = time.monotonic()
+        self._is_late = self._is_out_of_time(now)
+        if self._is_late or now - self._begun >= MOMENT:
+            self._give_back()
+        return self._is_late
+
+    def _is_out_of_time(self, now: float) -> bool:
+        """Returns whether the problem at work has had its time."""
+        return self._seconds is not None and now - self._since >= self._seconds
+
+    def _give_back(self) -> None:
+        """Gives back the problems after the one at work."""
+        rest = self._tasks[self._whole + 1 :]
+        if rest:
+            self._is_cut = True
+            self._tasks = self._tasks[: self._whole + 1]
+            self._bundles.give_back(rest)
+
+    def _milliseconds(self) -> Optional[float]:
+        """Returns how long nothing is to be done if nothing is written."""
+        until = []
+        if self._whole >= len(self._tasks):
+            return None
+        if self._whole + 1 < len(self._tasks):
+            until.append(self._begun + MOMENT)
+        if self._seconds is not None:
+            until.append(self._since + self._seconds)
+        # (rounded up, so that then the time is over)
+        return 1000 * max(min(until) - time.monotonic(), 0) + 1 if until else None
+
+    def _note(self) -> None:
+        """Notes how long its problems took; of one that took longer than a moment, that it did."""
+        if self._whole:
+            self._bundles.note(self._whole, self._since - self._begun)
+        else:
+            self._bundles.note(1, time.monotonic() - self._begun)
+
+    def _came(self) -> Came:
+        """Returns what the run came to; gives back what it didn't."""
+        report = b"".join(self._written)
+        status = self._child.run.returncode
+        items = items_in(report, self._tasks, self._is_cut)
+        is_ended = status in _WELL and not self._is_late
+        if items is None or (is_ended and items.count < len(self._tasks)):
+            self._bundles.give_back_apart(self._tasks[1:])
+            return Came([], self._tasks[0])
+        results = []
+        if items.count:
+            first = self._tasks[0]
+            results.append(Result(first, items.status, items.report, None, items.count))
+        left = self._tasks[items.count :]
+        if left and self._is_late:
+            results.append(self._unfinished(left[0], report))
+            left = left[1:]
+        self._bundles.give_back(left[1:])
+        return Came(results, left[0] if left else None)
+
+    def _unfinished(self, task: Task, report: bytes) -> Result:
+        """Returns what is known of the problem at work, which took too long."""
+        stop = report.rfind(lines.ITEM_END)
+        begun = whole_lines(report[stop + len(lines.ITEM_END) :] if stop >= 0 else report)
+        known = task.under_its_number(begun.partition(b"\n")[2])
+        return Result(task, UNFINISHED, known, self._seconds)

@@ -1,0 +1,199 @@
+"""Whole problems on other machines, with a command in the place of ssh: bundles, shared connections."""
+
+import os
+import shutil
+import signal
+import subprocess
+import sys
+import tempfile
+import unittest
+from pathlib import Path
+from typing import Optional
+from unittest import mock
+
+from pops_companions.many import sessions
+from pops_companions.many.connections import Connections
+from pops_companions.many.machines import bundles_of
+from pops_companions.many.tasks import Source, tasks_of
+from tests import support
+from tests.six_problems import wait_for
+from tests.test_split_machines import has_gnu_parallel
+
+MATE = "Title {}\nPieces White Kg6 Ra1 Black Kg8\nStipulation #1\n"
+NEXT = "NextProblem\n"
+# In the place of ssh: notes its words, and runs the command here, for its machine.
+_SSH = """#!/bin/bash
+echo "$*" >> '{room}/logins'
+while [ $# -gt 0 ]; do case $1 in -o|-l|-p|-S) shift 2 ;; -*) shift ;; *) break ;; esac; done
+export MACHINE=$1; shift
+[ "$1" = -- ] && shift
+exec bash -c "$*"
+"""
+# Its title is the one of an ssh that holds a connection in a folder.
+_HOLDS = "import os, sys; os.execv('/bin/sleep', ['ssh: ' + sys.argv[1] + '/x [mux]', '6000'])"
+# Holds connections until it is killed.
+_OPEN = """
+import subprocess, sys, time
+from pops_companions.many.connections import Connections
+connections = Connections("ssh")
+folder = connections.options.split("ControlPath=")[1].split("/%C")[0]
+held = subprocess.Popen([sys.executable, "-c", {holds!r}, folder])
+print(folder, held.pid, flush=True)
+time.sleep(6000)
+"""
+
+
+def input_of(*problems: str) -> bytes:
+    return f"BeginProblem\n{NEXT.join(problems)}EndProblem\n".encode()
+
+
+def folder_of(connections: Connections) -> Path:
+    """The folder that the options name."""
+    return Path(connections.options.split("ControlPath=")[1].split("/%C")[0])
+
+
+def command_of(process: int) -> bytes:
+    """The words of a process; nothing where it has ended."""
+    try:
+        return Path(f"/proc/{process}/cmdline").read_bytes()
+    except OSError:
+        return b""
+
+
+class SharedConnections(unittest.TestCase):
+    def test_only_of_ssh_itself(self) -> None:
+        for command in ("ssh", "/usr/bin/ssh -p 22 -o BatchMode=yes"):
+            connections = Connections(command)
+            self.assertIn("-o ControlMaster=auto", connections.options)
+            folder = folder_of(connections)
+            self.assertEqual(folder.stat().st_mode & 0o777, 0o700)
+            connections.close()
+            self.assertFalse(folder.exists())
+        for command in ("sh script", "sshpass ssh", ""):
+            self.assertEqual(Connections(command).options, "")
+
+    def test_no_path_that_ssh_would_refuse(self) -> None:
+        with tempfile.TemporaryDirectory() as room:
+            for name in ("x" * 80, "a b"):
+                folder = Path(room) / name
+                folder.mkdir()
+                with mock.patch.object(tempfile, "tempdir", str(folder)):
+                    self.assertEqual(Connections("ssh").options, "")
+                self.assertEqual(list(folder.iterdir()), [])
+
+    def test_they_end_when_they_are_closed(self) -> None:
+        connections = Connections("ssh")
+        words = [sys.executable, "-c", _HOLDS]
+        held = subprocess.Popen([*words, str(folder_of(connections))])
+        other = subprocess.Popen([*words, "/nowhere"])
+        self.addCleanup(other.communicate)
+        self.addCleanup(other.kill)
+        wait_for(lambda: command_of(held.pid).startswith(b"ssh: "))
+        connections.close()
+        self.assertEqual(held.wait(support.PATIENCE), -signal.SIGKILL)
+        self.assertIsNone(other.poll())
+
+    def test_they_end_with_a_program_that_is_killed(self) -> None:
+        words = [sys.executable, "-c", _OPEN.format(holds=_HOLDS)]
+        run = subprocess.Popen(words, stdout=subprocess.PIPE, cwd=support.COMPANIONS)
+        assert run.stdout is not None
+        folder, held = run.stdout.readline().decode().split()
+        wait_for(lambda: command_of(int(held)).startswith(b"ssh: "))
+        run.kill()
+        run.communicate()
+        wait_for(lambda: not command_of(int(held)))
+        wait_for(lambda: not Path(folder).exists())
+        self.assertEqual(sessions.members(int(held)), [])
+
+
+class Bundles(unittest.TestCase):
+    def test_small_neighbours_together(self) -> None:
+        """166 problems for two machines, which take eight logins at a time each."""
+        tasks = tasks_of([Source("x", input_of(*[MATE.format(it) for it in range(166)]))])
+        bundles = bundles_of(tasks, 16)
+        self.assertEqual([task for bundle in bundles for task in bundle], tasks)
+        self.assertEqual({len(bundle) for bundle in bundles}, {5, 1})
+        self.assertEqual(max(map(len, bundles_of(tasks * 1, 1))), 50)
+        apart = bundles_of(tasks[::2], 1)
+        self.assertEqual({len(bundle) for bundle in apart}, {1})
+        large = [MATE.format("x" * 20_000)] * 8
+        self.assertEqual({len(it) for it in bundles_of(tasks_of([Source("x", input_of(*large))]), 1)}, {2})
+
+
+@unittest.skipUnless(has_gnu_parallel(), "GNU parallel isn't installed")
+class OnMachines(unittest.TestCase):
+    def setUp(self) -> None:
+        room = tempfile.TemporaryDirectory()
+        self.addCleanup(room.cleanup)
+        self.room = Path(room.name)
+
+    def write(self, name: str, text: str) -> str:
+        path = self.room / name
+        path.write_text(text)
+        path.chmod(0o755)
+        return str(path)
+
+    def many(self, text: bytes, pops: Optional[str] = None) -> support.Outcome:
+        """A run on two machines, whose pops is this one."""
+        (self.room / "x.pop").write_bytes(text)
+        ssh = self.write("ssh", _SSH.format(room=self.room))
+        words = ["--pops", support.pops(), "--remote-pops", pops or support.pops(), "--ssh", ssh]
+        words += ["--sshlogin", "one,two", "--jobs", "2", str(self.room / "x.pop")]
+        return support.companion("pops-many", *words)
+
+    def logins(self) -> list[str]:
+        return (self.room / "logins").read_text().splitlines()
+
+    def test_bundles_share_connections(self) -> None:
+        """Faults keep their lines, and a long problem is alone."""
+        problems = [MATE.format(number) for number in range(60)]
+        problems[20] = "\n\nPieces White Kg6\nx\n"
+        problems[40] = "\n" + MATE.format("h").replace("#1", "h#3")
+        problems[50] = ""
+        text = input_of(*problems)
+        wanted = support.run([support.pops()], text)
+        self.assertEqual(self.many(text), (wanted.status, wanted.output, ""))
+        self.assertLess(len(self.logins()), 20)
+        for login in self.logins():
+            self.assertRegex(login, r"-o ControlMaster=auto -o ControlPath=\S+/%C -o ControlPersist=\d+")
+        folder = self.logins()[0].split("ControlPath=")[1].split("/%C")[0]
+        self.assertFalse(os.path.exists(folder))
+
+    def test_a_problem_at_which_pops_fails_in_a_bundle_is_solved_alone(self) -> None:
+        failing = self.write(
+            "failing",
+            "#!/bin/sh\ntext=$(cat)\n"
+            f"printf '%s' \"$text\" | '{support.pops()}' \"$@\" > '{self.room}'/out.$$\n"
+            "case $text in *Bad*Next*|*Next*Bad*) "
+            f"sed '/title: Bad/,$d' '{self.room}'/out.$$; exit 9 ;; esac\n"
+            f"cat '{self.room}'/out.$$\n",
+        )
+        problems = [MATE.format("Bad" if number % 10 == 7 else number) for number in range(40)]
+        text = input_of(*problems)
+        wanted = support.run([support.pops()], text)
+        self.assertEqual(self.many(text, failing), (0, wanted.output, ""))
+
+    def test_a_machine_without_the_program_is_left_out(self) -> None:
+        script = f'[ "$MACHINE" = one ] || exit 127\nexec \'{support.pops()}\' "$@"\n'
+        there = self.write("there", f"#!/bin/sh\n{script}")
+        text = input_of(*[MATE.format(number) for number in range(40)])
+        outcome = self.many(text, there)
+        self.assertEqual((outcome.status, outcome.output), (0, support.run([support.pops()], text).output))
+        self.assertRegex(outcome.error, r"^pops-many: machine two left out: .*\n$")
+
+    def test_the_default_command_is_ssh(self) -> None:
+        """Found on the PATH; the parts of problems don't share connections, so that each can be ended."""
+        self.write("ssh", _SSH.format(room=self.room))
+        text = input_of(*[MATE.format(number) for number in range(3)])
+        (self.room / "x.pop").write_bytes(text)
+        words = ["--pops", support.pops(), "--remote-pops", support.pops(), "--sshlogin", "one"]
+        path = f"{self.room}:{os.environ['PATH']}"
+        with mock.patch.dict(os.environ, {"PATH": path}):
+            outcome = support.companion("pops-many", *words, str(self.room / "x.pop"))
+        self.assertEqual(outcome, (0, support.run([support.pops()], text).output, ""))
+        self.assertTrue(all("ControlMaster" in login for login in self.logins()))
+        self.assertEqual(shutil.which("ssh", path=path), str(self.room / "ssh"))
+
+
+if __name__ == "__main__":
+    unittest.main()
