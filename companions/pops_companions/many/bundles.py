@@ -92,6 +92,13 @@ def items_in(report: bytes, bundle: Sequence[Task], may_go_on: bool = False) -> 
     return Items(len(bodies), int(is_faulty), whole)
 
 
+class _Run(NamedTuple):
+    """Neighbours, of which the ones from `begin` on wait."""
+
+    tasks: Sequence[Task]
+    begin: int
+
+
 class Bundles:
     """Hands out tasks in bundles, to several threads; sizes follow from the time that bundles take."""
 
@@ -99,7 +106,7 @@ class Bundles:
         self._jobs = jobs
         self._most = len(tasks) // (_BUNDLES_OF_A_JOB * jobs)
         runs = neighbours(tasks) if self._most > 1 else [[task] for task in tasks]
-        self._waiting = deque(runs)
+        self._waiting = deque(_Run(run, 0) for run in runs)
         self._left = len(tasks)
         self._at_work = 0
         self._seconds_each: Optional[float] = None
@@ -114,21 +121,22 @@ class Bundles:
                 self._changed.wait()
             if not self._waiting or self._is_closed:
                 return None
-            run = self._waiting.popleft()
-            size = self._size_in(run)
-            if size < len(run):
-                self._waiting.appendleft(run[size:])
+            tasks, begin = self._waiting.popleft()
+            stop = begin + self._size_in(tasks, begin)
+            if stop < len(tasks):
+                self._waiting.appendleft(_Run(tasks, stop))
             self._at_work += 1
-            self._left -= size
-            return run[:size]
+            self._left -= stop - begin
+            return tasks[begin:stop]
 
-    def _size_in(self, run: Sequence[Task]) -> int:
-        """Returns how many problems of a run are the next bundle."""
-        most = min(len(run), self._most, max(self._left // (2 * self._jobs), self._least))
+    def _size_in(self, tasks: Sequence[Task], begin: int) -> int:
+        """Returns how many problems of a run, from one on, are the next bundle."""
+        left = len(tasks) - begin
+        most = min(left, self._most, max(self._left // (2 * self._jobs), self._least))
         size = max(min(int(self._size), most), 1)
-        first = run[0].piece
+        first = tasks[begin].piece
         while size > 1:
-            last = run[size - 1].piece
+            last = tasks[begin + size - 1].piece
             assert first is not None and last is not None
             if last.stop - first.start <= _LONGEST:
                 break
@@ -153,7 +161,7 @@ class Bundles:
         """Takes back the problems of a bundle that its run doesn't solve."""
         if tasks:
             with self._changed:
-                self._waiting.appendleft(list(tasks))
+                self._waiting.appendleft(_Run(tasks, 0))
                 self._left += len(tasks)
                 self._changed.notify_all()
 

@@ -54,8 +54,16 @@ def _marks_in(text: bytes) -> Iterator[tuple[int, int, bool]]:
 
 def _words_of(small: bytes, word: bytes) -> Iterator[tuple[int, int]]:
     """Yields where a word, or one that is short for it, is among whole lines in small letters, but in
-    text lines.
+    text lines. Where each is in full and alone on its line, no line needs to be looked at.
     """
+    alone = b"\n" + word + b"\n"
+    number = small.count(word[:_LEAST_LETTERS])
+    if number == small.count(alone):
+        start = 0
+        for _ in range(number):
+            start = small.index(alone, start) + 1
+            yield start, start + len(word)
+        return
     seen = 0
     for found in _LIKE[word].finditer(small):
         start, after = found.span()

@@ -122,12 +122,13 @@ def bundles_of(tasks: Sequence[Task], places: int) -> list[Sequence[Task]]:
     most = min(max(wished, 1), _MOST_OF_A_BUNDLE)
     bundles: list[Sequence[Task]] = []
     for run in neighbours(tasks):
-        while run:
-            size = min(most, len(run))
-            while size > 1 and not _fits(text_of(run[:size])):
-                size //= 2
-            bundles.append(run[:size])
-            run = run[size:]
+        begin = 0
+        while begin < len(run):
+            bundle = run[begin : begin + most]
+            while len(bundle) > 1 and not _fits(text_of(bundle)):
+                del bundle[len(bundle) // 2 :]
+            bundles.append(bundle)
+            begin += len(bundle)
     return bundles
 
 
