@@ -6,7 +6,7 @@ import { wordsOf } from './text.js';
 import { say } from './words.js';
 
 const TRIES_OPTIONS = ['Try', 'Defence', 'Threat'];
-const OF_YAML = /^\s*algebraic\s*:/m;
+const OF_YAML = /^[^\S\n\r]*algebraic[^\S\n\r]*:/m;
 
 /** @param {string} word */
 const optionOf = word => (companions.unread(word) ?? companions.unread(companions.foreign(word)?.english ?? ''))?.name;

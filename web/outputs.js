@@ -25,7 +25,7 @@ function problemsIn(text) {
     const valued = VALUES.filter(it => valueOf(fields, it)).map(it => `${it} ${valueOf(fields, it)}`);
     const condition = CONDITIONS.find(it => isShort(valueOf(fields, 'condition') ?? '', it)) ?? null;
     const names = given[block.number - 1] ?? { title: null, author: null, origin: null, remarks: [] };
-    const authors = (names.author ?? '').split(/\s*;\s*|\s+(?:&|and|und|et)\s+/).filter(Boolean);
+    const authors = (names.author ?? '').replace(/\s+/g, ' ').split(/ ?; ?| (?:&|and|und|et) /).filter(Boolean);
     const options = [...FLAGS.filter(it => it in fields), ...valued];
     return { ...names, authors, number: block.number, men: menOf(block).men, stipulation: valueOf(fields, 'stipulation') ?? '', condition, options };
   });

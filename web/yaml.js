@@ -16,10 +16,17 @@ export class YamlError extends py.ValueError {
 export const Scalar = Object.defineProperty((/** @type {string} */ text) => text, Symbol.hasInstance, { value: (/** @type {any} */ it) => typeof it === 'string' });
 export const line_of = () => 1;
 
-const KEY = /^("[^"]*"|'[^']*'|[^\s"'[\]{},:#][^:#]*?)\s*:(?:\s+(.*))?$/;
+const KEY = /^("[^"]*"|'[^']*'|[^\s"'[\]{},:#](?:[^:#]*[^\s:#])?)\s*:(?:\s+(.*))?$/;
 
-/** @param {string} line */
-const withoutComment = line => line.replace(/(^|\s)#(?=[^"']*$).*/, '$1').trimEnd();
+/**
+ * Cuts off a comment: from a # after the last quote.
+ * @param {string} line
+ */
+function withoutComment(line) {
+  const after = Math.max(line.lastIndexOf('"'), line.lastIndexOf("'")) + 1;
+  const comment = after ? /(\s)#.*/ : /(^|\s)#.*/;
+  return (line.slice(0, after) + line.slice(after).replace(comment, '$1')).trimEnd();
+}
 
 /**
  * Returns the lines of a document with content: { indent, text }.

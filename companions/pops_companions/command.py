@@ -4,19 +4,22 @@ import argparse
 import gc
 import io
 import os
+import re
 import signal
 import sys
 import threading
 from collections.abc import Callable, Iterator
 from contextlib import contextmanager
 from enum import IntEnum
-from typing import BinaryIO, NoReturn, Optional
+from typing import Any, BinaryIO, NoReturn, Optional, TextIO, cast
 
 from pops_companions import files, places
 
 # The signals that end a companion in order, but for one that is ignored, as by nohup.
 _SIGNALS = (signal.SIGINT, signal.SIGTERM, signal.SIGHUP)
 _LONGEST_NUMBER = 18
+# Characters that a terminal obeys, but for line end, tab, and the return to the begin of a line.
+_OBEYED = re.compile("[\x00-\x08\x0b\x0c\x0e-\x1f\x7f-\x9f]")
 # Longer waits are no waits: without a limit a run takes as long as it likes.
 MOST_SECONDS = 2_000_000
 MOST_JOBS = 1000
@@ -55,7 +58,7 @@ def parser(name: str, description: str, **more: object) -> argparse.ArgumentPars
 
 def run(name: str, command: Callable[[list[str]], int]) -> NoReturn:
     """Runs a companion on the program's arguments and ends with its status."""
-    with _signals_as_interrupts(), _rare_collections():
+    with _signals_as_interrupts(), _rare_collections(), _harmless_messages():
         status = _ended(name, command)
     _close_output()
     sys.exit(status)
@@ -125,12 +128,36 @@ def _rare_collections() -> Iterator[None]:
         gc.set_threshold(*before)
 
 
+class _Messages:
+    """Standard error, on which no name of a file and no text given commands the terminal."""
+
+    def __init__(self, target: TextIO):
+        self._target = target
+
+    def write(self, text: str) -> int:
+        return self._target.write(_OBEYED.sub("\ufffd", text))
+
+    def __getattr__(self, name: str) -> Any:
+        return getattr(self._target, name)
+
+
+@contextmanager
+def _harmless_messages() -> Iterator[None]:
+    """Lets messages hold no characters that a terminal obeys; a closed stream takes them too."""
+    before = sys.stderr
+    with open(os.devnull, "w") as nowhere:
+        sys.stderr = cast(TextIO, _Messages(nowhere if before is None else before))
+        try:
+            yield
+        finally:
+            sys.stderr = before
+
+
 def _say(text: str) -> None:
     """Writes on standard error. If nobody reads it, nothing fails."""
     try:
-        if sys.stderr is not None:
-            sys.stderr.write(text)
-            sys.stderr.flush()
+        sys.stderr.write(text)
+        sys.stderr.flush()
     except OSError:
         pass
 
@@ -144,14 +171,15 @@ def _status_of(command: Callable[[list[str]], int]) -> int:
 
 
 def _buffer_output() -> None:
-    """Buffers standard output where Python doesn't (PYTHONUNBUFFERED).
+    """Buffers standard output where Python doesn't (PYTHONUNBUFFERED), and lets it take any text.
 
-    An unbuffered write may take only some of its bytes without an error.
+    An unbuffered write may take only some of its bytes without an error. A name of a file needn't be
+    text, and not every encoding has all characters of a title.
     """
-    if sys.stderr is None:
-        sys.stderr = open(os.devnull, "w")
     if sys.stdout is None:
         raise CommandError(Status.DEVICE, "standard output is closed")
+    if isinstance(sys.stdout, io.TextIOWrapper) and sys.stdout.errors == "strict":
+        sys.stdout.reconfigure(errors="backslashreplace")
     if not isinstance(sys.stdout.buffer, io.BufferedIOBase):
         sys.stdout = open(
             sys.stdout.fileno(),

@@ -14,7 +14,7 @@ from pathlib import Path
 from typing import Any, Optional
 
 # Generous: a machine may have much else to do.
-SECONDS_OF_AN_ANSWER = 1800
+SECONDS_OF_AN_ANSWER = 7200
 SECONDS_OF_AN_END = 20
 # (the superuser's browser has no sandbox; no host but this one is found, so nothing goes into a network)
 _FLAGS = (

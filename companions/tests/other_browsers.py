@@ -18,8 +18,8 @@ from typing import Any, Optional, Union
 from tests.browser_pipe import BrowserError
 
 # Generous: a machine may have much else to do.
-SECONDS_OF_A_START = 1800
-SECONDS_OF_AN_ANSWER = 1800
+SECONDS_OF_A_START = 7200
+SECONDS_OF_AN_ANSWER = 7200
 SECONDS_OF_AN_END = 20
 # A new profile contacts no server and opens no page by itself.
 _PREFERENCES = """user_pref("marionette.port", 0);

@@ -19,7 +19,7 @@ COMPANIONS = Path(__file__).resolve().parent.parent
 REPOSITORY = COMPANIONS.parent
 PACKAGE = COMPANIONS / "pops_companions"
 # The seconds after which a test gives up waiting: no busy machine takes so long.
-PATIENCE = 1800
+PATIENCE = 7200
 # Commands whose module has another name.
 _OTHER_NAMES = {"pops-import": "import_", "pops-test": "soundness", "popeye-py": "popeye_py"}
 Test = TypeVar("Test", bound=Callable[..., Any])

@@ -1,15 +1,19 @@
 """pops-many that is stopped or killed: what ends, what is left, what --resume takes up."""
 
+import io
 import os
 import pty
 import signal
 import subprocess
 import sys
 import tempfile
+import time
 import unittest
 from pathlib import Path
+from unittest import mock
 
 from pops_companions.many import sessions
+from pops_companions.many.progress import Progress
 from tests import support
 from tests.six_problems import SixProblems, has_worked, wait_for
 
@@ -196,6 +200,18 @@ class Sessions(unittest.TestCase):
             sessions.end(session)
             self.assertEqual(sessions.members(session), [])
             run.communicate()
+
+
+class LastLine(unittest.TestCase):
+    def test_nothing_is_shown_after_it(self) -> None:
+        with mock.patch("sys.stderr", io.StringIO()) as shown:
+            progress = Progress("pops-many")
+            progress.is_shown = True
+            progress.begin(0, 1)
+            progress.one_more()
+            time.sleep(0.7)
+            progress.wait_on()
+        self.assertEqual(shown.getvalue(), "\rpops-many: 1 of 1 problems")
 
 
 if __name__ == "__main__":

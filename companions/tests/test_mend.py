@@ -36,6 +36,15 @@ class Mending(unittest.TestCase):
                     self.assertEqual(faults(made.text), 0)
         self.assertGreater(mended, 120)
 
+    def test_many_blocks(self) -> None:
+        """Each BeginProblem after the first is NextProblem then; a fault that stays is counted once."""
+        made = mend(text_of("Title A", PIECES, "Stipulation #1") * 600)
+        wanted = text_of(*["Title A", PIECES, "Stipulation #1", "NextProblem"] * 600)
+        self.assertEqual(made.text, wanted.replace(b"NextProblem\nEndProblem", b"EndProblem"))
+        self.assertEqual((made.mended, made.left), (599, 0))
+        made = mend(text_of(PIECES, "Stipulation mate") + text_of("Titel A", PIECES, "Stipulation #1"))
+        self.assertEqual((made.mended, made.left), (2, 1))
+
     def test_what_is_written(self) -> None:
         for wrong, right in (
             ("Pieces White Kg6 Ta1 Black Kg8", PIECES),

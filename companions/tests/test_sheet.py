@@ -411,6 +411,23 @@ class Forms(Case):
                 if text is not strange:
                     self.assertNotIn(b"Overfull", done.stdout)
 
+    def test_names_that_look_like_commands(self) -> None:
+        """They are text: of a faulty problem in a box, and of a sound one."""
+        if not support.has_latex():
+            print("test_sheet: no LaTeX with the package diagram here: no names were typeset")
+            return
+        for place, said in enumerate((r"[1 \input{x}", "*", r"^^5cinput{x} \write18{y}", "] } % & ~ $", "`?` --")):
+            for man in "RT":
+                text = (
+                    f"BeginProblem\nTitle {said}\nAuthor {said}\nOrigin {said}\nRemark award: {said}\n"
+                    f"Pieces White Kg6 {man}a1 Black Kh8\nStipulation h#1\nEndProblem\n"
+                )
+                source = self.room / f"named-{place}{man}.tex"
+                source.write_bytes(self.made(text.encode(), "--to", "latex").output)
+                words = ["latex", "-interaction=nonstopmode", "-halt-on-error", source.name]
+                done = subprocess.run(words, cwd=self.room, capture_output=True, timeout=support.PATIENCE)
+                self.assertEqual(done.returncode, 0, done.stdout[-2000:])
+
     def test_letters_are_typeset(self) -> None:
         """Every letter of Latin and of the languages written in Cyrillic, in titles and authors."""
         if not support.has_latex():
@@ -447,6 +464,10 @@ class Forms(Case):
         self.assertIn("\\textbf{1} Samuel Loyd \\& Will Shinkman\\\\\nA pair\\\\\n", page)
         self.assertIn("\\textbf{ligne 7 : énoncé incorrect}", page)
         self.assertIn("\\specialdiagnum{2}", page)
+        # LaTeX would read a bracket or a star after a line break as part of it.
+        named = faulty.replace(b"A pair", b"[Untitled").replace(b"The Source", b"*The Source")
+        self.assertNotEqual(named, faulty)
+        self.assertNotRegex(self.made(named, "--to", "latex").output.decode(), r"\\\\\n[\[*]")
 
     def test_numbers(self) -> None:
         """Twins alone are 1a and 1b; the first number is given."""

@@ -11,7 +11,7 @@ const isSame = (one, other) => Buffer.compare(Buffer.from(one), Buffer.from(othe
 const LONG = 'BeginProblem\nPieces White Kd1 Ra1 Bc1 Pa2 Black Ke8 Qb8 Pa7\nStipulation h#8\nEndProblem\n';
 const MATE = readFileSync(`${examples}/morphy_1856.pop`, 'utf8');
 // (a busy machine needs some)
-const SECONDS_OF_A_STOP = 1800;
+const SECONDS_OF_A_STOP = 7200;
 
 for (const { name, text, options, report, status } of JSON.parse(readFileSync(0, 'utf8'))) {
   const ours = await solve(Buffer.from(text, 'base64'), options);

@@ -15,8 +15,8 @@ import { Solving } from '../../web/solving.js';
 import { withField } from '../../web/text.js';
 
 const CUT_STATUS = 3;
-const SECONDS_A_TEXT = 1800;
-const SECONDS_OF_THE_PROGRAM = 1800;
+const SECONDS_A_TEXT = 7200;
+const SECONDS_OF_THE_PROGRAM = 7200;
 const SECONDS_OF_A_HANG = 5;
 // A text that takes more processor seconds without its limit of solutions is solved with it.
 const SECONDS_WITHOUT_LIMIT = 3;

@@ -112,6 +112,30 @@ test('contents: names and twins of a text', () => {
   assert.deepEqual(twinsOf(text, contents, 2).map(it => [it.label.text, it.change]), [['a)', ''], ['b)', '#2']]);
 });
 
+test('importing: long lines of blanks, comments and line ends, and long chains of twins, take little time', () => {
+  const most = 1e5;
+  const head = "algebraic:\n  white: [Kg6, Ra1]\n  black: [Kg8]\nstipulation: '#1'\n";
+  const chain = 'Twin Continued Move a1 a2\nTwin Continued Move a2 a1\n'.repeat(500);
+  for (const [text, isRead] of [
+    [`${head}title: a${' '.repeat(most)}b\n`, true], [`${head}a${' '.repeat(most)}b: c\n`, true], [`${head}x${' '.repeat(most)}y\n`, false],
+    [`${head}title: "a"${' #'.repeat(most)}\n`, true], [`${head}title: ${' #'.repeat(most)}"\n`, true], [`${'\r'.repeat(most)}${'\n'.repeat(most)}a: b\n`, false],
+    [`BeginProblem\nPieces White Kg6 Ra1 Black Kh8\nStipulation h#1\n${chain}EndProblem\n`, true],
+  ]) {
+    const begun = process.cpuUsage();
+    assert.equal(Boolean(imported(text)?.text), isRead);
+    const { user, system } = process.cpuUsage(begun);
+    assert.ok(user + system < 3e7, `${user + system} microseconds for ${text.length} letters`);
+  }
+});
+
+test('importing: comments and keys', () => {
+  const titleOf = line => imported(`algebraic:\n  white: [Kg6, Ra1]\n  black: [Kg8]\nstipulation: '#1'\n${line}\n`)?.text?.match(/^Title (.*)$/m)?.[1];
+  for (const [line, title] of [
+    ['title: a b', 'a b'], ['title : a', 'a'], ['title: a # b', 'a'], ['title: "a # b"', 'a # b'], ['title: "a" # b', 'a'], ["title: it's #1", "it's"],
+    ["title: 'a' #b # c", 'a'], ['title: a#b', 'a#b'], ["title: a # it's", "a # it's"], ['#title: b\ntitle: a', 'a'],
+  ]) assert.equal(titleOf(line), title);
+});
+
 /** Writes a mate in two with these options, if any. */
 const withOptions = options => `BeginProblem\nPieces White Kd6 Qh8 Rc7 Black Ke1 Pa6\nStipulation #2\n${options}EndProblem\n`;
 

@@ -68,6 +68,14 @@ test('outputs: YAML', () => {
   assert.equal(yamlOf(TEXT, []).includes('solution: |'), false);
 });
 
+test('outputs: a name with many blanks takes little time', () => {
+  const begun = process.cpuUsage();
+  const text = `BeginProblem\nAuthor A${' '.repeat(2e5)}B & C\nPieces White Kg6 Black Kg8\nStipulation #1\nEndProblem\n`;
+  assert.match(yamlOf(text, []), /^  - "A B"\n  - "C"$/m);
+  const { user, system } = process.cpuUsage(begun);
+  assert.ok(user + system < 3e7, `${user + system} microseconds`);
+});
+
 test('outputs: LaTeX', () => {
   const made = latexOf(TEXT.replace('Here', '50% {x} Ж_1'), new Map([[1, 'Solution\n  1.Ra6#\n']]));
   assert.match(made, /^% for pdflatex.*\n\\documentclass\[a4paper\]\{article\}\n/);

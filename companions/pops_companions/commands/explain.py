@@ -20,6 +20,7 @@ from pops_companions.explain.showing import Shower
 from pops_companions.many.program import LOOKED_FOR, MissingError, RunError
 from pops_companions.report.items import Item
 from pops_companions.report.reader import ReportError, read_report
+from pops_companions.show.titles import printable
 
 NAME = "pops-explain"
 STANDARD_INPUT = "-"
@@ -106,6 +107,7 @@ def write(name: str, text: bytes, report: BinaryIO, target: BinaryIO, every: boo
     `every` is whether the faults after the first one of a problem are explained too.
     """
     total = faulty = further = 0
+    name = printable(name)
     shower = Shower(name, text)
 
     def counted() -> Iterator[Item]:

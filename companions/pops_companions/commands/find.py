@@ -1,6 +1,7 @@
 """Keeps a collection of problems in one file, and finds anticipations, authors, men in it."""
 
 import argparse
+import os
 import re
 import sqlite3
 import sys
@@ -15,7 +16,7 @@ from pops_companions.find.collection import Collection, CollectionError, Found, 
 from pops_companions.find.entries import EntriesError, Entry, entries_of, items_of, men_in
 from pops_companions.find.showing import Answer, as_page, as_text
 from pops_companions.review.naming import counted
-from pops_companions.show.titles import other_lines
+from pops_companions.show.titles import other_lines, printable
 
 NAME = "pops-find"
 MOST = 50
@@ -167,6 +168,11 @@ def read(file: str) -> bytes:
         return source.read()
 
 
+def kept_name(file: str) -> str:
+    """Returns the name of a file as a collection keeps it, which is text."""
+    return os.fsencode(file).decode("utf-8", "backslashreplace")
+
+
 def entries_in(file: str, encoding: str) -> tuple[list[Entry], bool]:
     """Returns the problems of a file, and whether all of them could be taken."""
     data = read(file)
@@ -174,7 +180,7 @@ def entries_in(file: str, encoding: str) -> tuple[list[Entry], bool]:
     if other:
         print(f"{NAME}: {other}", file=sys.stderr)
     try:
-        entries, left_out = entries_of(file, data, encoding)
+        entries, left_out = entries_of(kept_name(file), data, encoding)
     except EntriesError as error:
         raise CommandError(Status.DEVICE, f"{file}: {error}") from None
     for text in left_out:
@@ -195,8 +201,9 @@ def add(collection: Collection, files: list[str], settings: Settings) -> Status:
         entries, is_whole = entries_in(file, settings.encoding)
         status = status if is_whole else Status.FAULTY
         whole = (entry.with_item(items.get(entry.number)) for entry in entries)
-        print(f"{file}: {counted(collection.add(file, whole), 'problem')} added")
-    print(f"{settings.collection}: {counted(len(collection), 'problem')}")
+        count = collection.add(kept_name(file), whole)
+        print(f"{printable(file)}: {counted(count, 'problem')} added")
+    print(f"{printable(settings.collection)}: {counted(len(collection), 'problem')}")
     return status
 
 

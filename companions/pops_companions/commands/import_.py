@@ -62,14 +62,13 @@ class Told(NamedTuple):
         twin = f" {self.twin}" if self.twin else ""
         return f"{self.file}, line {self.line}, problem {self.problem}{twin}: {self.reason}"
 
-    def json(self, row: str) -> str:
+    def json(self, column: int, length: int) -> str:
         """The message as a JSON object; column and length are its line's text."""
-        text = row.strip()
         place = {
             "file": self.file,
             "line": self.line,
-            "column": 1 + row.index(text),
-            "length": len(text),
+            "column": column,
+            "length": length,
             "problem": self.problem,
             "twin": self.twin or None,
         }
@@ -105,13 +104,15 @@ class Import:
         self.is_whole = True
         self._as_json = as_json
         self._rows: list[str] = []
+        # Column and length of the text in lines, as far as messages named them.
+        self._texts: dict[int, tuple[int, int]] = {}
 
     def read(self, file: Optional[str], encoding: str) -> None:
         """Converts the problems of a file, or of standard input, and reports what is left out."""
         name = file or "standard input"
         with command.opened(file) as source:
             data = source.read()
-        self._rows = []
+        self._rows, self._texts = [], {}
         try:
             text = decoded(data, encoding)
             self._rows = text.replace("\r\n", "\n").split("\n")
@@ -143,10 +144,17 @@ class Import:
     def _say(self, told: Told) -> None:
         self.is_whole = self.is_whole and told.kind is Kind.NOTE
         if self._as_json:
-            row = self._rows[told.line - 1] if 1 <= told.line <= len(self._rows) else ""
-            print(told.json(row), file=sys.stderr)
+            print(told.json(*self._text_in(told.line)), file=sys.stderr)
         else:
             say(told.text)
+
+    def _text_in(self, line: int) -> tuple[int, int]:
+        """Returns column and length of a line's text."""
+        if line not in self._texts:
+            row = self._rows[line - 1] if 1 <= line <= len(self._rows) else ""
+            text = row.strip()
+            self._texts[line] = 1 + row.index(text), len(text)
+        return self._texts[line]
 
     def _make(self, name: str, draft: Draft) -> None:
         self._tell(name, draft, "", draft.notes)

@@ -29,7 +29,7 @@ from pops_companions.many.program import LOOKED_FOR, MissingError, RunError
 from pops_companions.many.tries_program import TRIES_LOOKED_FOR
 from pops_companions.report.items import Node, Phase, SoundItem
 from pops_companions.report.tries import FirstMove, TriesItem
-from pops_companions.show.titles import shown, text_of
+from pops_companions.show.titles import printable, shown, text_of
 
 NAME = "popeye-py"
 _MOST_REFUTATIONS = 200
@@ -177,7 +177,7 @@ def write(solver: Solver, draft: Draft, one: Posed) -> Status:
         print(f"{NAME}: {name}: left out: {why}", file=sys.stderr)
         return Status.FAULTY
     for line in solver.lines(draft, one):
-        print(line)
+        print(printable(line))
     return Status.GOOD if solver.is_whole else Status.FAULTY
 
 

@@ -12,7 +12,7 @@ from typing import NamedTuple, Optional
 from pops_companions.explain.case import Explanation
 from pops_companions.explain.explaining import ExplainedFault, explanation
 from pops_companions.explain.fault_texts import FAULT_TEXTS
-from pops_companions.input.pieces import cut, rest_of
+from pops_companions.input.pieces import Piece, cut, rest_of
 from pops_companions.input.reading import (
     CASTLING_SQUARES,
     COMMANDS,
@@ -99,35 +99,50 @@ class Mended:
 
 
 def mend(text: bytes) -> Mended:
-    """Mends all faults of a text as far as their explanations say how."""
+    """Mends all faults of a text as far as their explanations say how.
+
+    A block after the first EndProblem is joined once those before it are mended.
+    """
     made = Mended(text)
+    pieces = cut(text)
     number = 1
-    while number <= len(cut(made.text)):
-        for _ in range(_MOST_FAULTS):
-            reading = read_number(made.text, number)
-            if reading is None or reading.number is None:
-                break
-            edit = edit_for(made.text, number, reading)
-            if edit is None:
-                made.left += 1
-                break
-            made.text = edit.of(made.text)
-            made.mended += 1
-        number += 1
-    return _with_rest(made)
+    while True:
+        while number <= len(pieces):
+            before = made.text
+            _mend_problem(made, number, read_piece(made.text, pieces[number - 1]))
+            # (faultless problems are read without cutting the text again)
+            pieces = pieces if made.text is before else cut(made.text)
+            number += 1
+        joined = _with_rest(made.text, pieces[-1])
+        if joined is None:
+            return made
+        made.text = joined
+        made.mended += 1
+        pieces = cut(joined)
 
 
-def _with_rest(made: Mended) -> Mended:
-    """Joins the block after the first EndProblem; its faults aren't looked for."""
-    rest = rest_of(made.text)
+def _mend_problem(made: Mended, number: int, first: Reading) -> None:
+    """Mends the faults of a problem, as it is read at first."""
+    reading: Optional[Reading] = first
+    for _ in range(_MOST_FAULTS):
+        if reading is None or reading.number is None:
+            return
+        edit = edit_for(made.text, number, reading)
+        if edit is None:
+            made.left += 1
+            return
+        made.text = edit.of(made.text)
+        made.mended += 1
+        reading = read_number(made.text, number)
+
+
+def _with_rest(text: bytes, last: Piece) -> Optional[bytes]:
+    """Returns a text with the block after its first EndProblem joined; None where there is none."""
+    rest = rest_of(text)
     if rest is None or not rest.problems:
-        return made
-    end = _END_AND_BEGIN.match(made.text, cut(made.text)[-1].stop)
-    if end is None:
-        return made
-    joined = made.text[: end.start()] + b"NextProblem" + made.text[end.end() :]
-    more = mend(joined)
-    return Mended(more.text, made.mended + 1 + more.mended, made.left + more.left)
+        return None
+    end = _END_AND_BEGIN.match(text, last.stop)
+    return None if end is None else text[: end.start()] + b"NextProblem" + text[end.end() :]
 
 
 def read_number(text: bytes, number: int) -> Optional[Reading]:

@@ -30,11 +30,15 @@ class Problem:
     @staticmethod
     def of_lines(number: int, lines: Iterable[str]) -> "Problem":
         """Returns the problem of the lines that pops-import writes."""
-        made = Problem(number)
+        texts: dict[str, list[str]] = {}
         for line in lines:
             word, _, text = line.partition(" ")
-            made = replace(made, **_changed(made, word, text))
-        return made
+            texts.setdefault(word.lower(), []).append(text)
+        origins, remarks = texts.pop("origin", ()), texts.pop("remark", ())
+        options = options_of(texts.pop("option", [""])[-1])
+        last = {word: given[-1] for word, given in texts.items()}
+        many = {"origins": tuple(origins), "remarks": tuple(remarks), "options": tuple(options)}
+        return replace(Problem(number), **many, **last)
 
     @property
     def posed(self) -> tuple[str, str, str, tuple[str, ...]]:
@@ -49,16 +53,6 @@ class Problem:
         texts += [("Pieces", self.pieces), ("Stipulation", self.stipulation)]
         texts += [("Condition", self.condition), ("Option", " ".join(self.options))]
         return [f"{word} {text}" for word, text in texts if text]
-
-
-def _changed(made: Problem, word: str, text: str) -> "dict[str, object]":
-    if word == "Origin":
-        return {"origins": (*made.origins, text)}
-    if word == "Remark":
-        return {"remarks": (*made.remarks, text)}
-    if word == "Option":
-        return {"options": tuple(options_of(text))}
-    return {word.lower(): text}
 
 
 def options_of(text: str) -> Iterator[str]:

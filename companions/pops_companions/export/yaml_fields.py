@@ -13,7 +13,8 @@ _KEYS = (
     *("id", "source-id", "sourceid", "distinction", "award", "awards", "keywords", "solution"),
     *("date", "reprint", "reprints", "legend", "dedication", "intended-solutions", "ash", "version"),
 )
-_FIELD = re.compile(rf"((?:{'|'.join(_KEYS)})(?:\.[\w-]+)*):(?: (.*))?", re.IGNORECASE)
+# (a collection has fewer levels)
+_FIELD = re.compile(rf"((?:{'|'.join(_KEYS)})(?:\.[\w-]+){{0,40}}):(?: (.*))?", re.IGNORECASE)
 # As Popeye's input has it.
 _AWARD = re.compile(r"Award (.+)")
 _SOURCE = re.compile("source: (.+)")

@@ -12,7 +12,7 @@ from typing import NamedTuple
 from pops_companions.chess.men import Colour, Man, Square
 
 EMPTY = "."
-_LETTERS = "KQRBSPGNkqrbspgn"
+LETTERS = "KQRBSPGNkqrbspgn"
 _KEY_BITS = 63
 # Where the keys of men come from: hashes that a file keeps depend on it.
 _SEED = 1836
@@ -63,7 +63,7 @@ def men_of(board: str) -> dict[Square, Man]:
 def _keys() -> dict[tuple[int, str], int]:
     chance = random.Random(_SEED)
     return {
-        (place, letter): chance.getrandbits(_KEY_BITS) for place in range(64) for letter in _LETTERS
+        (place, letter): chance.getrandbits(_KEY_BITS) for place in range(64) for letter in LETTERS
     }
 
 

@@ -5,14 +5,23 @@ without each of its men; a search looks up the hashes of all variants of a posit
 """
 
 import os
+import re
 import sqlite3
 from collections.abc import Iterable, Iterator, Sequence
 from contextlib import closing
 from dataclasses import astuple, dataclass, field, fields
-from typing import NamedTuple, Optional
+from typing import Any, NamedTuple, NoReturn, Optional
 
 from pops_companions.chess.men import Colour, Man, Square
-from pops_companions.find.boards import EMPTY, Variant, differences, hashes, men_of, variants
+from pops_companions.find.boards import (
+    EMPTY,
+    LETTERS,
+    Variant,
+    differences,
+    hashes,
+    men_of,
+    variants,
+)
 from pops_companions.find.entries import Entry, mirrored_play
 
 # The mark that the file is a collection of this form.
@@ -28,9 +37,26 @@ CREATE INDEX problems_by_source ON problems (source);
 CREATE INDEX problems_by_play ON problems (play) WHERE play IS NOT NULL;
 """
 _KEYWORDS = "ALTER TABLE problems ADD COLUMN keywords TEXT NOT NULL DEFAULT ''"
+# A board, as `board_of` makes it.
+_BOARD = re.compile(rf"[{EMPTY}{LETTERS}]{{64}}")
 _COLUMNS = ", ".join(one.name for one in fields(Entry))
+_TYPES: tuple[Any, ...] = tuple(
+    {"number": int, "play": (str, type(None))}.get(one.name, str) for one in fields(Entry)
+)
 # How many hashes one question names.
 _HASHES_AT_ONCE = 500
+
+
+def _without_blanks(statement: str) -> str:
+    return "".join(statement.split())
+
+
+# The statements that made the tables, also in older versions.
+_OWN = {
+    _without_blanks(statement)
+    for schema in (_SCHEMA, _SCHEMA.replace(", keywords TEXT NOT NULL DEFAULT ''", ""))
+    for statement in schema.split(";")
+}
 
 
 class CollectionError(Exception):
@@ -93,7 +119,19 @@ class Collection:
             raise CollectionError(f"cannot open {path}: {error}") from None
         if form != _FORM:
             raise CollectionError(f"{path} is no collection of pops-find")
+        self._path = path
+        self._refuse_others()
         self._add_keywords(path)
+
+    def _refuse_others(self) -> None:
+        """Refuses tables, views and triggers of others: they may have no end, or change what is added."""
+        question = (
+            "SELECT sql FROM sqlite_master"
+            " WHERE sql IS NOT NULL AND NOT (type = 'table' AND name LIKE 'sqlite_stat_')"
+        )
+        for (statement,) in self._data.execute(question):
+            if _without_blanks(str(statement)) not in _OWN:
+                raise CollectionError(f"{self._path} has tables of others than pops-find")
 
     def _add_keywords(self, path: str) -> None:
         """Makes room for keywords in a collection that an older version made."""
@@ -143,7 +181,7 @@ class Collection:
 
     def _remove(self, source: str) -> None:
         rows = self._data.execute("SELECT id, board FROM problems WHERE source = ?", (source,))
-        keys = [(one, number) for number, board in rows for one in hashes(board)]
+        keys = [(one, number) for number, board in rows for one in hashes(self._board(board))]
         self._data.executemany("DELETE FROM positions WHERE hash = ? AND problem = ?", keys)
         self._data.execute("DELETE FROM problems WHERE source = ?", (source,))
 
@@ -154,7 +192,7 @@ class Collection:
         where = f" WHERE {' AND '.join(conditions)}" if conditions else ""
         question = f"SELECT {_COLUMNS} FROM problems{where} ORDER BY id"
         for row in self._data.execute(question, values):
-            entry = Entry(*row)
+            entry = self._entry_of(row)
             if wanted.counts is not None and wanted.counts != _counts(entry.board):
                 continue
             if wanted.dates is None or _is_within(entry.date, wanted.dates):
@@ -199,14 +237,30 @@ class Collection:
 
     def _entry(self, number: int) -> Entry:
         question = f"SELECT {_COLUMNS} FROM problems WHERE id = ?"
-        return Entry(*self._data.execute(question, (number,)).fetchone())
+        return self._entry_of(self._data.execute(question, (number,)).fetchone())
+
+    def _entry_of(self, row: Optional[Sequence[Any]]) -> Entry:
+        """Returns the problem of a row. CollectionError where `add` didn't write it."""
+        if row is None or not all(map(isinstance, row, _TYPES)):
+            self._refuse_row()
+        entry = Entry(*row)
+        self._board(entry.board)
+        return entry
+
+    def _board(self, board: object) -> str:
+        if not isinstance(board, str) or not _BOARD.fullmatch(board):
+            self._refuse_row()
+        return board
+
+    def _refuse_row(self) -> NoReturn:
+        raise CollectionError(f"{self._path} is damaged: it has a problem that isn't one")
 
     def same_play(self, play: str) -> list[Found]:
         """Returns the problems with the same keys and mates, or help lines, mirrored or not."""
         found: list[Found] = []
         for one, how in ((play, ()), (mirrored_play(play), ("mirrored left to right",))):
             question = f"SELECT {_COLUMNS} FROM problems WHERE play = ? ORDER BY id"
-            entries = [Entry(*row) for row in self._data.execute(question, (one,))]
+            entries = [self._entry_of(row) for row in self._data.execute(question, (one,))]
             known = [it.entry for it in found]
             changes = ("the same key and mates",)
             found += [Found(entry, how, changes) for entry in entries if entry not in known]

@@ -38,10 +38,10 @@ class Answer(NamedTuple):
 
 def as_text(answer: Answer) -> str:
     """Returns a block of lines: what was asked for, below it each problem found."""
-    lines = [f"{answer.heading}: {_counted(len(answer.found))}"]
+    lines = [f"{printable(answer.heading)}: {_counted(len(answer.found))}"]
     for found in answer.found:
         entry = found.entry
-        lines.append(f"  {entry.source}, problem {entry.number}: {printable(entry.name)}")
+        lines.append(f"  {printable(entry.source)}, problem {entry.number}: {printable(entry.name)}")
         if answer.asked is not None:
             lines.append(f"    {found.text}")
         lines.append(f"    {pieces_line(men_of(entry.board))[len('Pieces ') :]}")

@@ -15,6 +15,9 @@ from pops_companions.input.given import LONGEST_TEXT
 from pops_companions.input.reading import MOST_MOVES
 from pops_companions.input.writing import pieces_line
 
+# How much of what is said of a whole problem its further twins repeat: Origins, and notes.
+_MOST_REPEATED = 20
+
 
 class Posed(NamedTuple):
     """A problem for pops: its lines, or why it has none. Its label is another one than its twins'."""
@@ -39,6 +42,34 @@ class _Version:
     faults: list[Message] = field(default_factory=list)
 
 
+class _Said(NamedTuple):
+    """What a draft says of all its problems: their names, and Remarks."""
+
+    title: str
+    author: str
+    origins: list[str]
+    remarks: list[str]
+    wanted: list[str]
+    notes: list[Message]
+
+    @staticmethod
+    def of(draft: Draft) -> "_Said":
+        texts: dict[Command, list[str]] = {}
+        remarks: list[str] = []
+        for command, text in draft.texts:
+            texts.setdefault(command, []).append(text)
+            if command in (Command.REMARK, Command.AWARD):
+                remarks.append(text if command is Command.REMARK else f"Award {text}")
+        return _Said(
+            "; ".join(filter(None, texts.get(Command.TITLE, ()))),
+            "; ".join(filter(None, texts.get(Command.AUTHOR, ()))),
+            texts.get(Command.ORIGIN, []),
+            remarks,
+            [] if draft.wanted is None else [f"solutions {draft.wanted}"],
+            draft.notes,
+        )
+
+
 def posed(draft: Draft) -> list[Posed]:
     """Returns all problems that a draft holds, as far as pops can read them."""
     faults = list(draft.faults)
@@ -47,9 +78,12 @@ def posed(draft: Draft) -> list[Posed]:
     if faults:
         return [Posed("", draft.line, [], [], faults)]
     made: list[Posed] = []
+    said = _Said.of(draft)
+    is_first = True
     for version in _versions(draft):
         for part in _parts(version):
-            made.append(_posed(draft, part, not any(one.lines for one in made)))
+            made.append(_posed(said, part, is_first))
+            is_first = is_first and not made[-1].lines
     return made
 
 
@@ -111,7 +145,7 @@ def _turned(version: _Version) -> _Version:
     )
 
 
-def _posed(draft: Draft, version: _Version, is_first: bool) -> Posed:
+def _posed(said: _Said, version: _Version, is_first: bool) -> Posed:
     faults = list(version.faults)
     notes = list(version.notes)
     lines: list[str] = []
@@ -119,7 +153,7 @@ def _posed(draft: Draft, version: _Version, is_first: bool) -> Posed:
         checked = _Checked(version, notes)
         faults.extend(Message(version.line, text) for text in checked.faults)
         if not faults:
-            lines = _texts(draft, version, notes, is_first) + checked.lines()
+            lines = _texts(said, version, notes, is_first) + checked.lines()
     return Posed(version.label, version.line, lines, notes, faults)
 
 
@@ -248,37 +282,35 @@ class _Checked:
         return lines
 
 
-def _texts(draft: Draft, version: _Version, notes: list[Message], is_first: bool) -> list[str]:
+def _texts(said: _Said, version: _Version, notes: list[Message], is_first: bool) -> list[str]:
     """Returns the lines of text: what pops prints, and Remarks for all else.
 
     The draft's own Remarks stand with the first of its problems alone.
     """
     lines = []
     remarks = []
-    for command, label in ((Command.TITLE, version.label), (Command.AUTHOR, "")):
-        whole = "; ".join(one.text for one in draft.texts if one.command is command and one.text)
+    for command, whole, label in (
+        (Command.TITLE, said.title, version.label),
+        (Command.AUTHOR, said.author, ""),
+    ):
         text = _shortened(whole, LONGEST_TEXT - len(f" {label}".rstrip()))
         if text != whole:
-            remarks.append(f"{command.value} {whole}")
+            remarks += [f"{command.value} {whole}"] * is_first
             shortened = f"{command.value} shortened to {LONGEST_TEXT} bytes: see Remark"
             notes.append(Message(version.line, shortened))
         if text or label:
             lines.append(" ".join(filter(None, (command.value, text, label))))
-    for command, text in draft.texts:
-        if command is Command.ORIGIN:
-            lines.append(f"Origin {text}")
-        elif is_first and command is Command.REMARK:
-            remarks.append(text)
-        elif is_first and command is Command.AWARD:
-            remarks.append(f"Award {text}")
-    if draft.wanted is not None:
-        remarks.append(f"solutions {draft.wanted}")
-    remarks += version.remarks + [note.text for note in draft.notes + notes]
+    most = None if is_first else _MOST_REPEATED
+    lines += [f"Origin {text}" for text in said.origins[:most]]
+    remarks += [*(said.remarks if is_first else ()), *said.wanted, *version.remarks]
+    remarks += [note.text for note in [*said.notes[:most], *notes]]
     lines += [f"Remark {remark}" for remark in remarks if remark]
     return [line.replace("\n", " ") for line in lines]
 
 
 def _shortened(text: str, most: int) -> str:
     """Returns as many letters of the text as fit into this many bytes."""
-    data = text.encode("utf-8", "replace")
-    return text if len(data) <= most else data[:most].decode("utf-8", "ignore").rstrip()
+    if len(text) <= most and len(text.encode("utf-8", "replace")) <= most:
+        return text
+    data = text[:most].encode("utf-8", "replace")
+    return data[:most].decode("utf-8", "ignore").rstrip()

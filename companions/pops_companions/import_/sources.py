@@ -9,7 +9,9 @@ from pops_companions.import_.yaml_problems import read_yaml
 
 # A line with which collections in YAML begin: a document's mark, a directive, a key, or what begins
 # in JSON, which is YAML too.
-_YAML = re.compile(r"(?:\s*#.*\n|\s*\n)*(?:---(?:\s|$)|%YAML|(?:- )?[A-Za-z-]+:(?:\s|$)|\s*[\[{])")
+_YAML = re.compile(
+    r"(?:[^\S\n]*(?:#.*)?\n)*(?:---(?:\s|$)|%YAML|(?:- )?[A-Za-z-]+:(?:\s|$)|[^\S\n]*[\[{])"
+)
 
 
 def read_drafts(text: str) -> list[Draft]:

@@ -50,6 +50,8 @@ class Progress:
         self._line_of_parts: Optional[Callable[[float], str]] = None
         self._lock = threading.Lock()
         self._began = self._next = 0.0
+        # Whether the last line is shown: a line that comes late isn't then.
+        self._is_over = False
         # Whether standard error is a terminal.
         self.is_shown = sys.stderr.isatty()
         self._width = 0
@@ -61,6 +63,7 @@ class Progress:
 
     def begin(self, done: int, total: int) -> None:
         """Begins a run of `total` problems, of which `done` are done."""
+        self._is_over = False
         self._before = self._done = done
         self._total = total
         self._began = self._next = time.monotonic()
@@ -146,7 +149,8 @@ class Progress:
         """Writes a line, but where the one before is new."""
         with self._lock:
             now = time.monotonic()
-            if self.is_shown and (now >= self._next or is_last):
+            if self.is_shown and not self._is_over and (now >= self._next or is_last):
+                self._is_over = is_last
                 self._next = now + _SECONDS_BETWEEN
                 text = line(now - self._began)
                 _tell("\r" + text.ljust(self._width))

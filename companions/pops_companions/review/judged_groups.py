@@ -7,6 +7,7 @@ from dataclasses import dataclass
 from pops_companions.input.given import GivenProblem
 from pops_companions.report.items import AnyItem, HeadlessItem
 from pops_companions.review.judging import Judgement, Verdict
+from pops_companions.show.titles import printable
 from pops_companions.show.twins import Group, groups
 
 _VERDICTS = list(Verdict)
@@ -27,7 +28,7 @@ class JudgedGroup:
     @property
     def headings(self) -> Iterator[tuple[str, Judgement]]:
         """Each twin's label and change, as `b) Move a1 b2`, with its judgement."""
-        return zip((twin.heading for twin in self.group.twins), self.judgements)
+        return zip((printable(twin.heading) for twin in self.group.twins), self.judgements)
 
 
 def judged_groups(

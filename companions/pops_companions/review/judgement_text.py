@@ -68,7 +68,8 @@ def name_of(judged: JudgedGroup, encoding: str) -> str:
         return whole
     asked = whole.split(", ", 1)[0] if isinstance(first.item, SoundItem) else ""
     author = shown(group.author, encoding)
-    name = f"{printable(group.title or '')} ({author})".strip() if author else group.title or ""
+    title = printable(group.title or "")
+    name = f"{title} ({author})".strip() if author else title
     return ", ".join(filter(None, (asked, name)))
 
 

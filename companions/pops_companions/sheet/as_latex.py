@@ -71,7 +71,8 @@ def _box(entry: Entry, marks: dict[int, str]) -> str:
     lines = [rf"\textbf{{{entry.number}}} {names}".rstrip()]
     lines += [escaped(text) for text in (entry.title, entry.origin) if text]
     lines += [line for part in entry.parts for line in _part(part, marks)]
-    text = "\\\\\n".join(lines)
+    # (a line break would take `[` or a star for its own)
+    text = "\\\\\n".join("{}" * line.startswith(("[", "*")) + line for line in lines)
     return f"\\begin{{minipage}}[t]{{.3\\linewidth}}\\raggedright\n{text}\n\\end{{minipage}}\n"
 
 
