@@ -1,10 +1,11 @@
 // @ts-check
 // The list of the text's problems, and the twins of the problem on the board.
 import { element, madeWith, makeButton } from './elements.js';
+import { sayCondition } from './names.js';
 import { goToProblem } from './page/editing.js';
 import { blockNow, textNow } from './page/state.js';
 import { inSlices } from './slices.js';
-import { blocksOf, fieldsOf, menOf, sidesOf, valueOf } from './text.js';
+import { blocksOf, CONDITIONS, fieldsOf, isShort, menOf, sidesOf, valueOf } from './text.js';
 import { givenOf, saidOfTwin, twinChange, twinGroups } from './twins.js';
 import { say } from './words.js';
 
@@ -21,7 +22,9 @@ const MOST_LISTED = 200000;
 function contentOf(text, block) {
   const fields = fieldsOf(text, block);
   const { men } = menOf(block);
-  const asked = [valueOf(fields, 'stipulation'), valueOf(fields, 'condition')].filter(Boolean).join(' ') || null;
+  const said = valueOf(fields, 'condition') ?? '';
+  const condition = CONDITIONS.find(it => isShort(said, it));
+  const asked = [valueOf(fields, 'stipulation'), condition ? sayCondition(condition) : said].filter(Boolean).join(' ') || null;
   const [title, author] = ['title', 'author'].map(name => valueOf(fields, name) || null);
   return { number: block.number, title, author, asked, men };
 }

@@ -1,9 +1,11 @@
 // @ts-check
 // Diagrams in SVG and pages of them, as the companions pops-diagram and pops-page write them, with the same shapes.
+import { sayAsked, sayFairyMan, sayFault, sayTotal } from './names.js';
 import { countOf, menOfRanks, placeOf } from './position.js';
 import { COLOUR_NAMES, MAN_NAMES } from './report.js';
 import { byRank, KINDS } from './text.js';
 import { saidOfTwin, twinChange, twinGroups } from './twins.js';
+import { language, say } from './words.js';
 
 const SIDE = 45;
 const MARGIN = 22;
@@ -102,7 +104,7 @@ export const titleOf = item => [item.title, item.author, item.asked.line].filter
 export function sheetOf(items, heading, shapes, style, given = []) {
   const named = items.map(item => ({ item, number: item.number, ...namesOf(item, given[item.number - 1]) }));
   const articles = twinGroups(named).map(group => articleOf(group));
-  return '<!DOCTYPE html>\n<html lang="en">\n<head>\n<meta charset="utf-8">\n'
+  return `<!DOCTYPE html>\n<html lang="${language}">\n<head>\n<meta charset="utf-8">\n`
     + '<meta name="viewport" content="width=device-width">\n'
     + `<title>${safe(heading)}</title>\n<style>${style}</style>\n</head>\n<body>\n${shapes}`
     + `<h1>${safe(heading)}</h1>\n${articles.join('')}</body>\n</html>\n`;
@@ -122,7 +124,7 @@ function namesOf(item, given = null) {
 function articleOf(group) {
   const [first] = group;
   const last = group[group.length - 1];
-  const numbers = group.length > 1 ? `problems ${first.number} to ${last.number}` : `problem ${first.number}`;
+  const numbers = group.length > 1 ? say('items', { first: first.number, last: last.number }) : say('item', first);
   const heading = `<h2><a href="#problem-${first.number}">${numbers}</a></h2>\n`;
   /** @type {Record<string, string | null>} */
   const names = { title: group.length > 1 ? first.title : first.whole, author: first.author, origin: first.origin };
@@ -143,28 +145,28 @@ function twinOf(twin, group) {
   const { item, label } = twin;
   if (group.length === 1) return solutionsSaid(item);
   /** @param {ItemTwin} one */
-  const known = one => ({ ...one, men: one.item.ranks.length ? menOfRanks(one.item.ranks) : null, asked: one.item.asked?.line ?? null });
+  const known = one => ({ ...one, men: one.item.ranks.length ? menOfRanks(one.item.ranks) : null, asked: one.item.asked ? sayAsked(one.item.asked.line) : null });
   const { said, isLarge } = twin === group[0] ? { said: saidOfTwin(label, twin.remarks), isLarge: false } : twinChange(known(twin), known(group[0]));
   const own = isLarge && item.ranks.length ? `${diagramOf(menOfRanks(item.ranks))}\n` : '';
-  const asked = own ? ` <span>${item.asked?.line}</span>` : '';
+  const asked = own ? ` <span>${sayAsked(item.asked?.line ?? '')}</span>` : '';
   const heading = safe([label.text, said].filter(Boolean).join(' '));
   return `<section class="twin">\n<h3 class="label">${heading}${asked}</h3>\n${own}${solutionsSaid(item)}</section>\n`;
 }
 
 /** @param {Item} item */
 function solutionsSaid(item) {
-  if (item.fault) return `<p class="fault">${safe(`line ${item.fault.line}: fault ${item.fault.number}: ${item.fault.text}`)}</p>\n`;
-  return item.isChecked ? '<p>sound <small>(no fault in the text; not solved)</small></p>\n' : item.phases.map(phase => phaseOf(phase, Boolean(item.asked?.isHelp))).join('');
+  if (item.fault) return `<p class="fault">${safe(sayFault(item.fault))}</p>\n`;
+  return item.isChecked ? `<p>${say('soundItem')} <small>(${say('soundMeans')})</small></p>\n` : item.phases.map(phase => phaseOf(phase, Boolean(item.asked?.isHelp))).join('');
 }
 
 /** @param {SoundItem} item */
 function positionOf(item) {
-  const below = `<p class="below"><span class="stipulation">${item.asked.line}</span>`;
-  if (!item.ranks.length) return `${below}</p>\n<p class="without">The report shows no board.</p>\n`;
+  const below = `<p class="below"><span class="stipulation">${sayAsked(item.asked.line)}</span>`;
+  if (!item.ranks.length) return `${below}</p>\n<p class="without">${say('noBoardShown')}</p>\n`;
   const men = menOfRanks(item.ranks);
   const fairy = Object.keys(UPSIDE_DOWN).map(kind => {
     const squares = [...men].filter(([, man]) => man[1] === kind).map(([square]) => square).sort();
-    return squares.length ? `<p class="fairy">${capital(MAN_NAMES[kind])} ${squares.join(' ')}</p>\n` : '';
+    return squares.length ? `<p class="fairy">${sayFairyMan(kind)} ${squares.join(' ')}</p>\n` : '';
   });
   const count = `(${countOf(men, 'w')}+${countOf(men, 'b')})`;
   return `${diagramOf(men)}\n${below} <span class="count">${count}</span></p>\n${fairy.join('')}`;
@@ -177,8 +179,8 @@ function positionOf(item) {
  */
 function totalInWords({ kind, count, isStopped, isPossible }, isHelp) {
   if (kind !== 'play' || !isPossible || isStopped) return '';
-  if (count === 0) return ' <span>(no solution)</span>';
-  return !isHelp && Number(count) > 1 ? ` <span>(${count} keys)</span>` : '';
+  if (count === 0) return ` <span>(${say('found0')})</span>`;
+  return !isHelp && Number(count) > 1 ? ` <span>(${say('foundKeys', { count })})</span>` : '';
 }
 
 /** @param {Phase} phase @param {boolean} isHelp */
@@ -186,6 +188,6 @@ function phaseOf(phase, isHelp) {
   const lines = safe(phase.lines.join('\n')).replace(/[^\s-]+-\S+/g, '<span>$&</span>');
   const many = phase.lines.length > LINES_OF_A_COLUMN ? ' class="many"' : '';
   const solutions = phase.lines.length ? `<pre${many}>${lines}</pre>\n` : '';
-  const total = phase.total ? `<p class="total">${safe(phase.total)}${totalInWords(phase, isHelp)}</p>\n` : '';
-  return `<section class="phase">\n<h3>${phase.kind}</h3>\n${solutions}${total}</section>\n`;
+  const total = phase.total ? `<p class="total">${safe(sayTotal(phase))}${totalInWords(phase, isHelp)}</p>\n` : '';
+  return `<section class="phase">\n<h3>${say(`kind-${phase.kind}`)}</h3>\n${solutions}${total}</section>\n`;
 }

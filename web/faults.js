@@ -2,6 +2,7 @@
 // A fault as the page shows it: the lines at fault, with their words marked, and the explanation.
 import { madeWith, makeButton } from './elements.js';
 import { explain, markedLines, mendedProblem, shown } from './explaining.js';
+import { sayFault } from './names.js';
 import { lineAt } from './text.js';
 import { say } from './words.js';
 
@@ -72,7 +73,7 @@ export function faultBox(text, item, general, goToLine, take) {
   const box = document.createElement('div');
   box.className = 'fault';
   const mending = explanation && mendingBox(text, item.number, take);
-  box.append(madeWith('p', say('fault', fault)), ...marked.map(drawnLine), madeWith('p', ownAdvice(explanation?.text ?? general)));
+  box.append(madeWith('p', sayFault(fault)), ...marked.map(drawnLine), madeWith('p', ownAdvice(explanation?.text ?? general)));
   box.append(...(mending ? [mending] : []), button);
   return box;
 }

@@ -1,18 +1,21 @@
 // @ts-check
 // The problems of a text in other forms: YAML as of Olive and YACPDB, and LaTeX of the package diagram, as pops-export and
 // pops-diagram write them.
+import { partText } from './elements.js';
+import { sayCondition, sayFairyMan } from './names.js';
 import { countOf, ranksOf } from './position.js';
 import { blocksOf, CONDITIONS, fieldsOf, FLAGS, isShort, KINDS, menOf, valueOf, VALUES } from './text.js';
 import { givenOf } from './twins.js';
 
+const CYRILLIC = /[\u0400-\u052f]/;
+const COMMON = /[\u00a0-\u017f]/;
 const WANTED = /^solutions ([1-9][0-9]{0,8})$/;
 /** @type {Record<string, string>} the package's letters: an upside-down queen and knight are the fairy men */
 const LATEX_KINDS = { K: 'K', Q: 'D', R: 'T', B: 'L', S: 'S', P: 'B', G: 'DU', N: 'SU' };
 /** @type {Record<string, string>} */
-const FAIRY_NAMES = { G: 'Grasshopper', N: 'Nightrider' };
-/** @type {Record<string, string>} */
 const SPECIAL = { '\\': '\\textbackslash{}', '~': '\\textasciitilde{}', '^': '\\textasciicircum{}', '<': '\\textless{}', '>': '\\textgreater{}', '"': "''" };
-const LATEX_HEAD = '% for pdflatex; the package diagram is in texlive-games\n\\documentclass[a4paper]{article}\n\\usepackage[T2A,T1]{fontenc}\n\\usepackage{diagram}\n\\nocomputer\n\\begin{document}\n\\raggedright\n';
+const LATEX_HEAD = '% the package diagram is in texlive-games\n\\documentclass[a4paper]{article}\n';
+const LATEX_START = '\\usepackage{diagram}\n\\nocomputer\n\\setlength{\\lineskip}{2ex}\n\\setlength{\\lineskiplimit}{-1ex}\n\\begin{document}\n\\raggedright\n';
 
 /**
  * Reads what other forms say of each problem of a text.
@@ -90,11 +93,44 @@ export function yamlOf(text, items) {
 }
 
 /**
- * Makes LaTeX's own characters harmless; Cyrillic has an encoding of its own.
+ * Makes LaTeX's own characters harmless.
  * @param {string} text
  */
-const escapedForLatex = text => text.replace(/[\x00-\x1f\x7f]/g, '?').replace(/[\\~^<>"#$%&_{}]/g, sign => SPECIAL[sign] ?? `\\${sign}`)
-  .replace(/[\u0400-\u04ff](?:[\u0400-\u04ff .-]*[\u0400-\u04ff])?/g, '{\\fontencoding{T2A}\\selectfont $&}');
+const escapedForLatex = text => text.replace(/[\x00-\x1f\x7f\ud800-\udfff\ufffd]/g, '?').replace(/[\\~^<>"#$%&_{}]/g, sign => SPECIAL[sign] ?? `\\${sign}`);
+
+/** @typedef {{ head: string, macros: string, others: string, fonts: string, letters: Record<string, string>, lacking: string }} Letters */
+
+/** @returns {Letters} */
+const lettersKnown = () => JSON.parse(partText('letters'));
+
+/**
+ * Lists the characters of a text beyond ASCII.
+ * @param {string} text
+ */
+const beyondAscii = text => [...new Set(text)].filter(it => it > '\x7f').sort();
+
+/**
+ * Writes the lines of a preamble that let a document with this text be set, as pops-sheet does.
+ * @param {string} text
+ */
+function lettersOf(text) {
+  const { head, macros, others, fonts, letters } = lettersKnown();
+  const found = beyondAscii(text);
+  const declared = found.map(it => {
+    const code = (it.codePointAt(0) ?? 0).toString(16).toUpperCase().padStart(4, '0');
+    return `\\${CYRILLIC.test(it) ? 'cyrillicletter' : 'otherletter'}{${code}}{${it}}{${letters[it] ?? '?'}}\n`;
+  });
+  return [head, found.length ? macros : '', ...declared, others, found.some(it => !COMMON.test(it)) ? fonts : '', '\\fi\n'].join('');
+}
+
+/**
+ * Returns the letters of a document that plain LaTeX lacks.
+ * @param {string} text
+ */
+export function beyondLatex(text) {
+  const { letters, lacking } = lettersKnown();
+  return beyondAscii(text).filter(it => lacking.includes(it) || !(it in letters)).join(' ');
+}
 
 /**
  * Writes an author as the package wants it; a name that isn't `Surname, Given` stays as it is.
@@ -112,19 +148,32 @@ function latexMen(men) {
 
 /** @param {Men} men */
 function latexFairyMen(men) {
-  return Object.entries(FAIRY_NAMES).flatMap(([kind, name]) => {
+  return ['G', 'N'].flatMap(kind => {
     const colours = ['w', 'b'].filter(it => [...men.values()].includes(it + kind)).map(it => (it === 'w' ? 'w' : 's')).join('');
-    return colours ? [`{${colours}}{${LATEX_KINDS[kind]}}{${name}}`] : [];
+    return colours ? [`{${colours}}{${LATEX_KINDS[kind]}}{${sayFairyMan(kind)}}`] : [];
   });
 }
 
 /**
- * Writes the problems of a text as a document of LaTeX, with these solutions by number.
+ * Writes a faulty problem as a box of text among the diagrams, as pops-sheet does.
+ * @param {(string | null)[]} names
+ * @param {string} fault
+ */
+function latexBox(names, fault) {
+  const lines = [...names.flatMap(it => (it ? [escapedForLatex(it)] : [])), `\\textbf{${escapedForLatex(fault)}}`];
+  return `\\begin{minipage}[t]{.3\\linewidth}\\raggedright\n${lines.map(it => (/^[[*]/.test(it) ? `{}${it}` : it)).join('\\\\\n')}\n\\end{minipage}\n`;
+}
+
+/**
+ * Writes the problems of a text as a document of LaTeX, with these solutions and faults by number.
  * @param {string} text
  * @param {Map<number, string>} solutions
+ * @param {Map<number, string>} [faults]
  */
-export function latexOf(text, solutions) {
+export function latexOf(text, solutions, faults = new Map()) {
   const problems = problemsIn(text).map(one => {
+    const fault = faults.get(one.number);
+    if (fault) return latexBox([one.authors.join(' & '), one.title, one.origin], fault);
     const lines = (solutions.get(one.number) ?? '').split('\n').filter(Boolean).map(line => {
       const own = line.trimStart();
       const depth = (line.length - own.length) / 2;
@@ -134,8 +183,9 @@ export function latexOf(text, solutions) {
     return ['\\begin{diagram}', ...(one.authors.length ? [`\\author{${one.authors.map(latexAuthor).join('; ')}}`] : []),
       ...(one.title ? [`\\dedic{${escapedForLatex(one.title)}}`] : []), ...(one.origin ? [`\\source{${escapedForLatex(one.origin)}}`] : []),
       `\\pieces[${countOf(one.men, 'w')}+${countOf(one.men, 'b')}]{${latexMen(one.men).join(', ')}}`, `\\stipulation{${escapedForLatex(one.stipulation)}}`,
-      ...(one.condition ? [`\\condition{${one.condition}}`] : []), ...(fairy.length ? [`\\piecedefs{${fairy.join('; ')}}`] : []),
+      ...(one.condition ? [`\\condition{${sayCondition(one.condition)}}`] : []), ...(fairy.length ? [`\\piecedefs{${fairy.join('; ')}}`] : []),
       ...(lines.length ? [`\\solution{${lines.join('\\newline\n')}}`] : []), '\\end{diagram}', ''].join('\n');
   });
-  return `${LATEX_HEAD}${problems.join('\\hspace{1em}\n')}\n\\putsol\n\\end{document}\n`;
+  const document = `${LATEX_START}${problems.join('\\hspace{1em}\n')}\n\\putsol\n\\end{document}\n`.normalize('NFC');
+  return LATEX_HEAD + lettersOf(document) + document;
 }

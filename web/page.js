@@ -18,6 +18,7 @@ import { buildLive, liveChanged } from './page/live.js';
 import { loadEngine, showMost, showSaid, showSolve, solve, solveThis, stopSolving } from './page/solving.js';
 import { state, textNow } from './page/state.js';
 import { keep, kept } from './page/storage.js';
+import { buildSwitches } from './page/switches.js';
 import { board, buildViews, note, notes, tree } from './page/views.js';
 import { beginVisit, drawVisit, openLink, storeVisit } from './page/visit.js';
 import { goBack, leave, showPlace } from './page/walk.js';
@@ -133,6 +134,7 @@ function begin() {
   element('text').value = beginVisit();
   state.addFollowers(showProblem, showFields, showContents, showTail, keepText, showAge, showSaid, showSolve, liveChanged, () => notes.check());
   listen();
+  buildSwitches();
   buildLive();
   whenCorrected(takeCorrected, () => takeText(textNow()));
   showMost();

@@ -42,15 +42,15 @@ export function limitOf(text) {
 export const itemsIn = report => report.match(/[^]+?\n\n/g) ?? [];
 
 /**
- * Reads the items of a report of --check: the text of a faulty item; head and number of half-moves of a sound one.
+ * Reads the items of a report of --check: the text of a faulty item; of a sound one the head, the number of half-moves and whether it is help play.
  * @param {string} report
  */
 export function headsOf(report) {
   return itemsIn(report).map(text => {
-    if (!text.endsWith(`\n${SOUND_LINE}`)) return { text, isSound: false, halfMoves: 0 };
+    if (!text.endsWith(`\n${SOUND_LINE}`)) return { text, isSound: false, isHelp: false, halfMoves: 0 };
     const head = text.slice(0, -SOUND_LINE.length);
     const asked = askedOf(head.slice(head.lastIndexOf('\n', head.length - 2) + 1, -1));
-    return { text: head, isSound: true, halfMoves: asked?.halfMoves ?? 0 };
+    return { text: head, isSound: true, isHelp: Boolean(asked?.isHelp), halfMoves: asked?.halfMoves ?? 0 };
   });
 }
 

@@ -3,6 +3,7 @@
 import { contentsOf, twinsOf } from './contents.js';
 import { diagramOf } from './diagrams.js';
 import { element, madeWith } from './elements.js';
+import { sayTotal } from './names.js';
 import { blockNow, state, textNow } from './page/state.js';
 import { countOf } from './position.js';
 import { blocksOf, fieldsOf, valueOf } from './text.js';
@@ -48,7 +49,7 @@ function printedLines(shown) {
   const lines = shown.flatMap(({ number, label, change, asked }, index) => {
     const item = state.isPosedNow(number) ? state.items.find(it => it.number === number) : null;
     const head = label.text ? [[label.text, change || (index ? asked : '')].filter(Boolean).join(' ')] : [];
-    return [...head, ...(item?.phases ?? []).flatMap(phase => [phase.kind, ...phase.lines, phase.total ?? say('beginning')])];
+    return [...head, ...(item?.phases ?? []).flatMap(phase => [say(phase.kind), ...phase.lines, phase.isPossible && !phase.total ? say('beginning') : sayTotal(phase)])];
   });
   const many = lines.length > MOST_LINES ? 'most' : lines.length > MANY_LINES ? 'many' : '';
   return printedPart('pre', many, lines.join('\n'));

@@ -19,21 +19,26 @@ export class Solving {
   /**
    * CHECK and NOBOARD are the settings. REFUTATIONS is the most refutations of a try, or null for a report without tries. A
    * problem with LEAST half-moves or more is solved by parts. A report is cut once it has more than MOST letters. ONLY is the number
-   * of the one problem that is solved, or 0 for all. SAID receives each new part of the report.
+   * of the one problem that is solved, or 0 for all. SOLVESHELP solves help play, which has no tries, as without them. SAID receives
+   * each new part of the report.
    * @param {string} text
-   * @param {{ check?: boolean, noBoard?: boolean, refutations?: number | null, least?: number, most?: number, only?: number }} settings
+   * @param {{ check?: boolean, noBoard?: boolean, refutations?: number | null, least?: number, most?: number, only?: number, solvesHelp?: boolean }} settings
    * @param {Crew} crew
    * @param {(text: string) => void} said
    */
-  constructor(text, { check = false, noBoard = false, refutations = null, least = LEAST_HALF_MOVES, most = Infinity, only = 0 }, crew, said) {
+  constructor(text, { check = false, noBoard = false, refutations = null, least = LEAST_HALF_MOVES, most = Infinity, only = 0, solvesHelp = false }, crew, said) {
     this.text = text;
     this.check = check;
     this.noBoard = noBoard;
     this.most = most;
     this.only = only;
-    this.least = refutations === null ? least : Infinity;
+    this.least = least;
+    this.hasTries = refutations !== null;
+    this.solvesHelp = solvesHelp;
+    /** @type {Call} the call that solves a problem without tries */
+    this.plainCall = { call: 'report', check: false, noBoard };
     /** @type {Call} the call that solves a problem or a text whole */
-    this.wholeCall = refutations === null ? { call: 'report', check: false, noBoard } : { call: 'tries', noBoard, refutations };
+    this.wholeCall = refutations === null ? this.plainCall : { call: 'tries', noBoard, refutations };
     this.crew = crew;
     this.said = said;
     /** The parts of the report; empty until the text is tested. */
@@ -179,10 +184,11 @@ export class Solving {
   /** @param {number} index @param {Head} item @param {string} text */
   async beginItem(index, item, text) {
     await this.crew.free();
-    const plan = item.halfMoves < this.least ? null : await this.planned(item, text);
+    const hasTries = this.hasTries && !(this.solvesHelp && item.isHelp);
+    const plan = hasTries || item.halfMoves < this.least ? null : await this.planned(item, text);
     if (!this.goesOn) return;
     if (!plan) {
-      this.beginWhole(index, item, text);
+      this.beginWhole(index, item, text, hasTries ? this.wholeCall : this.plainCall);
       return;
     }
     const limit = limitOf(text);
@@ -215,11 +221,11 @@ export class Solving {
     return found && found.most > 1 ? found : null;
   }
 
-  /** @param {number} index @param {Head} item @param {string} text */
-  beginWhole(index, item, text) {
+  /** @param {number} index @param {Head} item @param {string} text @param {Call} call */
+  beginWhole(index, item, text, call) {
     const rest = new Piece();
     this.report.plan(index, [rest]);
-    this.hand(this.wholeCall, text, ({ status, text: said }) => {
+    this.hand(call, text, ({ status, text: said }) => {
       const head = `problem 1\n${afterNumber(item.text)}`;
       if (!said.startsWith(head)) throw new CutWrong();
       rest.text = said.slice(head.length);

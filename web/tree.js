@@ -3,6 +3,7 @@
 // a time. While a report grows, only its last rows change.
 import { comparisonOf } from './compared.js';
 import { element, madeWith, makeButton } from './elements.js';
+import { sayAsked, sayTotal } from './names.js';
 import { foundIn, labelOf, rowsOf, triesIn } from './report.js';
 import { say } from './words.js';
 
@@ -229,7 +230,7 @@ export class Tree {
    * @param {Item} item
    */
   growItem(box, item) {
-    box.head.textContent = [say('item', item), item.title, item.author, item.asked?.line, sayFound(item)].filter(Boolean).join(' · ');
+    box.head.textContent = [say('item', item), item.title, item.author, item.asked && sayAsked(item.asked.line), sayFound(item)].filter(Boolean).join(' · ');
     item.phases.forEach((phase, index) => {
       if (index < box.groups.length) this.growPhase(box.groups[index], phase, /** @type {SoundItem} */ (item));
       else box.append(...this.drawnPhase(phase, /** @type {SoundItem} */ (item), box));
@@ -328,21 +329,13 @@ export class Tree {
     const list = madeList('ul');
     list.className = 'top';
     const rows = /** @type {TreeRow[]} */ (rowsOf(phase, item.asked.isHelp));
-    const group = { kind: phase.kind, item, men: this.start(item), rows, list, lines: phase.lines.length, total: this.line(this.totalOf(phase)) };
+    const group = { kind: phase.kind, item, men: this.start(item), rows, list, lines: phase.lines.length, total: this.line(sayTotal(phase)) };
     this.groups.push(group);
     box.groups.push(group);
     this.prepare(rows, null, group);
     for (const row of rows) keepOpen(row, this.opened);
     this.fill(list, rows, row => this.drawnRow(row));
     return [head, list, group.total];
-  }
-
-  /** @param {Phase} phase */
-  totalOf(phase) {
-    const isTries = phase.kind === 'tries';
-    if (!phase.isPossible) return say(isTries ? 'noTries' : 'impossible');
-    if (phase.total) return say(isTries ? 'totalTries' : phase.isStopped ? 'totalStopped' : 'total', phase);
-    return say(isTries ? 'unfinishedTries' : 'unfinished', { count: phase.solutions.filter(it => it.level === 0).length });
   }
 
   /**
@@ -353,7 +346,7 @@ export class Tree {
    */
   growPhase(group, phase, item) {
     group.item = item;
-    group.total.textContent = this.totalOf(phase);
+    group.total.textContent = sayTotal(phase);
     if (phase.lines.length === group.lines) return;
     group.lines = phase.lines.length;
     const rows = /** @type {TreeRow[]} */ (rowsOf(phase, item.asked.isHelp));

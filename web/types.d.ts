@@ -116,7 +116,7 @@ interface PhaseParts { kind: string; parts: number | null }
 /** The solutions of a part; if they are cut, the last one may be incomplete. */
 interface PartSolutions { all: string[]; isCut: boolean }
 /** The text of an item as `--check` reports it: the head of a sound one. */
-interface Head { text: string; isSound: boolean; halfMoves: number }
+interface Head { text: string; isSound: boolean; isHelp: boolean; halfMoves: number }
 /** How solving ended. */
 interface Ended { status?: number; failed?: string; isStopped?: boolean }
 

@@ -23,6 +23,8 @@ _OBEYED = re.compile("[\x00-\x08\x0b\x0c\x0e-\x1f\x7f-\x9f]")
 # Longer waits are no waits: without a limit a run takes as long as it likes.
 MOST_SECONDS = 2_000_000
 MOST_JOBS = 1000
+# The name of standard input on a command line.
+STANDARD_INPUT = "-"
 
 
 class Status(IntEnum):
@@ -266,12 +268,13 @@ def add_encoding(
 
 @contextmanager
 def opened(file: Optional[str]) -> Iterator[BinaryIO]:
-    """Opens a file for its bytes, or standard input where no file is named."""
-    if file is None:
+    """Opens a file for its bytes, or standard input where no file is named, or `-`."""
+    if file in (None, STANDARD_INPUT):
         if sys.stdin is None:
             raise CommandError(Status.DEVICE, "standard input is closed")
         yield sys.stdin.buffer
         return
+    assert file is not None
     try:
         source = open(file, "rb")
     except OSError as error:

@@ -150,7 +150,7 @@ def stopped(page: Page) -> None:
 
 
 def with_tries(page: Page) -> None:
-    """Tries, threats and refutations: folded, unfolded, walked through, stopped; none with 0 refutations or in help play."""
+    """Tries, threats and refutations: folded, unfolded, walked through, stopped; none with 0 refutations; help play is solved without."""
     browser = page.browser
     browser.size(1280, 800)
     page.open(MATE_IN_TWO)
@@ -180,7 +180,7 @@ def with_tries(page: Page) -> None:
     page.holds("1.Qh8-b2!" in page.told("tree") and "?" not in page.told("tree"), "no tries with 0 refutations")
     browser.run(f"takeText({json.dumps(MATE_IN_TWO.replace('#2', 'h#2'))})")
     page.solve()
-    page.holds("no tries in help play" in page.told("tree"), "help play has no tries")
+    page.holds("solutions: " in page.told("tree") and "tries" not in page.told("tree"), f"help play is solved without tries: {page.told('tree')}")
     browser.run(f"takeText({json.dumps(MATE_IN_TWO.replace('Rc7 ', '').replace('#2', '#9'))})")
     page.solve_for_a_second()
     browser.click("#tries")

@@ -51,6 +51,23 @@ class Streams(unittest.TestCase):
             outcome = support.run(["sh", "-c", f"{command} {closed}"], b"problem 1\n#1\nsound\n\n")
             self.assertEqual(outcome, (3, b"", f"pops-page: {said} is closed\n"))
 
+    def test_a_dash_is_standard_input(self) -> None:
+        report = b"problem 1\n#1\nplay\n1.Ra1-a8#\nsolutions: 1\n\n"
+        problem = b"BeginProblem\nPieces White Kg6 Ra1 Black Kg8\nStipulation #1\nEndProblem\n"
+        cases = (
+            ("pops2json", [], report),
+            ("pops-page", [], report),
+            ("pops-test", [], report),
+            ("pops-import", [], problem),
+            ("pops-export", ["--to", "yaml"], problem),
+            ("pops-sheet", ["--to", "text", "--report", os.devnull, "--tries-text", os.devnull], problem),
+        )
+        for name, words, text in cases:
+            with self.subTest(name):
+                outcome = support.companion(name, *words, "-", text=text)
+                self.assertNotIn("cannot open", outcome.error)
+                self.assertTrue(outcome.output)
+
     @unittest.skipUnless(os.path.exists("/dev/full"), "no device that is full")
     def test_a_full_device_is_told(self) -> None:
         for word in ("--help", "--version"):

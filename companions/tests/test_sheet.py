@@ -454,6 +454,33 @@ class Forms(Case):
             )
             self.assertEqual(done.returncode, 0, done.stdout[-2000:])
 
+    def test_letters_in_commands(self) -> None:
+        """Accents, also above others and of their own; letters that plain LaTeX lacks are said."""
+        title = "Title ǿ ĸ ơ ḁ e\u0301 а\u0301".encode()
+        text = OF_THE_MANUAL.replace(b"BeginProblem\n", b"BeginProblem\n" + title + b"\n")
+        outcome = self.made(text, "--to", "latex")
+        page = outcome.output.decode()
+        for wanted in (
+            "\\otherletter{01FF}{ǿ}{\\'{\\o}}\n",
+            "\\otherletter{0138}{ĸ}{\\textsc{k}}\n",
+            "\\otherletter{01A1}{ơ}{\\horned{o}}\n",
+            "\\otherletter{1E01}{ḁ}{\\belowletter{\\r}{a}}\n",
+            "\\otherletter{0301}{\u0301}{\\overlast{\\'}}\n",
+            "\\dedic{ǿ ĸ ơ ḁ é а\u0301}\n",
+        ):
+            self.assertIn(wanted, page)
+        self.assertNotIn("lualatex", outcome.error)
+        outcome = self.made(text.replace("ǿ".encode(), "ſɓ".encode()), "--to", "latex")
+        self.assertIn("latex and pdflatex lack ſ ɓ: lualatex sets them", outcome.error)
+
+    def test_conditions_in_languages(self) -> None:
+        circe = OF_THE_MANUAL.replace(b"#2\n", b"#2\nCondition Circe\n")
+        for code, name in (("en", "Circe"), ("de", "Circe"), ("fr", "Circé")):
+            self.assertIn(f"#2 {name} (3 + 2)", self.text(circe, "--language", code))
+            latex = self.made(circe, "--to", "latex", "--language", code).output.decode()
+            self.assertIn(f"\\condition{{{name}}}\n", latex)
+            self.assertIn(f'"stipulation">#2 {name}<', self.made(circe, "--language", code).output.decode())
+
     def test_faulty_problems_in_latex(self) -> None:
         """They are boxes of text among the diagrams, in the language of the sheet."""
         faulty = TWINS.replace(b"h#1", b"h#99").replace(b"EndProblem", b"NextProblem")
@@ -661,7 +688,8 @@ class Command(Case):
             self.assertEqual(self.sheet(TWINS, *words).status, 2)
         outcome = self.sheet(b"problem 1\n")
         self.assertEqual((outcome.status, outcome.output), (3, b""))
-        self.assertIn("is no input of pops", outcome.error)
+        self.assertIn("is no input of pops: pops-import makes one", outcome.error)
+        self.assertIn("pops-explain says what is wrong", outcome.error)
         self.tries.write_text("#!/bin/sh\nexit 4\n")
         outcome = self.made(OF_THE_MANUAL, "--pops-tries", str(self.tries))
         self.assertEqual((outcome.status, outcome.output), (3, b""))

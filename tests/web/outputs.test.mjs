@@ -4,7 +4,7 @@ import { test } from 'node:test';
 import { makeDocument } from '../helpers/page_imports.mjs';
 
 makeDocument();
-const { latexOf, yamlOf } = await import('../../web/outputs.js');
+const { beyondLatex, latexOf, yamlOf } = await import('../../web/outputs.js');
 const { menOfRanks } = await import('../../web/position.js');
 const { itemsOf, movesOf } = await import('../../web/report.js');
 const { shortMove, shortText } = await import('../../web/short.js');
@@ -76,11 +76,19 @@ test('outputs: a name with many blanks takes little time', () => {
   assert.ok(user + system < 3e7, `${user + system} microseconds`);
 });
 
+test('outputs: a faulty problem in LaTeX is a box, and letters that plain LaTeX lacks are known', () => {
+  const made = latexOf('BeginProblem\nTitle A&B\nAuthor Loyd, Samuel\nPieces White Kg6 Rz1 Black Kg8\nStipulation #1\nEndProblem\n', new Map(), new Map([[1, 'line 4']]));
+  assert.equal(made.includes('\\begin{diagram}'), false);
+  assert.match(made, /\\raggedright\nLoyd, Samuel\\\\\nA\\&B\\\\\n\\textbf\{line 4\}\n\\end\{minipage\}/);
+  assert.equal(beyondLatex('é ǿ ſ Ж ơ Ɓ Ɓ'), 'ſ Ɓ');
+});
+
 test('outputs: LaTeX', () => {
   const made = latexOf(TEXT.replace('Here', '50% {x} Ж_1'), new Map([[1, 'Solution\n  1.Ra6#\n']]));
-  assert.match(made, /^% for pdflatex.*\n\\documentclass\[a4paper\]\{article\}\n/);
+  assert.match(made, /^% the package diagram.*\n\\documentclass\[a4paper\]\{article\}\n/);
+  assert.match(made, /\n\\cyrillicletter\{0416\}\{Ж\}\{Ж\}\n/);
   assert.equal(made.slice(made.indexOf('\\begin{diagram}')), [
-    '\\begin{diagram}', '\\author{Morphy, Paul; {Another One}, {}}', '\\dedic{Mate in two}', '\\source{50\\% \\{x\\} {\\fontencoding{T2A}\\selectfont Ж}\\_1; There}',
+    '\\begin{diagram}', '\\author{Morphy, Paul; {Another One}, {}}', '\\dedic{Mate in two}', '\\source{50\\% \\{x\\} Ж\\_1; There}',
     '\\pieces[3+4]{wKc8, wTa1, wBb6, sKa8, sLb8, sBa7b7}', '\\stipulation{\\#2}', '\\condition{Madrasi}', '\\solution{Solution\\newline', '\\hspace*{1em}1.Ra6\\#}',
     '\\end{diagram}', '', '\\putsol', '\\end{document}', ''].join('\n'));
   assert.match(latexOf('BeginProblem\nPieces White Ga1 Nb1 Black Gc1\nStipulation #1\nEndProblem\n', new Map()), /\\piecedefs\{\{ws\}\{DU\}\{Grasshopper\}; \{w\}\{SU\}\{Nightrider\}\}/);

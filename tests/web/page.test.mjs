@@ -3,15 +3,16 @@ import assert from 'node:assert/strict';
 import { readFileSync } from 'node:fs';
 import { test } from 'node:test';
 import { fill, kept, keptInTab, made, paste, send } from '../helpers/page_document.mjs';
-import { EXPLANATIONS } from '../helpers/page_imports.mjs';
+import { EXPLANATIONS, sharedPart } from '../helpers/page_imports.mjs';
 
 const TEXT = 'BeginProblem\nPieces White Kg6 Ra1 Black Kg8\nStipulation #1\nEndProblem\n';
 const REPORT = 'problem 1\n#1\nplay\n1.Ra1-a8#\nsolutions: 1\n\n';
 const TWO_MOVES = 'BeginProblem\nPieces White Kh8 Qb1 Black Kf8 Pa7\nStipulation #2\nEndProblem\n';
 const TRIES = 'problem 1\n#2\nplay\n1.Qb1-b6!\n  threat\n    2.Qb6-f6#\n  1...a7*b6\nsolutions: 1\ntries\n1.Qb1-b2?\n  zugzwang\n  but\n    1...a7-a5!\ntries: 1\n\n';
-fill({ explanations: EXPLANATIONS, example: TEXT, 'fault-words': '{"8": "what the manual says"}', 'men-shapes': '<svg><defs></defs></svg>', engine: 'AGFzbQEAAAA=' });
+fill({ names: sharedPart('names'), letters: sharedPart('letters'), explanations: EXPLANATIONS, example: TEXT, 'fault-words': '{"8": "what the manual says"}', 'men-shapes': '<svg><defs></defs></svg>', engine: 'AGFzbQEAAAA=' });
 const { comparisonOf } = await import('../../web/compared.js');
 const { Board } = await import('../../web/board.js');
+const { sheetOf } = await import('../../web/diagrams.js');
 const { element, makeButton, madeWith, partText } = await import('../../web/elements.js');
 const { faultBox } = await import('../../web/faults.js');
 const { makeProblem, move, solveFromHere } = await import('../../web/line.js');
@@ -28,7 +29,9 @@ const { beginReport, drawGrowth, drawReport, reportGrew } = await import('../../
 const { buildLive, liveChanged, showLive, solveLive } = await import('../../web/page/live.js');
 const { mostRefutations, sayDone, sayProblem, showMost, showSolve, solve, solvingNow } = await import('../../web/page/solving.js');
 const { blockNow, state, textNow } = await import('../../web/page/state.js');
+const { sayAsked, sayCondition, sayFairyMan, sayFault, sayTotal } = await import('../../web/names.js');
 const { keep, kept: keptValue } = await import('../../web/page/storage.js');
+const { buildSwitches } = await import('../../web/page/switches.js');
 const views = await import('../../web/page/views.js');
 const { beginVisit, drawVisit, openLink, storeVisit } = await import('../../web/page/visit.js');
 const { leave, showPlace } = await import('../../web/page/walk.js');
@@ -562,6 +565,42 @@ test('words: every language has every text, with the same values in it', () => {
   speak('de');
   assert.equal(sayMan('bS'), 'Springer (Schwarz)');
   speak('en');
+});
+
+test('names: conditions, fairy men, faults and totals in each language', () => {
+  const fault = { line: 3, number: 14, text: 'square expected' };
+  const total = { kind: 'play', isPossible: true, total: 'solutions: 2, stopped', count: 2, isStopped: true, solutions: [] };
+  const said = () => [sayAsked('h#2.5 Circe'), sayAsked('#2'), sayCondition('Madrasi'), sayFairyMan('N'), sayFault(fault), sayTotal(total)];
+  assert.deepEqual(said(), ['h#2.5 Circe', '#2', 'Madrasi', 'Nightrider', 'line 3: fault 14: square expected', 'solutions: 2, stopped']);
+  speak('de');
+  assert.deepEqual(said(), ['h#2.5 Circe', '#2', 'Madrasi', 'Nachtreiter', 'Zeile 3: Fehler 14: Feld erwartet', 'Lösungen: 2, dann gestoppt']);
+  speak('fr');
+  assert.deepEqual(said(), ['h#2.5 Circé', '#2', 'Madrasi', 'Noctambule', 'ligne 3 : faute 14 : case attendue', 'solutions : 2, puis arrêté']);
+  speak('en');
+});
+
+test('names: the page of diagrams and the printed sheet speak the language', () => {
+  speak('de');
+  begin(TEXT.replace('#1', '#1\nCondition Circe'), REPORT.replace('#1\n', `${'8 .....k..\n'}#1 Circe\n`));
+  const sheet = sheetOf(state.items, say('sheet'), '', '');
+  assert.match(sheet, /<html lang="de">[^]*Problem 1<[^]*<h3>Spiel<[^]*Lösungen: 1</);
+  fillPrint();
+  assert.match(element('print').textContent, /Spiel\n1\.Ra1-a8#\nLösungen: 1/);
+  speak('en');
+});
+
+test('switches: a reload in the same tab finds them as they were', () => {
+  const switches = () => ['check', 'tries', 'refutations'].map(name => [Boolean(element(name).checked), element(name).value]);
+  const before = switches();
+  Object.assign(element('tries'), { checked: true });
+  Object.assign(element('refutations'), { value: '3' });
+  for (const act of element('refutations').acts.get('change')) act();
+  Object.assign(element('tries'), { checked: false });
+  Object.assign(element('refutations'), { value: '' });
+  buildSwitches();
+  assert.deepEqual(switches().slice(1).map(([isOn, value], at) => (at ? value : isOn)), [true, '3']);
+  keptInTab.delete('pops.switches');
+  ['check', 'tries', 'refutations'].forEach((name, at) => Object.assign(element(name), { checked: before[at][0], value: before[at][1] }));
 });
 
 test('words: the solution in short notation has the letters of its language', () => {

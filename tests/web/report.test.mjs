@@ -70,7 +70,7 @@ test('diagrams: titles are escaped', () => {
 test('parts: texts, heads and lists', () => {
   assert.deepEqual(itemTexts('beg a\nnex b end'), ['beg a\nEndProblem\n', 'BeginProblem b EndProblem\n']);
   assert.equal(limitOf('beg opt max 7 end'), 7);
-  assert.deepEqual(headsOf('problem 1\n#2\nsound\n\n'), [{ text: 'problem 1\n#2\n', isSound: true, halfMoves: 3 }]);
+  assert.deepEqual(headsOf('problem 1\n#2\nsound\n\n'), [{ text: 'problem 1\n#2\n', isSound: true, isHelp: false, halfMoves: 3 }]);
   assert.deepEqual(listOf('1: set not possible, play 3\n'), [{ kind: 'set', parts: null }, { kind: 'play', parts: 3 }]);
   assert.throws(() => listOf('1: faulty\n'));
 });

@@ -1,6 +1,7 @@
 // @ts-check
 // The fields of the problem on the board: its names, its stipulation, its condition and its options.
 import { element } from '../elements.js';
+import { sayCondition } from '../names.js';
 import { partsOfStipulation, stipulationOf } from '../play.js';
 import { CONDITIONS, fieldsOf, FLAGS, isShort, valueOf, VALUES, withField } from '../text.js';
 import { say } from '../words.js';
@@ -85,7 +86,7 @@ function builtField(name, word) {
   const input = document.createElement(['Condition', 'Stipulation'].includes(name) ? 'select' : 'input');
   input.id = `field-${name}`;
   said.textContent = say(word);
-  if (name === 'Condition') input.append(new Option(say('noCondition'), ''), ...CONDITIONS.map(it => new Option(it, it)));
+  if (name === 'Condition') input.append(new Option(say('noCondition'), ''), ...CONDITIONS.map(it => new Option(sayCondition(it), it)));
   else if (name !== 'Stipulation') /** @type {HTMLInputElement} */ (input).type = isFlag ? 'checkbox' : 'text';
   input.onchange = () => fieldChanged(name);
   label.append(...(isFlag ? [input, said] : [said, input, ...(name === 'Stipulation' ? [movesField()] : [])]));

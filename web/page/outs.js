@@ -2,7 +2,8 @@
 // What the page gives away: files of text, report, diagrams and other forms, the clipboard, links, and the printed sheet.
 import { diagramFile, sheetOf } from '../diagrams.js';
 import { partText } from '../elements.js';
-import { latexOf, yamlOf } from '../outputs.js';
+import { sayFault } from '../names.js';
+import { beyondLatex, latexOf, yamlOf } from '../outputs.js';
 import { menOfRanks, ranksOf } from '../position.js';
 import { objectOf } from '../report.js';
 import { shortText } from '../short.js';
@@ -102,13 +103,22 @@ export const OUTS = {
   outSvg: () => save('svg', 'image/svg+xml', drawingNow(), blockNow()),
   outPng: async () => save('png', 'image/png', await pictureNow(), blockNow()),
   outJson: () => saveItems(items => save('json', 'application/json', jsonOf(items))),
-  outLatex: () => save('tex', 'application/x-tex', latexOf(textNow(), new Map(itemsNow().map(it => [it.number, shortOf(it)])))),
+  outLatex: saveLatex,
   outYaml: () => save('yaml', 'application/yaml', yamlOf(textNow(), itemsNow())),
   outCopyDiagram: copyDiagram,
   outCopyShort: copyShort,
   outLink: makeLink,
   outPrint: () => print(),
 };
+
+/** Saves the problems in LaTeX, and says which letters only some of its engines set. */
+function saveLatex() {
+  const faults = state.items.flatMap(it => /** @type {[number, string][]} */ (it.fault && state.isPosedNow(it.number) ? [[it.number, sayFault(it.fault)]] : []));
+  const made = latexOf(textNow(), new Map(itemsNow().map(it => [it.number, shortOf(it)])), new Map(faults));
+  const letters = beyondLatex(made);
+  save('tex', 'application/x-tex', made);
+  note(letters ? say('latexLacks', { letters }) : '');
+}
 
 /**
  * Writes the objects of items, one per line.

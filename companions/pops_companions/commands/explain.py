@@ -10,7 +10,7 @@ from typing import BinaryIO, NoReturn, Optional
 
 from pops.engine import Engine
 from pops_companions import command
-from pops_companions.command import CommandError, Status
+from pops_companions.command import STANDARD_INPUT, CommandError, Status
 from pops_companions.files import Links
 from pops_companions.explain.diagnostics import diagnostic_object, diagnostics
 from pops_companions.explain.explaining import ExplainedFault, OtherText, explain
@@ -23,7 +23,6 @@ from pops_companions.report.reader import ReportError, read_report
 from pops_companions.show.titles import printable
 
 NAME = "pops-explain"
-STANDARD_INPUT = "-"
 
 
 class Settings(argparse.Namespace):
@@ -87,7 +86,7 @@ def name_of(file: str) -> str:
 
 def read(file: str) -> bytes:
     """Returns all bytes of a file, or of standard input."""
-    with command.opened(None if file == STANDARD_INPUT else file) as source:
+    with command.opened(file) as source:
         return source.read()
 
 

@@ -8,9 +8,9 @@ from typing import NoReturn, Optional
 from pops_companions import command
 from pops_companions.command import CommandError, Status
 from pops_companions.input.given import given_problems
+from pops_companions.input.given_source import refuse_other_text
 from pops_companions.many.program import LOOKED_FOR, MissingError, find
 from pops_companions.many.tries_program import TRIES_LOOKED_FOR, find_tries
-from pops_companions.report.source import is_input
 from pops_companions.review.beside import Beside
 from pops_companions.review.judged_groups import judged_groups
 from pops_companions.review.judgement_text import MOST_LINES, Tally, as_text
@@ -101,9 +101,7 @@ def read_collection(name: str) -> bytes:
     """Returns the text of a collection. CommandError where it doesn't begin as an input of pops."""
     with command.opened(name) as source:
         text = source.read()
-    if not any(map(is_input, text.split(b"\n"))):
-        message = f"{name} is no input of pops: pops-import makes one of Popeye inputs and YAML"
-        raise CommandError(Status.DEVICE, message)
+    refuse_other_text(name, text)
     return text
 
 

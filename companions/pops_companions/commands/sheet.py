@@ -12,19 +12,20 @@ from pops_companions import command
 from pops_companions.chess.stipulation import Play
 from pops_companions.command import CommandError, Status
 from pops_companions.input.given import GivenProblem, given_problems
-from pops_companions.input.given_source import warn_of_rest
+from pops_companions.input.given_source import refuse_other_text, warn_of_rest
 from pops_companions.many.child_process import outcome_of
 from pops_companions.many.program import LOOKED_FOR, MissingError, find
 from pops_companions.many.tries_program import TRIES_LOOKED_FOR, TriesProgram, find_tries
 from pops_companions.report.items import AnyItem, Board, HeadlessItem, SoundItem
 from pops_companions.report.reader import ReportError, read_unfinished_report
-from pops_companions.report.source import is_input, warn_of_names
+from pops_companions.report.source import warn_of_names
 from pops_companions.report.tries import TriesItem, read_tries
 from pops_companions.sheet.as_html import Layout, as_html
 from pops_companions.sheet.as_latex import as_latex
 from pops_companions.sheet.as_text import as_text
 from pops_companions.sheet.entries import NOT_IN_REPORT, Entry, Sheet, boards_of
 from pops_companions.sheet.languages import LANGUAGES
+from pops_companions.sheet.latex_letters import beyond_latex
 from pops_companions.sheet.solution import TriesShown
 from pops_companions.sheet.solving import Solving
 from pops_companions.show.twins import groups
@@ -167,8 +168,7 @@ class Texts:
     def __init__(self, settings: Settings):
         self._settings = settings
         self.input = _read(settings.input)
-        if not any(map(is_input, self.input.split(b"\n"))):
-            raise CommandError(Status.DEVICE, f"{settings.input} is no input of pops")
+        refuse_other_text(settings.input, self.input)
         self._solving = Solving(NAME, self.input, settings.jobs, settings.seconds or None)
 
     def items(self) -> list[AnyItem]:
@@ -313,6 +313,10 @@ def written_as(settings: Settings, entries: list[Entry]) -> bytes:
         page = as_text(entries, language)
     elif settings.to == "latex":
         page = as_latex(entries, language, heading, settings.encoding, figures)
+        lacking = beyond_latex(page)
+        if lacking:
+            said = f"{NAME}: latex and pdflatex lack {' '.join(lacking)}: lualatex sets them"
+            print(said, file=sys.stderr)
     else:
         page = as_html(entries, language, Layout(heading, figures, settings.per_row))
         if settings.to == "pdf":

@@ -4,8 +4,10 @@ import sys
 from typing import Optional
 
 from pops_companions import command
+from pops_companions.command import CommandError, Status
 from pops_companions.input.given import GivenProblem, given_problems
 from pops_companions.input.pieces import rest_of
+from pops_companions.report.source import is_input
 
 
 def read_given(companion: str, file: Optional[str]) -> list[GivenProblem]:
@@ -15,6 +17,16 @@ def read_given(companion: str, file: Optional[str]) -> list[GivenProblem]:
         text = source.read()
     warn_of_rest(companion, file or "standard input", text)
     return given_problems(text)
+
+
+def refuse_other_text(name: str, text: bytes) -> None:
+    """Raises CommandError where no line of a text is one of an input of pops."""
+    if not any(map(is_input, text.split(b"\n"))):
+        message = (
+            f"{name} is no input of pops: pops-import makes one of Popeye inputs and YAML,"
+            " pops-explain says what is wrong with another text"
+        )
+        raise CommandError(Status.DEVICE, message)
 
 
 def warn_of_rest(companion: str, name: str, text: bytes) -> None:

@@ -1,6 +1,7 @@
 """A sheet as a LaTeX document of the package diagram, chess-problem-diagrams (Debian:
 texlive-games, texlive-pstricks)."""
 
+import unicodedata
 from collections.abc import Iterable
 
 from pops_companions.chess.men import Kind
@@ -13,6 +14,7 @@ _CLASS = "\\documentclass[a4paper]{article}\n"
 _HEAD = r"""\usepackage{diagram}
 \nocomputer
 \setlength{\lineskip}{2ex}
+\setlength{\lineskiplimit}{-1ex}
 """
 _BETWEEN = "\\hspace{1em}\n"
 # A line of many moves may be broken after each.
@@ -51,7 +53,7 @@ def as_latex(
         numbers = ", ".join(entry.number for entry in own)
         parts.append(f"{escaped(name)} \\dotfill\\ {numbers}\\par\n")
     parts.append("\\end{document}\n")
-    text = "".join(parts)
+    text = unicodedata.normalize("NFC", "".join(parts))
     return "".join([_CLASS, letters_of(text), _HEAD, text])
 
 

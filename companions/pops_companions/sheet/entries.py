@@ -43,7 +43,10 @@ class Part:
 
 @dataclass(frozen=True)
 class Entry:
-    """A problem of a sheet, with its twins. `number` is `3`, of a twin alone `3b`."""
+    """A problem of a sheet, with its twins. `number` is `3`, of a twin alone `3b`.
+
+    `asked` is its stipulation with the condition, in the language of the sheet.
+    """
 
     number: str
     group: Group
@@ -51,6 +54,7 @@ class Entry:
     title: str
     source: str
     award: str
+    asked: str
     board: Optional[Board]
     parts: tuple[Part, ...]
 
@@ -58,14 +62,6 @@ class Entry:
     def anchor(self) -> str:
         """The number as part of a link."""
         return self.number.replace(" ", "-")
-
-    @property
-    def asked(self) -> str:
-        """Stipulation and condition, of a problem that isn't in the report as the input has it."""
-        if isinstance(self.group.first, SoundItem):
-            return self.group.first.asked
-        given = self.group.twins[0].given
-        return "" if given is None or given.stipulation is None else given.stipulation.text
 
     @property
     def count(self) -> str:
@@ -115,6 +111,7 @@ class Sheet:
             "" if group.title is None else printable(group.title),
             "" if origin is None else self._text(origin),
             "" if given is None else self._award(given),
+            WORDS[self.language.code].asked(_asked(group)),
             self.boards.get(group.first.number),
             tuple(parts),
         )
@@ -158,6 +155,15 @@ class Sheet:
             return Part(heading, (), note=note)
         solution = Solution(board.men, item.condition, self.language, self.shown)
         return Part(heading, tuple(solution.blocks(item, self.tries.get(item.number))), note=note)
+
+
+def _asked(group: Group) -> str:
+    """Returns stipulation and condition, of a problem that isn't in the report as the input has it.
+    """
+    if isinstance(group.first, SoundItem):
+        return group.first.asked
+    given = group.twins[0].given
+    return "" if given is None or given.stipulation is None else given.stipulation.text
 
 
 def _letter(twin: Twin) -> str:

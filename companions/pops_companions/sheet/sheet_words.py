@@ -10,7 +10,7 @@ from pops_companions.input.reading import FaultKind
 class SheetWords(NamedTuple):
     """Words of a language. `{}` in a text is for what it speaks of.
 
-    `continued` comes before the changes of a twin that are made to the twin before it.
+    `conditions` are their names by the words of pops. `continued` comes before the changes of a twin that are made to the twin before it.
     """
 
     faults: Mapping[FaultKind, str]
@@ -24,6 +24,12 @@ class SheetWords(NamedTuple):
     shifted: str
     exchanged: str
     continued: str
+    conditions: Mapping[str, str]
+
+    def asked(self, text: str) -> str:
+        """Returns a stipulation, with its condition in this language."""
+        stipulation, blank, condition = text.partition(" ")
+        return stipulation + blank + self.conditions.get(condition, condition)
 
 
 _GERMAN = (
@@ -85,6 +91,7 @@ WORDS: Mapping[str, SheetWords] = {
         shifted="shifted {}",
         exchanged="colours exchanged",
         continued="further",
+        conditions={"Circe": "Circe", "Madrasi": "Madrasi"},
     ),
     "de": SheetWords(
         faults=dict(zip(FaultKind, _GERMAN)),
@@ -98,6 +105,7 @@ WORDS: Mapping[str, SheetWords] = {
         shifted="verschoben {}",
         exchanged="Farben vertauscht",
         continued="weiter",
+        conditions={"Circe": "Circe", "Madrasi": "Madrasi"},
     ),
     "fr": SheetWords(
         faults=dict(zip(FaultKind, _FRENCH)),
@@ -111,5 +119,6 @@ WORDS: Mapping[str, SheetWords] = {
         shifted="décalé {}",
         exchanged="couleurs échangées",
         continued="de plus",
+        conditions={"Circe": "Circé", "Madrasi": "Madrasi"},
     ),
 }

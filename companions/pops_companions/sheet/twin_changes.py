@@ -48,7 +48,7 @@ def change_of(placed: Placed, first: Placed, before: Placed, words: SheetWords) 
             return said
     asked, asked_before = _asked(placed.twin.item), _asked(base.twin.item)
     if asked is not None and asked_before is not None and asked != asked_before:
-        found.append(asked)
+        found.append(words.asked(asked))
     if not found:
         return said
     return f"{words.continued} " * is_continued + ", ".join(found)
