@@ -26,6 +26,7 @@ PARTS = {
     "pops_companions.explain.explaining": ("explanation",),
     "pops_companions.explain.mending": ("edit_for", "read_number"),
     "pops_companions.explain.vocabulary": ("foreign", "unread"),
+    "pops_companions.export.yaml_fields": ("fields_of", "source_of"),
     "pops_companions.import_.popeye": ("begins", "read_popeye"),
     "pops_companions.import_.posing": ("posed",),
     "pops_companions.import_.yaml_problems": ("read_yaml",),

@@ -3,6 +3,7 @@
 // pops-diagram write them.
 import { partText } from './elements.js';
 import { sayCondition, sayFairyMan } from './names.js';
+import { companions } from './out/companions.js';
 import { countOf, ranksOf } from './position.js';
 import { blocksOf, CONDITIONS, fieldsOf, FLAGS, isShort, KINDS, menOf, valueOf, VALUES } from './text.js';
 import { givenOf } from './twins.js';
@@ -70,6 +71,41 @@ function popeyeLines(phase, isHelp) {
   return lines;
 }
 
+/** @param {string} text */
+const yamlScalar = text => (/^[1-9][0-9]{0,17}$/.test(text) ? text : JSON.stringify(text));
+
+/**
+ * Writes a key with what is below it, as pops-export does: keywords are a list.
+ * @param {string} key
+ * @param {any} value texts, or keys
+ * @param {string} [indent]
+ * @returns {string[]}
+ */
+function yamlField(key, value, indent = '') {
+  if (!Array.isArray(value)) return [`${indent}${key}:`, ...[...value].flatMap(name => yamlField(name, value.get(name), `${indent}  `))];
+  if (value.length === 1 && key.toLowerCase() !== 'keywords') return [`${indent}${key}: ${yamlScalar(value[0])}`];
+  return yamlList(key, value).map(it => indent + it);
+}
+
+/**
+ * Writes where a problem was published: source and date, or the origin as it is.
+ * @param {string} origin
+ * @param {any} parted the source that the companions found in it; null if they found none
+ */
+function yamlOrigin(origin, parted) {
+  if (!parted) return origin ? [`source: ${JSON.stringify(origin)}`] : [];
+  const { name, more, date } = parted;
+  const named = [...(name ? [['name', name]] : []), ...more].map(([key, text]) => `  ${key}: ${JSON.stringify(text)}`);
+  const source = more.length ? ['source:', ...named] : name ? [`source: ${JSON.stringify(name)}`] : [];
+  return [...source, ...(date ? [`date: ${yamlScalar(date)}`] : [])];
+}
+
+/**
+ * Writes a solution that the text keeps.
+ * @param {string[] | null} lines
+ */
+const yamlStored = lines => (lines?.length ? [`solution: |${/^( |$)/.test(lines[0]) ? '2' : ''}`, ...lines.map(it => `  ${it}`.trimEnd())] : []);
+
 /**
  * Writes the problems of a text in YAML, with the solutions of these items.
  * @param {string} text
@@ -77,17 +113,21 @@ function popeyeLines(phase, isHelp) {
  */
 export function yamlOf(text, items) {
   return problemsIn(text).map(one => {
+    const parted = one.origin ? companions.sourceOf(one.origin, one.remarks) : null;
+    const { keys, comments } = companions.fieldsOf((parted ? parted[1] : one.remarks).filter((/** @type {string} */ it) => !WANTED.test(it)));
+    const kept = [...keys].filter(it => !['id', 'solution'].includes(it));
     const wanted = one.remarks.map(it => WANTED.exec(it)?.[1]).findLast(Boolean);
     const sides = Object.entries({ white: 'w', black: 'b' }).map(([name, colour]) => [name, menInOrder(one.men, colour).flatMap(({ kind, squares }) => squares.map(it => kind + it))]);
     const item = items.find(it => it.number === one.number);
     const solution = (item?.phases ?? []).map(phase => popeyeLines(phase, Boolean(item?.asked?.isHelp))).filter(it => it.length);
     const lines = solution.flatMap((phase, at) => [...(at ? [''] : []), ...phase]);
-    return ['---', ...yamlList('authors', one.authors), ...(one.title ? [`title: ${JSON.stringify(one.title)}`] : []),
-      ...(one.origin ? [`source: ${JSON.stringify(one.origin)}`] : []), 'algebraic:',
+    return ['---', ...(keys.has('id') ? yamlField('id', keys.get('id')) : []), ...yamlList('authors', one.authors), ...(one.title ? [`title: ${JSON.stringify(one.title)}`] : []),
+      ...yamlOrigin(one.origin ?? '', parted?.[0] ?? null), 'algebraic:',
       ...sides.filter(([, men]) => men.length).map(([name, men]) => `  ${name}: [${/** @type {string[]} */ (men).join(', ')}]`),
       `stipulation: ${JSON.stringify(one.stipulation)}`, ...(one.condition ? [`conditions: [${one.condition}]`] : []),
       ...yamlList('options', one.options), ...(wanted ? [`intended-solutions: ${wanted}`] : []),
-      ...yamlList('comments', one.remarks.filter(it => !WANTED.test(it))), ...(lines.length ? ['solution: |', ...lines.map(it => `  ${it}`.trimEnd())] : []), '',
+      ...kept.flatMap(key => yamlField(key, keys.get(key))), ...yamlList('comments', comments),
+      ...(lines.length ? ['solution: |', ...lines.map(it => `  ${it}`.trimEnd())] : yamlStored(keys.get('solution'))), '',
     ].join('\n');
   }).join('');
 }

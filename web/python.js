@@ -244,7 +244,7 @@ export const py = (() => {
 
   function format(it, shape) {
     if (shape === ',') return String(it).replace(/\B(?=(\d{3})+$)/g, ',');
-    return it.toString(16).toUpperCase().padStart(4, '0');
+    return shape === '02' ? String(it).padStart(2, '0') : it.toString(16).toUpperCase().padStart(4, '0');
   }
 
   /** Makes the members of a class of constants. */

@@ -120,9 +120,11 @@ class YamlReader {
   block(indent) {
     const texts = [];
     for (; this.lines[this.at] && (!this.lines[this.at].raw.trim() || this.lines[this.at].indent > indent); this.at++) {
-      texts.push(this.lines[this.at].raw.trim());
+      texts.push(this.lines[this.at].raw);
     }
-    return texts.join('\n').trim();
+    const first = texts.find(it => it.trim()) ?? '';
+    const own = first.length - first.trimStart().length;
+    return texts.map(it => it.slice(Math.min(own, it.length - it.trimStart().length)).trimEnd()).join('\n').replace(/^\n+|\n+$/g, '');
   }
 
   /** @param {number} indent @returns {any[]} */

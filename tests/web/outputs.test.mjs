@@ -4,6 +4,7 @@ import { test } from 'node:test';
 import { makeDocument } from '../helpers/page_imports.mjs';
 
 makeDocument();
+const { imported } = await import('../../web/importing.js');
 const { beyondLatex, latexOf, yamlOf } = await import('../../web/outputs.js');
 const { menOfRanks } = await import('../../web/position.js');
 const { itemsOf, movesOf } = await import('../../web/report.js');
@@ -74,6 +75,13 @@ test('outputs: a name with many blanks takes little time', () => {
   assert.match(yamlOf(text, []), /^  - "A B"\n  - "C"$/m);
   const { user, system } = process.cpuUsage(begun);
   assert.ok(user + system < 3e7, `${user + system} microseconds`);
+});
+
+test('outputs: YAML of what an import kept has its keys again', () => {
+  const given = ['---', 'id: 77', 'authors:', '  - "Loyd, Samuel"', 'source: "New York Albion"', 'date: "1858-07-03"', 'algebraic:', '  white: [Kg6, Ra1]', '  black: [Kg8]',
+    'stipulation: "#1"', 'source-id: "A7"', 'award:', '  tourney: "A tourney"', '  distinction: "1st Prize"', 'keywords:', '  - "Zugzwang"', 'comments:', '  - "a comment"',
+    'solution: |', '  1.Ra8 #', '    and more', ''].join('\n');
+  assert.equal(yamlOf(imported(given).text, []), given);
 });
 
 test('outputs: a faulty problem in LaTeX is a box, and letters that plain LaTeX lacks are known', () => {

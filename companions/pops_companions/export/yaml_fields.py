@@ -54,7 +54,7 @@ def fields_of(remarks: Iterable[str]) -> Fields:
 
 def _put(keys: dict[str, Value], path: Sequence[str], text: str) -> bool:
     """Adds a text below keys; returns whether there was room."""
-    first, *below = path
+    first, below = path[0], path[1:]
     if below:
         inner = keys.setdefault(first, {})
         return isinstance(inner, dict) and _put(inner, below, text)
@@ -76,7 +76,7 @@ def source_of(origin: str, remarks: Sequence[str]) -> Optional[tuple[Source, lis
         month = f"-{MONTHS.index(parts[3]) + 1:02}" if parts[3] else ""
         day = f"-{int(parts[2]):02}" if parts[2] else ""
         name, date = parts[1] or "", f"{parts[4]}{month}{day}"
-    rests = [found[1] for found in map(_SOURCE.fullmatch, remarks) if found]
+    rests = [found[1] for found in (_SOURCE.fullmatch(text) for text in remarks) if found]
     others = [text for text in remarks if not _SOURCE.fullmatch(text)]
     more = tuple(_named(rests[0])) if len(rests) == 1 else ()
     number = _NUMBER.fullmatch(name)
