@@ -265,6 +265,8 @@ def corrected(page: Page) -> None:
     browser = page.browser
     browser.size(1280, 800)
     page.open()
+    # (the page keeps its switches, which other looks have changed)
+    browser.run("document.getElementById('check').checked = false; document.getElementById('refutations').value = 1")
     text = MATE_IN_TWO.replace("Variation", "Variation Try Threat 2 Intelligent")
     browser.run(f"setText({json.dumps(text)})")
     page.solve()

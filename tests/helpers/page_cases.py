@@ -193,8 +193,8 @@ JOINED: list[Case] = [
     *[(f"no part: {it!r}", "solutionsOf(given, false)", it, {"thrown": f"Error: no part: {it}"})
       for it in ("", A, A + NONE, ONE, A + ONE + B, "  1...Ka8-b8\n" + ONE)],
     ("heads", "headsOf(given)", "problem 1\ntitle: sound\nh#1.5 Circe\nsound\n\nproblem 2\nline 3: fault 8: bad stipulation\n\n",
-     [{"text": "problem 1\ntitle: sound\nh#1.5 Circe\n", "isSound": True, "halfMoves": 3},
-      {"text": "problem 2\nline 3: fault 8: bad stipulation\n\n", "isSound": False, "halfMoves": 0}]),
+     [{"text": "problem 1\ntitle: sound\nh#1.5 Circe\n", "isSound": True, "isHelp": True, "halfMoves": 3},
+      {"text": "problem 2\nline 3: fault 8: bad stipulation\n\n", "isSound": False, "isHelp": False, "halfMoves": 0}]),
     ("items in their own texts", "itemTexts(given)", "beg a\nRemark end b\nnex c end d\nend",
      ["beg a\nRemark end b\nEndProblem\n", "BeginProblem c EndProblem\n"]),
     ("an item that isn't closed", "itemTexts(given)", "beg a\nnextproblem b", ["beg a\nEndProblem\n", "BeginProblem b"]),

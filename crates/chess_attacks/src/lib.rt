@@ -9,17 +9,17 @@
 //!
 //! // White Kg6 Ra8, Black Kg8.
 //! let mut diagram = Diagram::new();
-//! for (number, colour, kind) in [
-//!     (46, Colour::White, Kind::King),
-//!     (56, Colour::White, Kind::Rook),
-//!     (62, Colour::Black, Kind::King),
+//! for (square, colour, kind) in [
+//!     (Square::G6, Colour::White, Kind::King),
+//!     (Square::A8, Colour::White, Kind::Rook),
+//!     (Square::G8, Colour::Black, Kind::King),
 //! ] {
-//!     let _ = diagram.put(Square::numbered(number), Man { colour, kind });
+//!     let _ = diagram.put(square, Man { colour, kind });
 //! }
 //! if diagram.is_well_formed() {
 //!     let board = Board::of(&diagram);
 //!     assert!(rt; in_check::<Orthodox>(&board, Colour::Black));
-//!     assert!(rt; Orthodox::attacked(&board, Square::numbered(61), Colour::White));
+//!     assert!(rt; Orthodox::attacked(&board, Square::F8, Colour::White));
 //! }
 //! ```
 //!

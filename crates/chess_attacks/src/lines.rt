@@ -110,7 +110,7 @@ impl Direction {
     }
 }
 
-/// Returns the occupied squares.
+/// Returns the squares of all men on the board, of both colours.
 pub fn occupied(board: &Board) -> Squares
     ensures { result ≡ occupied_squares board.now.men }
 {

@@ -12,14 +12,14 @@ use chess_core::{Board, Colour, Kind, Square, Squares};
 /// What attacks depend on: the occupied squares, and the squares whose men are still there.
 #[derive(Clone, Copy)]
 pub struct Occupancy {
-    /// The occupied squares.
+    /// The squares with a man, which block lines.
     pub occupied: Squares,
     /// The squares whose men on the board still count. Men on other squares have moved, been captured or
     /// been lifted.
     pub standing: Squares,
 }
 
-/// Returns the occupancy of the board as it is.
+/// Returns the occupancy before any move: each man is on its square, and counts.
 #[tactic(auto, using(crate::proofs::attacks::Attacking::seen_now))]
 pub fn occupancy_now(board: &Board) -> Occupancy
     ensures { (c : Colour) → DescribesMen board.now.men board.now.men c result }

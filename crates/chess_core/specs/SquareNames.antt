@@ -1,6 +1,19 @@
--- Names of squares, as far as definitions and examples use them: a letter for the file, a figure for the
--- rank (FIDE Laws, appendix C).
-use Rattle.std.specs.Prelude.{ℕ}
+-- Names of squares: a letter for the file, a digit for the rank (FIDE Laws, appendix C).
+use Rattle.std.specs.Prelude.{ℕ, ◌+◌, ◌-◌, ◌<◌, ◌≡◌, List, [], ◌∷◌, Result, MatchResult}
+use Rattle.chess_core.specs.declared.square.NotASquare.{NotASquare}
+use Rattle.chess_core.specs.Letters.{digit_0, letter_a}
+use Rattle.chess_core.specs.Squares.{file_of, rank_of}
+
+-- the text of a square: the letter of its file, the digit of its rank
+abbrev pub square_text : ℕ → List ℕ
+square_text s = (letter_a - 1 + file_of s) ∷ (digit_0 + rank_of s) ∷ []
+
+-- a text is read as the square that it names; the error says that it names none
+abbrev pub IsReadAs : List ℕ → Result ℕ NotASquare → Type 0
+IsReadAs text result = MatchResult result (λ s. text ≡ square_text s)
+    (λ _. (s : ℕ) → s < 64 → text ≡ square_text s → ⊥)
+
+-- The squares that definitions and examples name.
 
 abbrev pub a1 : ℕ
 a1 = 0

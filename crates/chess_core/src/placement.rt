@@ -17,7 +17,7 @@ type BySide = [Squares; 2];
 
 /// The men on the squares, with bitboards of the men of each kind and of each colour, which make a
 /// search for them needless. Contracts see the men square by square, a1 first.
-#[derive(Clone, Copy)]
+#[derive(Clone, Copy, Debug)]
 pub(crate) struct Placement {
     array: [Option<Man>; 64],
     by_kind: ByKind,

@@ -5,7 +5,7 @@ use std::marker::Model;
 
 /// What a move destroyed. Together with the move itself it is all that is needed to take the move back.
 /// It holds no position.
-#[derive(Clone, Copy, Default)]
+#[derive(Clone, Copy, Debug, Default)]
 pub struct Undo {
     // First, since fields lie in memory in this order and this one needs an address that is a multiple of
     // eight.

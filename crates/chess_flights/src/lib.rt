@@ -13,16 +13,16 @@
 //!
 //! // White Kg6 Ra1, Black Kg8, White to move.
 //! let mut diagram = Diagram::new();
-//! for (number, colour, kind) in [
-//!     (46, Colour::White, Kind::King),
-//!     (0, Colour::White, Kind::Rook),
-//!     (62, Colour::Black, Kind::King),
+//! for (square, colour, kind) in [
+//!     (Square::G6, Colour::White, Kind::King),
+//!     (Square::A1, Colour::White, Kind::Rook),
+//!     (Square::G8, Colour::Black, Kind::King),
 //! ] {
-//!     let _ = diagram.put(Square::numbered(number), Man { colour, kind });
+//!     let _ = diagram.put(square, Man { colour, kind });
 //! }
 //! if diagram.is_well_formed() {
 //!     let board = Board::of(&diagram);
-//!     let steps = free_steps::<Orthodox>(&board, Square::numbered(62));
+//!     let steps = free_steps::<Orthodox>(&board, Square::G8);
 //!     let white = attackers_on(&board, Colour::White);
 //!     let guarded = leapt_squares(occupied(&board), &white, steps);
 //!     // White's king guards f7, g7 and h7: f8 and h8 are left.

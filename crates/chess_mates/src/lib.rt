@@ -10,19 +10,19 @@
 //!
 //! // White Kg6 Ra1, Black Kg8, White to move.
 //! let mut diagram = Diagram::new();
-//! for (number, colour, kind) in [
-//!     (46, Colour::White, Kind::King),
-//!     (0, Colour::White, Kind::Rook),
-//!     (62, Colour::Black, Kind::King),
+//! for (square, colour, kind) in [
+//!     (Square::G6, Colour::White, Kind::King),
+//!     (Square::A1, Colour::White, Kind::Rook),
+//!     (Square::G8, Colour::Black, Kind::King),
 //! ] {
-//!     let _ = diagram.put(Square::numbered(number), Man { colour, kind });
+//!     let _ = diagram.put(square, Man { colour, kind });
 //! }
 //! if diagram.is_well_formed() {
 //!     let mut board = Board::of(&diagram);
 //!     let mut mates = MateCursor::<Orthodox>::of(&board);
 //!     let mate = Move {
-//!         from: Square::numbered(0),
-//!         to: Square::numbered(56),
+//!         from: Square::A1,
+//!         to: Square::A8,
 //!         promo: None,
 //!     };
 //!     // Ra1-a8 is the only mate.

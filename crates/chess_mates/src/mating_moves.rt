@@ -1,5 +1,5 @@
 //! The mating moves of one position. Most other moves are skipped without being played.
-ghost use Rattle.std.specs.Prelude.{◌≡◌, ⊤, ℕ, ◌≤◌, ◌<◌, ◌∷◌, [], ◌&&◌, IfSome, MatchOption, None, Some, ◌==◌, false, not, true};
+ghost use Rattle.std.specs.Prelude.{◌≡◌, ℕ, ◌≤◌, ◌<◌, ◌∷◌, [], ◌&&◌, IfSome, MatchOption, None, Some, ◌==◌, false, not, true};
 ghost use Rattle.chess_core.specs.Position.{other};
 ghost use Rattle.chess_core.specs.WellFormed.{IsWellFormed};
 ghost use Rattle.chess_attacks.specs.Attacks.{in_check};
@@ -26,7 +26,6 @@ use chess_rules::{
     MoveFilter, Moves, TRIPLES, TargetCache, arrivals, has_legal_move, is_pseudo_legal, move_at,
     next_passing, others_have_move, play, unplay,
 };
-use std::alloc::AllocError;
 use std::marker::{Model, PhantomData};
 
 /// What shows that a move doesn't mate: the squares from which a move may give check, and the flights of
@@ -39,7 +38,7 @@ pub(crate) struct MateClues {
 
 /// A cursor over the mating moves of one position. It keeps the position's clues and the candidate squares
 /// of its current origin.
-#[derive_where(Copy)]
+#[derive_where(Clone, Copy)]
 pub struct MateCursor<R> {
     number: u16,
     clues: MateClues,
@@ -60,21 +59,6 @@ impl<R> Model for MateCursor<R> {
       targets = v.kept;
       rules = record {};
     } };
-}
-
-impl<R> Clone for MateCursor<R> {
-    ghost is_clone = { λ it copy. copy ≡ it };
-
-    ghost is_infallible = { λ _. ⊤ };
-
-    fn clone(&self) -> Result<Self, AllocError> {
-        Ok(MateCursor {
-            number: self.number,
-            clues: self.clues,
-            targets: self.targets,
-            rules: PhantomData,
-        })
-    }
 }
 
 impl<R: Rules> MateCursor<R> {

@@ -1,8 +1,8 @@
 -- Castling as three moves: the king's two steps and the rook's move.
-use Rattle.chess_reach.proofs.Chess.{Black, Bool, Colour, IsWellFormed, King, Kind, List, Man, Move, None, Option, Position, Rook, RuleSet, Some, White, along, and_from, and_parts, ap, arith, corner, goes, guards, halfway, has_unmoved, inl, inr, is_castling, is_man, is_vacant, leaps, man_on, man_on-with_other, man_on-with_same, man_on-without_other, man_on-without_same, may_promote, position_after, reaches_as, refl, rides, same_colour, same_colour-true, same_kind, same_kind-true, sym, true, with_man, without_man, ℕ, ◌<◌, ◌∙◌, ◌≡◌, ◌≢◌, ◌⊎◌, length, captures_are_reborn, ◌+◌, Ends, IsPlan, arriving_man, capture_square, suc, other, moved_men, position_after_by, is_pseudo_legal, false, false≢true}
+use Rattle.chess_reach.proofs.Chess.{Black, Bool, checks_by_leap, same_colour-refl, Colour, IsWellFormed, King, Kind, List, Man, Move, None, Option, Position, Rook, RuleSet, Some, White, along, and_from, and_parts, ap, arith, corner, goes, guards, halfway, has_unmoved, inl, inr, is_castling, is_man, is_vacant, leaps, man_on, man_on-with_other, man_on-with_same, man_on-without_other, man_on-without_same, may_promote, position_after, reaches_as, refl, rides, same_colour, same_colour-true, same_kind, same_kind-true, sym, true, with_man, without_man, ℕ, ◌<◌, ◌∙◌, ◌≡◌, ◌≢◌, ◌⊎◌, length, captures_are_reborn, ◌+◌, Ends, IsPlan, arriving_man, capture_square, suc, other, moved_men, position_after_by, is_pseudo_legal, false, false≢true}
 use Rattle.chess_reach.proofs.Gone.{king_kept}
 use Rattle.chess_reach.specs.Plans.{king_home}
-use Rattle.chess_reach.proofs.OneMove.{IsGone, king_arrives, king_goes, king_stays, other_king_stays, other_step, own_step, stays}
+use Rattle.chess_reach.proofs.OneMove.{IsGone, king_arrives, king_goes, king_stays, other_king_stays, other_step, own_step, stays, stood_before}
 use Rattle.chess_rules.proofs.Chess.{all_at, is_clear, is_home, length-set, list_all, man_on-without_none, squares_between, move_man}
 use Rattle.chess_rules.proofs.legality.Blocking.{unreborn_after}
 use Rattle.chess_rules.proofs.making_moves.Castles.{no_man}
@@ -45,6 +45,10 @@ moved_there men a b x small = man_on-with_same (without_man men a) b x (rw lengt
 -- its origin is empty
 moved_left : (men : List (Option Man)) (a b : ℕ) (x : Man) → a ≢ b → man_on (with_man (without_man men a) b x) a ≡ None
 moved_left men a b x ne = man_on-with_other (without_man men a) b a x ne ∙ man_on-without_same men a
+
+-- one square has one man
+arrived_as : (men : List (Option Man)) (s b : ℕ) (z y : Man) → man_on men s ≡ Some z → s ≡ b → man_on men b ≡ Some y → z ≡ y
+arrived_as men s b z y at same there = let h : Some z ≡ Some y = sym (rw same at at) ∙ there in cc
 
 -- elsewhere nothing changes
 moved_other : (men : List (Option Man)) (a b : ℕ) (x : Man) (s : ℕ) → s ≢ a → s ≢ b → man_on (with_man (without_man men a) b x) s ≡ man_on men s
@@ -283,27 +287,47 @@ module _ (rule : RuleSet) (p : Position) (x : Man) (m : Move) (well : IsWellForm
         (moved_empty p.men m.from m.to king_man (halfway m) (λ e. parts.apart.4 (sym e)) parts.crossed)
         (rw men_castled (moved_other crossed.men (corner m) (halfway m) rook_man)) (λ takes. and_from _ _ parts.rook_way refl) kinds_castled
 
-    -- a plan after castling is one before it, with three moves more: of the mating side
-    pub own_castling : (goal : Goal) (c : Colour) (n o k : ℕ) (ends : Ends) → x.colour ≡ c → IsPlan goal (position_after rule p m) c n o k ends
-        → (before : Ends) × IsPlan goal p c (suc (suc (suc n))) o k before
+    -- a man of the other side, or a knight or pawn, isn't one that has castled
+    unlike : (z : Man) (j : Kind) → (same_colour z.colour x.colour ≡ false) ⊎ (checks_by_leap z.kind ≡ true) → checks_by_leap j ≡ false
+        → z ≡ record { colour = side; kind = j } → ⊥
+    unlike z j (inl theirs) slow same = false≢true (sym theirs ∙ ap (λ (y : Man). same_colour y.colour x.colour) same ∙ ap (λ d. same_colour d x.colour) (sym side_is) ∙ same_colour-refl x.colour)
+    unlike z j (inr leaps) slow same = false≢true (sym slow ∙ ap (λ (y : Man). checks_by_leap y.kind) (sym same) ∙ leaps)
+
+    -- it was where it is
+    pub stood_castled : (s : ℕ) (z : Man) → man_on (position_after rule p m).men s ≡ Some z
+        → (same_colour z.colour x.colour ≡ false) ⊎ (checks_by_leap z.kind ≡ true) → man_on p.men s ≡ Some z
     unfolding king_man rook_man
-    own_castling goal c n o k ends his plan =
+    stood_castled s z at other =
+        let ends = stays p.men in
+        let q = position_after rule p m in
+        let a = stood_before crossed q rook_man rook_man (corner m) (halfway m) None third ends s z at
+        (λ same. unlike z Rook other refl (arrived_as q.men s (halfway m) z rook_man at same third.there)) in
+        let b = stood_before crossing crossed king_man king_man (halfway m) m.to None second ends s z a.1.1
+        (λ same. unlike z King other refl (arrived_as crossed.men s m.to z king_man a.1.1 same second.there)) in
+        (stood_before p crossing king_man king_man m.from (halfway m) None first ends s z b.1.1
+        (λ same. unlike z King other refl (arrived_as crossing.men s (halfway m) z king_man b.1.1 same first.there))).1.1
+
+    -- a plan after castling is one before it, with three moves more: of the mating side
+    pub own_castling : (goal : Goal) (sc : Bool) (c : Colour) (n o k : ℕ) (ends : Ends) → x.colour ≡ c → IsPlan goal sc (position_after rule p m) c n o k ends
+        → (before : Ends) × IsPlan goal sc p c (suc (suc (suc n))) o k before
+    unfolding king_man rook_man
+    own_castling goal sc c n o k ends his plan =
         let mine = sym side_is ∙ his in
         let q = position_after rule p m in
-        let last = own_step crossed q rook_man rook_man (corner m) (halfway m) None third ends goal c n o k mine plan in
-        let middle = own_step crossing crossed king_man king_man (halfway m) m.to None second last.0 goal c (suc n) o k mine last.1 in
-        own_step p crossing king_man king_man m.from (halfway m) None first middle.0 goal c (suc (suc n)) o k mine middle.1
+        let last = own_step crossed q rook_man rook_man (corner m) (halfway m) None third ends goal sc c n o k mine plan in
+        let middle = own_step crossing crossed king_man king_man (halfway m) m.to None second last.0 goal sc c (suc n) o k mine last.1 in
+        own_step p crossing king_man king_man m.from (halfway m) None first middle.0 goal sc c (suc (suc n)) o k mine middle.1
 
     -- of the other side
-    pub other_castling : (goal : Goal) (c : Colour) (n o k : ℕ) (ends : Ends) → x.colour ≡ other c → IsPlan goal (position_after rule p m) c n o k ends
-        → (before : Ends) × IsPlan goal p c n (suc (suc (suc o))) k before
+    pub other_castling : (goal : Goal) (sc : Bool) (c : Colour) (n o k : ℕ) (ends : Ends) → x.colour ≡ other c → IsPlan goal sc (position_after rule p m) c n o k ends
+        → (before : Ends) × IsPlan goal sc p c n (suc (suc (suc o))) k before
     unfolding king_man rook_man
-    other_castling goal c n o k ends his plan =
+    other_castling goal sc c n o k ends his plan =
         let theirs = sym side_is ∙ his in
         let q = position_after rule p m in
-        let last = other_step crossed q rook_man rook_man (corner m) (halfway m) None third ends goal c n o k theirs plan in
-        let middle = other_step crossing crossed king_man king_man (halfway m) m.to None second last.0 goal c n (suc o) k theirs last.1 in
-        other_step p crossing king_man king_man m.from (halfway m) None first middle.0 goal c n (suc (suc o)) k theirs middle.1
+        let last = other_step crossed q rook_man rook_man (corner m) (halfway m) None third ends goal sc c n o k theirs plan in
+        let middle = other_step crossing crossed king_man king_man (halfway m) m.to None second last.0 goal sc c n (suc o) k theirs last.1 in
+        other_step p crossing king_man king_man m.from (halfway m) None first middle.0 goal sc c n (suc (suc o)) k theirs middle.1
 
     -- no king is lost
     pub king_castled : (c : Colour) (s : ℕ) → is_man (man_on p.men s) c King ≡ true → (r : ℕ) × (is_man (man_on (position_after rule p m).men r) c King ≡ true)

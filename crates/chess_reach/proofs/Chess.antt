@@ -4,5 +4,5 @@ pub use Rattle.chess_rules.proofs.Chess.{AtMostOneKing, Black, Colour, HasNoKing
 unfoldable pub use Rattle.chess_rules.proofs.Chess.{along, capture_square, hops, in_check, is_attacked, is_attacker, is_legal, is_mate, is_paralysed, is_pseudo_legal, is_stalemate, king_square, leaps, moved_men, moves, position_after, position_after_by, reaches, reaches_as, reborn_square, rides, some_square, squares, has_unmoved, unmoved_after}
 unfoldable pub use Rattle.chess_reach.specs.Reach.{Gets, goes, guards, pawn_goes}
 pub use Rattle.chess_reach.specs.Reach.{becomes, without_hops}
-pub use Rattle.chess_reach.specs.Plans.{End, Ends, IsBlocked, IsGuarded, IsPlan, captures_to, is_ahead, is_prey}
+pub use Rattle.chess_reach.specs.Plans.{End, Ends, IsBlocked, IsChecked, IsGuarded, IsPlan, captures_to, checks_by_leap, is_ahead, is_prey}
 unfoldable pub use Rattle.chess_reach.specs.Plans.{may_capture, price}

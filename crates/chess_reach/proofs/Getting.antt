@@ -128,6 +128,12 @@ unfolding Gets
 gets_small allowed takes c zero k s j t small (same, there) = subst (λ x. x < 64) there small
 gets_small allowed takes c (suc n) k s j t small (i, q, go, rest) = gets_small allowed takes c n i q j t (goes_small allowed takes c k s i q go) rest
 
+-- without a move a man stays what it is
+pub gets_none : (allowed : Kind → Bool) (takes : ℕ → Bool) (c : Colour) (n : ℕ) (k : Kind) (s : ℕ) (j : Kind) (t : ℕ) → n ≡ 0 → Gets allowed takes c n k s j t → k ≡ j
+unfolding Gets
+gets_none allowed takes c zero k s j t none way = way.0
+gets_none allowed takes c (suc n) k s j t none way = absurd (omega (arith, none))
+
 -- the last move of a way
 pub gets_last : (allowed : Kind → Bool) (takes : ℕ → Bool) (c : Colour) (n : ℕ) (k : Kind) (s : ℕ) (j : Kind) (t : ℕ) → Gets allowed takes c (suc n) k s j t
     → (i : Kind) × (q : ℕ) × Gets allowed takes c n k s i q × (goes allowed takes c i q j t ≡ true)

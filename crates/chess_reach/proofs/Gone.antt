@@ -1,5 +1,5 @@
 -- What a legal move that doesn't castle does to the men, where captured men aren't reborn.
-use Rattle.chess_reach.proofs.Chess.{Black, White, Bool, ap, captures_to, is_ahead, subst, inl, inr, ◌<◌, ◌≤◌, ◌+◌, ◌||◌, Colour, IsWellFormed, King, Kind, List, Man, Move, None, Option, Pawn, Position, RuleSet, Some, and_from, and_parts, arith, arriving_man, becomes, capture_square, captured_man, captures_are_reborn, cases_Bool, cond-false, cond-true, eq-eqb, false, false≢true, goes, guards, is_castling, is_pawn_capture, is_pawn_step, is_promotion_right, is_pseudo_legal, is_some, is_square, man_on, may_promote, moved_men, if◌then◌else◌, not-true, ne_eqb, is_arrival_free, same_colour-refl, rank_of, last_rank, ◌==◌, or_cases, or_left, or_right, pawn_goes, position_after, position_after_by, reaches, reborn_square, refl, same_colour, same_kind, same_kind-true, sym, true, ℕ, ◌&&◌, ◌∙◌, ◌≡◌, ◌≢◌, ◌⊎◌}
+use Rattle.chess_reach.proofs.Chess.{Black, White, Bool, ap, captures_to, is_ahead, subst, inl, inr, ◌<◌, ◌≤◌, ◌+◌, ◌||◌, Colour, IsWellFormed, King, Kind, List, Man, Move, None, Option, Pawn, Position, RuleSet, Some, and_from, and_parts, arith, arriving_man, becomes, capture_square, captured_man, captures_are_reborn, cases_Bool, cond-false, cond-true, eq-eqb, false, false≢true, goes, guards, is_castling, is_pawn_capture, is_pawn_step, is_promotion_right, is_pseudo_legal, is_some, is_square, man_on, may_promote, moved_men, if◌then◌else◌, not-true, ne_eqb, is_arrival_free, same_colour-refl, rank_of, last_rank, ◌==◌, or_left, or_right, pawn_goes, position_after, position_after_by, reaches, reborn_square, refl, same_colour, same_kind, same_kind-true, sym, true, ℕ, ◌&&◌, ◌∙◌, ◌≡◌, ◌≢◌, ◌⊎◌}
 use Rattle.chess_attacks.proofs.rays.Ends.{square_is}
 use Rattle.chess_attacks.proofs.rays.OnSquares.{on_board}
 use Rattle.chess_reach.proofs.EmptyBoard.{guards_reached}

@@ -4,6 +4,7 @@ pub mod Sums
 pub mod OneMove
 pub mod Gone
 pub mod Picture
+pub mod Standing
 pub mod Castling
 pub mod Lines
 pub mod KingMoves
@@ -12,6 +13,7 @@ mod Bitboards
 mod Parts
 mod Getting
 mod Chains
+mod Returning
 mod Holding
 mod Guarding
 mod Trying

@@ -1,18 +1,21 @@
 -- A line that reaches the goal has a plan at its start.
-use Rattle.chess_reach.proofs.Chess.{Bool, Colour, Ends, IsPlan, IsWellFormed, King, List, Man, Move, None, Option, Position, RuleSet, Some, [], and_parts, ap, arith, arriving_man, capture_square, captures_are_reborn, cases_Bool, eq-eqb, eqb-true, false, false_from_ne_true, false≢true, has_unmoved, if◌then◌else◌, in_check, inl, inr, is_castling, is_legal, is_man, is_pseudo_legal, king_square, length, man_on, ne_eqb, not-true, other, position_after, position_after_by, refl, subst, suc, sym, true, unmoved_after, ℕ, ◌%◌, ◌+◌, ◌/◌, ◌==◌, ◌∙◌, ◌∷◌, ◌≡◌, ◌≢◌, ◌≤◌}
+use Rattle.chess_reach.proofs.Chess.{Bool, Colour, Ends, IsPlan, IsWellFormed, King, List, Man, Move, None, Option, Position, RuleSet, Some, [], and_parts, ap, arith, arriving_man, capture_square, captures_are_reborn, cases_Bool, cases_eq, checks_by_leap, same_colour, same_colour-refl, eq-eqb, eqb-true, false, false_from_ne_true, false≢true, has_unmoved, if◌then◌else◌, in_check, inl, inr, is_castling, is_legal, is_man, is_pseudo_legal, king_square, length, man_on, ne_eqb, not-true, other, position_after, position_after_by, refl, subst, suc, sym, true, unmoved_after, ℕ, ◌%◌, ◌+◌, ◌/◌, ◌==◌, ◌∙◌, ◌∷◌, ◌≡◌, ◌≢◌, ◌≤◌}
 use Rattle.chess_core.specs.declared.man.Unmoved.{Unmoved}
-use Rattle.chess_reach.proofs.Castling.{castled_home, castled_right, king_castled, other_castling, own_castling}
+use Rattle.chess_reach.proofs.Castling.{castled_home, castled_right, king_castled, other_castling, own_castling, stood_castled}
 use Rattle.chess_reach.proofs.Gone.{is_gone, reborn_none}
-use Rattle.chess_reach.proofs.OneMove.{king_goes, other_step, own_step, stays}
+use Rattle.chess_reach.proofs.OneMove.{king_goes, last_step, other_step, own_step, stays, stood_before}
 use Rattle.chess_reach.proofs.Picture.{picture}
+use Rattle.chess_reach.proofs.Standing.{no_stander_checks}
 use Rattle.chess_reach.specs.Plans.{king_home, saved_moves}
 use Rattle.chess_reach.specs.Lines.{IsLegalLine, line_end, mover, reaches_goal}
 use Rattle.chess_rules.proofs.Chess.{corner, has_unmoved-parts, unmoved_without_at, without_unmoved}
-use Rattle.chess_rules.proofs.legality.Blocking.{other_twice}
+use Rattle.chess_attacks.specs.RuleSet.{like_men_paralyse}
+use Rattle.chess_rules.proofs.legality.Blocking.{other_differs, other_twice}
 use Rattle.chess_rules.proofs.listing_moves.Calls.{is_pseudo_legal-from_legal}
 use Rattle.chess_rules.proofs.making_moves.Pseudo.{made}
 use Rattle.chess_rules.proofs.making_moves.Stays.{after_well_formed, maker}
 use Rattle.pop_stipulation.specs.declared.stipulation.Goal.{Goal}
+use Rattle.pop_stipulation.specs.declared.stipulation.Goal.TheVariants.{Mate}
 
 -- rights that are left were there
 right_left : (u : Unmoved) (o : Option ℕ) (s : ℕ) → has_unmoved (unmoved_without_at u o) s ≡ true → has_unmoved u s ≡ true
@@ -37,13 +40,13 @@ turn_shift c t h turn = elim (cases_Bool (h % 2 == 1)) [
       rw (turn, even, odd) refl
 ]
 
--- the last half-move is c's
-last_mover : (c : Colour) (h : ℕ) → h ≡ 0 → mover c (suc h) ≡ c
-last_mover c h e = rw e refl
+-- the last half-move but one is the other side's
+last_mover_but_one : (c : Colour) (h : ℕ) → h ≡ 0 → mover c (suc (suc h)) ≡ other c
+last_mover_but_one c h e = rw e refl
 
 -- more moves are enough too
-plan_more : (goal : Goal) (p : Position) (c : Colour) (n o i j k : ℕ) (ends : Ends) → IsPlan goal p c n o k ends → n ≤ i → o ≤ j → IsPlan goal p c i j k ends
-plan_more goal p c n o i j k ends plan more_ours more_theirs = record {
+plan_more : (goal : Goal) (sc : Bool) (p : Position) (c : Colour) (n o i j k : ℕ) (ends : Ends) → IsPlan goal sc p c n o k ends → n ≤ i → o ≤ j → IsPlan goal sc p c i j k ends
+plan_more goal sc p c n o i j k ends plan more_ours more_theirs = record {
   gets = plan.gets;
   ours = omega (arith, plan.ours);
   theirs = omega (arith, plan.theirs);
@@ -101,46 +104,107 @@ module _ (rule : RuleSet) (p : Position) (m : Move) (well : IsWellFormed p) (leg
         (rw lost refl, rw right refl)
 
     -- a plan after a move of the mating side is one before it, with a move more
-    pub own_move : (goal : Goal) (c : Colour) (n o k : ℕ) (ends : Ends) → p.turn ≡ c
-        → IsPlan goal (position_after rule p m) c (n + saved_moves (position_after rule p m) c) (o + saved_moves (position_after rule p m) (other c)) k ends
-        → (before : Ends) × IsPlan goal p c (suc n + saved_moves p c) (o + saved_moves p (other c)) k before
-    own_move goal c n o k ends turn plan =
+    pub own_move : (goal : Goal) (sc : Bool) (c : Colour) (n o k : ℕ) (ends : Ends) → p.turn ≡ c
+        → IsPlan goal sc (position_after rule p m) c (n + saved_moves (position_after rule p m) c) (o + saved_moves (position_after rule p m) (other c)) k ends
+        → (before : Ends) × IsPlan goal sc p c (suc n + saved_moves p c) (o + saved_moves p (other c)) k before
+    own_move goal sc c n o k ends turn plan =
         let q = position_after rule p m in
         let mine : man.colour ≡ c = (made rule p m man may here).mine ∙ turn in
         let i = n + saved_moves (position_after rule p m) c in
         let j = o + saved_moves (position_after rule p m) (other c) in
         elim (cases_Bool (is_castling man m)) [
           | inl castling ↦
-              let r = own_castling rule p man m well may here castling none_reborn goal c i j k ends mine plan in
+              let r = own_castling rule p man m well may here castling none_reborn goal sc c i j k ends mine plan in
               let now = saves_now c castling mine in
-              (r.0, plan_more goal p c _ _ _ _ k r.0 r.1 (omega (arith, now.0, now.1)) (omega (arith, saves_no_more (other c))))
+              (r.0, plan_more goal sc p c _ _ _ _ k r.0 r.1 (omega (arith, now.0, now.1)) (omega (arith, saves_no_more (other c))))
           | inr plain ↦
               let r = own_step p q man (arriving_man man m.promo) m.from m.to (capture_square p man m)
               (is_gone rule p man m well may here plain none_reborn) ends
-              goal c i j k mine plan in
-              (r.0, plan_more goal p c _ _ _ _ k r.0 r.1 (omega (arith, saves_no_more c)) (omega (arith, saves_no_more (other c))))
+              goal sc c i j k mine plan in
+              (r.0, plan_more goal sc p c _ _ _ _ k r.0 r.1 (omega (arith, saves_no_more c)) (omega (arith, saves_no_more (other c))))
         ]
 
     -- likewise of the other side
-    pub other_move : (goal : Goal) (c : Colour) (n o k : ℕ) (ends : Ends) → p.turn ≡ other c
-        → IsPlan goal (position_after rule p m) c (n + saved_moves (position_after rule p m) c) (o + saved_moves (position_after rule p m) (other c)) k ends
-        → (before : Ends) × IsPlan goal p c (n + saved_moves p c) (suc o + saved_moves p (other c)) k before
-    other_move goal c n o k ends turn plan =
+    pub other_move : (goal : Goal) (sc : Bool) (c : Colour) (n o k : ℕ) (ends : Ends) → p.turn ≡ other c
+        → IsPlan goal sc (position_after rule p m) c (n + saved_moves (position_after rule p m) c) (o + saved_moves (position_after rule p m) (other c)) k ends
+        → (before : Ends) × IsPlan goal sc p c (n + saved_moves p c) (suc o + saved_moves p (other c)) k before
+    other_move goal sc c n o k ends turn plan =
         let q = position_after rule p m in
         let theirs : man.colour ≡ other c = (made rule p m man may here).mine ∙ turn in
         let i = n + saved_moves (position_after rule p m) c in
         let j = o + saved_moves (position_after rule p m) (other c) in
         elim (cases_Bool (is_castling man m)) [
           | inl castling ↦
-              let r = other_castling rule p man m well may here castling none_reborn goal c i j k ends theirs plan in
+              let r = other_castling rule p man m well may here castling none_reborn goal sc c i j k ends theirs plan in
               let now = saves_now (other c) castling theirs in
-              (r.0, plan_more goal p c _ _ _ _ k r.0 r.1 (omega (arith, saves_no_more c)) (omega (arith, now.0, now.1)))
+              (r.0, plan_more goal sc p c _ _ _ _ k r.0 r.1 (omega (arith, saves_no_more c)) (omega (arith, now.0, now.1)))
           | inr plain ↦
               let r = other_step p q man (arriving_man man m.promo) m.from m.to (capture_square p man m)
               (is_gone rule p man m well may here plain none_reborn) ends
-              goal c i j k theirs plan in
-              (r.0, plan_more goal p c _ _ _ _ k r.0 r.1 (omega (arith, saves_no_more c)) (omega (arith, saves_no_more (other c))))
+              goal sc c i j k theirs plan in
+              (r.0, plan_more goal sc p c _ _ _ _ k r.0 r.1 (omega (arith, saves_no_more c)) (omega (arith, saves_no_more (other c))))
         ]
+
+    -- a goal that is reached has a plan before the last move: no knight or pawn that stands checks
+    module _ (goal : Goal) (c : Colour) (k : ℕ) (turn : p.turn ≡ c) (safe : in_check rule p.men (other c) ≡ false)
+        (at : king_square (position_after rule p m).men (other c) ≡ Some k) (reaches : reaches_goal goal rule (position_after rule p m) ≡ true) where
+      mine : man.colour ≡ c
+      mine = (made rule p m man may here).mine ∙ turn
+
+      pictured : IsPlan goal true (position_after rule p m) c 0 0 k (stays (position_after rule p m).men)
+      pictured = picture rule (position_after rule p m) c k (after_well_formed rule p m well may) (turn_after ∙ ap other turn) none_reborn
+          (subst (λ d. in_check rule (position_after rule p m).men d ≡ false) turn safe_after) at goal reaches
+
+      -- a man that has not just arrived was there before
+      stood_plain : is_castling man m ≡ false → (s : ℕ) (z : Man) → man_on (position_after rule p m).men s ≡ Some z → s ≢ m.to → man_on p.men s ≡ Some z
+      stood_plain plain s z here_now off =
+          (stood_before p (position_after rule p m) man (arriving_man man m.promo) m.from m.to (capture_square p man m)
+          (is_gone rule p man m well may here plain none_reborn) (stays p.men) s z here_now off).1.1
+
+      king_apart : is_castling man m ≡ false → (z : Man) → man_on (position_after rule p m).men k ≡ Some z → z.colour ≡ other c → k ≢ m.to
+      king_apart plain z here_now theirs same =
+          let gone = is_gone rule p man m well may here plain none_reborn in
+          let z_is : z ≡ arriving_man man m.promo = let h : Some z ≡ Some (arriving_man man m.promo) = sym (rw same at here_now) ∙ gone.there in cc in
+          false≢true (sym (other_differs c) ∙ ap (λ d. same_colour c d) (sym theirs ∙ ap (λ (y : Man). y.colour) z_is ∙ gone.colour ∙ mine) ∙ same_colour-refl c)
+
+      arrives : is_castling man m ≡ false → (mate : goal ≡ Mate) → like_men_paralyse rule ≡ false
+          → checks_by_leap (stays (position_after rule p m).men (pictured.check mate).guarded.by).kind ≡ true → (pictured.check mate).guarded.by ≡ m.to
+      arrives plain mate free leaps =
+          let g = (pictured.check mate).guarded in
+          elim (cases_eq g.by m.to) [
+            | inl same ↦ same
+            | inr off ↦ absurd (no_stander_checks rule p (position_after rule p m) c k well free safe at
+                (λ z here_now theirs. stood_plain plain k z here_now (king_apart plain z here_now theirs)) g leaps (λ z here_now _. stood_plain plain g.by z here_now off))
+          ]
+
+      castled_check : is_castling man m ≡ true → (mate : goal ≡ Mate) → like_men_paralyse rule ≡ false
+          → checks_by_leap (stays (position_after rule p m).men (pictured.check mate).guarded.by).kind ≡ true → ⊥
+      castled_check castling mate free leaps =
+          let g = (pictured.check mate).guarded in
+          no_stander_checks rule p (position_after rule p m) c k well free safe at
+          (λ z here_now theirs. stood_castled rule p man m well may here castling none_reborn k z here_now (inl (rw (theirs, mine) (differs c)))) g leaps
+          (λ z here_now leaper. stood_castled rule p man m well may here castling none_reborn g.by z here_now (inr leaper))
+        where
+          differs : (d : Colour) → same_colour (other d) d ≡ false
+          differs d = grind arith
+
+      pub last_move : (before : Ends) × IsPlan goal (like_men_paralyse rule) p c (1 + saved_moves p c) (0 + saved_moves p (other c)) k before
+      last_move = elim (cases_Bool (is_castling man m)) [
+        | inl castling ↦ own_move goal (like_men_paralyse rule) c 0 0 k (stays (position_after rule p m).men) turn (record {
+          gets = pictured.gets;
+          ours = omega (arith, pictured.ours);
+          theirs = omega (arith, pictured.theirs);
+          king = pictured.king;
+          apart = pictured.apart;
+          around = pictured.around;
+          check = λ mate. record { guarded = (pictured.check mate).guarded; arrives = λ free leaps. absurd (castled_check castling mate free leaps) };
+        })
+        | inr plain ↦
+            let r = last_step p (position_after rule p m) man (arriving_man man m.promo) m.from m.to (capture_square p man m)
+            (is_gone rule p man m well may here plain none_reborn) (stays (position_after rule p m).men)
+            goal (like_men_paralyse rule) c 0 0 k mine pictured (arrives plain) in
+            (r.0, plan_more goal (like_men_paralyse rule) p c _ _ _ _ k r.0 r.1 (omega arith) (omega arith))
+      ]
 
     -- no king is lost
     pub king_after : (c : Colour) (s : ℕ) → is_man (man_on p.men s) c King ≡ true → (r : ℕ) × (is_man (man_on (position_after rule p m).men r) c King ≡ true)
@@ -163,30 +227,35 @@ module _ (rule : RuleSet) (none_reborn : captures_are_reborn rule ≡ false) (c 
       king_along line (position_after rule p m) r.0 (after_well_formed rule p m well (is_pseudo_legal-from_legal rule p m legal.0)) legal.1 r.1
 
   module _ (goal : Goal) (k : ℕ) where
-    -- a line that reaches the goal has a plan at its start
-    pub line_plan : (line : List Move) (p : Position) → IsWellFormed p → IsLegalLine rule p line
-        → reaches_goal goal rule (line_end rule p line) ≡ true → p.turn ≡ mover c (length line)
-        → king_square (line_end rule p line).men (other c) ≡ Some k → (length line ≡ 0 → in_check rule p.men c ≡ false)
-        → (ends : Ends) × IsPlan goal p c ((length line + 1) / 2 + saved_moves p c) (length line / 2 + saved_moves p (other c)) k ends
+    -- a line that begins with a move and reaches the goal has a plan at its start
+    line_plan_from : (m : Move) (line : List Move) (p : Position) → IsWellFormed p → IsLegalLine rule p (m ∷ line)
+        → reaches_goal goal rule (line_end rule p (m ∷ line)) ≡ true → p.turn ≡ mover c (suc (length line))
+        → king_square (line_end rule p (m ∷ line)).men (other c) ≡ Some k → (length line ≡ 0 → in_check rule p.men (other c) ≡ false)
+        → (ends : Ends)
+        × IsPlan goal (like_men_paralyse rule) p c ((suc (length line) + 1) / 2 + saved_moves p c) (suc (length line) / 2 + saved_moves p (other c)) k ends
     unfolding line_end IsLegalLine
-    line_plan [] p well legal reaches turn king safe = (
-      stays p.men,
-      plan_more goal p c 0 0 _ _ k (stays p.men) (picture rule p c k well turn none_reborn (safe refl) king goal reaches) (omega arith)
-          (omega arith),
-    )
-    line_plan (m ∷ line) p well legal reaches turn king safe =
-        let rest = line_plan line (position_after rule p m) (after_well_formed rule p m well (is_pseudo_legal-from_legal rule p m legal.0)) legal.1
-        reaches (turn_after rule p m well legal.0 ∙ turn_shift c p.turn (length line) turn) king
-        (λ e. subst (λ (d : Colour). in_check rule (position_after rule p m).men d ≡ false) (turn ∙ last_mover c (length line) e)
+    line_plan_from m [] p well legal reaches turn king safe = last_move rule p m well legal.0 none_reborn goal c k turn (safe refl) king reaches
+    line_plan_from m (n ∷ line) p well legal reaches turn king safe =
+        let rest = line_plan_from n line (position_after rule p m) (after_well_formed rule p m well (is_pseudo_legal-from_legal rule p m legal.0)) legal.1
+        reaches (turn_after rule p m well legal.0 ∙ turn_shift c p.turn (suc (length line)) turn) king
+        (λ e. subst (λ (d : Colour). in_check rule (position_after rule p m).men d ≡ false) (turn ∙ last_mover_but_one c (length line) e)
         (safe_after rule p m well legal.0)) in
-        elim (cases_Bool (suc (length line) % 2 == 1)) [
+        elim (cases_Bool (suc (suc (length line)) % 2 == 1)) [
           | inl odd ↦
               let own : p.turn ≡ c = turn ∙ rw odd refl in
-              let plan = own_move rule p m well legal.0 none_reborn goal c ((length line + 1) / 2) (length line / 2) k rest.0 own rest.1 in
-              (plan.0, plan_more goal p c _ _ _ _ k plan.0 plan.1 (let odd_is = eqb-true (suc (length line) % 2) 1 odd in omega (arith, odd_is)) (omega arith))
+              let plan = own_move rule p m well legal.0 none_reborn goal (like_men_paralyse rule) c ((suc (length line) + 1) / 2) (suc (length line) / 2) k rest.0 own rest.1 in
+              (plan.0, plan_more goal (like_men_paralyse rule) p c _ _ _ _ k plan.0 plan.1 (let odd_is = eqb-true (suc (suc (length line)) % 2) 1 odd in omega (arith, odd_is)) (omega arith))
           | inr even ↦
               let others : p.turn ≡ other c = turn ∙ rw even refl in
-              let plan = other_move rule p m well legal.0 none_reborn goal c ((length line + 1) / 2) (length line / 2) k rest.0 others rest.1 in
-              let not_odd : suc (length line) % 2 ≢ 1 = λ e. false≢true (sym even ∙ eq-eqb (suc (length line) % 2) 1 e) in
-              (plan.0, plan_more goal p c _ _ _ _ k plan.0 plan.1 (omega arith) (omega (arith, not_odd)))
+              let plan = other_move rule p m well legal.0 none_reborn goal (like_men_paralyse rule) c ((suc (length line) + 1) / 2) (suc (length line) / 2) k rest.0 others rest.1 in
+              let not_odd : suc (suc (length line)) % 2 ≢ 1 = λ e. false≢true (sym even ∙ eq-eqb (suc (suc (length line)) % 2) 1 e) in
+              (plan.0, plan_more goal (like_men_paralyse rule) p c _ _ _ _ k plan.0 plan.1 (omega arith) (omega (arith, not_odd)))
         ]
+
+    -- so has each line of moves
+    pub line_plan : (line : List Move) (p : Position) → IsWellFormed p → IsLegalLine rule p line
+        → reaches_goal goal rule (line_end rule p line) ≡ true → p.turn ≡ mover c (length line)
+        → king_square (line_end rule p line).men (other c) ≡ Some k → length line ≢ 0 → (length line ≡ 1 → in_check rule p.men (other c) ≡ false)
+        → (ends : Ends) × IsPlan goal (like_men_paralyse rule) p c ((length line + 1) / 2 + saved_moves p c) (length line / 2 + saved_moves p (other c)) k ends
+    line_plan [] p well legal reaches turn king some safe = absurd (some refl)
+    line_plan (m ∷ line) p well legal reaches turn king some safe = line_plan_from m line p well legal reaches turn king (λ e. safe (ap suc e))

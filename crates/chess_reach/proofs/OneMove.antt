@@ -1,6 +1,7 @@
 -- A plan comes back over one move.
-use Rattle.chess_reach.proofs.Chess.{Bool, Colour, End, Ends, Gets, IsBlocked, IsGuarded, IsPlan, King, Kind, List, Man, None, Option, Position, Some, and_parts, ap, arith, cases_Bool, cases_eq, cond-false, cond-true, eq-eqb, false, false≢true, goes, if◌then◌else◌, inl, inr, captures_to, is_prey, length, may_capture, not, or_cases, or_left, or_right, and_from, same_colour-true, some_square, some_square_true, squares, is_man, is_of_colour, is_square, man_on, may_promote, ne_eqb, other, price, refl, same_colour, same_colour-refl, same_kind, suc, sym, true, ℕ, ◌<◌, ◌==◌, ◌∙◌, ◌≡◌, ◌≢◌, ◌≤◌, ◌&&◌, ◌||◌}
+use Rattle.chess_reach.proofs.Chess.{Bool, Colour, End, Ends, Gets, IsBlocked, IsChecked, IsGuarded, IsPlan, King, Kind, List, Man, None, Option, Position, Some, and_parts, ap, arith, cases_Bool, cases_eq, cond-false, cond-true, eq-eqb, false, false≢true, goes, if◌then◌else◌, inl, inr, captures_to, checks_by_leap, is_prey, length, may_capture, not, or_cases, or_left, or_right, and_from, same_colour-true, some_square, some_square_true, squares, is_man, is_of_colour, is_square, man_on, may_promote, ne_eqb, other, price, refl, same_colour, same_colour-refl, same_kind, suc, sym, true, ℕ, ◌<◌, ◌==◌, ◌∙◌, ◌≡◌, ◌≢◌, ◌≤◌, ◌&&◌}
 use Rattle.pop_stipulation.specs.declared.stipulation.Goal.{Goal}
+use Rattle.pop_stipulation.specs.declared.stipulation.Goal.TheVariants.{Mate}
 use Rattle.chess_rules.proofs.legality.Blocking.{man_there, other_differs}
 use Rattle.chess_rules.proofs.legality.StayingInCheck.{side_there}
 use Rattle.chess_attacks.proofs.Tests.{any_range_cases}
@@ -100,6 +101,8 @@ module _ (p q : Position) (x y : Man) (a b : ℕ) (e : Option ℕ) (gone : IsGon
     kind : (ends_before p.men a b e ends by).kind ≡ (ends s).kind
     square : (ends_before p.men a b e ends by).square ≡ (ends s).square
     taken : (ends_before p.men a b e ends by).taken ≡ (ends s).taken
+    moves : (ends s).moves ≤ (ends_before p.men a b e ends by).moves
+    arrives : s ≡ b → (ends_before p.men a b e ends by).moves ≢ 0
     king : is_man (man_on p.men by) c King ≡ is_man (man_on q.men s) c King
 
   same_promotions : may_promote q ≡ may_promote p
@@ -122,6 +125,8 @@ module _ (p q : Position) (x y : Man) (a b : ℕ) (e : Option ℕ) (gone : IsGon
       kind = rw (e1, at_origin) refl;
       square = rw (e1, at_origin) refl;
       taken = ap (λ (x : End). x.taken) at_origin ∙ ap (λ t. (ends t).taken) (sym e1);
+      moves = omega (arith, ap (λ (x : End). x.moves) at_origin, ap (λ t. (ends t).moves) e1);
+      arrives = λ _. λ none. omega (arith, none, ap (λ (x : End). x.moves) at_origin);
       king = king_at_arrival c ∙ ap (λ t. is_man (man_on q.men t) c King) (sym e1);
     }
     | inr nb ↦
@@ -133,6 +138,8 @@ module _ (p q : Position) (x y : Man) (a b : ℕ) (e : Option ℕ) (gone : IsGon
           kind = rw (at_others s r.0 r.1.0) refl;
           square = rw (at_others s r.0 r.1.0) refl;
           taken = rw (at_others s r.0 r.1.0) refl;
+          moves = omega (arith, ap (λ (x : End). x.moves) (at_others s r.0 r.1.0));
+          arrives = λ same. absurd (nb same);
           king = ap (λ o. is_man o c King) (r.1.1 ∙ sym z.1.0);
         }
   ]
@@ -290,11 +297,27 @@ module _ (p q : Position) (x y : Man) (a b : ℕ) (e : Option ℕ) (gone : IsGon
   blocked_back : (c : Colour) (t : ℕ) → IsBlocked q.men c ends t → IsBlocked p.men c (ends_before p.men a b e ends) t
   blocked_back c t g = let r = came_from c g.by g.theirs in record { by = r.by; theirs = r.ours; there = rw r.square g.there; stays = rw r.taken g.stays }
 
-  -- a plan with these numbers of moves comes back
-  plan_back : (goal : Goal) (c : Colour) (n m i j k : ℕ) → IsPlan goal q c n m k ends
+  -- a man that has arrived does so by a move more
+  checked_back : (sc : Bool) (c : Colour) (k : ℕ) → IsChecked sc q.men c ends k → IsChecked sc p.men c (ends_before p.men a b e ends) k
+  checked_back sc c k g = let r = came_from c g.guarded.by g.guarded.ours in record {
+    guarded = record { by = r.by; ours = r.ours; off = rw r.square g.guarded.off; guards = rw (r.kind, r.square) g.guarded.guards };
+    arrives = λ strict leaper. λ none. g.arrives strict (rw r.kind at leaper) (omega (arith, none, r.moves));
+  }
+
+  -- the man that has just moved arrives
+  checked_now : (sc : Bool) (c : Colour) (k : ℕ) → (g : IsGuarded q.men c ends k k)
+      → (sc ≡ false → checks_by_leap (ends g.by).kind ≡ true → g.by ≡ b) → IsChecked sc p.men c (ends_before p.men a b e ends) k
+  checked_now sc c k g last = let r = came_from c g.by g.ours in record {
+    guarded = record { by = r.by; ours = r.ours; off = rw r.square g.off; guards = rw (r.kind, r.square) g.guards };
+    arrives = λ strict leaper. r.arrives (last strict (rw r.kind at leaper));
+  }
+
+  -- a plan with these numbers of moves and this check comes back
+  plan_back : (goal : Goal) (sc sd : Bool) (c : Colour) (n m i j k : ℕ) → IsPlan goal sd q c n m k ends
+      → (goal ≡ Mate → IsChecked sc p.men c (ends_before p.men a b e ends) k)
       → price p.men c (ends_before p.men a b e ends) ≤ i → price p.men (other c) (ends_before p.men a b e ends) ≤ j
-      → IsPlan goal p c i j k (ends_before p.men a b e ends)
-  plan_back goal c n m i j k plan ours theirs = record {
+      → IsPlan goal sc p c i j k (ends_before p.men a b e ends)
+  plan_back goal sc sd c n m i j k plan check ours theirs = record {
     gets = gets_back c plan.gets;
     ours = ours;
     theirs = theirs;
@@ -304,22 +327,33 @@ module _ (p q : Position) (x y : Man) (a b : ℕ) (e : Option ℕ) (gone : IsGon
       | inl g ↦ inl (guarded_back c k t g)
       | inr g ↦ inr (blocked_back (other c) t g)
     ];
-    check = λ mate. guarded_back c k k (plan.check mate);
+    check = check;
   }
 
   -- a plan after a move of the mating side is one before it, with a move more
-  pub own_step : (goal : Goal) (c : Colour) (n m k : ℕ) → x.colour ≡ c → IsPlan goal q c n m k ends → (before : Ends) × IsPlan goal p c (suc n) m k before
-  own_step goal c n m k mine plan = (
+  pub own_step : (goal : Goal) (sc : Bool) (c : Colour) (n m k : ℕ) → x.colour ≡ c → IsPlan goal sc q c n m k ends
+      → (before : Ends) × IsPlan goal sc p c (suc n) m k before
+  own_step goal sc c n m k mine plan = (
     ends_before p.men a b e ends,
-    plan_back goal c n m (suc n) m k plan (omega (arith, mover_pays c mine, plan.ours))
+    plan_back goal sc sc c n m (suc n) m k plan (λ mate. checked_back sc c k (plan.check mate)) (omega (arith, mover_pays c mine, plan.ours))
+        (omega (arith, other_pays (other c) (rw mine (other_differs c)), plan.theirs)),
+  )
+
+  -- so is one after the last move, if no knight or pawn but the one that has moved checks
+  pub last_step : (goal : Goal) (sc : Bool) (c : Colour) (n m k : ℕ) → x.colour ≡ c → (plan : IsPlan goal true q c n m k ends)
+      → ((mate : goal ≡ Mate) → sc ≡ false → checks_by_leap (ends (plan.check mate).guarded.by).kind ≡ true → (plan.check mate).guarded.by ≡ b)
+      → (before : Ends) × IsPlan goal sc p c (suc n) m k before
+  last_step goal sc c n m k mine plan last = (
+    ends_before p.men a b e ends,
+    plan_back goal sc true c n m (suc n) m k plan (λ mate. checked_now sc c k (plan.check mate).guarded (last mate)) (omega (arith, mover_pays c mine, plan.ours))
         (omega (arith, other_pays (other c) (rw mine (other_differs c)), plan.theirs)),
   )
 
   -- a plan after a move of the other side likewise
-  pub other_step : (goal : Goal) (c : Colour) (n m k : ℕ) → x.colour ≡ other c → IsPlan goal q c n m k ends
-      → (before : Ends) × IsPlan goal p c n (suc m) k before
-  other_step goal c n m k theirs plan = (
+  pub other_step : (goal : Goal) (sc : Bool) (c : Colour) (n m k : ℕ) → x.colour ≡ other c → IsPlan goal sc q c n m k ends
+      → (before : Ends) × IsPlan goal sc p c n (suc m) k before
+  other_step goal sc c n m k theirs plan = (
     ends_before p.men a b e ends,
-    plan_back goal c n m n (suc m) k plan (omega (arith, other_pays c (rw theirs (differs_from_other c)), plan.ours))
+    plan_back goal sc sc c n m n (suc m) k plan (λ mate. checked_back sc c k (plan.check mate)) (omega (arith, other_pays c (rw theirs (differs_from_other c)), plan.ours))
         (omega (arith, mover_pays (other c) theirs, plan.theirs)),
   )

@@ -1,6 +1,7 @@
 -- The squares where a man can be, part by part.
+use Rattle.chess_attacks.proofs.Chess.{Some, cases_Bool, cond-false, eqb-true, false≢true, inl, inr, is_square, sym, word_has, word_only}
 use Rattle.chess_attacks.proofs.Basics.{Bool, ap, arith, bit_and, bit_at, bit_not, bit_or, false, if◌then◌else◌, not, one_shl, true, w64, ℕ, ◌%◌, ◌&&◌, ◌*◌, ◌<◌, ◌==◌, ◌^◌, ◌∙◌, ◌≡◌}
-use Rattle.chess_attacks.proofs.Bits.{on_left, on_right}
+use Rattle.chess_attacks.proofs.Bits.{off_zero, on_left, on_right}
 use Rattle.std.proofs.lemmas.Nat.Bits.{bit_at-pow_same}
 use Rattle.chess_core.specs.Position.{same_kind}
 use Rattle.chess_core.specs.declared.man.Kind.{Kind}
@@ -59,3 +60,17 @@ has_meeting k j t a q n b s m h i = ap not (some_on _ t (has_some k j t _ _ _ (h
 -- a man is now on its square
 pub has_now : (k : Kind) (s : ℕ) → s < 64 → has k k s (record { unpromoted = 1 * 2 ^ s % 2 ^ 64; queen = 0; knight = 0 }) ≡ true
 has_now k s small = grind (arith, one_shl s 64 small, bit_at-pow_same s)
+
+-- and nowhere else, nor promoted
+pub has_now_alone : (k j : Kind) (s t : ℕ) → s < 64 → t < 64 → has k j t (record { unpromoted = 1 * 2 ^ s % 2 ^ 64; queen = 0; knight = 0 }) ≡ true
+    → (t ≡ s) × (same_kind k Pawn ≡ true → same_kind j Pawn ≡ true)
+has_now_alone k j s t small low h = elim (cases_Bool (same_kind k Pawn && not (same_kind j Pawn))) [
+  | inl promoted ↦ absurd (false≢true (sym (off_zero t) ∙ sym (nothing (same_kind k Pawn && not (same_kind j Pawn)) (same_kind j Knight) promoted) ∙ h))
+  | inr same ↦ (
+    sym (eqb-true s t (sym (word_has (λ t. is_square (Some s) t) _ t (word_only s small) low) ∙ sym (ap (λ x. bit_at x t == 1) (cond-false (same_kind k Pawn && not (same_kind j Pawn)) _ _ same)) ∙ h)),
+    λ pawn. grind (arith, same, pawn),
+  )
+]
+  where
+    nothing : (p r : Bool) → p ≡ true → (bit_at (chosen p r (1 * 2 ^ s % 2 ^ 64) 0 0) t == 1) ≡ (bit_at 0 t == 1)
+    nothing p r is = grind (arith, cases_Bool r, is)

@@ -1,5 +1,5 @@
 -- A position in which a side is mated or stalemated is its own plan.
-use Rattle.chess_reach.proofs.Chess.{Bool, Colour, IsGuarded, IsPlan, IsWellFormed, King, Kind, List, Man, Move, None, Option, Position, RuleSet, Some, and_from, and_parts, ap, arith, captures_are_reborn, cases_Bool, false, false_from_ne_true, false≢true, guards, in_check, inl, inr, is_arrival_free, is_attacked, is_attacker, is_castling, is_legal, is_man, is_of_colour, is_paralysed, is_pseudo_legal, king_square, man_on, not_from_false, or_left, other, position_after, price, reaches, reaches_as, refl, same_colour, same_colour-refl, same_colour-true, not, same_kind-true, some_square, some_square_true, squares, sym, true, ℕ, ◌<◌, ◌∙◌, ◌≡◌, ◌≢◌, ◌≤◌, Gets, subst, if◌then◌else◌}
+use Rattle.chess_reach.proofs.Chess.{Colour, IsGuarded, IsPlan, IsWellFormed, King, Kind, List, Man, Move, None, Option, Position, RuleSet, Some, and_from, and_parts, ap, arith, captures_are_reborn, cases_Bool, false, false_from_ne_true, false≢true, guards, in_check, inl, inr, is_arrival_free, is_attacked, is_attacker, is_castling, is_legal, is_man, is_of_colour, is_paralysed, is_pseudo_legal, king_square, man_on, not_from_false, or_left, other, position_after, price, reaches, reaches_as, refl, same_colour, same_colour-refl, same_colour-true, not, same_kind-true, some_square_true, squares, sym, true, ℕ, ◌<◌, ◌∙◌, ◌≡◌, ◌≢◌, ◌≤◌, Gets, subst, if◌then◌else◌}
 use Rattle.chess_attacks.proofs.rays.Flips.{king-back}
 use Rattle.chess_attacks.proofs.rays.OnSquares.{on_board}
 use Rattle.chess_rules.proofs.Chess.{like_men_paralyse, second_fails}
@@ -33,7 +33,7 @@ attacker rule men t c h =
     )
 
 -- whose king is attacked is in check
-checked : (rule : RuleSet) (men : List (Option Man)) (c : Colour) (k : ℕ) → king_square men c ≡ Some k → in_check rule men c ≡ is_attacked rule men k (other c)
+pub checked : (rule : RuleSet) (men : List (Option Man)) (c : Colour) (k : ℕ) → king_square men c ≡ Some k → in_check rule men c ≡ is_attacked rule men k (other c)
 unfolding in_check
 checked rule men c k at = rw at refl
 
@@ -150,7 +150,7 @@ module _ (rule : RuleSet) (q : Position) (c : Colour) (k : ℕ) (well : IsWellFo
       record { by = by.0; ours = rw by.2 by.3; off = enemies_apart q.men by.0 k c by.1 king_man by.2 by.3 king_here refl; guards = rw by.2 by.4 }
 
   -- no legal move, and check if the goal is mate
-  plan : (goal : Goal) → ((m : Move) → is_legal rule q m ≡ false) → (goal ≡ Mate → in_check rule q.men (other c) ≡ true) → IsPlan goal q c 0 0 k (stays q.men)
+  plan : (goal : Goal) → ((m : Move) → is_legal rule q m ≡ false) → (goal ≡ Mate → in_check rule q.men (other c) ≡ true) → IsPlan goal true q c 0 0 k (stays q.men)
   unfolding Gets
   plan goal none check = record {
     gets = λ s x here. rw here (refl, refl);
@@ -162,9 +162,9 @@ module _ (rule : RuleSet) (q : Position) (c : Colour) (k : ℕ) (well : IsWellFo
       | inl theirs ↦ inr (record { by = t; theirs = theirs; there = refl; stays = refl })
       | inr free ↦ inl (guarded none t near free)
     ];
-    check = λ mate. checked_by (check mate);
+    check = λ mate. record { guarded = checked_by (check mate); arrives = λ strict. absurd (false≢true (sym strict)) };
   }
 
-  pub picture : (goal : Goal) → reaches_goal goal rule q ≡ true → IsPlan goal q c 0 0 k (stays q.men)
+  pub picture : (goal : Goal) → reaches_goal goal rule q ≡ true → IsPlan goal true q c 0 0 k (stays q.men)
   picture Mate h = let m = (mate_is rule q well).0 h in plan Mate m.1 (λ _. rw turn at m.0)
   picture Stalemate h = plan Stalemate ((stalemate_is rule q well).0 h).1 (λ same. grind arith)

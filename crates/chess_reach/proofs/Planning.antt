@@ -1,9 +1,7 @@
 -- A plan is found by the search.
-use Rattle.chess_attacks.proofs.Chess.{Bool, Colour, King, List, Man, Nightrider, None, Option, Some, White, all_at, and_from, and_left, and_parts, and_right, ap, arith, bit_and, bit_at, bit_or, cases_Bool, cases_lt, cond-false, cond-true, eq-eqb, eqb-true, false, false≢true, get_or_past, if◌then◌else◌, inl, inr, is_man, is_of_colour, is_square, length, list_all, list_any, man_on, not, other, queen_steps, range_with_len, refl, same_colour-true, same_kind-true, subst, sym, true, word, word_has, word_only, ℕ, ◌%◌, ◌&&◌, ◌*◌, ◌+◌, ◌-◌, ◌<◌, ◌==◌, ◌^◌, ◌∙◌, ◌≡◌, ◌≢◌, ◌≤◌}
+use Rattle.chess_attacks.proofs.Chess.{Bool, Colour, King, List, Man, Nightrider, None, Option, Some, White, all_at, and_from, and_left, and_parts, and_right, ap, arith, bit_and, bit_at, cases_Bool, cases_lt, cond-false, cond-true, eq-eqb, false, false≢true, get_or_past, if◌then◌else◌, inl, inr, is_man, is_of_colour, is_square, length, list_all, list_any, man_on, not, other, queen_steps, range_with_len, refl, same_colour-true, same_kind-true, subst, sym, true, word, word_has, word_only, ℕ, ◌%◌, ◌*◌, ◌+◌, ◌-◌, ◌<◌, ◌==◌, ◌^◌, ◌∙◌, ◌≡◌, ◌≢◌, ◌≤◌}
 unfoldable use Rattle.chess_attacks.proofs.Chess.{along, king_square, leaps, reaches_as, squares}
-use Rattle.std.specs.Prelude.{◌⊎◌}
 use Rattle.std.proofs.Common.{slice_index_or}
-use Rattle.std.proofs.lemmas.Nat.Bits.{bit_at_or}
 use Rattle.std.specs.List.{sum_by}
 use Rattle.chess_attacks.proofs.Tests.{find_first}
 use Rattle.chess_attacks.proofs.rays.Flips.{king-back}
@@ -12,36 +10,25 @@ use Rattle.chess_core.specs.declared.man.Kind.{Kind}
 use Rattle.chess_reach.proofs.Bitboards.{on_both, on_first}
 use Rattle.chess_attacks.proofs.Bits.{off_zero}
 use Rattle.chess_reach.proofs.Chains.{chain_less, gets_be}
-use Rattle.chess_reach.proofs.Getting.{every_on, gets_small}
+use Rattle.chess_reach.proofs.Getting.{every_on, gets_none, gets_small}
+use Rattle.chess_reach.proofs.Returning.{knight_back, pawn_back}
 use Rattle.chess_reach.proofs.Holding.{one_within, sum_less, sum_less_twice, sum_within, two_within}
 unfoldable use Rattle.chess_reach.specs.Plans.{may_capture, price}
-use Rattle.chess_reach.specs.Plans.{Ends, IsBlocked, IsGuarded, IsPlan}
+use Rattle.chess_reach.specs.Plans.{Arrives, Ends, IsBlocked, IsGuarded, IsPlan}
 unfoldable use Rattle.chess_reach.specs.Reach.{guards}
 use Rattle.chess_reach.specs.Reach.{Gets}
 use Rattle.chess_reach.specs.declared.guards.Guard.{Guard}
 use Rattle.chess_reach.specs.declared.hold.Place.{Place}
+use Rattle.chess_reach.specs.declared.hold.Ending.{Ending}
 use Rattle.chess_reach.specs.declared.hold.Quest.{Quest}
 use Rattle.chess_reach.specs.declared.whereabouts.Whereabouts.{Whereabouts}
 use Rattle.chess_reach.specs.ties.Guards.{AreBlocks, AreGuards, CanEnd, guard_at, is_blocker}
-use Rattle.chess_reach.specs.ties.Hold.{Captures, DoesGuard, Holds, IsApart, IsHeld, IsIn, IsQuestOf, blocks_in, end_at, place_at}
+use Rattle.chess_reach.specs.ties.Hold.{Captures, DoesCheck, DoesGuard, Holds, IsApart, IsHeld, IsIn, IsQuestOf, blocks_in, end_at, place_at}
 unfoldable use Rattle.chess_reach.specs.ties.Hold.{blocked, unpaid}
 use Rattle.chess_reach.specs.ties.Whereabouts.{has}
 use Rattle.chess_reach.specs.ties.Ways.{IsChain, IsUsual, nowhere}
 use Rattle.pop_stipulation.specs.declared.stipulation.Goal.{Goal}
 use Rattle.pop_stipulation.specs.declared.stipulation.Goal.TheVariants.{Mate}
-
--- a square of two bitboards joined is one of either
-on_either : (a b t : ℕ) → (bit_at (bit_or a b) t == 1) ≡ true → ((bit_at a t == 1) ≡ true) ⊎ ((bit_at b t == 1) ≡ true)
-on_either a b t on = elim (cases_Bool (bit_at a t == 1)) [
-  | inl here ↦ inl here
-  | inr off ↦ elim (cases_Bool (bit_at b t == 1)) [
-    | inl here ↦ inr here
-    | inr too ↦ absurd (false≢true (sym (grind (arith, bit_at_or a b t, off, too)) ∙ on))
-  ]
-]
-
-only_one : (s t : ℕ) → s < 64 → t < 64 → (bit_at (1 * 2 ^ s % 2 ^ 64) t == 1) ≡ true → s ≡ t
-only_one s t small low on = eqb-true s t (sym (word_has (λ t. is_square (Some s) t) _ t (word_only s small) low) ∙ on)
 
 -- a king guards where he steps
 king_steps : (c : Colour) (k t : ℕ) → guards c King k t ≡ list_any (leaps k t) queen_steps
@@ -51,14 +38,6 @@ king_steps c k t = refl
 -- the squares that have to be held: next to the king
 pub held_around : (k t w s : ℕ) → w ≡ word (λ t. list_any (leaps k t) queen_steps) → t < 64 → (bit_at (bit_and w s) t == 1) ≡ true → guards White King k t ≡ true
 held_around k t w s h small on = king_steps White k t ∙ sym (word_has (λ t. list_any (leaps k t) queen_steps) w t h small) ∙ on_first w s t on
-
--- and for mate the king's own
-pub held_for_mate : (goal : Goal) (k i t w s : ℕ) → goal ≡ Mate → i ≡ k → k < 64 → w ≡ word (λ t. list_any (leaps k t) queen_steps) → t < 64
-    → (bit_at (bit_or (bit_and w s) (1 * 2 ^ i % 2 ^ 64)) t == 1) ≡ true → ((goal ≡ Mate) × (k ≡ t)) ⊎ (guards White King k t ≡ true)
-held_for_mate goal k i t w s mate same low h small on = elim (on_either _ _ t on) [
-  | inl around ↦ inr (held_around k t w s h small around)
-  | inr here ↦ inl (mate, only_one k t low small (subst (λ n. (bit_at (1 * 2 ^ n % 2 ^ 64) t == 1) ≡ true) same here))
-]
 
 none_stays : list_all (λ s. not (list_any (leaps s s) queen_steps)) (range_with_len 0 64) ≡ true
 unfolding leaps along
@@ -101,7 +80,7 @@ board_square : (men : List (Option Man)) (c : Colour) (s : ℕ) → length men �
 board_square men c s size h = grind (arith, cases_lt, get_or_past)
 
 module _ (goal : Goal) (prey captured : ℕ) (p : Position) (q : Quest) (king : Guard) (ours theirs : ℕ) (ends : Ends)
-    (plan : IsPlan goal p q.colour ours theirs q.king ends)
+    (plan : IsPlan goal q.ending.standing_checks p q.colour ours theirs q.king ends)
     (captures : Captures prey captured p q.colour ends) (of : IsQuestOf prey p q king ours theirs) where
   -- the other side's king
   king_stands : is_man (man_on p.men king.from) (other q.colour) King ≡ true
@@ -177,6 +156,9 @@ module _ (goal : Goal) (prey captured : ℕ) (p : Position) (q : Quest) (king : 
     few = omega (arith, guard_moves i lt, few);
     be = gets_be (may_promote p) _ q.colour (end_at q ends i).moves _ _ _ _ of.usual (guard_gets i lt);
     small = gets_small (may_promote p) _ q.colour (end_at q ends i).moves _ _ _ _ (of.guards.small i lt) (guard_gets i lt);
+    returns = λ is. knight_back (may_promote p) _ q.colour (end_at q ends i).moves _ _ _ _ (of.guards.small i lt) is (guard_gets i lt);
+    advances = λ is too. pawn_back (may_promote p) _ q.colour (end_at q ends i).moves _ _ _ _ of.usual is too (guard_gets i lt);
+    stands = λ none. gets_none (may_promote p) _ q.colour (end_at q ends i).moves _ _ _ _ none (guard_gets i lt);
   }
 
   blocker_moves : (s : ℕ) → s < 64 → is_blocker p.men (other q.colour) s ≡ true → (ends s).moves ≤ theirs
@@ -190,20 +172,30 @@ module _ (goal : Goal) (prey captured : ℕ) (p : Position) (q : Quest) (king : 
 
   -- who blocks is a blocker
   blocker_does : (t : ℕ) → q.king ≢ t → IsBlocked p.men (other q.colour) ends t
-      → (s : ℕ) × (s < 64) × (is_blocker p.men (other q.colour) s ≡ true) × ((ends s).square ≡ t) × ((ends s).taken ≡ false) × (t ≢ q.king)
+      → (s : ℕ) × (s < 64) × (is_blocker p.men (other q.colour) s ≡ true) × ((ends s).square ≡ t) × ((ends s).taken ≡ false)
   blocker_does t off b =
       let none : is_man (man_on p.men b.by) (other q.colour) King ≡ false = elim (cases_Bool (is_man (man_on p.men b.by) (other q.colour) King)) [
         | inr no_king ↦ no_king
         | inl is ↦ absurd (off (sym (plan.king b.by is) ∙ b.there))
       ] in
-      (b.by, board_square p.men (other q.colour) b.by of.size b.theirs, and_from _ _ b.theirs (ap not none), b.there, b.stays, λ e. off (sym e))
+      (b.by, board_square p.men (other q.colour) b.by of.size b.theirs, and_from _ _ b.theirs (ap not none), b.there, b.stays)
 
-  held : q.king < 64 → (t : ℕ) → (((goal ≡ Mate) × (q.king ≡ t)) ⊎ (guards White King q.king t ≡ true)) → IsHeld q p.men ends t
-  held low t (inl (mate, here)) = inl (guard_does t (subst (λ x. IsGuarded p.men q.colour ends q.king x) here (plan.check mate)))
-  held low t (inr near) = elim (plan.around t (king_steps (other q.colour) q.king t ∙ sym (king_steps White q.king t) ∙ near)) [
+  held : q.king < 64 → (t : ℕ) → guards White King q.king t ≡ true → IsHeld q p.men ends t
+  held low t near = elim (plan.around t (king_steps (other q.colour) q.king t ∙ sym (king_steps White q.king t) ∙ near)) [
     | inl guarded ↦ inl (guard_does t guarded)
     | inr blocked ↦ inr (blocker_does t (off_himself White q.king t low near) blocked)
   ]
+
+  -- in mate a guard checks
+  pub guard_checks : goal ≡ Mate → (i : ℕ) × (i < q.count) × DoesCheck q ends i
+  guard_checks mate =
+      let g = plan.check mate in
+      let (i, lt, is) = of.guards.all g.guarded.by (board_square p.men q.colour g.guarded.by of.size g.guarded.ours) g.guarded.ours in (
+        i,
+        lt,
+        subst (λ s. (((ends s).square ≢ q.king) × (guards q.colour (ends s).kind (ends s).square q.king ≡ true))
+            × Arrives q.ending.standing_checks (ends s)) (sym is) ((g.guarded.off, g.guarded.guards), g.arrives),
+      )
 
   -- mating men end apart
   pub ends_apart : IsApart q ends
@@ -271,7 +263,7 @@ module _ (goal : Goal) (prey captured : ℕ) (p : Position) (q : Quest) (king : 
   -- all that the search keeps holds at its beginning
   pub plan_holds : (places : List Place) (w steps : ℕ) → ours < 9 → q.king < 64
       → ((i : ℕ) → i < q.count → place_at places i ≡ record { squares = slice_index_or (guard_at q.guards i).chain ours nowhere; moves = 0 })
-      → ((t : ℕ) → t < 64 → (bit_at w t == 1) ≡ true → (((goal ≡ Mate) × (q.king ≡ t)) ⊎ (guards White King q.king t ≡ true)))
+      → ((t : ℕ) → t < 64 → (bit_at w t == 1) ≡ true → guards White King q.king t ≡ true)
       → steps ≤ (ends king.from).moves → Holds q p.men places w ours (theirs - captured - steps) ends
   unfolding unpaid squares
   plan_holds places w steps few low first needs cheap = record {
@@ -307,11 +299,11 @@ bit_here i s same small = subst (λ n. (bit_at (1 * 2 ^ n % 2 ^ 64) s == 1) ≡ 
     (word_has (λ t. is_square (Some s) t) (1 * 2 ^ s % 2 ^ 64) s (word_only s small) small ∙ eq-eqb s s refl)
 
 -- the king of a plan gets to his square
-pub king_near : (goal : Goal) (p : Position) (c d : Colour) (ours theirs k from : ℕ) (ends : Ends) (chain : List Whereabouts) → d ≡ other c
-    → IsPlan goal p c ours theirs k ends → king_square p.men d ≡ Some from → from < 64 → IsUsual (may_promote p)
+pub king_near : (goal : Goal) (sc : Bool) (p : Position) (c d : Colour) (ours theirs k from : ℕ) (ends : Ends) (chain : List Whereabouts) → d ≡ other c
+    → IsPlan goal sc p c ours theirs k ends → king_square p.men d ≡ Some from → from < 64 → IsUsual (may_promote p)
     → IsChain (2 ^ 64 - 1) (record { colour = d; kind = King }) from theirs chain → k < 64 → (bit_at (slice_index_or chain theirs nowhere).unpromoted k == 1) ≡ true
 unfolding king_square squares price
-king_near goal p c d ours theirs k from ends chain enemy plan stands small usual way low =
+king_near goal sc p c d ours theirs k from ends chain enemy plan stands small usual way low =
     let here : is_man (man_on p.men from) d King ≡ true = (find_first (λ s. is_man (man_on p.men s) d King) 0 64 from stands).here in
     let man : man_on p.men from ≡ Some (record { colour = d; kind = King }) = king_of (man_on p.men from) d here in
     let f : ℕ → ℕ = λ s. if is_of_colour (man_on p.men s) (other c) then (ends s).moves else 0 in
@@ -337,11 +329,11 @@ pub usual_promotion : (p : Position) → may_promote p Nightrider ≡ false → 
 usual_promotion p h = record { king = refl; pawn = refl; rider = h }
 
 -- the quest of a position
-pub quest_of : (prey : ℕ) (p : Position) (c d : Colour) (ours m theirs : ℕ) (gs : List Guard) (count : ℕ) (ws : List ℕ) (from at : ℕ) (chain : List Whereabouts) → d ≡ other c
+pub quest_of : (prey : ℕ) (p : Position) (c d : Colour) (ours m theirs : ℕ) (gs : List Guard) (count : ℕ) (ws : List ℕ) (ending : Ending) (from at : ℕ) (chain : List Whereabouts) → d ≡ other c
     → length p.men ≡ 64 → theirs < 9 → AreGuards prey p.men c m gs count → ours ≤ m → ((allowed : Kind → Bool) → IsUsual allowed → AreBlocks allowed p.men d theirs ws)
     → may_promote p Nightrider ≡ false → king_square p.men d ≡ Some from → from < 64 → IsChain (2 ^ 64 - 1) (record { colour = d; kind = King }) from theirs chain
-    → IsQuestOf prey p (record { colour = c; king = at; count = count; guards = gs; blockable = ws }) (record { kind = King; from = from; chain = chain }) ours theirs
-quest_of prey p c d ours m theirs gs count ws from at chain enemy size few guards le blocks plain stands small way = record {
+    → IsQuestOf prey p (record { ending = ending; colour = c; king = at; count = count; guards = gs; blockable = ws }) (record { kind = King; from = from; chain = chain }) ours theirs
+quest_of prey p c d ours m theirs gs count ws ending from at chain enemy size few guards le blocks plain stands small way = record {
   size = size;
   few = few;
   guards = guards_less prey p.men c m ours gs count guards le;
@@ -353,12 +345,19 @@ quest_of prey p c d ours m theirs gs count ws from at chain enemy size few guard
   way = subst (λ x. IsChain (2 ^ 64 - 1) (record { colour = x; kind = King }) from theirs chain) enemy way;
 }
 
-pub quest_again : (prey : ℕ) (p : Position) (c d : Colour) (k count : ℕ) (gs : List Guard) (vs ws : List ℕ) (king : Guard) (ours theirs : ℕ) → d ≡ c → vs ≡ ws
-    → IsQuestOf prey p (record { colour = c; king = k; count = count; guards = gs; blockable = ws }) king ours theirs
-    → IsQuestOf prey p (record { colour = d; king = k; count = count; guards = gs; blockable = vs }) king ours theirs
-quest_again prey p c d k count gs vs ws king ours theirs same blocks of =
-    subst (λ x. IsQuestOf prey p (record { colour = x; king = k; count = count; guards = gs; blockable = vs }) king ours theirs) (sym same)
-    (subst (λ x. IsQuestOf prey p (record { colour = c; king = k; count = count; guards = gs; blockable = x }) king ours theirs) (sym blocks) of)
+pub quest_again : (prey : ℕ) (p : Position) (c d : Colour) (k count : ℕ) (gs : List Guard) (vs ws : List ℕ) (e f : Ending) (king : Guard) (ours theirs : ℕ) → d ≡ c → vs ≡ ws → f ≡ e
+    → IsQuestOf prey p (record { ending = e; colour = c; king = k; count = count; guards = gs; blockable = ws }) king ours theirs
+    → IsQuestOf prey p (record { ending = f; colour = d; king = k; count = count; guards = gs; blockable = vs }) king ours theirs
+quest_again prey p c d k count gs vs ws e f king ours theirs same blocks ending of =
+    subst (λ x. IsQuestOf prey p (record { ending = x; colour = d; king = k; count = count; guards = gs; blockable = vs }) king ours theirs) (sym ending)
+    (subst (λ x. IsQuestOf prey p (record { ending = e; colour = x; king = k; count = count; guards = gs; blockable = vs }) king ours theirs) (sym same)
+    (subst (λ x. IsQuestOf prey p (record { ending = e; colour = c; king = k; count = count; guards = gs; blockable = x }) king ours theirs) (sym blocks) of))
+
+pub plan_again : (p : Position) (c d : Colour) (e f : Ending) (ours theirs k : ℕ) (ends : Ends) → d ≡ c → f ≡ e → IsPlan e.goal e.standing_checks p c ours theirs k ends
+    → IsPlan f.goal f.standing_checks p d ours theirs k ends
+plan_again p c d e f ours theirs k ends same ending plan =
+    subst (λ (x : Ending). IsPlan x.goal x.standing_checks p d ours theirs k ends) (sym ending)
+    (subst (λ x. IsPlan e.goal e.standing_checks p x ours theirs k ends) (sym same) plan)
 
 -- the squares of an empty bitboard
 pub none_near : (a b k : ℕ) → bit_and a b ≡ 0 → (bit_at a k == 1) ≡ true → (bit_at b k == 1) ≡ true → ⊥

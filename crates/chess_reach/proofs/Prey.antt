@@ -1,10 +1,9 @@
 -- The squares on which a pawn captures, and the men that go there in order to be captured.
-use Rattle.chess_reach.proofs.Chess.{Black, Bool, Colour, zero, suc, ◌||◌, ◌≢◌, cond-true, eq-eqb, if◌then◌else◌, or_left, price, squares, End, Ends, Gets, IsPlan, List, Man, Option, Position, Some, White, and_from, and_parts, ap, arith, cases_Bool, captures_to, eqb-true, false, false≢true, inl, inr, is_ahead, rank_of, is_man, is_of_colour, is_prey, man_on, may_capture, may_promote, not, or_cases, other, refl, same_colour, same_colour-refl, some_square, subst, sym, true, ℕ, ◌%◌, ◌&&◌, ◌*◌, ◌+◌, ◌-◌, ◌/◌, ◌<◌, ◌==◌, ◌^◌, ◌∙◌, ◌≡◌, ◌≤◌, ◌⊎◌}
+use Rattle.chess_reach.proofs.Chess.{Black, Bool, Colour, zero, suc, ◌||◌, cond-true, if◌then◌else◌, price, squares, Ends, Gets, IsPlan, List, Man, Position, White, and_from, and_parts, ap, arith, cases_Bool, captures_to, eqb-true, false, false≢true, inl, inr, is_ahead, rank_of, is_of_colour, is_prey, man_on, may_capture, may_promote, not, or_cases, other, refl, same_colour, same_colour-refl, some_square, subst, sym, true, ℕ, ◌%◌, ◌&&◌, ◌*◌, ◌+◌, ◌-◌, ◌/◌, ◌<◌, ◌==◌, ◌^◌, ◌∙◌, ◌≡◌, ◌≤◌, ◌⊎◌}
 use Rattle.std.specs.Int.{bit_at}
 use Rattle.chess_core.specs.Squares.{file_of}
 use Rattle.std.specs.Int.{bit_not}
 use Rattle.std.specs.Prelude.{bit_and, bit_or, slice_index_or}
-use Rattle.std.specs.List.{sum_by}
 use Rattle.chess_attacks.proofs.Basics.{w64}
 use Rattle.chess_attacks.proofs.Bits.{off_zero, on_left, on_right}
 use Rattle.chess_reach.proofs.Bitboards.{denied_on}
@@ -63,7 +62,7 @@ quest_at prey p q r king ours theirs k same of = subst (λ x. IsQuestOf prey p x
   way = of.way;
 })
 
-module _ (goal : Goal) (p : Position) (c : Colour) (ours theirs k : ℕ) (ends : Ends) (plan : IsPlan goal p c ours theirs k ends) (prey lures : ℕ) (ws : List ℕ)
+module _ (goal : Goal) (sc : Bool) (p : Position) (c : Colour) (ours theirs k : ℕ) (ends : Ends) (plan : IsPlan goal sc p c ours theirs k ends) (prey lures : ℕ) (ws : List ℕ)
     (few : theirs < 9) (usual : IsUsual (may_promote p)) (blocks : AreBlocks (may_promote p) p.men (other c) theirs ws)
     (has : (s t : ℕ) → s < 64 → t < 64 → is_blocker p.men (other c) s ≡ true → captures_to c s t ≡ true → (bit_at prey t == 1) ≡ true)
     (holds : (n s t : ℕ) → n < 9 → s < 64 → t < 64 → (bit_at (slice_index_or ws n 0) s == 1) ≡ true → captures_to c s t ≡ true → (bit_at lures t == 1) ≡ true) where

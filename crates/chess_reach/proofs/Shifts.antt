@@ -1,5 +1,5 @@
 -- Bitboards moved over the board.
-use Rattle.chess_reach.proofs.Chess.{Bool, Colour, King, Knight, List, None, Option, Some, Step, [], along, ap, arith, cases_Bool, cases_eq, cases_lt, eqb-true, false, false≢true, inl, inr, is_square, knight_steps, leaps, list_any, or_cases, queen_steps, range_with_len, reaches_as, refl, subst, sym, true, ℕ, ◌%◌, ◌&&◌, ◌*◌, ◌+◌, ◌-◌, ◌/◌, ◌<◌, ◌==◌, ◌^◌, ◌∙◌, ◌∷◌, ◌≡◌, ◌≤◌}
+use Rattle.chess_reach.proofs.Chess.{Bool, Colour, King, Knight, List, None, Option, Some, Step, [], along, ap, arith, cases_Bool, cases_eq, cases_lt, false≢true, inl, inr, is_square, knight_steps, leaps, list_any, or_cases, queen_steps, range_with_len, reaches_as, refl, subst, sym, true, ℕ, ◌%◌, ◌*◌, ◌+◌, ◌-◌, ◌/◌, ◌<◌, ◌==◌, ◌^◌, ◌∙◌, ◌∷◌, ◌≡◌, ◌≤◌}
 use Rattle.std.specs.Int.{bit_at}
 use Rattle.std.specs.Prelude.{bit_and, bit_or}
 use Rattle.std.specs.List.{list_all}

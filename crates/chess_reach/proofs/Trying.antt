@@ -1,9 +1,9 @@
 -- One guard tried in the search for a plan.
-use Rattle.chess_attacks.proofs.Chess.{List, Man, Option, arith, bit_at, cases_eq, [], inl, inr, length, other, refl, subst, suc, sym, true, zero, ap, ℕ, ◌+◌, ◌-◌, ◌<◌, ◌==◌, false, ◌∷◌, ◌≡◌, ◌≢◌, ◌≤◌}
+use Rattle.chess_attacks.proofs.Chess.{Bool, List, Man, Option, arith, bit_at, cases_eq, [], inl, inr, length, other, refl, subst, suc, sym, true, zero, ap, ℕ, ◌+◌, ◌-◌, ◌<◌, ◌==◌, false, ◌∷◌, ◌≡◌, ◌≢◌, ◌≤◌}
 use Rattle.std.proofs.Common.{slice_index_or, slice_set}
 use Rattle.chess_core.specs.declared.man.Kind.{Kind}
 use Rattle.chess_reach.proofs.Holding.{one_spare, placed}
-use Rattle.chess_reach.specs.Plans.{End, Ends}
+use Rattle.chess_reach.specs.Plans.{Arrives, End, Ends}
 use Rattle.chess_reach.specs.Reach.{guards}
 use Rattle.chess_reach.specs.declared.guards.Guard.{Guard}
 use Rattle.chess_reach.specs.declared.hold.Place.{Place}
@@ -57,6 +57,18 @@ module _ (q : Quest) (men : List (Option Man)) (ends : Ends) (left : List Place)
   kept_in x p kept on = subst (λ x. IsIn x p (end_at q ends i)) (sym is)
       (kept (end_at q ends i) the_end the_place.paid (one_spare q men ends left spare i h.paid lt) on)
 
+  -- the same of a guard that checks
+  pub arrives_within : {Q : Type 0} (sc : Bool) (x : Whereabouts)
+      → ((e : End) → CanEnd g e → (place_at left i).moves ≤ e.moves → e.moves ≤ (place_at left i).moves + spare → has g.kind e.kind e.square x ≡ true → Arrives sc e → Q)
+      → IsAmong x → Arrives sc (end_at q ends i) → Q
+  arrives_within sc x kept on arrives = kept (end_at q ends i) the_end the_place.paid (one_spare q men ends left spare i h.paid lt) on arrives
+
+  pub arrives_in : (sc : Bool) (x : Whereabouts) (p : Place)
+      → ((e : End) → CanEnd g e → (place_at left i).moves ≤ e.moves → e.moves ≤ (place_at left i).moves + spare → has g.kind e.kind e.square x ≡ true → Arrives sc e
+      → IsIn g p e) → IsAmong x → Arrives sc (end_at q ends i) → IsIn (guard_at q.guards i) p (end_at q ends i)
+  arrives_in sc x p kept on arrives = subst (λ x. IsIn x p (end_at q ends i)) (sym is)
+      (kept (end_at q ends i) the_end the_place.paid (one_spare q men ends left spare i h.paid lt) on arrives)
+
   -- from where it guards
   pub from_there : (z : ℕ) (x : Whereabouts)
       → ((j : Kind) (s : ℕ) → s < 64 → CanBe g.kind j → s ≢ q.king → guards q.colour j s z ≡ true → has g.kind j s x ≡ true) → DoesGuard q ends z i → IsAmong x
@@ -78,7 +90,7 @@ none_next q ends z i before here m lt does = elim (cases_eq m i) [
 -- where no guard guards z, a blocker is there
 pub blocker_there : (q : Quest) (men : List (Option Man)) (ends : Ends) (left : List Place) (w spare theirs z : ℕ) → Holds q men left w spare theirs ends
     → z < 64 → (bit_at w z == 1) ≡ true → ((m : ℕ) → m < q.count → DoesGuard q ends z m → ⊥)
-    → (s : ℕ) × (s < 64) × (is_blocker men (other q.colour) s ≡ true) × ((ends s).square ≡ z) × ((ends s).taken ≡ false) × (z ≢ q.king)
+    → (s : ℕ) × (s < 64) × (is_blocker men (other q.colour) s ≡ true) × ((ends s).square ≡ z) × ((ends s).taken ≡ false)
 blocker_there q men ends left w spare theirs z h small on none = elim (h.holds z small on) [
   | inl (m, lt, does) ↦ absurd (none m lt does)
   | inr blocker ↦ blocker

@@ -11,7 +11,7 @@ use Rattle.chess_core.specs.declared.man.Man.{Man}
 use Rattle.chess_core.specs.declared.man.Colour.{Colour}
 use Rattle.chess_core.specs.declared.man.Colour.TheVariants.{White, Black}
 use Rattle.chess_core.specs.declared.man.Kind.{Kind}
-use Rattle.chess_core.specs.declared.man.Kind.TheVariants.{King}
+use Rattle.chess_core.specs.declared.man.Kind.TheVariants.{King, Knight, Pawn}
 use Rattle.pop_stipulation.specs.declared.stipulation.Goal.{Goal}
 use Rattle.pop_stipulation.specs.declared.stipulation.Goal.TheVariants.{Mate}
 use Rattle.chess_reach.specs.Reach.{Gets, guards}
@@ -38,6 +38,22 @@ pub record IsGuarded (men : List (Option Man)) (c : Colour) (ends : Ends) (k t :
   pub ours : is_of_colour (man_on men by) c ≡ true
   pub off : (ends by).square ≢ k
   pub guards : guards c (ends by).kind (ends by).square t ≡ true
+
+-- knights and pawns check by a leap: no man can stand between
+abbrev pub checks_by_leap : Kind → Bool
+checks_by_leap Knight = true
+checks_by_leap Pawn = true
+checks_by_leap k = false
+
+-- a knight or pawn that checks has made a move: the king wasn't in check before the last move (FIDE Laws
+-- 3.9.2), which opens lines of riders alone. If `standing_checks` (Madrasi), that move may also free a man.
+abbrev pub Arrives : Bool → End → Type 0
+Arrives standing_checks e = standing_checks ≡ false → checks_by_leap e.kind ≡ true → e.moves ≢ 0
+
+-- a man of colour c checks the king on k from its end
+pub record IsChecked (standing_checks : Bool) (men : List (Option Man)) (c : Colour) (ends : Ends) (k : ℕ) : Type 0 where
+  pub guarded : IsGuarded men c ends k k
+  pub arrives : Arrives standing_checks (ends guarded.by)
 
 -- a man of colour c ends on t and isn't captured there
 pub record IsBlocked (men : List (Option Man)) (c : Colour) (ends : Ends) (t : ℕ) : Type 0 where
@@ -67,7 +83,7 @@ may_capture men c ends d t = not (same_colour d c) || some_square (is_prey men c
 
 -- colour c makes n moves and the other side m; the king of the other side ends on k, not next to the king of
 -- colour c; it can't move there, and for mate is in check
-pub record IsPlan (goal : Goal) (p : Position) (c : Colour) (n m k : ℕ) (ends : Ends) : Type 0 where
+pub record IsPlan (goal : Goal) (standing_checks : Bool) (p : Position) (c : Colour) (n m k : ℕ) (ends : Ends) : Type 0 where
   pub gets : (s : ℕ) (x : Man) → man_on p.men s ≡ Some x
       → Gets (may_promote p) (may_capture p.men c ends x.colour) x.colour (ends s).moves x.kind s
       (ends s).kind (ends s).square
@@ -78,7 +94,7 @@ pub record IsPlan (goal : Goal) (p : Position) (c : Colour) (n m k : ℕ) (ends 
       → guards c King (ends s).square k ≡ false
   pub around : (t : ℕ) → guards (other c) King k t ≡ true
       → IsGuarded p.men c ends k t ⊎ IsBlocked p.men (other c) ends t
-  pub check : goal ≡ Mate → IsGuarded p.men c ends k k
+  pub check : goal ≡ Mate → IsChecked standing_checks p.men c ends k
 
 -- the square from which a colour's king castles (FIDE Laws 3.8.2)
 abbrev pub king_home : Colour → ℕ

@@ -2,9 +2,9 @@
 ghost use Rattle.std.specs.Prelude.{◌≡◌, ◌+◌, ◌<◌, ◌≤◌, ◌==◌, ℕ, true, false, IfSome, MatchOption, List, Option, slice_index_or};
 ghost use Rattle.std.specs.Int.{bit_at};
 ghost use Rattle.chess_core.specs.declared.man.Man.{Man};
-ghost use Rattle.chess_reach.specs.Plans.{End, Ends};
+ghost use Rattle.chess_reach.specs.Plans.{Arrives, End, Ends};
 ghost use Rattle.chess_reach.specs.ties.Guards.{CanEnd};
-ghost use Rattle.chess_reach.specs.ties.Hold.{Holds, IsIn};
+ghost use Rattle.chess_reach.specs.ties.Hold.{DoesCheck, Holds, IsIn};
 ghost use Rattle.chess_reach.specs.ties.Whereabouts.{has};
 
 use crate::blocks::Blocks;
@@ -12,7 +12,8 @@ use crate::guards::{Guard, MEN};
 use crate::ways::MOVES;
 use crate::whereabouts::Whereabouts;
 use chess_attacks::words::{contains, pop_first};
-use chess_core::{Colour, Square, Squares};
+use chess_core::{Colour, Kind, Square, Squares};
+use pop_stipulation::Goal;
 
 /// Where a guard may end, and the fewest moves in which it gets to one of these squares.
 #[derive(Clone, Copy)]
@@ -27,9 +28,18 @@ pub(crate) type Places = [Place; MEN];
 /// Squares that the guards may guard, which guide the search.
 pub(crate) type Sights = [Squares; MEN];
 
+/// What a plan leads to.
+#[derive(Clone, Copy)]
+pub(crate) struct Ending {
+    pub(crate) goal: Goal,
+    /// Whether a knight or pawn that makes no move may check.
+    pub(crate) standing_checks: bool,
+}
+
 /// What a plan has to hold, and who may hold it.
 #[derive(Drop)]
 pub(crate) struct Quest {
+    pub(crate) ending: Ending,
     /// The mating side.
     pub(crate) colour: Colour,
     /// Where the king ends.
@@ -64,6 +74,64 @@ pub(crate) fn narrowed(
     }
 }
 
+// Returns the place with these squares instead, if the guard gets to one of them in at most `spare` moves more
+// and makes at least two in all.
+#[inline(always)]
+fn narrowed_later(
+    guard: &Guard,
+    place: &Place,
+    squares: &Whereabouts,
+    spare: usize,
+) -> Option<Place>
+    ensures within { IfSome result (λ p. (place.now.moves ≤ p.moves)
+        × (p.moves ≤ place.now.moves + spare)) }
+    ensures kept { (e : End) → CanEnd guard.now e → place.now.moves ≤ e.moves
+        → e.moves ≤ place.now.moves + spare → has guard.now.kind e.kind e.square squares.now ≡ true
+        → 2 ≤ e.moves → MatchOption result ⊥ (λ p. IsIn guard.now p e) }
+{
+    let least = if place.moves > 2 { place.moves } else { 2 };
+    let more = least - place.moves;
+    if more > spare {
+        return None;
+    }
+    match guard.fewest(squares, least, spare - more) {
+        Some(moves) => Some(Place {
+            squares: *squares,
+            moves,
+        }),
+        None => None,
+    }
+}
+
+// Returns the place with these squares instead, if the guard gets to one of them in at most `spare` moves more
+// and checks from there. A knight or pawn has to arrive: a knight that stands there leaves and comes back, and a
+// pawn doesn't come back.
+fn checking(
+    quest: &Quest,
+    guard: &Guard,
+    place: &Place,
+    squares: &Whereabouts,
+    spare: usize,
+) -> Option<Place>
+    ensures within { IfSome result (λ p. (place.now.moves ≤ p.moves)
+        × (p.moves ≤ place.now.moves + spare)) }
+    ensures kept { (e : End) → CanEnd guard.now e → place.now.moves ≤ e.moves
+        → e.moves ≤ place.now.moves + spare → has guard.now.kind e.kind e.square squares.now ≡ true
+        → Arrives quest.now.ending.standing_checks e
+        → MatchOption result ⊥ (λ p. IsIn guard.now p e) }
+{
+    if quest.ending.standing_checks {
+        return narrowed(guard, place, squares, spare);
+    }
+    let away = squares.without(&Whereabouts::at(guard.from));
+    let late = !guard.chain[1].meets(&away);
+    match guard.kind {
+        Kind::Pawn => narrowed(guard, place, &away, spare),
+        Kind::Knight if late => narrowed_later(guard, place, squares, spare),
+        _ => narrowed(guard, place, squares, spare),
+    }
+}
+
 impl Quest {
     // Takes another square as the king's.
     #[inline(always)]
@@ -79,11 +147,8 @@ impl Quest {
         ensures within { IfSome result (λ n. n ≤ most) }
         ensures fewest { (n : ℕ) → n ≤ most → n < 9
             → (bit_at (slice_index_or self.now.blockable n 0) square == 1) ≡ true
-            → MatchOption result (square ≡ self.now.king) (λ f. f ≤ n) }
+            → MatchOption result ⊥ (λ f. f ≤ n) }
     {
-        if square == self.king {
-            return None;
-        }
         let mut moves = 0;
         while moves < MOVES && moves <= most {
             if contains(self.blockable[moves], square) {
@@ -109,7 +174,7 @@ impl Quest {
         ensures { IfSome result (λ s. (s < 64) × ((bit_at squares s == 1) ≡ true)) }
     {
         let most = if theirs < MOVES { theirs } else { MOVES - 1 };
-        let mut once = self.blockable[most] & !(1u64 << self.king.index());
+        let mut once = self.blockable[most];
         let mut twice = 0u64;
         let mut thrice = 0u64;
         for i in 0..self.count {
@@ -200,4 +265,63 @@ pub(crate) fn can_hold(
         return false;
     };
     can_hold(quest, &left, &seen, rest, spare, theirs - price)
+}
+
+// Returns whether the guard with this number may check while guards and blockers hold the squares of `unheld`.
+// It says no only if they can't.
+fn can_mate_by(
+    quest: &Quest,
+    checker: usize,
+    places: &Places,
+    unheld: Squares,
+    ours: usize,
+    theirs: usize,
+) -> bool
+    requires count { quest.now.count ≤ 8 }
+    requires checker { checker < quest.now.count }
+    ensures { (men : List (Option Man)) (ends : Ends)
+        → Holds quest.now men places.now unheld ours theirs ends
+        → DoesCheck quest.now ends checker → result ≡ true }
+{
+    let guard = &quest.guards[checker];
+    let place = places[checker];
+    let guarding = guard.guarding(quest.colour, quest.king, quest.king);
+    let squares = place.squares.within(&guarding);
+    let Some(kept) = checking(quest, guard, &place, &squares, ours) else {
+        return false;
+    };
+    let mut left = *places;
+    left[checker] = kept;
+    let mut sights = [Squares::MAX; MEN];
+    sights[checker] = guard.sight(quest.colour, &kept.squares, Squares::MAX);
+    can_hold(
+        quest,
+        &left,
+        &sights,
+        unheld,
+        ours - (kept.moves - place.moves),
+        theirs,
+    )
+}
+
+/// Returns whether guards in these places, which make at most `ours` moves more, and blockers that make at
+/// most `theirs` may hold the squares of `unheld` while a guard checks. It says no only if they can't.
+pub(crate) fn can_mate(
+    quest: &Quest,
+    places: &Places,
+    unheld: Squares,
+    ours: usize,
+    theirs: usize,
+) -> bool
+    requires { quest.now.count ≤ 8 }
+    ensures { (men : List (Option Man)) (ends : Ends) (i : ℕ)
+        → Holds quest.now men places.now unheld ours theirs ends → i < quest.now.count
+        → DoesCheck quest.now ends i → result ≡ true }
+{
+    for i in 0..quest.count {
+        if can_mate_by(quest, i, places, unheld, ours, theirs) {
+            return true;
+        }
+    }
+    false
 }

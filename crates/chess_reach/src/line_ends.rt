@@ -6,6 +6,7 @@ ghost use Rattle.chess_core.specs.WellFormed.{IsWellFormed};
 ghost use Rattle.chess_reach.specs.Lines.{HoldsEnds, mover};
 ghost use Rattle.chess_reach.specs.Plans.{king_home, saved_moves};
 
+use crate::hold::Ending;
 use crate::planned_squares::planned_squares;
 use chess_attacks::Rules;
 use chess_core::{Board, Colour, Square, Squares};
@@ -32,7 +33,11 @@ pub fn mating_squares<R: Rules>(
     }
     let ours = with_castling(board, mating, last_mover_moves(half_moves));
     let theirs = with_castling(board, mated, half_moves / 2);
-    planned_squares(board, goal, mating, ours, theirs, squares)
+    let ending = Ending {
+        goal,
+        standing_checks: R::like_men_paralyse(),
+    };
+    planned_squares(board, ending, mating, ours, theirs, squares)
 }
 
 // Returns the side that makes the last of `half_moves` half-moves.
@@ -46,14 +51,15 @@ fn last_mover(turn: Colour, half_moves: usize) -> Colour
     }
 }
 
-// Returns whether each line that reaches the goal has a plan: there are half-moves left, captured men aren't
+// Returns whether each line that reaches the goal has a plan: both sides still move, captured men aren't
 // reborn, and the side to be mated has a king.
 fn lines_have_plans<R: Rules>(board: &Board, mated: Colour, half_moves: usize) -> bool
     ensures moves { result ≡ true → half_moves ≢ 0 }
+    ensures more { result ≡ true → half_moves ≢ 1 }
     ensures rule { result ≡ true → captures_are_reborn R.rule ≡ false }
     ensures king { result ≡ true → is_some (king_square board.now.men mated) ≡ true }
 {
-    half_moves != 0 && !R::captures_are_reborn() && board.king_of(mated).is_some()
+    half_moves > 1 && !R::captures_are_reborn() && board.king_of(mated).is_some()
 }
 
 // Returns how many of `half_moves` half-moves the side that makes the last one makes.

@@ -3,7 +3,6 @@ ghost use Rattle.std.specs.Prelude.{◌≡◌, ◌-◌, ◌^◌, ◌<◌, ◌≤
 ghost use Rattle.std.specs.Int.{bit_at};
 ghost use Rattle.chess_core.specs.Position.{Position, other};
 ghost use Rattle.chess_core.specs.WellFormed.{IsWellFormed};
-ghost use Rattle.pop_stipulation.specs.declared.stipulation.Goal.TheVariants.{Mate};
 ghost use Rattle.chess_reach.specs.Plans.{Ends, IsPlan, captures_to};
 ghost use Rattle.chess_core.specs.declared.man.Colour.TheVariants.{White};
 ghost use Rattle.chess_core.specs.declared.man.Kind.TheVariants.{King};
@@ -15,7 +14,7 @@ ghost use Rattle.chess_reach.specs.ties.Ways.{nowhere};
 
 use crate::blocks::{Blocks, all_blockable, blocks_of};
 use crate::guards::{Guard, MEN, list_guards};
-use crate::hold::{Place, Places, Quest, can_hold, narrowed};
+use crate::hold::{Ending, Place, Places, Quest, can_hold, can_mate, narrowed};
 use crate::ways::{MOVES, chain_of};
 use crate::whereabouts::Whereabouts;
 use chess_attacks::leaps::king_leaps;
@@ -23,18 +22,12 @@ use chess_attacks::words::pop_first;
 use chess_core::{Board, Colour, Kind, Man, Square, Squares};
 use pop_stipulation::Goal;
 
-// Returns the squares that have to be held: those next to the king without a blocker, and for mate the
-// king's own, since he is in check.
+// Returns the squares that have to be held: those next to the king without a blocker.
 #[inline(always)]
-fn unheld_squares(goal: Goal, king: Square, standing: Squares) -> Squares
-    ensures { (t : ℕ) → t < 64 → (bit_at result t == 1) ≡ true
-        → ((goal ≡ Mate) × (king ≡ t)) ⊎ (guards White King king t ≡ true) }
+fn unheld_squares(king: Square, standing: Squares) -> Squares
+    ensures { (t : ℕ) → t < 64 → (bit_at result t == 1) ≡ true → guards White King king t ≡ true }
 {
-    let around = king_leaps(king) & !standing;
-    match goal {
-        Goal::Mate => around | 1u64 << king.index(),
-        Goal::Stalemate => around,
-    }
+    king_leaps(king) & !standing
 }
 
 // Returns where the guards may end within `most` moves.
@@ -93,19 +86,13 @@ fn keep_apart(quest: &Quest, places: &mut Places, most: usize) -> Option<usize>
 
 // Returns whether there may be a plan in which the king, a guard of its own place here, ends on the
 // quest's square, and captured men make at least `captured` moves.
-fn may_have_plan(
-    quest: &Quest,
-    goal: Goal,
-    king: &Guard,
-    ours: usize,
-    theirs: usize,
-    captured: usize,
-) -> bool
+fn may_have_plan(quest: &Quest, king: &Guard, ours: usize, theirs: usize, captured: usize) -> bool
     requires count { quest.now.count ≤ 8 }
     requires moves { ours < 9 }
     requires captured { captured ≤ theirs }
     ensures { (prey : ℕ) (p : Position) (ends : Ends)
-        → IsPlan goal p quest.now.colour ours theirs quest.now.king ends
+        → IsPlan quest.now.ending.goal quest.now.ending.standing_checks p quest.now.colour ours theirs
+        quest.now.king ends
         → Captures prey captured p quest.now.colour ends
         → IsQuestOf prey p quest.now king.now ours theirs → result ≡ true }
 {
@@ -118,15 +105,12 @@ fn may_have_plan(
     let Some(spare) = keep_apart(quest, &mut places, ours) else {
         return false;
     };
-    let unheld = unheld_squares(goal, quest.king, quest.blockable[0]);
-    can_hold(
-        quest,
-        &places,
-        &[Squares::MAX; MEN],
-        unheld,
-        spare,
-        theirs - captured - steps,
-    )
+    let unheld = unheld_squares(quest.king, quest.blockable[0]);
+    let left = theirs - captured - steps;
+    match quest.ending.goal {
+        Goal::Mate => can_mate(quest, &places, unheld, spare, left),
+        Goal::Stalemate => can_hold(quest, &places, &[Squares::MAX; MEN], unheld, spare, left),
+    }
 }
 
 // Returns the squares to which pawns of this colour capture men on these squares: the same, and for capture en
@@ -173,7 +157,6 @@ fn lures(board: &Board, mating: Colour, blockable: &Blocks) -> Squares
 // quest's prey, and captured men make at least `captured` moves.
 fn planned_part(
     quest: &mut Quest,
-    goal: Goal,
     king: &Guard,
     near: Squares,
     ours: usize,
@@ -185,17 +168,19 @@ fn planned_part(
     requires captured { captured ≤ theirs }
     ensures planned { (prey : ℕ) (p : Position) (k : ℕ) (ends : Ends)
         → IsQuestOf prey p quest.old king.now ours theirs → k < 64
-        → IsPlan goal p quest.old.colour ours theirs k ends
+        → IsPlan quest.old.ending.goal quest.old.ending.standing_checks p quest.old.colour ours theirs
+        k ends
         → Captures prey captured p quest.old.colour ends → (bit_at near k == 1) ≡ true
         → (bit_at result k == 1) ≡ true }
     ensures colour { quest.new.colour ≡ quest.old.colour }
     ensures blockable { quest.new.blockable ≡ quest.old.blockable }
+    ensures ending { quest.new.ending ≡ quest.old.ending }
 {
     let mut planned = 0u64;
     let mut rest = near;
     while let Some(to) = pop_first(&mut rest) {
         quest.seek(to);
-        if may_have_plan(quest, goal, king, ours, theirs, captured) {
+        if may_have_plan(quest, king, ours, theirs, captured) {
             planned |= 1u64 << to.index();
         }
     }
@@ -215,14 +200,15 @@ fn may_lure(theirs: usize, prey: Squares, lures: Squares, left: Squares) -> bool
 /// side makes at most `ours` moves, the other at most `theirs`. It leaves out a square only if there is no plan.
 pub(crate) fn planned_squares(
     board: &Board,
-    goal: Goal,
+    ending: Ending,
     mating: Colour,
     ours: usize,
     theirs: usize,
     squares: Squares,
 ) -> Squares
     requires { IsWellFormed board.now }
-    ensures { (k : ℕ) (ends : Ends) → k < 64 → IsPlan goal board.now mating ours theirs k ends
+    ensures { (k : ℕ) (ends : Ends) → k < 64
+        → IsPlan ending.goal ending.standing_checks board.now mating ours theirs k ends
         → (bit_at squares k == 1) ≡ true → (bit_at result k == 1) ≡ true }
 {
     if ours >= MOVES - 1 || theirs >= MOVES || board.may_promote(Kind::Nightrider) {
@@ -246,6 +232,7 @@ pub(crate) fn planned_squares(
     let prey = prey(board, mating);
     let lures = lures(board, mating, &blockable);
     let mut quest = Quest {
+        ending,
         colour: mating,
         king: from,
         count: 0,
@@ -256,7 +243,7 @@ pub(crate) fn planned_squares(
         return squares;
     };
     quest.count = count;
-    let planned = planned_part(&mut quest, goal, &king, near, ours, theirs, 0);
+    let planned = planned_part(&mut quest, &king, near, ours, theirs, 0);
     let left = near & !planned;
     if !may_lure(theirs, prey, lures, left) {
         return planned;
@@ -265,5 +252,5 @@ pub(crate) fn planned_squares(
         return squares;
     };
     quest.count = count;
-    planned | planned_part(&mut quest, goal, &king, left, ours, theirs, 1)
+    planned | planned_part(&mut quest, &king, left, ours, theirs, 1)
 }

@@ -1,7 +1,9 @@
 //! The squares where a man can be.
 ghost use Rattle.std.specs.Prelude.{◌≡◌, ◌<◌, ◌==◌, ℕ, true, false};
 ghost use Rattle.std.specs.Int.{bit_at};
+ghost use Rattle.chess_core.specs.Position.{same_kind};
 ghost use Rattle.chess_core.specs.declared.man.Kind.{Kind};
+ghost use Rattle.chess_core.specs.declared.man.Kind.TheVariants.{Pawn};
 ghost use Rattle.chess_reach.specs.ties.Whereabouts.{has};
 
 use chess_core::{Square, Squares};
@@ -30,10 +32,12 @@ impl Whereabouts {
     }
 
     // Returns the square on which the man is now.
-    #[tactic(auto, using(crate::proofs::Parts::has_now))]
+    #[tactic(auto, using(crate::proofs::Parts::has_now, crate::proofs::Parts::has_now_alone))]
     #[inline(always)]
     pub(crate) fn at(square: Square) -> Whereabouts
-        ensures { (k : Kind) → has k k square result ≡ true }
+        ensures here { (k : Kind) → has k k square result ≡ true }
+        ensures alone { (k j : Kind) (t : ℕ) → t < 64 → has k j t result ≡ true
+            → (t ≡ square) × (same_kind k Pawn ≡ true → same_kind j Pawn ≡ true) }
     {
         Whereabouts {
             unpromoted: 1u64 << square.index(),

@@ -3,7 +3,7 @@
 use arrayvec::ArrayVec;
 use chess_core::{Board, Colour, Kind, Man, Move, Square, Unmoved};
 
-// The rules in force.
+// The condition under which a position is played.
 #[derive(Clone, Copy, PartialEq, Eq)]
 pub(crate) enum Rule {
     Orthodox,
@@ -403,7 +403,7 @@ impl Plain {
             && !self.is_paralysed(rule, m.from)
     }
 
-    // Returns whether the move is legal.
+    // Returns whether the man on the origin may go to the arrival, and its king isn't in check afterwards.
     pub(crate) fn is_legal(&self, rule: Rule, m: &Move) -> bool {
         let Some(man) = self.man(m.from) else {
             return false;

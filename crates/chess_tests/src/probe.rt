@@ -92,7 +92,7 @@ fn after_move<R: Rules>(diagram: &Diagram, wanted: Move) -> Option<Board>
     None
 }
 
-// The outcome of a move.
+// What the rules say of a move.
 #[derive(Clone, Copy, PartialEq, Eq)]
 pub(crate) enum Outcome {
     Illegal,

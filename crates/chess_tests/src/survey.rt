@@ -22,7 +22,7 @@ pub(crate) struct Unlike {
 // More motifs than any survey counts.
 pub(crate) const MOTIFS: usize = 16;
 
-// The outcome of a survey.
+// What a survey of positions has found.
 #[derive(Clone, Copy)]
 pub(crate) struct Survey {
     // The first position where the chess crates and the plain rules differ.

@@ -45,7 +45,7 @@ fn pawn_home(colour: Colour, from: Square) -> Squares
     }
 }
 
-// Returns the home squares of the pawns.
+// Returns the squares on which captured pawns of these files would be reborn.
 #[tactic(auto, using(chess_attacks::proofs::HoldTaken::taken_all, chess_attacks::proofs::HoldTaken::taken_none, chess_attacks::proofs::HoldTaken::rest_falls))]
 fn pawn_homes(colour: Colour, pawns: Squares) -> Squares
     ensures { (s : ℕ) → s < 64 → (bit_at pawns s == 1) ≡ true → (t r : ℕ) → file_of t ≡ file_of s

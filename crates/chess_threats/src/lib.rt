@@ -11,21 +11,21 @@
 //! // White Kg6 Ra1, Black Kg8, Black to move.
 //! let mut diagram = Diagram::new();
 //! diagram.turn = Colour::Black;
-//! for (number, colour, kind) in [
-//!     (46, Colour::White, Kind::King),
-//!     (0, Colour::White, Kind::Rook),
-//!     (62, Colour::Black, Kind::King),
+//! for (square, colour, kind) in [
+//!     (Square::G6, Colour::White, Kind::King),
+//!     (Square::A1, Colour::White, Kind::Rook),
+//!     (Square::G8, Colour::Black, Kind::King),
 //! ] {
-//!     let _ = diagram.put(Square::numbered(number), Man { colour, kind });
+//!     let _ = diagram.put(square, Man { colour, kind });
 //! }
 //! if diagram.is_well_formed() {
 //!     let board = Board::of(&diagram);
-//!     let king = Square::numbered(62);
+//!     let king = Square::G8;
 //!     let mut threats = Threats::of::<Orthodox>(&board, king);
-//!     let step = |to| Move { from: king, to: Square::numbered(to), promo: None };
+//!     let step = |to| Move { from: king, to, promo: None };
 //!     // Ra1-a8 mates after Kh8, and nothing mates after Kf8.
-//!     assert!(rt; !threats.rule_out_mate::<Orthodox>(&board, &step(63)));
-//!     assert!(rt; threats.rule_out_mate::<Orthodox>(&board, &step(61)));
+//!     assert!(rt; !threats.rule_out_mate::<Orthodox>(&board, &step(Square::H8)));
+//!     assert!(rt; threats.rule_out_mate::<Orthodox>(&board, &step(Square::F8)));
 //! }
 //! ```
 //!

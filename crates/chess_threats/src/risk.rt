@@ -404,7 +404,7 @@ fn risk_of(king_attack: &KingAttack, king_zone: &KingZone, kind: Kind, squares: 
     risk_together(king_attack, king_zone, man, suspects, checks)
 }
 
-// Returns the risk of all attackers.
+// Returns the squares that are a risk for one kind of attacker or another.
 #[tactic(auto, using(crate::proofs::Risks::all_weak))]
 #[inline(always)]
 fn risk_of_all(king_attack: &KingAttack, king_zone: &KingZone) -> Risk

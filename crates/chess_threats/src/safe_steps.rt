@@ -16,7 +16,7 @@ use chess_flights::approach_squares::open_approaches;
 use chess_flights::attackers::Attackers;
 use chess_flights::guards::{leapt_squares, rider_reach};
 
-// Returns the squares of all attackers.
+// Returns the attackers' squares, of all kinds together.
 #[tactic(auto, using(crate::proofs::SafeSteps::all_on))]
 #[inline(always)]
 fn squares_of_all(men: &Attackers) -> Squares

@@ -160,7 +160,7 @@ pub fn mark_after<R: Rules>(goal: Goal, reached: Reached, board: &mut Board) -> 
     }
 }
 
-/// Returns whether the goal is mate.
+/// Returns whether the goal is mate, and not stalemate.
 pub fn is_for_mate(goal: Goal) -> bool
     ensures { result ≡ is_for_mate goal }
 {

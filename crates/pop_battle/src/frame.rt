@@ -33,7 +33,7 @@ pub enum Early {
 
 /// How a test orders the moves of a position: two killers, which may be illegal moves, and which moves come
 /// right after them. Contracts see the record `Order` with the same fields.
-#[derive(Copy)]
+#[derive(Clone, Copy)]
 pub struct Order<R: Rules> {
     pub killer: Moves<R>,
     pub earlier: Moves<R>,
@@ -48,16 +48,6 @@ impl<R: Rules> Model for Order<R> {
     ghost view = { λ o. record { killer = o.killer; earlier = o.earlier; early = o.early } };
 
     ghost inverse = { λ v. record { killer = v.killer; earlier = v.earlier; early = v.early } };
-}
-
-impl<R: Rules> Clone for Order<R> {
-    ghost is_clone = { λ it copy. copy ≡ it };
-
-    ghost is_infallible = { λ _. ⊤ };
-
-    fn clone(&self) -> Result<Self, AllocError> {
-        Ok(*self)
-    }
 }
 
 impl<R: Rules> Order<R> {

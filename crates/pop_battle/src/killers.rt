@@ -11,37 +11,37 @@ ghost use Rattle.pop_stipulation.specs.declared.stipulation.Battle.TheVariants.{
 use chess_core::{Board, Move};
 use chess_rules::{Moves, Rules};
 use chess_threats::Threats;
-use pop_stipulation::Battle;
+use pop_stipulation::{Battle, MOST_HALF_MOVES};
 
-/// For each number of half-moves below 32, the last two moves that decided a position with that many
+/// For each number of half-moves below `MOST_HALF_MOVES`, the last two moves that decided a position with that many
 /// half-moves left. A direct mate tries them first in the next position with as many half-moves left. A
 /// killer may be an illegal move there: a bad guess costs only time. A selfmate tries its moves in order,
 /// since the move that decided last is a bad guess.
 #[derive(Drop)]
 pub struct Killers<R: Rules> {
-    places: [Moves<R>; 32],
-    earlier: [Moves<R>; 32],
+    places: [Moves<R>; MOST_HALF_MOVES],
+    earlier: [Moves<R>; MOST_HALF_MOVES],
     pub threats: Option<Threats>,
 }
 
 impl<R: Rules> Killers<R> {
     /// Returns killers that are all at the start, before the first triple.
     pub fn none() -> Killers<R>
-        ensures last { result.places ≡ repeat 32 (0 ∷ []) }
-        ensures earlier { result.earlier ≡ repeat 32 (0 ∷ []) }
+        ensures last { result.places ≡ repeat MOST_HALF_MOVES (0 ∷ []) }
+        ensures earlier { result.earlier ≡ repeat MOST_HALF_MOVES (0 ∷ []) }
     {
         Killers {
-            places: [Moves::start(); 32],
-            earlier: [Moves::start(); 32],
+            places: [Moves::start(); MOST_HALF_MOVES],
+            earlier: [Moves::start(); MOST_HALF_MOVES],
             threats: None,
         }
     }
 
     /// Returns the killer for a position with `left` half-moves left; the start for a selfmate.
     pub fn of(&self, battle: Battle, left: usize) -> Moves<R>
-        ensures { battle ≡ Direct → left < 32 → result ≡ slice_index_or self.now.places left 0 }
+        ensures { battle ≡ Direct → left < MOST_HALF_MOVES → result ≡ slice_index_or self.now.places left 0 }
     {
-        if battle == Battle::Direct && left < 32 {
+        if battle == Battle::Direct && left < MOST_HALF_MOVES {
             self.places[left]
         } else {
             Moves::start()
@@ -50,9 +50,9 @@ impl<R: Rules> Killers<R> {
 
     /// Returns the second killer for a position with `left` half-moves left; the start for a selfmate.
     pub fn earlier(&self, battle: Battle, left: usize) -> Moves<R>
-        ensures { battle ≡ Direct → left < 32 → result ≡ slice_index_or self.now.earlier left 0 }
+        ensures { battle ≡ Direct → left < MOST_HALF_MOVES → result ≡ slice_index_or self.now.earlier left 0 }
     {
-        if battle == Battle::Direct && left < 32 {
+        if battle == Battle::Direct && left < MOST_HALF_MOVES {
             self.earlier[left]
         } else {
             Moves::start()
@@ -71,12 +71,12 @@ impl<R: Rules> Killers<R> {
     /// Records a killer for `left` half-moves; if it differs from the previous one, that becomes the
     /// second.
     pub fn put(&mut self, left: usize, place: Moves<R>)
-        ensures last { left < 32 → self.new.places ≡ slice_set self.old.places left place }
-        ensures earlier { left < 32 → self.new.earlier
+        ensures last { left < MOST_HALF_MOVES → self.new.places ≡ slice_set self.old.places left place }
+        ensures earlier { left < MOST_HALF_MOVES → self.new.earlier
             ≡ (if slice_index_or self.old.places left 0 == place then self.old.earlier
             else slice_set self.old.earlier left (slice_index_or self.old.places left 0)) }
     {
-        if left < 32 {
+        if left < MOST_HALF_MOVES {
             if !self.places[left].is(place) {
                 self.earlier[left] = self.places[left];
             }

@@ -14,12 +14,12 @@
 //!
 //! // White Kg6 Ra1, Black Kg8: White mates in one half-move.
 //! let mut diagram = Diagram::new();
-//! for (number, colour, kind) in [
-//!     (46, Colour::White, Kind::King),
-//!     (0, Colour::White, Kind::Rook),
-//!     (62, Colour::Black, Kind::King),
+//! for (square, colour, kind) in [
+//!     (Square::G6, Colour::White, Kind::King),
+//!     (Square::A1, Colour::White, Kind::Rook),
+//!     (Square::G8, Colour::Black, Kind::King),
 //! ] {
-//!     let _ = diagram.put(Square::numbered(number), Man { colour, kind });
+//!     let _ = diagram.put(square, Man { colour, kind });
 //! }
 //! if diagram.is_well_formed() {
 //!     let mut board = Board::of(&diagram);

@@ -7,7 +7,7 @@ use Rattle.chess_core.specs.declared.man.Colour.TheVariants.{White, Black}
 use Rattle.chess_core.specs.declared.man.Kind.{Kind}
 use Rattle.chess_core.specs.declared.man.Kind.TheVariants.{King, Queen, Rook, Bishop, Knight, Pawn, Grasshopper, Nightrider}
 use Rattle.pop_text.specs.Words.{is_short_form, title_name, author_name, origin_name, remark_name}
-use Rattle.pop_input.specs.Letters.{king_letter, queen_letter, rook_letter, bishop_letter, knight_letter, pawn_letter, grasshopper_letter, nightrider_letter}
+use Rattle.chess_core.specs.Letters.{king_letter, queen_letter, rook_letter, bishop_letter, knight_letter, pawn_letter, grasshopper_letter, nightrider_letter}
 use Rattle.pop_input.specs.declared.condition.Condition.{Condition}
 use Rattle.pop_input.specs.declared.condition.Condition.TheVariants.{Circe, Madrasi}
 use Rattle.pop_input.specs.declared.names.Section.{Section}

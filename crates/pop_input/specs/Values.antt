@@ -3,7 +3,8 @@ use Rattle.std.specs.Prelude.{ℕ, ◌+◌, ◌-◌, ◌*◌, ◌==◌, ◌&&◌
 use Rattle.std.specs.Char.{to_ascii_lowercase}
 use Rattle.std.specs.List.{list_all}
 use Rattle.chess_core.specs.Squares.{square_at}
-use Rattle.pop_input.specs.Letters.{digit_0, digit_5, digit_9, help_letter, letter_a, mate_sign, point, selfmate_letter, stalemate_sign}
+use Rattle.chess_core.specs.Letters.{digit_0, letter_a}
+use Rattle.pop_input.specs.Letters.{digit_5, digit_9, help_letter, mate_sign, point, selfmate_letter, stalemate_sign}
 use Rattle.pop_stipulation.specs.Stipulations.{may_have}
 use Rattle.pop_stipulation.specs.declared.stipulation.Form.{Form}
 use Rattle.pop_stipulation.specs.declared.stipulation.Form.TheVariants.{Direct, Selfmate, Help, HelpHalf}

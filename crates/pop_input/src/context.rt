@@ -1,7 +1,7 @@
 //! What is known before a word is read.
 use crate::names::{ExpectedValue, Section};
 
-/// The context of a word.
+/// What decides how a word is read, besides the word.
 #[derive(Clone, Copy)]
 pub struct Context {
     /// The open section, `None` before the first.

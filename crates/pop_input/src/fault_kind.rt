@@ -1,6 +1,11 @@
-//! The kinds of faults. Their texts in a report are in pop_print (`specs/Faults.antt`).
-ghost use Rattle.std.specs.Prelude.{◌≡◌, ◌≤◌};
-ghost use Rattle.pop_input.specs.FaultKinds.{is_device_failure, number_of};
+//! The kinds of faults.
+ghost use Rattle.std.specs.Prelude.{◌≡◌, ◌≤◌, Some, length};
+ghost use Rattle.pop_input.specs.FaultKinds.{is_device_failure, message_of, number_of};
+
+use std::fmt;
+
+/// The most bytes of a message (own).
+pub const LONGEST_MESSAGE: usize = 40;
 
 /// Why an item isn't sound (own), in the order of their numbers 1 to 21.
 #[derive(Clone, Copy, Debug)]
@@ -81,10 +86,48 @@ impl FaultKind {
         }
     }
 
+    /// Returns the text of this kind in a report.
+    pub fn message(self) -> &'static str
+        ensures text { result.now ≡ message_of self }
+        ensures short { length result.now ≤ LONGEST_MESSAGE }
+    {
+        match self {
+            FaultKind::BeginProblemMissing => "BeginProblem expected",
+            FaultKind::WordMisplaced => "unknown or misplaced word",
+            FaultKind::WordTooLong => "word too long",
+            FaultKind::ColourMissing => "colour expected before men",
+            FaultKind::SquareTaken => "square given twice",
+            FaultKind::PawnOnOuterRank => "pawn on rank 1 or 8",
+            FaultKind::SecondKing => "second king of a colour",
+            FaultKind::BadStipulation => "bad stipulation",
+            FaultKind::SecondStipulation => "second stipulation",
+            FaultKind::StipulationMissing => "stipulation missing",
+            FaultKind::NoMen => "no men",
+            FaultKind::SecondCondition => "second condition",
+            FaultKind::BadLimit => "number expected or out of range",
+            FaultKind::SquareMissing => "square expected",
+            FaultKind::EnPassantImpossible => "en passant not possible there",
+            FaultKind::NoneCastlesThere => "NoCastling square is none of the six",
+            FaultKind::KingMissing => "side to be mated has no king",
+            FaultKind::WaitingSideInCheck => "side not to move is in check",
+            FaultKind::EndProblemMissing => "input ended before EndProblem",
+            FaultKind::InputTooLong => "input too long",
+            FaultKind::DeviceFailed => "input device failed",
+        }
+    }
+
     /// Returns whether the source of the input has failed.
     pub fn is_device_failure(self) -> bool
         ensures { result ≡ is_device_failure self }
     {
         matches!(self, FaultKind::DeviceFailed)
+    }
+}
+
+impl fmt::Display for FaultKind {
+    ghost output = { λ kind. Some (message_of kind) };
+
+    fn fmt<W: fmt::Write>(&self, f: &mut fmt::Formatter<W>) -> fmt::Result {
+        f.write_str(self.message())
     }
 }

@@ -50,4 +50,4 @@ pub use crate::fault_kind::FaultKind;
 pub use crate::item::{Fault, Item, Last};
 pub use crate::problem::Problem;
 pub use crate::reader::{Next, Reader};
-pub use pop_stipulation::{Form, Goal, MOST_MOVES, Stipulation};
+pub use pop_stipulation::{Form, Goal, MOST_FRAMES, MOST_MOVES, Stipulation};

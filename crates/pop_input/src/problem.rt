@@ -132,7 +132,7 @@ impl Problem {
         &self.diagram
     }
 
-    /// Returns the stipulation.
+    /// Returns the stipulation. A clause says too that the problem is sound.
     pub fn stipulation(&self) -> Stipulation
         ensures stipulation { result ≡ self.now.stipulation }
         ensures sound { IsSound self.now }
@@ -140,7 +140,7 @@ impl Problem {
         self.stipulation
     }
 
-    /// Returns the condition, if any.
+    /// Returns the condition, or `None` in orthodox chess.
     pub fn condition(&self) -> Option<Condition>
         ensures { result ≡ self.now.condition }
     {

@@ -86,7 +86,7 @@ pub(crate) fn limit_of(word: &[u8]) -> Option<u32>
     }
 }
 
-// Returns the goal of a sign, `#` or `=`.
+// Returns mate for `#`, stalemate for `=`, and `None` for another sign.
 fn goal_of(sign: u8) -> Option<Goal>
     ensures { result ≡ goal_of sign }
 {
@@ -97,7 +97,7 @@ fn goal_of(sign: u8) -> Option<Goal>
     }
 }
 
-// Returns the value of a digit.
+// Returns the value of a digit, or `None` for another byte.
 fn one_digit(digit: u8) -> Option<u8>
     ensures value { result ≡ one_digit digit }
 {

@@ -18,7 +18,7 @@ use chess_rules::{Moves, Rules, Undo, play};
 use pop_battle::chess::next_move;
 use pop_battle::frame::{Frame, MoveStage, Order};
 use pop_events::Phase;
-use pop_input::Problem;
+use pop_input::{MOST_FRAMES, Problem};
 use pop_solve::phases::{phase_half_moves, set_up};
 use pop_solve::walk::step_back;
 
@@ -179,11 +179,11 @@ fn count_to_come<R: Rules, const N: usize>(
 }
 
 /// Returns the number of parts of a phase, up to the greatest u64. `depth` moves distinguish the parts of
-/// help play. `N` must be more than the half-moves of the play and at most 33, and `R` must be the rules of
+/// help play. `N` must be more than the half-moves of the play and at most `MOST_FRAMES`, and `R` must be the rules of
 /// the problem's condition.
 pub fn count_parts<R: Rules, const N: usize>(problem: &Problem, phase: Phase, depth: usize) -> u64
     requires room { half_moves problem.now.stipulation < N }
-    requires few { N ≤ 33 }
+    requires few { N ≤ MOST_FRAMES }
     requires rule { R.rule ≡ rule_of problem.now.condition }
     requires depth { 1 ≤ depth }
     ensures { result ≡ min (length (parts R.rule problem.now phase depth)) (2 ^ 64 - 1) }

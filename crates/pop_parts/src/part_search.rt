@@ -11,7 +11,7 @@ use pop_battle::frame::Frame;
 use pop_battle::killers::Killers;
 use pop_battle::search_state::SearchState;
 use pop_events::{Event, Phase};
-use pop_input::Problem;
+use pop_input::{MOST_FRAMES, Problem};
 use pop_solve::beginning::begin_after;
 use pop_solve::phases::{Stage, advance};
 use std::marker::Model;
@@ -91,7 +91,7 @@ impl<R: Rules, const N: usize> PartSearch<R, N> {
 
     /// Returns a search of the part with this number, counted from 1 in the order of moves; `None` if the
     /// phase has fewer parts. `depth` moves, 1 or more, distinguish the parts of help play. `N` must be
-    /// more than the half-moves of the play and at most 33, and `R` must be the rules of the problem's
+    /// more than the half-moves of the play and at most `MOST_FRAMES`, and `R` must be the rules of the problem's
     /// condition. The killers affect speed only.
     pub fn of(
         problem: &Problem,
@@ -101,7 +101,7 @@ impl<R: Rules, const N: usize> PartSearch<R, N> {
         killers: Killers<R>,
     ) -> Option<Self>
         requires room { half_moves problem.now.stipulation < N }
-        requires few { N ≤ 33 }
+        requires few { N ≤ MOST_FRAMES }
         requires rule { R.rule ≡ rule_of problem.now.condition }
         requires depth { 1 ≤ depth }
         ensures part { MatchOption result
@@ -128,7 +128,7 @@ impl<R: Rules, const N: usize> PartSearch<R, N> {
     ) -> Self
         requires sound { IsSound problem.now }
         requires room { half_moves problem.now.stipulation < N }
-        requires few { N ≤ 33 }
+        requires few { N ≤ MOST_FRAMES }
         requires open { 0 < array_vec_len frames }
         requires seeking { (d : ℕ) × (IsSeeking R.rule (half_moves_of_phase problem.now phase) d
             (phase_start problem.now phase) (reverse frames.items) board)

@@ -10,7 +10,7 @@ use chess_rules::Rules;
 use pop_battle::frame::Frame;
 use pop_battle::killers::Killers;
 use pop_events::Phase;
-use pop_input::Problem;
+use pop_input::{MOST_FRAMES, Problem};
 use std::marker::Model;
 
 /// The parts of a phase that are still to come. Contracts see the record `RemainingSeen`.
@@ -54,7 +54,7 @@ impl<R: Rules, const N: usize> RemainingParts<R, N> {
     /// moves, 1 or more, distinguish the parts of help play.
     pub(crate) fn of(problem: &Problem, phase: Phase, depth: usize) -> Option<Self>
         requires room { half_moves problem.now.stipulation < N }
-        requires few { N ≤ 33 }
+        requires few { N ≤ MOST_FRAMES }
         requires depth { 1 ≤ depth }
         ensures all { MatchOption result (parts R.rule problem.now phase depth ≡ [])
             (λ p. (p.problem ≡ problem.now) × (p.phase ≡ phase)
@@ -78,7 +78,7 @@ impl<R: Rules, const N: usize> RemainingParts<R, N> {
     /// `None` if there are fewer. The parts after it are then still to come. The killers affect speed
     /// only.
     pub(crate) fn search(&mut self, number: u64, killers: Killers<R>) -> Option<PartSearch<R, N>>
-        requires few { N ≤ 33 }
+        requires few { N ≤ MOST_FRAMES }
         requires number { 1 ≤ number }
         ensures part { MatchOption result (slice_get self.old.left (number - 1) ≡ None)
             (λ s. (slice_get self.old.left (number - 1) ≡ Some s.front)
@@ -101,9 +101,9 @@ impl<R: Rules, const N: usize> RemainingParts<R, N> {
     }
 }
 
-/// Returns a copy of the frames.
+/// Returns equal frames: a part keeps its own, and `ArrayVec` isn't `Copy`.
 fn copy_of<R: Rules, const N: usize>(frames: &ArrayVec<Frame<R>, N>) -> ArrayVec<Frame<R>, N>
-    requires few { N ≤ 33 }
+    requires few { N ≤ MOST_FRAMES }
     ensures { result.items ≡ frames.now.items }
 {
     let mut copy = ArrayVec::new();

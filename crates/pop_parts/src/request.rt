@@ -13,7 +13,7 @@ pub struct PartRequest {
     pub depth: usize,
 }
 
-/// The outcome of a request.
+/// How a request ended: its parts are printed, or why they aren't.
 #[derive(Clone, Copy)]
 pub enum Outcome {
     /// The parts were printed.

@@ -6,7 +6,7 @@ ghost use Rattle.pop_parts.specs.PhaseParts.{parts};
 use crate::beginnings::count_parts;
 use chess_rules::Rules;
 use pop_events::Phase;
-use pop_input::Problem;
+use pop_input::{MOST_FRAMES, Problem};
 
 /// Returns the number of parts of a phase, up to the greatest u64; `depth` moves distinguish the parts of
 /// help play.
@@ -17,5 +17,5 @@ pub(crate) fn parts_in<R: Rules>(problem: &Problem, phase: Phase, depth: usize) 
 {
     // For the proof: the stipulation of a problem that was read has at most 32 half-moves.
     let _aim = problem.stipulation();
-    count_parts::<R, 33>(problem, phase, depth)
+    count_parts::<R, MOST_FRAMES>(problem, phase, depth)
 }

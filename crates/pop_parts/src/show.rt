@@ -20,7 +20,7 @@ use crate::searching::parts_in;
 use chess_rules::Rules;
 use pop_battle::killers::Killers;
 use pop_events::Phase;
-use pop_input::{Fault, Item, Problem, Reader, under_condition};
+use pop_input::{Fault, Item, MOST_FRAMES, Problem, Reader, under_condition};
 use pop_print::print_event;
 use pop_text::{Sink, SinkFault, Source};
 
@@ -197,7 +197,7 @@ fn print_parts<R: Rules, W: Sink>(
 {
     // For the proof: the stipulation of a problem that was read has at most 32 half-moves.
     let _aim = problem.stipulation();
-    match RemainingParts::<R, 33>::of(problem, request.phase, request.depth) {
+    match RemainingParts::<R, MOST_FRAMES>::of(problem, request.phase, request.depth) {
         None => Ok(()),
         Some(mut parts) => print_parts_from::<R, W>(
             sink,
@@ -214,7 +214,7 @@ fn print_parts_from<R: Rules, W: Sink>(
     sink: &mut W,
     first: u64,
     count: u64,
-    parts: &mut RemainingParts<R, 33>,
+    parts: &mut RemainingParts<R, MOST_FRAMES>,
 ) -> Result<(), SinkFault>
     requires sink { W.failures sink.old < greatest_count }
     requires first { 1 ≤ first }
@@ -241,7 +241,7 @@ fn print_parts_from<R: Rules, W: Sink>(
 fn print_part<R: Rules, W: Sink>(
     sink: &mut W,
     number: u64,
-    parts: &mut RemainingParts<R, 33>,
+    parts: &mut RemainingParts<R, MOST_FRAMES>,
     killers: Killers<R>,
 ) -> Result<Killers<R>, SinkFault>
     requires sink { W.failures sink.old < greatest_count }
@@ -266,7 +266,7 @@ fn print_part<R: Rules, W: Sink>(
 // Prints the remaining events of a search, each as soon as it is found.
 fn print_events<R: Rules, W: Sink>(
     sink: &mut W,
-    search: &mut PartSearch<R, 33>,
+    search: &mut PartSearch<R, MOST_FRAMES>,
 ) -> Result<(), SinkFault>
     requires sink { W.failures sink.old < greatest_count }
     ensures bytes { Writes (W.taken sink.old) (W.taken sink.new)

@@ -13,8 +13,9 @@ use Rattle.pop_stipulation.specs.declared.stipulation.Goal.TheVariants.{Mate, St
 use Rattle.pop_stipulation.specs.declared.stipulation.Stipulation.{Stipulation}
 use Rattle.pop_input.specs.declared.condition.Condition.{Condition}
 use Rattle.pop_input.specs.declared.condition.Condition.TheVariants.{Circe, Madrasi}
-use Rattle.pop_input.specs.Letters.{digit_0, point}
-use Rattle.pop_print.specs.Notation.{blank, letter_of, small_letter}
+use Rattle.chess_core.specs.Letters.{digit_0, letter_of}
+use Rattle.pop_input.specs.Letters.{point}
+use Rattle.pop_print.specs.Notation.{blank, small_letter}
 
 -- the letter of a man on the board: the capital one for White, the small one for Black
 abbrev pub cell_by : Colour → ℕ → ℕ

@@ -1,13 +1,15 @@
 -- The text of moves (own layout; Popeye manual: English letters, ep., Circe's rebirth in brackets).
 use Rattle.std.specs.Prelude.{ℕ, List, [], ◌∷◌, ◌++◌, Bool, true, false, Option, Some, None, codes}
 use Rattle.chess_core.specs.declared.man.Man.{Man}
-use Rattle.chess_core.specs.declared.man.Kind.{Kind}
+use Rattle.chess_core.specs.Letters.{letter_of}
+use Rattle.chess_core.specs.Move.{promotion_text}
+use Rattle.chess_core.specs.SquareNames.{square_text}
 use Rattle.pop_events.specs.declared.shown.Side.{Side}
 use Rattle.pop_events.specs.declared.shown.Side.TheVariants.{A, H}
 use Rattle.pop_events.specs.declared.shown.Mark.{Mark}
 use Rattle.pop_events.specs.declared.shown.Mark.TheVariants.{Plain, Check, Mate, Stalemate}
 use Rattle.pop_events.specs.Shown.{Shown}
-use Rattle.pop_print.specs.Notation.{colour_letter, letter_of, man_text, square_text}
+use Rattle.pop_print.specs.Notation.{colour_letter, man_text}
 
 -- the text of castling to a side
 abbrev pub castling_text : Side → List ℕ
@@ -23,11 +25,6 @@ step_text false = codes "-"
 abbrev pub en_passant_text : Bool → List ℕ
 en_passant_text true = codes " ep."
 en_passant_text false = []
-
--- the text of a promotion
-abbrev pub promotion_text : Option Kind → List ℕ
-promotion_text None = []
-promotion_text (Some kind) = codes "=" ++ letter_of kind ∷ []
 
 -- the text of a rebirth: the reborn man and its square
 abbrev pub rebirth_text : Option (Man × ℕ) → List ℕ

@@ -102,7 +102,7 @@ impl<const N: usize> LineBuffer<N> {
         self.add(b"\n");
     }
 
-    // Adds the first line of an item.
+    // Adds the line `problem` with the number of the item.
     #[tactic(auto, unfolding(crate::specs::Heads::item_line))]
     pub(crate) fn add_item_line(&mut self, number: u64)
         requires { length self.old + ITEM_LINE ≤ N }
@@ -125,7 +125,7 @@ impl<const N: usize> LineBuffer<N> {
         self.add_labelled(b"author: ", problem.author());
     }
 
-    // Adds the line of the stipulation and the condition.
+    // Adds a line with the stipulation and, if there is one, the condition.
     #[tactic(auto, unfolding(crate::specs::Heads::stipulation_line))]
     fn add_stipulation_line(&mut self, problem: &Problem)
         requires { length self.old + STIPULATION_LINE ≤ N }
@@ -179,7 +179,7 @@ impl<const N: usize> LineBuffer<N> {
         self.add(b"  abcdefgh\n");
     }
 
-    // Adds a rank. `rank` is counted from 0.
+    // Adds the line of a rank of the board. `rank` is counted from 0.
     fn add_rank(&mut self, diagram: &Diagram, rank: u8)
         requires room { length self.old + RANK ≤ N }
         requires rank { rank < 8 }
@@ -189,7 +189,7 @@ impl<const N: usize> LineBuffer<N> {
         self.add(&rank_line(diagram, rank));
     }
 
-    // Adds the word of the stipulation.
+    // Adds the stipulation as it is written in a problem, such as `#2`.
     fn add_stipulation(&mut self, stipulation: Stipulation)
         requires { length self.old + STIPULATION ≤ N }
         ensures text { self.new ≡ self.old ++ stipulation_text stipulation }
@@ -253,7 +253,7 @@ fn is_left_out(no_board: bool, problem: &Problem) -> bool
     no_board || problem.no_board()
 }
 
-// Returns the line of a rank. `rank` is counted from 0.
+// Returns the rank's digit and its eight squares, as a line. `rank` is counted from 0.
 #[tactic(auto, unfolding(crate::specs::Heads::rank_text))]
 fn rank_line(diagram: &Diagram, rank: u8) -> [u8; RANK]
     requires { rank < 8 }

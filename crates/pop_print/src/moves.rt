@@ -1,6 +1,7 @@
 //! The text of moves.
 ghost use Rattle.std.specs.Prelude.{[], ◌++◌, ◌+◌, ◌∷◌, ◌≡◌, ◌≤◌, length};
-ghost use Rattle.pop_print.specs.Moves.{castling_text as text_of_castling, en_passant_text as text_of_en_passant, mark_text as text_of_mark, move_text, plain_move_text, promotion_text, rebirth_text, step_text as text_of_step};
+ghost use Rattle.chess_core.specs.Move.{promotion_text};
+ghost use Rattle.pop_print.specs.Moves.{castling_text as text_of_castling, en_passant_text as text_of_en_passant, mark_text as text_of_mark, move_text, plain_move_text, rebirth_text, step_text as text_of_step};
 
 use crate::line::LineBuffer;
 use crate::notation::{colour_letter, letter_of};

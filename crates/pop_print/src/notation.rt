@@ -1,6 +1,8 @@
 //! The text of squares and men.
 ghost use Rattle.std.specs.Prelude.{◌++◌, ◌+◌, ◌<◌, ◌≡◌, ◌≤◌, length};
-ghost use Rattle.pop_print.specs.Notation.{colour_letter as letter_of_colour, letter_of as letter_of_kind, man_text, square_text};
+ghost use Rattle.chess_core.specs.Letters.{letter_of as letter_of_kind};
+ghost use Rattle.chess_core.specs.SquareNames.{square_text};
+ghost use Rattle.pop_print.specs.Notation.{colour_letter as letter_of_colour, man_text};
 
 use crate::line::LineBuffer;
 use chess_core::{Colour, Kind, Square};

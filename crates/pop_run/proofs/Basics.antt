@@ -18,8 +18,8 @@ pub use Rattle.pop_text.specs.declared.scanner.End.{End}
 pub use Rattle.pop_text.specs.declared.scanner.End.TheVariants.{Broken, Ended, Open}
 pub use Rattle.pop_text.specs.ties.Left.{MayFollow, onto_input, put_before}
 pub use Rattle.pop_text.specs.ties.Reading.{IsEndSeen, failures_after}
-pub use Rattle.pop_run.specs.Report.{Choice, ItemText, choice_of, is_faulty, report, report_by, report_from, reports_device_failure}
-unfoldable pub use Rattle.pop_run.specs.Report.{entries_in, entry_text, status_of}
+pub use Rattle.pop_run.specs.Report.{Choice, ItemText, choice_of, entry_text, is_faulty, report, report_by, report_from, reports_device_failure}
+unfoldable pub use Rattle.pop_run.specs.Report.{entries_in, entry_text_by, status_of}
 pub use Rattle.pop_run.specs.Run.{Runs, RunsBy, has_grown, input_met, taken_of}
 pub use Rattle.pop_run.specs.declared.status.Status.TheVariants.{Faulty, InputFailed, OutputFailed, Sound}
 pub use Rattle.pop_run.specs.declared.status.Step.TheVariants.{Finished, Problem}

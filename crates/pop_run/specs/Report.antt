@@ -18,20 +18,28 @@ use Rattle.pop_run.specs.declared.status.Status.TheVariants.{Sound, Faulty, Inpu
 abbrev pub choice_of : Settings → Choice
 choice_of settings = record { check = settings.check; no_board = settings.no_board }
 
--- what follows the head of a sound problem: its solutions, or that it is sound if problems are only tested
-abbrev pub solutions_text : Bool → Posed → List ℕ
-solutions_text true posed = codes "sound\n"
-solutions_text false posed = flat_map event_text (events_of posed)
+-- the solutions of a problem
+abbrev pub solutions_text : Posed → List ℕ
+solutions_text posed = flat_map event_text (events_of posed)
 
 -- the text of an item, by its number
 abbrev pub ItemText : Type 0
 ItemText = ℕ → Entry → List ℕ
 
+-- what follows the head of a sound problem: its play, or that it is sound if problems are only tested
+abbrev pub play_text : (Posed → List ℕ) → Bool → Posed → List ℕ
+play_text play true posed = codes "sound\n"
+play_text play false posed = play posed
+
+-- the text of an item, by the text of a problem's play
+unfoldable pub entry_text_by : (Posed → List ℕ) → Choice → ItemText
+entry_text_by play choice number (SoundEntry posed) = head_text number posed choice.no_board
+    ++ play_text play choice.check posed ++ codes "\n"
+entry_text_by play choice number (FaultyEntry fault) = fault_text number fault
+
 -- the text of an item in the report of `pops`
-unfoldable pub entry_text : Choice → ItemText
-entry_text choice number (SoundEntry posed) = head_text number posed choice.no_board
-    ++ solutions_text choice.check posed ++ codes "\n"
-entry_text choice number (FaultyEntry fault) = fault_text number fault
+abbrev pub entry_text : Choice → ItemText
+entry_text choice = entry_text_by solutions_text choice
 
 -- the joined texts of items, the first with this number
 abbrev pub report_from : ItemText → ℕ → List Entry → List ℕ

@@ -3,7 +3,8 @@ ghost use Rattle.std.specs.Prelude.{◌≡◌};
 ghost use Rattle.pop_run.specs.Report.{choice_of};
 
 use crate::item_writer::ItemWriter;
-use crate::solutions::print_sound;
+use crate::play_writer::print_sound;
+use crate::solutions::SolutionsWriter;
 use pop_input::{Fault, Problem};
 use pop_print::print_fault;
 use pop_text::{Sink, SinkFault};
@@ -42,10 +43,10 @@ impl ItemWriter for Choice {
         number: u64,
         problem: &Problem,
     ) -> Result<(), SinkFault> {
-        print_sound(sink, number, problem, *self)
+        print_sound(&SolutionsWriter, sink, number, problem, *self)
     }
 
-    #[tactic(auto, unfolding(crate::specs::Report::entry_text))]
+    #[tactic(auto, unfolding(crate::specs::Report::entry_text_by))]
     fn write_fault<W: Sink>(
         &self,
         sink: &mut W,

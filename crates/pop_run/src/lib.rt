@@ -14,13 +14,15 @@
 //! ```
 //!
 //! The interface is `run` and `Session`, which reports one item a call, with `Settings`, `Choice`, `Status` and
-//! `Step`. `run_with` and `Session::with` write items in the way of an `ItemWriter`. The module `solutions` is internal.
+//! `Step`. `run_with` and `Session::with` write items in the way of an `ItemWriter`, `print_sound` a sound problem with
+//! the play of a `PlayWriter`. The module `solutions` is internal.
 //! `specs/Report.antt` defines the report, `specs/Run.antt` what a run does. No call allocates.
 #![tactic(auto)]
 
 pub mod choice;
 pub mod item_writer;
 pub mod laws;
+pub mod play_writer;
 pub mod session;
 mod solutions;
 pub mod status;
@@ -29,6 +31,7 @@ pub mod whole_run;
 pub use choice::Choice;
 pub use item_writer::ItemWriter;
 pub use laws::no_neighbour_changes_a_text;
+pub use play_writer::{PlayWriter, print_sound};
 pub use run_settings::Settings;
 pub use session::Session;
 pub use status::{Status, Step};

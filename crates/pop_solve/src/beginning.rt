@@ -24,13 +24,14 @@ use pop_battle::frame::Frame;
 use pop_battle::search_state::SearchState;
 use pop_events::Phase;
 use pop_input::Problem;
+use pop_stipulation::MOST_HALF_MOVES;
 
 /// Returns whether a path may begin with this legal move, after which `left` half-moves are left: if each
 /// path ends with it and mates, only if it mates.
 #[tactic(auto, using(chess_rules::proofs::listing_moves::Calls::playing))]
 fn may_lead<R: Rules>(plan: Plan, left: usize, by: Move, board: &mut Board) -> bool
     requires well_formed { IsWellFormed board.old }
-    requires few { left ≤ 32 }
+    requires few { left ≤ MOST_HALF_MOVES }
     requires legal { is_legal R.rule board.old by ≡ true }
     ensures unchanged { board.new ≡ board.old }
     ensures mated { result ≡ true → IsMatedAtLast R.rule plan left

@@ -18,7 +18,7 @@ use pop_battle::frame::Frame;
 use pop_battle::killers::Killers;
 use pop_battle::search_state::SearchState;
 use pop_battle::value::value_of;
-use pop_stipulation::Battle;
+use pop_stipulation::{Battle, MOST_FRAMES, MOST_HALF_MOVES};
 use std::mem;
 
 /// Returns whether to guess killers for a test with `left` half-moves: in a direct mate with Black to move.
@@ -39,13 +39,13 @@ fn cost_of_test<R: Rules>(
     killers: &mut Killers<R>,
 ) -> (bool, u64)
     requires well_formed { IsWellFormed board.now }
-    requires few { left ≤ 32 }
+    requires few { left ≤ MOST_HALF_MOVES }
     ensures value { result.0 ≡ value aim.battle (chess aim.goal R.rule) left board.now }
 {
     let mut stand = *board;
-    let mut frames = ArrayVec::<Frame<R>, 33>::new();
+    let mut frames = ArrayVec::<Frame<R>, MOST_FRAMES>::new();
     let mut search_state = SearchState::with(mem::replace(killers, Killers::none()));
-    let wins = value_of::<R, 33>(aim, left, &mut stand, &mut frames, &mut search_state);
+    let wins = value_of::<R, MOST_FRAMES>(aim, left, &mut stand, &mut frames, &mut search_state);
     let SearchState {
         killers: found,
         opened,
@@ -66,7 +66,7 @@ fn cost_of_defence<R: Rules>(
 ) -> Option<u64>
     requires well_formed { IsWellFormed board.now }
     requires legal { is_legal R.rule board.now by ≡ true }
-    requires few { left ≤ 32 }
+    requires few { left ≤ MOST_HALF_MOVES }
     ensures holds { is_some result ≡ not (value aim.battle (chess aim.goal R.rule) left
         (position_after R.rule board.now by)) }
 {
@@ -85,7 +85,7 @@ fn cheapest_defence<R: Rules>(
     killers: &mut Killers<R>,
 ) -> Option<Moves<R>>
     requires well_formed { IsWellFormed board.now }
-    requires few { left ≤ 32 }
+    requires few { left ≤ MOST_HALF_MOVES }
 {
     let mut stand = *board;
     let mut known = None;
@@ -106,7 +106,7 @@ fn cheapest_defence<R: Rules>(
 /// Makes the cheapest defence, if any holds, the killer for `left` half-moves.
 fn choose_killer<R: Rules>(aim: Aim, left: usize, board: &Board, killers: &mut Killers<R>)
     requires well_formed { IsWellFormed board.now }
-    requires few { left ≤ 32 }
+    requires few { left ≤ MOST_HALF_MOVES }
 {
     if let Some(place) = cheapest_defence::<R>(aim, left.saturating_sub(1), board, killers) {
         killers.put(left, place);
@@ -127,7 +127,7 @@ pub(crate) fn guess_killers<R: Rules>(
 )
     requires well_formed { IsWellFormed board.now }
     requires legal { is_legal R.rule board.now by ≡ true }
-    requires few { left ≤ 32 }
+    requires few { left ≤ MOST_HALF_MOVES }
     ensures help { plan.battle ≡ None → killers.new ≡ killers.old }
     ensures selfmate { plan.battle ≡ Some Selfmate → killers.new ≡ killers.old }
 {

@@ -23,7 +23,7 @@ use pop_battle::chess::{is_impossible, turn_back, turn_over};
 use pop_battle::frame::Frame;
 use pop_battle::search_state::SearchState;
 use pop_events::{Event, Phase};
-use pop_input::Problem;
+use pop_input::{MOST_FRAMES, Problem};
 
 /// What a search covers.
 #[derive(Clone, Copy)]
@@ -171,7 +171,7 @@ fn close_all<R: Rules, const N: usize>(board: &mut Board, frames: &mut ArrayVec<
 /// Returns the event of the line of help play that leads to the top frame; `half` is the number of its
 /// first half-move. A function of its own, which keeps the room for the line's moves out of `event_at`.
 fn line_at<R: Rules>(plan: Plan, half: u32, frames: &[Frame<R>], board: &mut Board) -> Event
-    requires shallow { length frames.now ≤ 33 }
+    requires shallow { length frames.now ≤ MOST_FRAMES }
     requires walking { (h : ℕ) × (p : Position)
         × IsWalking R.rule h p (reverse frames.now) board.old }
     requires ended { IsEnded R.rule plan (reverse frames.now) board.old }
@@ -196,7 +196,7 @@ fn event_at<R: Rules>(
 ) -> Event
     requires plan { walk.plan ≡ plan_of problem.now }
     requires deep { 2 ≤ length frames.now }
-    requires shallow { length frames.now ≤ 33 }
+    requires shallow { length frames.now ≤ MOST_FRAMES }
     requires walking { (h : ℕ) × IsWalking R.rule h (phase_start problem.now walk.phase)
         (reverse frames.now) board.old }
     requires ended { IsEnded R.rule walk.plan (reverse frames.now) board.old }

@@ -20,7 +20,7 @@ use pop_battle::chess::{Reached, mark_after, shown_of};
 use pop_battle::frame::Frame;
 use pop_battle::value::attacker_to_move;
 use pop_events::Shown;
-use pop_stipulation::Goal;
+use pop_stipulation::{Goal, MOST_FRAMES, MOST_HALF_MOVES};
 
 /// Takes back the move of a frame.
 #[tactic(auto, using(chess_rules::proofs::listing_moves::Calls::playing))]
@@ -101,8 +101,8 @@ pub(crate) fn line<R: Rules>(
     plan: Plan,
     frames: &[Frame<R>],
     board: &mut Board,
-) -> ArrayVec<Shown, 32>
-    requires shallow { length frames.now ≤ 33 }
+) -> ArrayVec<Shown, MOST_HALF_MOVES>
+    requires shallow { length frames.now ≤ MOST_FRAMES }
     requires walking { (h : ℕ) × (p : Position)
         × IsWalking R.rule h p (reverse frames.now) board.old }
     requires ended { IsEnded R.rule plan (reverse frames.now) board.old }

@@ -396,7 +396,7 @@ pub fn step_back<R: Rules>(depth: usize, top: Frame<R>, board: &mut Board)
     }
 }
 
-/// Returns the top frame.
+/// Returns the frame of the position on the board, which is the last one.
 fn top_of<R: Rules, const N: usize>(frames: &ArrayVec<Frame<R>, N>) -> &Frame<R>
     requires { 0 < array_vec_len frames.now }
     ensures { frames.now.items

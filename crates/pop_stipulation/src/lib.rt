@@ -12,4 +12,4 @@
 
 pub mod stipulation;
 
-pub use stipulation::{Battle, Form, Goal, MOST_MOVES, Stipulation};
+pub use stipulation::{Battle, Form, Goal, MOST_FRAMES, MOST_HALF_MOVES, MOST_MOVES, Stipulation};

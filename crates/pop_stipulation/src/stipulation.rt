@@ -39,6 +39,12 @@ pub enum Goal {
 /// The greatest number of moves of a stipulation (own).
 pub const MOST_MOVES: u8 = 16;
 
+/// The greatest number of half-moves of a play: two for each move.
+pub const MOST_HALF_MOVES: usize = 32;
+
+/// The most frames of a search: one for each half-move, and one after the last.
+pub const MOST_FRAMES: usize = 33;
+
 /// A form, a goal and a number of moves: 1 to 16, for `HelpHalf` 0 to 15.
 #[derive(Clone, Copy, Debug)]
 pub struct Stipulation {
@@ -49,7 +55,7 @@ pub struct Stipulation {
 }
 
 impl Goal {
-    /// Returns whether the goal is stalemate.
+    /// Returns whether the goal is stalemate, and not mate.
     pub fn is_for_stalemate(self) -> bool
         ensures { result ≡ is_for_stalemate self }
     {

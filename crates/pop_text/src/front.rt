@@ -13,7 +13,7 @@ const NEAR: usize = 4;
 // The size of a block, whose bytes are tested without a branch so that the compiler makes vector code.
 const BLOCK: usize = 32;
 
-/// A prefix of a view.
+/// The first bytes of a view, by their number.
 #[derive(Clone, Copy)]
 pub struct Prefix {
     /// The number of bytes.

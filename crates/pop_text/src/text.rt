@@ -45,7 +45,7 @@ impl Text {
         }
     }
 
-    /// Returns the bytes of the text.
+    /// Returns the text as bytes, at most `LONGEST_TEXT`.
     pub fn bytes(&self) -> &[u8]
         ensures bytes { result.now ≡ self.now }
         ensures short { length result.now ≤ longest_text }

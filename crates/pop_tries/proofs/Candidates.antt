@@ -1,5 +1,5 @@
 -- What the count of a first move's refutations says: whether it is a key, and whether it may be a try.
-use Rattle.pop_tries.proofs.Words.{Bool, Contains, in_filter, legal_moves, none_in_nil, subst, Move, Position, RuleSet, arith, cases_lt, chess_passing, eqb, false, false≢true, inl, inr, None, Option, keeps_win, length, nat_le, nat_tests, refl, refutations, sym, true, ℕ, ◌+◌, ◌<◌, ◌∙◌, ◌≡◌, ◌≢◌}
+use Rattle.pop_tries.proofs.Words.{Bool, Contains, in_filter, legal_moves, none_in_nil, subst, Move, Position, RuleSet, arith, cases_lt, chess_passing, eqb, false, false≢true, inl, inr, None, Option, keeps_win, length, nat_le, nat_tests, refl, refutations, sym, true, ℕ, ◌+◌, ◌<◌, ◌∙◌, ◌≡◌, ◌≢◌, ◌≤◌}
 use Rattle.std.proofs.Common.{min}
 use Rattle.pop_tries.specs.declared.contest.Contest.{Contest}
 use Rattle.pop_tries.specs.declared.first_moves.Group.{Group}
@@ -48,13 +48,21 @@ module _ (rule : RuleSet) (contest : Contest) (q : Position) where
   pub unrefuted_key : (most count : ℕ) (key : Bool) → count ≡ min all (most + 1) → count ≡ 0 → (all ≡ 0 → key ≡ won) → key ≡ won
   unrefuted_key most count key e zero_of test = test (omega (arith, e, zero_of))
 
+  -- a first move that two replies refute is neither a key nor a try with one refutation
+  pub twice_refuted_no_key : 2 ≤ all → false ≡ won
+  twice_refuted_no_key two = sym (refuted_is_no_key contest.battle contest.stipulation.goal rule contest.stipulation.n q (omega (arith, two)))
+
+  pub twice_refuted_untried : (most : ℕ) (b : Bool) → most ≡ 1 → 2 ≤ all → belongs rule contest (Tries most) q ≡ true → b ≡ true
+  twice_refuted_untried most b one two t =
+      more_untried most (min all (most + 1)) b refl (omega (arith, one, two)) t
+
   -- a key has no refutations, which any set holds
   pub key_held : (set : Option MoveSet) → won ≡ true → HoldAll rule q (refutes rule contest q) set
   key_held set key m c r = absurd (none_in_nil m (subst (λ ms. Contains ms m) (key_unrefuted contest.battle contest.stipulation.goal rule contest.stipulation.n q key)
       (in_filter (refutes rule contest q) (legal_moves rule q) m c r)))
 
 -- for the test of a first move
-pub ruleset classing = (none_tried, key_untried, more_untried, refuted_no_key, unrefuted_key)
+pub ruleset classing = (none_tried, key_untried, more_untried, refuted_no_key, unrefuted_key, twice_refuted_no_key, twice_refuted_untried)
 
 -- at the beginning of a group nothing is noted among the keys, and the tries are those noted before
 pub notes : (rule : RuleSet) (contest : Contest) (most : ℕ) (p : Position) (group : Group) (before candidates : Option MoveSet) (place : ℕ) → place ≡ 0

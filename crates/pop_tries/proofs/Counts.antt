@@ -1,5 +1,9 @@
 -- Refutations counted in parts: forcing replies, and the others.
-use Rattle.pop_tries.proofs.Words.{Bool, Some, false, true, List, Move, Position, RuleSet, [], arith, filter, length, legal_moves, not, refl, refutations, ℕ, ◌&&◌, ◌+◌, ◌<◌, ◌∷◌, ◌≡◌, ◌≤◌}
+use Rattle.chess_rules.proofs.listing_moves.Between.{after_cut}
+use Rattle.chess_rules.specs.ties.Places.{moves_after, moves_between}
+use Rattle.pop_battle.proofs.Boards.{after_start}
+use Rattle.std.proofs.lemmas.List.Elements.{filter-append}
+use Rattle.pop_tries.proofs.Words.{cases_lt, eqb, false≢true, inl, inr, length-append, nat_tests, sym, Bool, Some, false, true, List, Move, Position, RuleSet, [], arith, filter, length, legal_moves, not, refl, refutations, ℕ, ◌&&◌, ◌+◌, ◌-◌, ◌<◌, ◌∙◌, ◌∷◌, ◌≡◌, ◌≢◌, ◌≤◌}
 use Rattle.std.proofs.Common.{min}
 use Rattle.pop_tries.specs.declared.contest.Contest.{Contest}
 use Rattle.pop_tries.specs.declared.replies.Counted.TheVariants.{All, Forcing, Others}
@@ -14,7 +18,53 @@ parts : (c r : Move → Bool) (ms : List Move)
 parts c r [] = refl
 parts c r (m ∷ ms) = grind (arith, parts c r ms)
 
+-- places that the code finds different
+unequal : (a b : ℕ) → eqb a b ≡ false → a ≢ b
+unequal a b differ same = grind (arith, nat_tests)
+
+-- the triples up to two places that differ
+module _ (rule : RuleSet) (p : Position) (test : Move → Bool) where
+  abbrev passing : ℕ → ℕ → ℕ
+  passing a b = length (filter test (moves_between rule p a b))
+
+  abbrev passing_after : ℕ → ℕ
+  passing_after a = length (filter test (moves_after rule p a))
+
+  cut_after : (a b : ℕ) → a ≤ b → passing_after a ≡ passing a b + passing_after b
+  cut_after a b le = rw (after_cut rule p a b le, filter-append test (moves_between rule p a b) (moves_after rule p b))
+      (length-append (filter test (moves_between rule p a b)) (filter test (moves_after rule p b)))
+
+  two_in_order : (a b : ℕ) → a < b → passing (a - 1) a ≡ 1 → passing (b - 1) b ≡ 1 → 2 ≤ length (filter test (legal_moves rule p))
+  two_in_order a b lt one two =
+      let whole : passing_after 0 ≡ length (filter test (legal_moves rule p)) = rw (after_start rule p) refl in
+      omega (
+        arith,
+        whole,
+        one,
+        two,
+        cut_after 0 (a - 1) (omega arith),
+        cut_after (a - 1) a (omega arith),
+        cut_after a (b - 1) (omega (arith, lt)),
+        cut_after (b - 1) b (omega arith),
+      )
+
+  -- with moves at two places that pass, two moves at least pass
+  pub two_pass : (a b : ℕ) → a ≢ b → passing (a - 1) a ≡ 1 → passing (b - 1) b ≡ 1 → 2 ≤ length (filter test (legal_moves rule p))
+  two_pass a b differ one two = elim (cases_lt a b) [
+    | inl before ↦ two_in_order a b before one two
+    | inr after ↦ elim (cases_lt b a) [
+      | inl later ↦ two_in_order b a later two one
+      | inr same ↦ absurd (differ (omega (arith, after, same)))
+    ]
+  ]
+
 module _ (rule : RuleSet) (contest : Contest) (q : Position) where
+  -- two replies refute
+  pub two_refute : (a b : ℕ) → eqb a b ≡ false → length (filter (refutes rule contest q) (moves_between rule q (a - 1) a)) ≡ 1
+      → length (filter (refutes rule contest q) (moves_between rule q (b - 1) b)) ≡ 1
+      → 2 ≤ length (refutations contest.battle (game_in rule contest) contest.stipulation.n q)
+  two_refute a b differ one two = two_pass rule q (refutes rule contest q) a b (unequal a b differ) one two
+
   abbrev all : ℕ
   all = length (refutations contest.battle (game_in rule contest) contest.stipulation.n q)
 

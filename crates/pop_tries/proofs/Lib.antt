@@ -3,6 +3,7 @@ pub mod Contests
 pub mod Loops
 pub mod Counts
 pub mod MoveSets
+pub mod FewPlaces
 pub mod Candidates
 pub mod ThreatLengths
 pub mod Walks

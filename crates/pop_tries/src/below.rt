@@ -12,7 +12,7 @@ use chess_rules::{Moves, Rules};
 use pop_battle::frame::Frame;
 use pop_battle::search_state::SearchState;
 use pop_events::Shown;
-use pop_input::Problem;
+use pop_input::{MOST_FRAMES, Problem};
 use pop_solve::plan::Plan;
 use pop_solve::showing::last_shown;
 use pop_solve::walk::{step, walk_length};
@@ -96,7 +96,7 @@ pub struct ShownNode {
     pub depth: u32,
     /// The number of its half-move, counted from 1.
     pub half: u32,
-    /// Its move.
+    /// The move that leads to the node.
     pub shown: Shown,
 }
 
@@ -109,7 +109,7 @@ pub fn shown_node<R: Rules>(
     board: &mut Board,
 ) -> ShownNode
     requires deep { 2 ≤ length frames.now }
-    requires shallow { length frames.now ≤ 33 }
+    requires shallow { length frames.now ≤ MOST_FRAMES }
     requires walking { IsWalking R.rule walk.half_moves
         (base_position R.rule problem.now walk.first walk.base) (reverse frames.now) board.old }
     requires ended { IsEnded R.rule walk.plan (reverse frames.now) board.old }

@@ -11,8 +11,10 @@ ghost use Rattle.pop_tries.specs.ties.Searching.{contest_of};
 
 use crate::contest::Contest;
 use crate::move_set::{MoveSet, may_be, noted};
-use crate::replies::{count_refutations, is_key, is_key_unrefuted, is_refutation, is_try};
-use crate::stage::{First, Firsts, Task};
+use crate::replies::{
+    are_two_refutations, count_refutations, is_key, is_key_unrefuted, is_refutation, is_try,
+};
+use crate::stage::{First, Firsts, MOST_REFUTATIONS, Task};
 use crate::threats::is_defence;
 use arrayvec::ArrayVec;
 use chess_core::board::Board;
@@ -27,7 +29,7 @@ use pop_battle::search_state::SearchState;
 pub enum Group {
     /// The keys.
     Keys,
-    /// The tries with at most `most` refutations, 0 to 200.
+    /// The tries with at most `most` refutations, 0 to `MOST_REFUTATIONS`.
     Tries { most: u32 },
 }
 
@@ -43,7 +45,7 @@ fn is_key_or_noted<R: Rules, const N: usize>(
     search_state: &mut SearchState<R>,
 ) -> bool
     requires ready { IsReady (contest_of task.now) board.old (array_vec_len frames.old) N }
-    requires few { task.now.most ≤ 200 }
+    requires few { task.now.most ≤ MOST_REFUTATIONS }
     ensures key { result ≡ belongs R.rule (contest_of task.now) Keys board.old }
     ensures noted { belongs R.rule (contest_of task.now) (Tries task.now.most) board.old ≡ true
         → may_be candidates.new by.now ≡ true }
@@ -53,6 +55,9 @@ fn is_key_or_noted<R: Rules, const N: usize>(
     let contest = task.contest();
     if task.most == 0 {
         return is_key::<R, N>(contest, board, frames, search_state);
+    }
+    if are_two_refutations::<R, N>(contest, task.most, board, frames, search_state) {
+        return false;
     }
     let count = count_refutations::<R, N>(contest, task.most, board, frames, search_state).count;
     if count == 0 && is_key_unrefuted::<R>(contest, board) {
@@ -77,7 +82,7 @@ fn play_next_key<R: Rules, const N: usize>(
     search_state: &mut SearchState<R>,
 ) -> Option<(Move, Undo, MoveSet)>
     requires ready { IsReady (contest_of task.now) board.old (array_vec_len frames.old) N }
-    requires few { task.now.most ≤ 200 }
+    requires few { task.now.most ≤ MOST_REFUTATIONS }
     requires noted { HoldBefore R.rule board.old (is_try_after R.rule (contest_of task.now)
         task.now.most board.old) candidates.old place.old }
     ensures frames { frames.new.items ≡ frames.old.items }
@@ -112,7 +117,7 @@ fn play_next_try<R: Rules, const N: usize>(
     search_state: &mut SearchState<R>,
 ) -> Option<(Move, Undo, MoveSet)>
     requires ready { IsReady (contest_of task.now) board.old (array_vec_len frames.old) N }
-    requires few { task.now.most ≤ 200 }
+    requires few { task.now.most ≤ MOST_REFUTATIONS }
     requires held { HoldAll R.rule board.old (is_try_after R.rule (contest_of task.now)
         task.now.most board.old) candidates }
     ensures frames { frames.new.items ≡ frames.old.items }
@@ -152,7 +157,7 @@ pub fn play_next<R: Rules, const N: usize>(
     search_state: &mut SearchState<R>,
 ) -> Option<(Move, Undo, MoveSet)>
     requires ready { IsReady (contest_of task.now) board.old (array_vec_len frames.old) N }
-    requires few { task.now.most ≤ 200 }
+    requires few { task.now.most ≤ MOST_REFUTATIONS }
     requires asked { IsAsked firsts.old.group task.now.most }
     requires noted { AreCandidates R.rule (contest_of task.now) firsts.old.group task.now.most
         board.old firsts.old.candidates firsts.old.place }

@@ -41,7 +41,7 @@ fn first_candidates(group: Group, candidates: Option<MoveSet>) -> Option<MoveSet
     }
 }
 
-/// Begins a group.
+/// Begins the keys or the tries, before the first of the moves that may be one.
 #[tactic(auto, using(crate::proofs::Steps::group_begins, crate::proofs::Steps::few_firsts), unfolding(crate::specs::ties::Searching::HoldsAt, crate::specs::ties::Searching::left_of, crate::specs::ties::Searching::rank))]
 pub(crate) fn begin_group<R: Rules, const N: usize>(
     task: &Task,
@@ -82,7 +82,7 @@ fn is_stopped(task: &Task, group: Group, count: u32) -> bool
     }
 }
 
-/// Returns the event of a first move.
+/// Returns the event that shows a first move as a key or as a try.
 fn first_event(group: Group, shown: Shown) -> TryEvent
     ensures { result ≡ event_of_first group shown }
 {

@@ -8,19 +8,20 @@
 //! ```
 #![tactic(auto)]
 
-pub mod below;
+mod below;
 mod below_first;
-pub mod contest;
-pub mod first_moves;
+mod contest;
+mod few_places;
+mod first_moves;
 mod group;
 pub mod laws;
-pub mod move_set;
-pub mod replies;
-pub mod search;
+mod move_set;
+mod replies;
+mod search;
 mod set_play;
 mod shown;
-pub mod stage;
-pub mod threats;
+mod stage;
+mod threats;
 
 pub use laws::{
     each_is_key_or_try_or_has_more, first_moves_are_keys_or_tries, keys_have_no_refutations,
@@ -28,3 +29,4 @@ pub use laws::{
 };
 pub use pop_events::TryEvent;
 pub use search::TriesSearch;
+pub use stage::MOST_REFUTATIONS;

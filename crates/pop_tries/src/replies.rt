@@ -1,8 +1,9 @@
 //! Keys, tries and refutations: tests of first moves and of the replies to them.
-ghost use Rattle.std.specs.Prelude.{◌≡◌, ◌+◌, ◌≤◌, filter, not, min, true, length, Some};
+ghost use Rattle.std.specs.Prelude.{◌≡◌, ◌+◌, ◌-◌, ◌≤◌, filter, not, min, true, length, Some};
 ghost use Rattle.arrayvec.specs.ArrayVec.{array_vec_len};
 ghost use Rattle.chess_core.specs.WellFormed.{IsWellFormed};
 ghost use Rattle.chess_rules.specs.Legal.{is_legal, moves};
+ghost use Rattle.chess_rules.specs.ties.Places.{moves_between};
 ghost use Rattle.pop_solve.specs.Tree.{is_in_set_play, keeps_win};
 ghost use Rattle.pop_tries.specs.Events.{chess_passing};
 ghost use Rattle.pop_tries.specs.Tries.{is_try, refutations};
@@ -13,6 +14,7 @@ ghost use Rattle.pop_tries.specs.ties.FirstMoves.{gives_check, is_counted, is_fo
 
 use crate::contest::Contest;
 use crate::move_set::MoveSet;
+use crate::stage::MOST_REFUTATIONS;
 use arrayvec::ArrayVec;
 use chess_core::board::Board;
 use chess_core::man::{Kind, Man, Move};
@@ -131,7 +133,7 @@ pub enum Counted {
     Others,
 }
 
-/// A number of refutations, counted up to one more than `most`, which is 0 to 200.
+/// A number of refutations, counted up to one more than `most`, which is 0 to `MOST_REFUTATIONS`.
 #[derive(Clone, Copy)]
 pub struct Tally {
     pub count: u32,
@@ -212,6 +214,11 @@ fn refutes_among<R: Rules, const N: usize>(
     refutes::<R, N>(contest, by, board, frames, search_state)
 }
 
+/// Returns the number of half-moves under which the replies that refute are killers.
+fn half_moves_of_replies(contest: Contest) -> usize {
+    contest.stipulation.half_moves().saturating_sub(1)
+}
+
 /// Returns the tally after the counted refutations of the first move that led to the board's position.
 #[tactic(auto, using(crate::proofs::Loops::counting, crate::proofs::MoveSets::filling, pop_battle::proofs::Boards::after_start))]
 fn count_among<R: Rules, const N: usize>(
@@ -223,7 +230,7 @@ fn count_among<R: Rules, const N: usize>(
     search_state: &mut SearchState<R>,
 ) -> Tally
     requires ready { IsReady contest board.old (array_vec_len frames.old) N }
-    requires few { (tally.count ≤ tally.most) × (tally.most ≤ 200) }
+    requires few { (tally.count ≤ tally.most) × (tally.most ≤ MOST_REFUTATIONS) }
     ensures count { result.count ≡ min (tally.count + length (filter (refutes_among R.rule contest
         counted board.old) (moves R.rule board.old))) (tally.most + 1) }
     ensures most { result.most ≡ tally.most }
@@ -234,12 +241,14 @@ fn count_among<R: Rules, const N: usize>(
 {
     let mut known = None;
     let mut place = Moves::<R>::start();
+    let left = half_moves_of_replies(contest);
     let mut count = tally.count;
     let mut refuting = tally.refuting;
     while let Some(by) = next_move::<R>(&mut known, &mut place, board) {
         if refutes_among::<R, N>(contest, counted, by, board, frames, search_state) {
             count += 1;
             refuting = refuting.with(&by);
+            search_state.killers.put(left, place);
             if count > tally.most {
                 return Tally {
                     count,
@@ -267,7 +276,7 @@ pub fn count_refutations<R: Rules, const N: usize>(
     search_state: &mut SearchState<R>,
 ) -> Tally
     requires ready { IsReady contest board.old (array_vec_len frames.old) N }
-    requires few { most ≤ 200 }
+    requires few { most ≤ MOST_REFUTATIONS }
     ensures count { result.count ≡ min (length (refutations contest.battle (game_in R.rule contest)
         contest.stipulation.n board.old)) (most + 1) }
     ensures held { result.count ≤ most → HoldAll R.rule board.old (refutes R.rule contest board.old)
@@ -287,6 +296,56 @@ pub fn count_refutations<R: Rules, const N: usize>(
         return some;
     }
     count_among::<R, N>(contest, Counted::Others, some, board, frames, search_state)
+}
+
+/// Returns whether the move at `place` is a legal reply to the first move that led to the board's position, and
+/// refutes it.
+fn refutes_at<R: Rules, const N: usize>(
+    contest: Contest,
+    place: Moves<R>,
+    board: &mut Board,
+    frames: &mut ArrayVec<Frame<R>, N>,
+    search_state: &mut SearchState<R>,
+) -> bool
+    requires ready { IsReady contest board.old (array_vec_len frames.old) N }
+    ensures one { result ≡ true → length (filter (refutes R.rule contest board.old)
+        (moves_between R.rule board.old (place - 1) place)) ≡ 1 }
+    ensures rest { Keeps board.old board.new frames.old.items frames.new.items }
+{
+    let Some(by) = place.legal_move(board) else {
+        return false;
+    };
+    refutes::<R, N>(contest, by, board, frames, search_state)
+}
+
+/// Returns whether the last two replies that refuted other first moves refute this one too, which led to the
+/// board's position. `false` says nothing. It tests them only if one refutation is allowed and one move is left
+/// after the reply: with more moves left, forcing replies cost less.
+#[tactic(auto, using(crate::proofs::Counts::two_refute))]
+pub fn are_two_refutations<R: Rules, const N: usize>(
+    contest: Contest,
+    most: u32,
+    board: &mut Board,
+    frames: &mut ArrayVec<Frame<R>, N>,
+    search_state: &mut SearchState<R>,
+) -> bool
+    requires ready { IsReady contest board.old (array_vec_len frames.old) N }
+    ensures one { result ≡ true → most ≡ 1 }
+    ensures two { result ≡ true → 2 ≤ length (refutations contest.battle (game_in R.rule contest)
+        contest.stipulation.n board.old) }
+    ensures rest { Keeps board.old board.new frames.old.items frames.new.items }
+{
+    if most != 1 || contest.stipulation.half_moves() != 3 {
+        return false;
+    }
+    let left = half_moves_of_replies(contest);
+    let last = search_state.killers.of(Battle::Direct, left);
+    let earlier = search_state.killers.earlier(Battle::Direct, left);
+    if last.is(earlier) {
+        return false;
+    }
+    refutes_at::<R, N>(contest, last, board, frames, search_state)
+        && refutes_at::<R, N>(contest, earlier, board, frames, search_state)
 }
 
 /// Returns whether the first move that led to the board's position stalemates, which refutes it in a direct
@@ -316,7 +375,7 @@ pub fn is_try<R: Rules, const N: usize>(
     search_state: &mut SearchState<R>,
 ) -> bool
     requires ready { IsReady contest board.old (array_vec_len frames.old) N }
-    requires few { most ≤ 200 }
+    requires few { most ≤ MOST_REFUTATIONS }
     ensures tried { result ≡ is_try contest.battle (game_in R.rule contest) contest.stipulation.n
         (chess_passing R.rule) most board.old }
     ensures held { result ≡ true → HoldAll R.rule board.old (refutes R.rule contest board.old)

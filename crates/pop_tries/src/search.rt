@@ -10,7 +10,7 @@ use crate::below_first::{
 };
 use crate::group::{begin_group, beginning_of_keys, find_first};
 use crate::set_play::{begin_set_play, walk_set_play};
-use crate::stage::{Step, Task, TriesStage};
+use crate::stage::{MOST_REFUTATIONS, Step, Task, TriesStage};
 use arrayvec::ArrayVec;
 use chess_core::board::Board;
 use chess_rules::Rules;
@@ -56,11 +56,11 @@ impl<R: Rules, const N: usize> TriesSearch<R, N> {
     ghost use Rattle.pop_tries.specs.Events.{try_events};
     ghost use Rattle.pop_tries.specs.Shown.{try_event_of};
 
-    /// Returns a search before its first event. Tries have at most `most` refutations, 0 to 200. `N` must be
+    /// Returns a search before its first event. Tries have at most `most` refutations, 0 to `MOST_REFUTATIONS`. `N` must be
     /// more than the half-moves of the play.
     pub fn new(problem: &Problem, most: u32) -> Self
         requires room { half_moves problem.now.stipulation < N }
-        requires few { most ≤ 200 }
+        requires few { most ≤ MOST_REFUTATIONS }
         ensures problem { result.problem ≡ problem.now }
         ensures most { result.most ≡ most }
         ensures left { result.left ≡ try_events R.rule problem.now most }
@@ -116,7 +116,7 @@ fn is_over<R: Rules>(stage: TriesStage<R>) -> bool
     matches!(stage, TriesStage::Over)
 }
 
-/// Takes one step of a search.
+/// Takes the step that the stage is due for, which may emit an event.
 #[tactic(auto, unfolding(crate::specs::ties::Searching::HoldsAt, crate::specs::ties::Searching::left_of, crate::specs::ties::Searching::rank))]
 fn take_step<R: Rules, const N: usize>(
     task: &Task,

@@ -19,13 +19,16 @@ use pop_solve::plan::Plan;
 use pop_stipulation::Battle;
 use std::alloc::AllocError;
 
+/// The greatest number of refutations of a try that can be asked for (own).
+pub const MOST_REFUTATIONS: u32 = 200;
+
 /// What a search for tries covers.
 #[derive(Clone, Copy)]
 pub struct Task {
     pub problem: Problem,
     /// The problem's battle; any in help play, which has no tries.
     pub battle: Battle,
-    /// The greatest number of refutations of a try, 0 to 200.
+    /// The greatest number of refutations of a try, 0 to `MOST_REFUTATIONS`.
     pub most: u32,
 }
 
@@ -181,7 +184,7 @@ impl<R: Rules> Clone for TriesStage<R> {
 /// What a step of a search for tries leaves.
 #[derive(Drop)]
 pub struct Step<R: Rules> {
-    /// The next stage.
+    /// What the search does next.
     pub stage: TriesStage<R>,
     /// The event that the step emits, if there is one.
     pub event: Option<TryEvent>,

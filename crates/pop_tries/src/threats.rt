@@ -1,27 +1,31 @@
 //! Threats, and defences against them: Black passes, and White's moves are tried.
-ghost use Rattle.std.specs.Prelude.{◌≡◌, ◌+◌, ◌-◌, ◌≤◌, true, Some};
+ghost use Rattle.std.specs.Prelude.{◌≡◌, ◌+◌, ◌-◌, ◌≤◌, [], filter, true, Some};
 ghost use Rattle.pop_tries.specs.ties.MoveSets.{HoldAll};
 ghost use Rattle.arrayvec.specs.ArrayVec.{array_vec_len};
 ghost use Rattle.chess_core.specs.WellFormed.{IsWellFormed};
 ghost use Rattle.chess_core.specs.Position.{Position};
-ghost use Rattle.chess_rules.specs.Legal.{is_legal};
+ghost use Rattle.chess_flights.specs.ties.Mates.{is_mating};
+ghost use Rattle.chess_rules.specs.Legal.{is_legal, moves};
 ghost use Rattle.chess_rules.specs.Play.{position_after};
 ghost use Rattle.pop_battle.specs.Chess.{set_start};
 ghost use Rattle.pop_stipulation.specs.Stipulations.{half_moves};
 ghost use Rattle.pop_solve.specs.Tree.{keeps_win, wins_in};
 ghost use Rattle.pop_tries.specs.Events.{chess_passing};
 ghost use Rattle.pop_tries.specs.Tries.{has_threat, is_defence, works};
-ghost use Rattle.pop_tries.specs.ties.Contests.{wins_within, AreThreats, IsLength, IsReady, IsThreat, Keeps, game_in, moves_of};
+ghost use Rattle.pop_tries.specs.ties.Contests.{wins_within, AreThreats, IsLength, IsReady, IsThreat, HoldsThreats, Keeps, game_in, moves_of};
+ghost use Rattle.pop_tries.specs.ties.FewPlaces.{all_pass, are_few, AreAt, ArePlaces};
 ghost use Rattle.chess_rules.specs.ties.Places.{all_triples, triple_at};
 
 use crate::contest::Contest;
+use crate::few_places::FewPlaces;
 use crate::move_set::MoveSet;
 use arrayvec::ArrayVec;
 use chess_core::board::Board;
 use chess_core::man::Move;
 use chess_core::square::Square;
+use chess_mates::MateCursor;
 use chess_rules::{Moves, Rules, in_check, play, unplay};
-use pop_battle::chess::{next_move, reaches_goal, turn_over};
+use pop_battle::chess::{is_for_mate, next_move, reaches_goal, turn_over};
 use pop_battle::frame::Frame;
 use pop_battle::search_state::SearchState;
 use pop_battle::value::value_of;
@@ -35,6 +39,15 @@ pub struct Threat {
     pub length: usize,
     /// Holds them.
     pub moves: MoveSet,
+    /// Where they are in the order of moves, if they are few.
+    pub places: FewPlaces,
+}
+
+/// The winning moves of a position: a set that holds them, and their places, if they are few.
+#[derive(Clone, Copy)]
+struct Winners {
+    moves: MoveSet,
+    places: FewPlaces,
 }
 
 /// Lets the side to move pass. Returns the en passant square, which `unpass` needs.
@@ -152,30 +165,77 @@ fn wins_by<R: Rules, const N: usize>(
     wins
 }
 
-/// Returns a set that holds each move with which White, to move, wins within `length` half-moves.
-#[tactic(auto, using(crate::proofs::MoveSets::filling, pop_battle::proofs::Boards::after_start))]
+/// Returns the moves with which White, to move, mates.
+#[tactic(auto, using(crate::proofs::FewPlaces::noting))]
+fn mating_moves<R: Rules>(board: &mut Board) -> Winners
+    requires well_formed { IsWellFormed board.old }
+    ensures held { HoldAll R.rule board.old (is_mating R.rule board.old) (Some result.moves) }
+    ensures places { AreAt result.places (filter (is_mating R.rule board.old)
+        (moves R.rule board.old)) [] }
+    ensures unchanged { board.new ≡ board.old }
+{
+    let mut mates = MateCursor::<R>::of(board);
+    let mut moves = MoveSet::none();
+    let mut places = FewPlaces::Empty;
+    while let Some(by) = mates.next(board) {
+        moves = moves.with(&by);
+        places = places.with(mates.place().number());
+    }
+    Winners { moves, places }
+}
+
+/// Returns the moves with which White, to move, wins within `length` half-moves.
 fn winning_moves<R: Rules, const N: usize>(
     contest: Contest,
     length: usize,
     board: &mut Board,
     frames: &mut ArrayVec<Frame<R>, N>,
     search_state: &mut SearchState<R>,
-) -> MoveSet
+) -> Winners
     requires length { IsLength contest length }
     requires well_formed { IsWellFormed board.old }
     requires room { array_vec_len frames.old + length ≤ N }
     ensures held { HoldAll R.rule board.old (wins_within R.rule contest length board.old)
-        (Some result) }
+        (Some result.moves) }
+    ensures places { AreAt result.places (filter (wins_within R.rule contest length board.old)
+        (moves R.rule board.old)) [] }
+    ensures rest { Keeps board.old board.new frames.old.items frames.new.items }
+{
+    if length == 1 && is_for_mate(contest.stipulation.goal) {
+        return mating_moves::<R>(board);
+    }
+    tested_moves::<R, N>(contest, length, board, frames, search_state)
+}
+
+/// Returns the moves with which White, to move, wins within `length` half-moves, by testing each.
+#[tactic(auto, using(crate::proofs::MoveSets::filling, crate::proofs::FewPlaces::noting, pop_battle::proofs::Boards::after_start))]
+fn tested_moves<R: Rules, const N: usize>(
+    contest: Contest,
+    length: usize,
+    board: &mut Board,
+    frames: &mut ArrayVec<Frame<R>, N>,
+    search_state: &mut SearchState<R>,
+) -> Winners
+    requires length { IsLength contest length }
+    requires well_formed { IsWellFormed board.old }
+    requires room { array_vec_len frames.old + length ≤ N }
+    ensures held { HoldAll R.rule board.old (wins_within R.rule contest length board.old)
+        (Some result.moves) }
+    ensures places { AreAt result.places (filter (wins_within R.rule contest length board.old)
+        (moves R.rule board.old)) [] }
     ensures rest { Keeps board.old board.new frames.old.items frames.new.items }
 {
     let mut known = None;
     let mut place = Moves::<R>::start();
     let mut moves = MoveSet::none();
+    let mut places = FewPlaces::Empty;
     while let Some(by) = next_move::<R>(&mut known, &mut place, board) {
-        let wins = wins_by::<R, N>(contest, length, by, board, frames, search_state);
-        moves = moves.with_if(wins, &by);
+        if wins_by::<R, N>(contest, length, by, board, frames, search_state) {
+            moves = moves.with(&by);
+            places = places.with(place.number());
+        }
     }
-    moves
+    Winners { moves, places }
 }
 
 /// Returns what is known of White's threats after the first move that led to the board's position, or `None` if
@@ -196,9 +256,13 @@ pub fn find_threat<R: Rules, const N: usize>(
         return None;
     };
     let crossed = pass(board);
-    let moves = winning_moves::<R, N>(contest, length, board, frames, search_state);
+    let winners = winning_moves::<R, N>(contest, length, board, frames, search_state);
     unpass(board, crossed);
-    Some(Threat { length, moves })
+    Some(Threat {
+        length,
+        moves: winners.moves,
+        places: winners.places,
+    })
 }
 
 /// Returns whether the move at `place` is legal in the board's position and wins within `length` half-moves.
@@ -252,10 +316,112 @@ fn is_threat<R: Rules, const N: usize>(
     wins_by::<R, N>(contest, threat.length, by, board, frames, search_state)
 }
 
+/// Returns whether all threats, which are few, work in the board's position.
+fn all_work<R: Rules, const N: usize>(
+    contest: Contest,
+    threat: Threat,
+    board: &mut Board,
+    frames: &mut ArrayVec<Frame<R>, N>,
+    search_state: &mut SearchState<R>,
+) -> bool
+    requires length { IsLength contest threat.length }
+    requires places { ArePlaces threat.places }
+    requires well_formed { IsWellFormed board.old }
+    requires room { array_vec_len frames.old + threat.length ≤ N }
+    ensures works { result ≡ all_pass (works contest.battle (game_in R.rule contest)
+        contest.stipulation.n (chess_passing R.rule) (moves_of threat.length) board.old)
+        threat.places }
+    ensures rest { Keeps board.old board.new frames.old.items frames.new.items }
+{
+    let length = threat.length;
+    match threat.places {
+        FewPlaces::Empty | FewPlaces::Many => true,
+        FewPlaces::One { place } => {
+            works::<R, N>(
+                contest,
+                length,
+                Moves::at(place),
+                board,
+                frames,
+                search_state,
+            )
+        }
+        FewPlaces::Two { first, second } => {
+            works::<R, N>(
+                contest,
+                length,
+                Moves::at(first),
+                board,
+                frames,
+                search_state,
+            ) && works::<R, N>(
+                contest,
+                length,
+                Moves::at(second),
+                board,
+                frames,
+                search_state,
+            )
+        }
+    }
+}
+
+/// Returns whether the legal reply `by` is a defence, if the threats are few.
+#[tactic(auto, using(chess_rules::proofs::listing_moves::Calls::playing, crate::proofs::FewPlaces::places_of))]
+fn stops_few<R: Rules, const N: usize>(
+    contest: Contest,
+    threat: Threat,
+    by: Move,
+    board: &mut Board,
+    frames: &mut ArrayVec<Frame<R>, N>,
+    search_state: &mut SearchState<R>,
+) -> bool
+    requires threat { HoldsThreats R.rule contest board.old threat }
+    requires few { are_few threat.places ≡ true }
+    requires well_formed { IsWellFormed board.old }
+    requires legal { is_legal R.rule board.old by ≡ true }
+    requires room { array_vec_len frames.old + half_moves contest.stipulation ≤ N }
+    ensures defence { result ≡ is_defence contest.battle (game_in R.rule contest)
+        contest.stipulation.n (chess_passing R.rule) board.old by }
+    ensures rest { Keeps board.old board.new frames.old.items frames.new.items }
+{
+    let undo = play::<R>(board, by);
+    let still = all_work::<R, N>(contest, threat, board, frames, search_state);
+    unplay::<R>(board, by, undo);
+    !still
+}
+
 /// Returns whether the legal reply `by` to the first move that led to the board's position is a defence.
 /// `threat` is what is known of White's threats, or `None` if White threatens nothing.
-#[tactic(auto, using(crate::proofs::Loops::looking, crate::proofs::Contests::defending, pop_battle::proofs::Boards::after_start))]
 pub fn is_defence<R: Rules, const N: usize>(
+    contest: Contest,
+    threat: Option<Threat>,
+    by: Move,
+    board: &mut Board,
+    frames: &mut ArrayVec<Frame<R>, N>,
+    search_state: &mut SearchState<R>,
+) -> bool
+    requires threat { AreThreats R.rule contest board.old threat }
+    requires well_formed { IsWellFormed board.old }
+    requires legal { is_legal R.rule board.old by ≡ true }
+    requires room { array_vec_len frames.old + half_moves contest.stipulation ≤ N }
+    ensures defence { result ≡ is_defence contest.battle (game_in R.rule contest)
+        contest.stipulation.n (chess_passing R.rule) board.old by }
+    ensures rest { Keeps board.old board.new frames.old.items frames.new.items }
+{
+    let Some(known) = threat else {
+        return true;
+    };
+    if known.places.are_few() {
+        return stops_few::<R, N>(contest, known, by, board, frames, search_state);
+    }
+    stops_one::<R, N>(contest, threat, by, board, frames, search_state)
+}
+
+/// Returns whether the legal reply `by` to the first move that led to the board's position is a defence.
+/// Looks for each threat again.
+#[tactic(auto, using(crate::proofs::Loops::looking, crate::proofs::Contests::defending, pop_battle::proofs::Boards::after_start))]
+fn stops_one<R: Rules, const N: usize>(
     contest: Contest,
     threat: Option<Threat>,
     by: Move,

@@ -21,5 +21,6 @@
 pub mod tries_writer;
 pub mod whole_run;
 
+pub use pop_tries::MOST_REFUTATIONS;
 pub use tries_writer::TriesWriter;
 pub use whole_run::report_tries;

@@ -3,14 +3,14 @@ ghost use Rattle.std.specs.Prelude.{◌≡◌, ◌<◌, ◌≤◌};
 ghost use Rattle.pop_text.specs.Bytes.{Writes, count_after, greatest_count};
 ghost use Rattle.pop_input.specs.Posed.{rule_of};
 ghost use Rattle.pop_tries.specs.Events.{try_events};
-ghost use Rattle.pop_tries_run.specs.Report.{solved_text, tries_text};
+ghost use Rattle.pop_tries_run.specs.Report.{tries_text};
 
 use chess_rules::Rules;
-use pop_input::{Fault, Problem, under_condition};
-use pop_print::{print_checked, print_fault, print_head, print_try_event};
-use pop_run::{Choice, ItemWriter};
-use pop_text::{Sink, SinkFault, put_all};
-use pop_tries::search::TriesSearch;
+use pop_input::{Fault, MOST_FRAMES, Problem, under_condition};
+use pop_print::{print_fault, print_try_event};
+use pop_run::{Choice, ItemWriter, PlayWriter, print_sound};
+use pop_text::{Sink, SinkFault};
+use pop_tries::{MOST_REFUTATIONS, TriesSearch};
 use std::marker::Model;
 
 /// Writes items with their keys and tries. Contracts see the choice and the greatest number of refutations of a try.
@@ -23,23 +23,39 @@ pub struct TriesWriter {
 impl Model for TriesWriter {
     ghost use Rattle.std.specs.Prelude.{◌≤◌, ℕ};
     ghost use Rattle.pop_run.specs.declared.choice.Choice.{Choice};
+    ghost use Rattle.pop_tries_run.specs.Report.{most_refutations};
 
     ghost Value = { Choice × ℕ };
 
     ghost view = { λ s. (s.choice, s.most) };
 
-    ghost invariant = { λ s. s.most ≤ 200 };
+    ghost invariant = { λ s. s.most ≤ most_refutations };
 
     ghost inverse = { λ v. record { choice = v.0; most = v.1 } };
 }
 
 impl TriesWriter {
-    /// Returns a writer that shows tries with at most `most` refutations, 0 to 200.
+    /// Returns a writer that shows tries with at most `most` refutations, 0 to `MOST_REFUTATIONS`.
     pub fn new(choice: Choice, most: u32) -> TriesWriter
-        requires { most ≤ 200 }
+        requires { most ≤ MOST_REFUTATIONS }
         ensures { result ≡ (choice, most) }
     {
         TriesWriter { choice, most }
+    }
+}
+
+impl PlayWriter for TriesWriter {
+    ghost use Rattle.pop_tries_run.specs.Report.{tries_text};
+
+    ghost play = { λ w. tries_text w.1 };
+
+    // Chooses the rules of the problem's condition.
+    fn write_play<W: Sink>(&self, sink: &mut W, problem: &Problem) -> Result<(), SinkFault> {
+        let most = self.most;
+        under_condition!(
+            problem.condition(),
+            print_tries::<_, W>(sink, problem, most)
+        )
     }
 }
 
@@ -48,21 +64,16 @@ impl ItemWriter for TriesWriter {
 
     ghost text = { λ w. tries_entry_text w.0 w.1 };
 
-    #[tactic(auto, unfolding(crate::specs::Report::tries_entry_text))]
     fn write_sound<W: Sink>(
         &self,
         sink: &mut W,
         number: u64,
         problem: &Problem,
     ) -> Result<(), SinkFault> {
-        if self.choice.check {
-            print_checked(sink, number, problem, self.choice.no_board)
-        } else {
-            print_solved(sink, number, problem, self.choice.no_board, self.most)
-        }
+        print_sound(self, sink, number, problem, self.choice)
     }
 
-    #[tactic(auto, unfolding(crate::specs::Report::tries_entry_text))]
+    #[tactic(auto, unfolding(pop_run::specs::Report::entry_text_by))]
     fn write_fault<W: Sink>(
         &self,
         sink: &mut W,
@@ -73,39 +84,6 @@ impl ItemWriter for TriesWriter {
     }
 }
 
-// Writes the head, the keys and tries with at most `most` refutations, and an empty line.
-fn print_solved<W: Sink>(
-    sink: &mut W,
-    number: u64,
-    problem: &Problem,
-    no_board: bool,
-    most: u32,
-) -> Result<(), SinkFault>
-    requires sink { W.failures sink.old < greatest_count }
-    requires few { most ≤ 200 }
-    ensures bytes { Writes (W.taken sink.old) (W.taken sink.new)
-        (solved_text number problem.now no_board most) result }
-    ensures counted { W.failures sink.new ≡ count_after result (W.failures sink.old) }
-{
-    print_head(sink, number, problem, no_board)?;
-    print_play(sink, problem, most)?;
-    put_all(sink, b"\n")
-}
-
-// Writes the keys and tries of a problem, by the rules of its condition.
-fn print_play<W: Sink>(sink: &mut W, problem: &Problem, most: u32) -> Result<(), SinkFault>
-    requires sink { W.failures sink.old < greatest_count }
-    requires few { most ≤ 200 }
-    ensures bytes { Writes (W.taken sink.old) (W.taken sink.new) (tries_text most problem.now)
-        result }
-    ensures counted { W.failures sink.new ≡ count_after result (W.failures sink.old) }
-{
-    under_condition!(
-        problem.condition(),
-        print_tries::<_, W>(sink, problem, most)
-    )
-}
-
 // Writes the events of a problem with its tries, each as soon as the search finds it.
 fn print_tries<R: Rules, W: Sink>(
     sink: &mut W,
@@ -113,7 +91,7 @@ fn print_tries<R: Rules, W: Sink>(
     most: u32,
 ) -> Result<(), SinkFault>
     requires sink { W.failures sink.old < greatest_count }
-    requires few { most ≤ 200 }
+    requires few { most ≤ MOST_REFUTATIONS }
     requires rules { R.rule ≡ rule_of problem.now.condition }
     ensures bytes { Writes (W.taken sink.old) (W.taken sink.new) (tries_text most problem.now)
         result }
@@ -127,13 +105,13 @@ fn print_tries<R: Rules, W: Sink>(
     Ok(())
 }
 
-// Returns a search with a frame for each half-move of the longest stipulation, 32, and one after the last.
-fn start_search<R: Rules>(problem: &Problem, most: u32) -> TriesSearch<R, 33>
-    requires { most ≤ 200 }
+// Returns a search with room for the longest stipulation.
+fn start_search<R: Rules>(problem: &Problem, most: u32) -> TriesSearch<R, MOST_FRAMES>
+    requires { most ≤ MOST_REFUTATIONS }
     ensures problem { result.problem ≡ problem.now }
     ensures left { result.left ≡ try_events R.rule problem.now most }
 {
-    // For the prover alone: the call shows that the stipulation has at most 32 half-moves.
+    // For the prover alone: the call shows that the stipulation has at most `MOST_HALF_MOVES`.
     let _aim = problem.stipulation();
     TriesSearch::new(problem, most)
 }

@@ -8,9 +8,10 @@ ghost use Rattle.pop_tries_run.specs.Report.{tries_entry_text};
 use crate::tries_writer::TriesWriter;
 use pop_run::{Choice, Status, run_with};
 use pop_text::{Sink, Source};
+use pop_tries::MOST_REFUTATIONS;
 
 /// Reads all items of the source, writes their report with tries to the sink and returns the status. A try has at most
-/// `most` refutations, 0 to 200.
+/// `most` refutations, 0 to `MOST_REFUTATIONS`.
 ///
 /// Writes exactly the text of the items, which depends on the choice, `most` and the input alone. If the sink fails, a
 /// beginning of the text is written and the status is `OutputFailed`.
@@ -23,7 +24,7 @@ pub fn report_tries<S: Source, W: Sink>(
     source: &mut S,
     sink: &mut W,
 ) -> Status
-    requires few { most ≤ 200 }
+    requires few { most ≤ MOST_REFUTATIONS }
     requires source { S.failures source.old < greatest_count }
     requires sink { W.failures sink.old < greatest_count }
     ensures headline { IfSome (S.remaining source.old) (λ had.

@@ -9,7 +9,7 @@ use Rattle.pop_run.specs.Run.{RunsBy}
 use Rattle.pop_run.specs.declared.status.Status.{Status}
 use Rattle.pop_run.specs.declared.status.Status.TheVariants.{Sound, Faulty, InputFailed, OutputFailed}
 use Rattle.pop_parts.specs.Parts.{parts_line}
-use Rattle.pop_tries_run.specs.Report.{tries_entry_text}
+use Rattle.pop_tries_run.specs.Report.{most_refutations, tries_entry_text}
 use Rattle.pop_parts.specs.Runs.{Shows as PartsRun}
 use Rattle.pop_parts.specs.declared.request.PartRequest.{PartRequest}
 use Rattle.pop_parts.specs.declared.request.Outcome.{Outcome}
@@ -90,9 +90,9 @@ ShowsItems item_text text shown answer = Fills Status status_number
 abbrev pub Shows : Choice → List ℕ → List ℕ → ℕ → Type 0
 Shows choice = ShowsItems (entry_text choice)
 
--- the greatest number of refutations of a try that the page asks for: 200 at most
+-- the greatest number of refutations of a try that the page asks for
 abbrev pub most_of : ℕ → ℕ
-most_of refutations = min refutations 200
+most_of refutations = min refutations most_refutations
 
 -- the report of `pops-tries` is shown, with all boards or none, and tries with at most this number of refutations
 abbrev pub ShowsTries : Bool → ℕ → List ℕ → List ℕ → ℕ → Type 0

@@ -7,12 +7,10 @@ use crate::text_source::TextSource;
 use pop_events::Phase;
 use pop_parts::{Outcome, PartRequest, list_parts, show_parts};
 use pop_run::{Choice, ItemWriter, Status, run_with};
-use pop_tries_run::TriesWriter;
+use pop_tries_run::{MOST_REFUTATIONS, TriesWriter};
 
 /// The size of the output, in bytes. Longer texts are cut.
 const ROOM: usize = 1 << 22;
-/// The most refutations of a try.
-const MOST_REFUTATIONS: u32 = 200;
 
 /// Writes the report of the input to the front of `output`, and its length in bytes to `written`.
 ///
@@ -208,7 +206,7 @@ fn phase_of(set_play: bool) -> Phase
     if set_play { Phase::Set } else { Phase::Play }
 }
 
-// Returns the number of a status.
+// Returns the number by which the page knows a status.
 fn status_number(status: Status) -> u32
     ensures { result ≡ status_number status }
 {
@@ -220,7 +218,7 @@ fn status_number(status: Status) -> u32
     }
 }
 
-// Returns the number of an outcome.
+// Returns the number by which the page knows an outcome.
 fn outcome_number(outcome: Outcome) -> u32
     ensures { result ≡ outcome_number outcome }
 {

@@ -1,11 +1,11 @@
 //! The program `pops`: its settings, its files and its exit statuses.
 ghost use Rattle.std.specs.Prelude.{◌≡◌, ◌≤◌};
 
+use pop_program::{on_input, refuse};
 use pop_run::{Settings, run};
 use pop_settings::{ArgFault, settings};
 use pop_text::read_source::ReadSource;
 use pop_text::write_sink::WriteSink;
-use std::fs;
 use std::io::{Read, Write};
 use std::rt::Files;
 
@@ -41,13 +41,13 @@ pub fn program<T: Files + AllocGlobal, R: Read + Drop, W: Write + Drop, E: Write
         ),
         Err(ArgFault::Memory) => return refuse(errors, b"pops: out of memory\n", 4),
     };
-    match &settings.file {
-        None => report(&settings, input, output, errors),
-        Some(path) => match fs::open(rt, path.as_str()) {
-            Ok(file) => report(&settings, file, output, errors),
-            Err(_) => refuse(errors, b"pops: cannot open the input file\n", 3),
-        },
-    }
+    on_input!(
+        rt,
+        &settings.file,
+        input,
+        source => report(&settings, source, output, errors),
+        refuse(errors, b"pops: cannot open the input file\n", 3)
+    )
 }
 
 // Reports the input, flushes the output and returns the exit status.
@@ -68,12 +68,4 @@ fn report<R: Read + Drop, W: Write + Drop, E: Write + Drop>(
         Some(status) => status,
         None => refuse(errors, b"pops: output failed\n", 3),
     }
-}
-
-// Writes the text to `errors`, and returns the exit status whether or not that succeeds.
-fn refuse<E: Write + Drop>(mut errors: E, text: &[u8], status: u8) -> u8
-    ensures { result ≡ status }
-{
-    let _reported = errors.write_all(text);
-    status
 }

@@ -8,11 +8,11 @@ ghost use Rattle.pops_part.specs.Runs.{Answers, ReadsWanted, request_of, phase_n
 
 use pop_events::Phase;
 use pop_parts::{Outcome, PartRequest, list_parts, show_parts};
+use pop_program::{on_input, refuse};
 use pop_run::Status;
 use pop_settings::ArgFault;
 use pop_settings::pops_part::{NamedParts, PhaseName, Wanted, settings};
 use pop_text::{ReadSource, Sink, Source, WriteSink};
-use std::fs;
 use std::io::{Read, Write};
 use std::rt::Files;
 
@@ -64,13 +64,13 @@ pub fn program<T: Files + AllocGlobal, R: Read + Drop, W: Write + Drop, E: Write
         ),
         Err(ArgFault::Memory) => return refuse(errors, b"pops-part: out of memory\n", 4),
     };
-    match &settings.file {
-        None => report(&settings.wanted, input, output, errors),
-        Some(path) => match fs::open(rt, path.as_str()) {
-            Ok(file) => report(&settings.wanted, file, output, errors),
-            Err(_) => refuse(errors, b"pops-part: cannot open the input file\n", 3),
-        },
-    }
+    on_input!(
+        rt,
+        &settings.file,
+        input,
+        source => report(&settings.wanted, source, output, errors),
+        refuse(errors, b"pops-part: cannot open the input file\n", 3)
+    )
 }
 
 // Writes what is wanted, flushes the output, reports a failure and returns the exit status.
@@ -136,7 +136,7 @@ fn request_of(named: &NamedParts) -> PartRequest
     }
 }
 
-// Returns the phase with this name.
+// Returns the phase that the command line names.
 fn phase_named(name: PhaseName) -> Phase
     ensures { result ≡ phase_named name }
 {
@@ -206,12 +206,4 @@ fn message_of(ending: Ending) -> &'static [u8]
         Ending::Refused(Outcome::NoPhase) => b"pops-part: the problem has no such phase\n",
         Ending::Refused(_) => b"pops-part: the phase has no such part\n",
     }
-}
-
-// Writes the text to `errors`, and returns the exit status whether or not that succeeds.
-fn refuse<E: Write + Drop>(mut errors: E, text: &[u8], status: u8) -> u8
-    ensures { result ≡ status }
-{
-    let _reported = errors.write_all(text);
-    status
 }

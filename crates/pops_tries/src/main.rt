@@ -9,9 +9,10 @@
 
 pub mod program;
 
+use pop_program::on_words;
 use program::program as run_program;
+use std::io;
 use std::process::ExitCode;
-use std::{env, io};
 
 fn main(rt: HostRuntime) -> ExitCode {
     match run_words(&rt) {
@@ -26,13 +27,5 @@ fn main(rt: HostRuntime) -> ExitCode {
 // Runs the program on the words of the command line and the standard streams. Fails if a word isn't UTF-8 or there is
 // too little memory for the words.
 fn run_words(rt: &HostRuntime) -> io::Result<u8> {
-    let mut words = Vec::new(rt.alloc());
-    for word in env::args(rt)? {
-        words.push(word)?;
-    }
-    let mut texts = Vec::new(rt.alloc());
-    for word in &words {
-        texts.push(word.as_str())?;
-    }
-    Ok(run_program(rt, texts.as_slice(), rt.stdin(), rt.stdout(), rt.stderr()))
+    on_words!(rt, run_program)
 }

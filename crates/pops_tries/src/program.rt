@@ -2,12 +2,12 @@
 ghost use Rattle.std.specs.Prelude.{◌≡◌, ◌≤◌};
 ghost use Rattle.pop_settings.specs.pops_tries.CommandLine.{most_refutations};
 
+use pop_program::{on_input, refuse};
 use pop_run::Choice;
 use pop_settings::ArgFault;
 use pop_settings::pops_tries::{Settings, settings};
 use pop_text::{ReadSource, WriteSink};
 use pop_tries_run::report_tries;
-use std::fs;
 use std::io::{Read, Write};
 use std::rt::Files;
 
@@ -43,13 +43,13 @@ pub fn program<T: Files + AllocGlobal, R: Read + Drop, W: Write + Drop, E: Write
         ),
         Err(ArgFault::Memory) => return refuse(errors, b"pops-tries: out of memory\n", 4),
     };
-    match &settings.file {
-        None => report(&settings, input, output, errors),
-        Some(path) => match fs::open(rt, path.as_str()) {
-            Ok(file) => report(&settings, file, output, errors),
-            Err(_) => refuse(errors, b"pops-tries: cannot open the input file\n", 3),
-        },
-    }
+    on_input!(
+        rt,
+        &settings.file,
+        input,
+        source => report(&settings, source, output, errors),
+        refuse(errors, b"pops-tries: cannot open the input file\n", 3)
+    )
 }
 
 // Reports the input, flushes the output and returns the exit status.
@@ -86,12 +86,4 @@ fn choice_of(settings: &Settings) -> Choice
         check: settings.check,
         no_board: settings.no_board,
     }
-}
-
-// Writes the text to `errors`, and returns the exit status whether or not that succeeds.
-fn refuse<E: Write + Drop>(mut errors: E, text: &[u8], status: u8) -> u8
-    ensures { result ≡ status }
-{
-    let _reported = errors.write_all(text);
-    status
 }

@@ -19,7 +19,7 @@ enum Await {
     MoreSquares,
 }
 
-// The open section.
+// The section to which the next word belongs.
 #[derive(Clone, Copy, PartialEq, Eq)]
 enum Open {
     Nothing,
@@ -476,7 +476,7 @@ fn reported(fault: FaultKind, line: u64) -> Expected {
     Expected::Faulty(fault.number(), line)
 }
 
-// Returns the fault at the end of a block.
+// Returns the first fault that the whole block shows, if its words had none.
 fn fault_at_end(known: &Known) -> Option<FaultKind> {
     if !known.stated {
         return Some(FaultKind::StipulationMissing);

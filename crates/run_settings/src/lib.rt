@@ -7,7 +7,7 @@
 //! ```
 #![tactic(auto)]
 
-/// The settings of a run.
+/// What a command line of `pops` asks for.
 #[derive(Drop)]
 pub struct Settings {
     /// The path of the input file, or `None` for standard input.

@@ -1,12 +1,12 @@
 -- The men and squares among which a plan is searched (own).
-use Rattle.std.specs.Prelude.{ℕ, ◌≡◌, ◌≤◌, ◌<◌, ◌==◌, Bool, true, ◌&&◌, not, if◌then◌else◌, [], List, Option, Some, slice_index_or}
+use Rattle.std.specs.Prelude.{ℕ, ◌≡◌, ◌≢◌, ◌≤◌, ◌<◌, ◌==◌, Bool, true, ◌&&◌, not, if◌then◌else◌, [], List, Option, Some, slice_index_or}
 use Rattle.std.specs.Int.{bit_at}
 use Rattle.std.specs.List.{range_with_len, sum_by}
 use Rattle.chess_core.specs.Position.{is_man, is_of_colour, man_on}
 use Rattle.chess_core.specs.Squares.{squares}
 use Rattle.chess_core.specs.declared.man.Colour.{Colour}
 use Rattle.chess_core.specs.declared.man.Kind.{Kind}
-use Rattle.chess_core.specs.declared.man.Kind.TheVariants.{King}
+use Rattle.chess_core.specs.declared.man.Kind.TheVariants.{King, Knight, Pawn}
 use Rattle.chess_core.specs.declared.man.Man.{Man}
 use Rattle.chess_reach.specs.Plans.{End}
 use Rattle.chess_reach.specs.Reach.{Gets}
@@ -28,6 +28,9 @@ pub record CanEnd (g : Guard) (e : End) : Type 0 where
   pub few : e.moves < 9
   pub be : CanBe g.kind e.kind
   pub small : e.square < 64
+  pub stands : e.moves ≡ 0 → g.kind ≡ e.kind
+  pub returns : g.kind ≡ Knight → e.square ≡ g.from → e.moves ≢ 1
+  pub advances : g.kind ≡ Pawn → e.kind ≡ Pawn → e.square ≡ g.from → e.moves ≡ 0
 
 -- the guards are the men of colour c, each with its chain of m moves and captures on the bitboard `prey`
 pub record AreGuards (prey : ℕ) (men : List (Option Man)) (c : Colour) (m : ℕ) (gs : List Guard) (count : ℕ) : Type 0 where

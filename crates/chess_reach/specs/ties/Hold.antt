@@ -7,7 +7,7 @@ use Rattle.chess_core.specs.Squares.{squares}
 use Rattle.chess_core.specs.declared.man.Colour.{Colour}
 use Rattle.chess_core.specs.declared.man.Kind.TheVariants.{King}
 use Rattle.chess_core.specs.declared.man.Man.{Man}
-use Rattle.chess_reach.specs.Plans.{End, Ends, may_capture}
+use Rattle.chess_reach.specs.Plans.{Arrives, End, Ends, may_capture}
 use Rattle.chess_reach.specs.Reach.{guards}
 use Rattle.chess_reach.specs.declared.guards.Guard.{Guard}
 use Rattle.chess_reach.specs.declared.hold.Place.{Place}
@@ -34,12 +34,16 @@ abbrev pub DoesGuard : Quest → Ends → ℕ → ℕ → Type 0
 DoesGuard q ends t i = ((end_at q ends i).square ≢ q.king)
     × (guards q.colour (end_at q ends i).kind (end_at q ends i).square t ≡ true)
 
+-- the guard with number i checks from its end
+abbrev pub DoesCheck : Quest → Ends → ℕ → Type 0
+DoesCheck q ends i = DoesGuard q ends q.king i × Arrives q.ending.standing_checks (end_at q ends i)
+
 -- t is guarded or blocked
 abbrev pub IsHeld : Quest → List (Option Man) → Ends → ℕ → Type 0
 IsHeld q men ends t =
     ((i : ℕ) × (i < q.count) × DoesGuard q ends t i)
     ⊎ ((s : ℕ) × (s < 64) × (is_blocker men (other q.colour) s ≡ true) × ((ends s).square ≡ t)
-    × ((ends s).taken ≡ false) × (t ≢ q.king))
+    × ((ends s).taken ≡ false))
 
 -- the moves that blockers spend who end on squares of the bitboard w and aren't captured
 abbrev pub blocks_in : Quest → List (Option Man) → Ends → ℕ → ℕ → Bool

@@ -1,5 +1,5 @@
 //! The legal moves of one position, most of them found without being played.
-ghost use Rattle.std.specs.Prelude.{◌≡◌, ⊤, ℕ, ◌≤◌, ◌<◌, ◌∷◌, ◌++◌, [], filter, IfSome, MatchOption, None, Some, length, true};
+ghost use Rattle.std.specs.Prelude.{◌≡◌, ℕ, ◌≤◌, ◌<◌, ◌∷◌, ◌++◌, [], filter, IfSome, MatchOption, None, Some, length, true};
 ghost use Rattle.chess_core.specs.WellFormed.{IsWellFormed};
 ghost use Rattle.chess_core.specs.ties.Words.{word};
 ghost use Rattle.chess_rules.specs.ties.Evasions.{AreEvasions};
@@ -19,13 +19,12 @@ use crate::listing_moves::moves::Moves;
 use crate::listing_moves::triples::{TRIPLES, move_at};
 use chess_attacks::Rules;
 use chess_core::{Board, Move, Square, Squares};
-use std::alloc::AllocError;
 use std::marker::{Model, PhantomData};
 
 /// A cursor over the legal moves of one position. It is a place in the order of moves, like `Moves`, and
 /// also keeps what speeds up the search: the squares from which a move may expose the mover's king, the
 /// squares where a move may parry a check, and the candidate squares of its current origin.
-#[derive_where(Copy)]
+#[derive_where(Clone, Copy)]
 pub struct LegalCursor<R> {
     number: u16,
     blocker_squares: Squares,
@@ -53,22 +52,6 @@ impl<R> Model for LegalCursor<R> {
       targets = v.kept;
       rules = record {};
     } };
-}
-
-impl<R> Clone for LegalCursor<R> {
-    ghost is_clone = { λ it copy. copy ≡ it };
-
-    ghost is_infallible = { λ _. ⊤ };
-
-    fn clone(&self) -> Result<Self, AllocError> {
-        Ok(LegalCursor {
-            number: self.number,
-            blocker_squares: self.blocker_squares,
-            evasion_squares: self.evasion_squares,
-            targets: self.targets,
-            rules: PhantomData,
-        })
-    }
 }
 
 impl<R: Rules> LegalCursor<R> {

@@ -1,5 +1,5 @@
 //! Lists the legal moves one by one, and tests for mate and stalemate.
-ghost use Rattle.std.specs.Prelude.{◌==◌, ◌≡◌, ⊤, ℕ, ◌-◌, ◌<◌, ◌∷◌, [], IfSome, MatchOption, not, true};
+ghost use Rattle.std.specs.Prelude.{◌==◌, ◌≡◌, ℕ, ◌-◌, ◌<◌, ◌∷◌, [], IfSome, MatchOption, not, true};
 ghost use Rattle.std.specs.List.{slice_get};
 ghost use Rattle.chess_core.specs.WellFormed.{IsWellFormed};
 ghost use Rattle.chess_rules.specs.Legal.{is_legal, is_mate, is_nil, is_stalemate, moves};
@@ -10,12 +10,11 @@ use crate::listing_moves::legal_moves::LegalCursor;
 use crate::listing_moves::triples::{TRIPLES, move_at};
 use chess_attacks::{Rules, in_check};
 use chess_core::{Board, Move};
-use std::alloc::AllocError;
 use std::marker::{Model, PhantomData};
 
 /// A cursor over the legal moves: the number of triples of origin, arrival and promotion that it has
 /// passed, from 0 to `TRIPLES`, in the order of moves. Contracts see this number.
-#[derive_where(Copy)]
+#[derive_where(Clone, Copy)]
 pub struct Moves<R> {
     number: u16,
     rules: PhantomData<R>,
@@ -29,19 +28,6 @@ impl<R> Model for Moves<R> {
     ghost view = { λ m. m.number };
 
     ghost inverse = { λ n. record { number = n; rules = record {} } };
-}
-
-impl<R> Clone for Moves<R> {
-    ghost is_clone = { λ it copy. copy ≡ it };
-
-    ghost is_infallible = { λ _. ⊤ };
-
-    fn clone(&self) -> Result<Self, AllocError> {
-        Ok(Moves {
-            number: self.number,
-            rules: PhantomData,
-        })
-    }
 }
 
 impl<R> Default for Moves<R> {

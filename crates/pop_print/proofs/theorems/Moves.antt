@@ -20,8 +20,11 @@ use Rattle.pop_events.specs.declared.shown.Side.{Side}
 use Rattle.pop_events.specs.declared.shown.Side.TheVariants.{A, H}
 use Rattle.pop_events.specs.declared.shown.Mark.{Mark}
 use Rattle.pop_events.specs.Shown.{Shown, castling_side, shown_move, shown_of}
-use Rattle.pop_print.specs.Moves.{castling_text, en_passant_text, mark_text, move_text, promotion_text, rebirth_text, step_text, unmarked_text}
-use Rattle.pop_print.specs.Notation.{letter_of, man_text, square_text}
+use Rattle.pop_print.specs.Moves.{castling_text, en_passant_text, mark_text, move_text, rebirth_text, step_text, unmarked_text}
+use Rattle.chess_core.specs.Letters.{letter_of}
+use Rattle.chess_core.specs.Move.{promotion_text}
+use Rattle.chess_core.specs.SquareNames.{square_text}
+use Rattle.pop_print.specs.Notation.{man_text}
 
 -- the kind with this letter
 abbrev kind_written : ℕ → Kind

@@ -27,7 +27,7 @@ pub enum Wanted {
     Parts(NamedParts),
 }
 
-/// The settings of a run.
+/// What a command line of `pops-part` asks for.
 #[derive(Drop)]
 pub struct Settings {
     /// The path of the input file, or `None` for standard input.

@@ -1,6 +1,6 @@
 //! The settings of `pops-tries`.
 
-/// The settings of a run.
+/// What a command line of `pops-tries` asks for.
 #[derive(Drop)]
 pub struct Settings {
     /// The path of the input file, or `None` for standard input.

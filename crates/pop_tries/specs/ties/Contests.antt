@@ -1,5 +1,5 @@
 -- The battle of a problem, as the code keeps it, and what its tests leave unchanged (own).
-use Rattle.std.specs.Prelude.{◌≡◌, ◌≤◌, ◌+◌, ◌/◌, ℕ, Bool, true, false, List, Option, Some, MatchOption}
+use Rattle.std.specs.Prelude.{◌≡◌, ◌≤◌, ◌+◌, ◌/◌, ℕ, Bool, true, false, List, [], filter, Option, Some, MatchOption}
 use Rattle.chess_core.specs.WellFormed.{IsWellFormed}
 use Rattle.chess_core.specs.Position.{Position}
 use Rattle.chess_core.specs.declared.man.Move.{Move}
@@ -12,11 +12,13 @@ use Rattle.pop_battle.specs.ties.Values.{attacker_to_move}
 use Rattle.pop_solve.specs.Tree.{least_moves}
 use Rattle.pop_tries.specs.Events.{chess_passing}
 use Rattle.pop_tries.specs.Tries.{has_threat}
+use Rattle.chess_rules.specs.Legal.{moves}
 use Rattle.chess_rules.specs.Play.{position_after}
 use Rattle.pop_solve.specs.Tree.{keeps_win}
 use Rattle.pop_tries.specs.declared.contest.Contest.{Contest}
 use Rattle.pop_tries.specs.declared.threats.Threat.{Threat}
 use Rattle.pop_tries.specs.ties.MoveSets.{HoldAll}
+use Rattle.pop_tries.specs.ties.FewPlaces.{AreAt}
 
 -- the stipulation's form is this battle, of at least one move
 pub record IsContest (contest : Contest) : Type 0 where
@@ -68,12 +70,14 @@ abbrev pub wins_within : RuleSet → Contest → ℕ → Position → Move → B
 wins_within rule contest length p m =
     keeps_win contest.battle (game_in rule contest) (moves_of length) (position_after rule p m)
 
--- the length of White's threats after a first move that leads to q, and a set that holds them
+-- the length of White's threats after a first move that leads to q, a set that holds them, and their places
 pub record HoldsThreats (rule : RuleSet) (contest : Contest) (q : Position) (threat : Threat) : Type 0
   where
     pub timed : IsThreatLength rule contest q threat.length
     pub held : HoldAll rule (set_start q) (wins_within rule contest threat.length (set_start q))
         (Some threat.moves)
+    pub places : AreAt threat.places (filter (wins_within rule contest threat.length (set_start q))
+        (moves rule (set_start q))) []
 
 -- White's threats after a first move that leads to q, if White threatens
 abbrev pub AreThreats : RuleSet → Contest → Position → Option Threat → Type 0

@@ -85,18 +85,18 @@ returns-in_default-block_price t c men ends holds =
     let q = c.args.quest.now in
     let z = c.in-Some.square in
     let last = c.loop-i.invariant.kept men ends holds in
-    let (s, small, blocker, there, stays, off) = blocker_there q men ends c.loop-i.left _ _ _ z last.0 c.in-Some.ensures.0 c.in-Some.ensures.1
+    let (s, small, blocker, there, stays) = blocker_there q men ends c.loop-i.left _ _ _ z last.0 c.in-Some.ensures.0 c.in-Some.ensures.1
     (λ m lt. last.1 m (omega (arith, lt, c.loop-i-test.false))) in
-    absurd (off (c.in_default-block_price.ensures.fewest (ends s).moves
+    absurd (c.in_default-block_price.ensures.fewest (ends s).moves
     (block_spare q men ends c.loop-i.left _ _ _ s last.0 small blocker stays (ap (λ x. bit_at c.args.unheld x == 1) there ∙ c.in-Some.ensures.1)) (last.0.few s small blocker)
-    (subst (λ x. (bit_at (slice_index_or q.blockable (ends s).moves 0) x == 1) ≡ true) there (last.0.blockers s small blocker))))
+    (subst (λ x. (bit_at (slice_index_or q.blockable (ends s).moves 0) x == 1) ≡ true) there (last.0.blockers s small blocker)))
 
 pub returns : goal.returns
 returns t c men ends holds =
     let q = c.args.quest.now in
     let z = c.in-Some.square in
     let last = c.loop-i.invariant.kept men ends holds in
-    let (s, small, blocker, there, stays, off) = blocker_there q men ends c.loop-i.left _ _ _ z last.0 c.in-Some.ensures.0 c.in-Some.ensures.1
+    let (s, small, blocker, there, stays) = blocker_there q men ends c.loop-i.left _ _ _ z last.0 c.in-Some.ensures.0 c.in-Some.ensures.1
     (λ m lt. last.1 m (omega (arith, lt, c.loop-i-test.false))) in
     c.can_hold-2.ensures men ends (block_paid q men ends c.loop-i.left c.args.unheld c.taken_from-rest.result c.loop-i.spare c.args.theirs z s
     c.in-Some-block_price.price last.0 c.in-Some.ensures.1 c.taken_from-rest.ensures.gone c.taken_from-rest.ensures.others small blocker there stays

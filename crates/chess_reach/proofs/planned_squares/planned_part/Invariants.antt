@@ -1,4 +1,4 @@
-use Rattle.std.proofs.Common.{true, ℕ, ◌<◌, ◌≤◌, ◌==◌, ◌≡◌}
+use Rattle.std.proofs.Common.{true, ℕ, ◌≤◌, ◌==◌, ◌≡◌}
 use Rattle.std.specs.Int.{bit_at}
 use Rattle.chess_attacks.proofs.HoldTaken.{HoldTaken}
 use Rattle.chess_core.specs.Position.{Position}
@@ -9,11 +9,12 @@ use Rattle.chess_reach.proofs.planned_squares.planned_part.Given as goal
 abbrev pub invariant-loop-to : goal.invariant-loop-to
 invariant-loop-to l = record {
   count : l.quest.count ≤ 8;
+  ending : l.quest.ending ≡ l.fn.quest.ending;
   colour : l.quest.colour ≡ l.fn.quest.colour;
   blockable : l.quest.blockable ≡ l.fn.quest.blockable;
   of : (prey : ℕ) (p : Position) → IsQuestOf prey p l.fn.quest l.king l.ours l.theirs → IsQuestOf prey p l.quest l.king l.ours l.theirs;
   taken : HoldTaken l.near l.rest (λ s. (prey : ℕ) (p : Position) (ends : Ends) → IsQuestOf prey p l.fn.quest l.king l.ours l.theirs
-      → IsPlan l.fn.goal p l.fn.quest.colour l.ours l.theirs s ends → Captures prey l.captured p l.fn.quest.colour ends → (bit_at l.planned s == 1) ≡ true);
+      → IsPlan l.fn.quest.ending.goal l.fn.quest.ending.standing_checks p l.fn.quest.colour l.ours l.theirs s ends → Captures prey l.captured p l.fn.quest.colour ends → (bit_at l.planned s == 1) ≡ true);
 }
 
 abbrev pub decreases-loop-to : goal.decreases-loop-to

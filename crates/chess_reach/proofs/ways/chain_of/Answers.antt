@@ -6,7 +6,7 @@ use Rattle.chess_reach.specs.ties.Ways.{IsChain, Leads, nowhere}
 use Rattle.chess_reach.proofs.ways.chain_of.Goals as goal
 
 pub loop-n-init : goal.loop-n-init
-loop-n-init c = record { size = refl; now = refl; chain = chain_starts c.args.prey c.args.man c.args.from _ c.at-now.ensures }
+loop-n-init c = record { size = refl; now = refl; chain = chain_starts c.args.prey c.args.man c.args.from _ c.at-now.ensures.here }
 
 pub loop-n-preserved : goal.loop-n-preserved
 loop-n-preserved c =

@@ -4,7 +4,7 @@ use Rattle.pop_tries.specs.Events.{chess_passing}
 use Rattle.pop_tries.specs.ties.Contests.{game_in, moves_of}
 use Rattle.pop_tries.proofs.Contests.{defence_by_loop, defence_without_threat, passed_well_formed, placed}
 use Rattle.pop_tries.proofs.Loops.{found, not_asked, not_there}
-use Rattle.pop_tries.proofs.threats.is_defence.Goals as goal
+use Rattle.pop_tries.proofs.threats.stops_one.Goals as goal
 
 pub works-still-requires : goal.works-still-requires
 works-still-requires g c =

@@ -4,7 +4,7 @@ use Rattle.pop_tries.specs.Events.{chess_passing}
 use Rattle.pop_tries.specs.ties.Contests.{game_in, moves_of}
 use Rattle.std.specs.Prelude.{IfSome, Some}
 use Rattle.chess_rules.specs.ties.Places.{IsPlaceIn, moves_after}
-use Rattle.pop_tries.proofs.threats.is_defence.Given as goal
+use Rattle.pop_tries.proofs.threats.stops_one.Given as goal
 
 -- Black has passed; whether the reply stops a threat depends on the threats still to come
 abbrev pub invariant-loop-tried : goal.invariant-loop-tried
