@@ -54,7 +54,7 @@ class Streams(unittest.TestCase):
     def test_a_dash_is_standard_input(self) -> None:
         report = b"problem 1\n#1\nplay\n1.Ra1-a8#\nsolutions: 1\n\n"
         problem = b"BeginProblem\nPieces White Kg6 Ra1 Black Kg8\nStipulation #1\nEndProblem\n"
-        cases = (
+        cases: tuple[tuple[str, list[str], bytes], ...] = (
             ("pops2json", [], report),
             ("pops-page", [], report),
             ("pops-test", [], report),
