@@ -108,6 +108,23 @@ class Judging(unittest.TestCase):
         self.assertIn("undecided", outcome.output.decode().splitlines()[0])
         self.assertIn("some problems took longer: --resume", outcome.error)
 
+    def test_a_stopped_problem_is_named_by_the_collection(self) -> None:
+        # The first one is cut within its head, which its verdict has to do without.
+        shows = "case $(cat) in *'A help'*) printf 'problem 1\\nh#1\\nplay\\n' ;; esac"
+        slow = self.script("slow", f"{shows}\n{shown(self.room)}\nexec sleep 6000\n")
+        outcome = self.judged("--seconds", "0.5", pops=slow)
+        self.assertEqual(outcome.status, 1)
+        page = self.sheet.read_text("utf-8")
+        for number, line in ((1, 1), (2, ONE.count(b"\n") + 1)):
+            self.assertIn(f"stopped after 0.5 s (problem {number} of {self.text}, line {line})", page)
+        self.assertNotIn("input.pop", page)
+
+    def test_a_program_that_fails_is_told_of_the_collection(self) -> None:
+        outcome = self.judged(pops=self.script("dies", "cat > /dev/null\nkill -9 $$\n"))
+        self.assertEqual(outcome.status, 6)
+        self.assertRegex(outcome.error, rf"\({self.text}, line [16]\)")
+        self.assertNotIn("input.pop", outcome.error)
+
     def test_a_run_that_is_stopped(self) -> None:
         program = support.COMPANIONS / "pops-judge"
         slow = self.script("slow", "cat > /dev/null\nexec sleep 6000\n")

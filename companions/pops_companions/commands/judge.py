@@ -114,7 +114,8 @@ def judge(settings: Settings) -> Status:
     """Runs what is needed, writes the sheet and prints the verdicts."""
     text = read_collection(settings.collection)
     given = given_problems(text)
-    work = Work(folder_of(settings), runs_of(settings))
+    name = "standard input" if settings.collection == "-" else settings.collection
+    work = Work(folder_of(settings), runs_of(settings), name)
     work.folder.begin(text, settings.resume)
     work.solve()
     short: Optional[str] = str(work.short) if work.solve_shorter(given) else None
@@ -125,7 +126,7 @@ def judge(settings: Settings) -> Status:
     with reviewed_unfinished_report(
         NAME, str(work.report), work.unfinished_problems, settings.encoding
     ) as items:
-        judgements = beside.judgements(items)
+        judgements = beside.judgements(map(work.renamed, items))
         judged = list(judged_groups(judgements, given, settings.encoding, settings.apart))
     heading = settings.heading or Path(settings.collection).stem
     evidence = Evidence(boards_of(text), tries, settings.encoding, most)

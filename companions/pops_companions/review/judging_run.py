@@ -6,13 +6,13 @@ They are kept in a folder until all of them are done, so that a run that was sto
 import io
 import os
 import sys
-from collections.abc import Sequence
+from collections.abc import Callable, Sequence
 from concurrent.futures import ThreadPoolExecutor
-from contextlib import nullcontext, redirect_stderr
+from contextlib import redirect_stderr
 from dataclasses import dataclass, replace
 from functools import partial
 from pathlib import Path
-from typing import Optional
+from typing import Optional, TextIO
 
 from pops_companions import files
 from pops_companions.chess.stipulation import Play
@@ -24,6 +24,7 @@ from pops_companions.input.writing import text_of_problems
 from pops_companions.many.journal import is_begun
 from pops_companions.many.program import RunError
 from pops_companions.many.tries_program import TriesProgram
+from pops_companions.report.items import AnyItem, HeadlessItem, SoundItem
 from pops_companions.report.source import UNFINISHED
 from pops_companions.report.tries import TriesItem
 from pops_companions.review.posing import posed_problems
@@ -44,12 +45,36 @@ class Runs:
     seconds: Optional[float]
 
 
-class Work:
-    """A sheet's runs and the folder that keeps them."""
+class _Renaming(io.StringIO):
+    """A terminal for what runs say, with other names of files."""
 
-    def __init__(self, folder: Path, runs: Runs):
+    def __init__(self, terminal: TextIO, named: Callable[[str], str]):
+        super().__init__()
+        self._terminal = terminal
+        self._named = named
+
+    def write(self, text: str) -> int:
+        self._terminal.write(self._named(text))
+        return len(text)
+
+    def flush(self) -> None:
+        self._terminal.flush()
+
+    def isatty(self) -> bool:
+        return True
+
+    def fileno(self) -> int:
+        return self._terminal.fileno()
+
+
+class Work:
+    """A sheet's runs and the folder that keeps them; `collection` is its input as messages name it."""
+
+    def __init__(self, folder: Path, runs: Runs, collection: str):
         self.folder = WorkFolder(folder)
         self._runs = runs
+        self._input, self._short_input = folder / "input.pop", folder / "short.pop"
+        self._collection = collection
         self.report = folder / "solutions.report"
         self.short = folder / "short.report"
         self.is_finished = True
@@ -58,17 +83,29 @@ class Work:
 
     def solve(self) -> None:
         """Solves the problems."""
-        self._many(self.folder.path / "input.pop", self.report)
+        self._many(self._input, self.report)
 
     def solve_shorter(self, given: Sequence[GivenProblem]) -> bool:
         """Looks for short solutions; returns whether any problem can have one."""
         posed = list(posed_problems(given))
         if not posed:
             return False
-        source = self.folder.path / "short.pop"
-        self.folder.write(source, text_of_problems(posed).encode("utf-8", "surrogateescape"))
-        self._many(source, self.short)
+        text = text_of_problems(posed).encode("utf-8", "surrogateescape")
+        self.folder.write(self._short_input, text)
+        self._many(self._short_input, self.short)
         return True
+
+    def named(self, text: str) -> str:
+        """Returns what a run said, with the collection in place of the folder's inputs."""
+        text = text.replace(str(self._input), self._collection)
+        return text.replace(str(self._short_input), f"shorter stipulations of {self._collection}")
+
+    def renamed(self, item: AnyItem) -> AnyItem:
+        """Returns a problem whose reason for being unfinished names it by the collection."""
+        if not isinstance(item, (HeadlessItem, SoundItem)) or item.unfinished is None:
+            return item
+        place = f"(problem {item.number} of {self._collection}, "
+        return replace(item, unfinished=item.unfinished.replace(f"({self._input}, ", place))
 
     def _many(self, source: Path, report: Path) -> None:
         """Runs what pops-many runs, which goes on where it was stopped."""
@@ -83,9 +120,10 @@ class Work:
             words += ["--seconds", repr(self._runs.seconds)]
         words += ["--resume"] * is_begun(str(journal)) + ["-o", str(report), "--", str(source)]
         said = io.StringIO()
+        # (on a terminal it shows how far it is)
+        shown: io.StringIO = _Renaming(sys.stderr, self.named) if sys.stderr.isatty() else said
         try:
-            # (on a terminal it shows how far it is)
-            with nullcontext() if sys.stderr.isatty() else redirect_stderr(said):
+            with redirect_stderr(shown):
                 many.solve(many_options.arguments(words), io.BytesIO())
             self.folder.seal(report)
         except many.StoppedError:
@@ -94,7 +132,7 @@ class Work:
             if error.status == Status.UNFINISHED and report.is_file():
                 self.is_finished = False
                 return
-            lines = said.getvalue().strip().splitlines() or [str(error)]
+            lines = self.named(said.getvalue()).strip().splitlines() or [str(error)]
             raise CommandError(
                 Status.UNFINISHED if error.status == Status.UNFINISHED else Status.DEVICE,
                 f"not all is solved; what is done is kept in {self.folder.path}:"
