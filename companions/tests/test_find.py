@@ -307,6 +307,19 @@ class Command(unittest.TestCase):
         self.assertEqual(html.count('<svg class="diagram"'), 3)
         self.assertIn("Mine &amp; yours", html)
 
+    def test_more_are_found_than_shown(self) -> None:
+        self.added("excelsior_1861.pop", "morphy_1856.pop", "mate_in_two.pop")
+        for words, counted in (
+            (["--men", "", "--most", "2"], "3 problems found, the first 2 shown"),
+            (["--men", "", "--most", "3"], "3 problems found"),
+            (["--fragment", "White Kc8", "--most", "1"], "3 problems found, the first 1 shown"),
+        ):
+            with self.subTest(words):
+                page = self.room / "page.html"
+                text = self.run_on(*words, "-o", str(page)).output.decode()
+                self.assertTrue(text.split("\n")[0].endswith(f": {counted}"), text)
+                self.assertIn(f": {counted}</h2>", page.read_text("utf-8"))
+
     def test_the_example_of_the_documents(self) -> None:
         self.added("morphy_1856.pop")
         new = self.room / "new.pop"

@@ -209,6 +209,10 @@ def add(collection: Collection, files: list[str], settings: Settings) -> Status:
 
 def answers(collection: Collection, settings: Settings) -> list[Answer]:
     """Returns what is found for each question."""
+
+    def answer(heading: str, asked: Optional[Entry], hits: list[Found]) -> Answer:
+        return Answer(heading, asked, hits[: settings.most], len(hits))
+
     file = settings.near or settings.play
     if file is None:
         asked = ", ".join(
@@ -219,9 +223,9 @@ def answers(collection: Collection, settings: Settings) -> list[Answer]:
         if settings.wanted.fragment:
             fragment = Entry("", 0, "", "", "", "", "", settings.wanted.fragment, None)
             hits = list(collection.with_fragment(settings.wanted))
-            return [Answer(asked, fragment, hits[: settings.most])]
+            return [answer(asked, fragment, hits)]
         found = [Found(entry, (), ()) for entry in collection.matching(settings.wanted)]
-        return [Answer(asked, None, found[: settings.most])]
+        return [answer(asked, None, found)]
     entries, _ = entries_in(file, settings.encoding)
     made = []
     for entry in entries:
@@ -231,7 +235,7 @@ def answers(collection: Collection, settings: Settings) -> list[Answer]:
             hits = [] if entry.play is None else collection.same_play(entry.play)
         others = [it for it in hits if it.entry != entry]
         heading = f"problem {entry.number}: {entry.name}" if entry.name else f"{entry.number}"
-        made.append(Answer(heading, entry, others[: settings.most]))
+        made.append(answer(heading, entry, others))
     return made
 
 

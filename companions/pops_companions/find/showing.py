@@ -29,16 +29,25 @@ figcaption { font-size: .9em; }
 
 
 class Answer(NamedTuple):
-    """What was asked for, in words or as a problem, and what was found."""
+    """What was asked for, in words or as a problem, and what was found: the first of `total`."""
 
     heading: str
     asked: Optional[Entry]
     found: Sequence[Found]
+    total: int
+
+    @property
+    def counted(self) -> str:
+        """How many problems were found, and how many of these are shown."""
+        if not self.total:
+            return "nothing found"
+        text = f"{counted(self.total, 'problem')} found"
+        return text if self.total == len(self.found) else f"{text}, the first {len(self.found)} shown"
 
 
 def as_text(answer: Answer) -> str:
     """Returns a block of lines: what was asked for, below it each problem found."""
-    lines = [f"{printable(answer.heading)}: {_counted(len(answer.found))}"]
+    lines = [f"{printable(answer.heading)}: {answer.counted}"]
     for found in answer.found:
         entry = found.entry
         lines.append(f"  {printable(entry.source)}, problem {entry.number}: {printable(entry.name)}")
@@ -46,10 +55,6 @@ def as_text(answer: Answer) -> str:
             lines.append(f"    {found.text}")
         lines.append(f"    {pieces_line(men_of(entry.board))[len('Pieces ') :]}")
     return "\n".join(lines) + "\n"
-
-
-def _counted(number: int) -> str:
-    return f"{counted(number, 'problem')} found" if number else "nothing found"
 
 
 def as_page(answers: Iterable[Answer], heading: str) -> str:
@@ -63,7 +68,7 @@ def as_page(answers: Iterable[Answer], heading: str) -> str:
         f"<h1>{title}</h1>\n",
     ]
     for answer in answers:
-        parts.append(f"<h2>{_safe(answer.heading)}: {_counted(len(answer.found))}</h2>\n")
+        parts.append(f"<h2>{_safe(answer.heading)}: {answer.counted}</h2>\n")
         parts.append('<div class="found">\n')
         if answer.asked is not None:
             parts.append(_figure(answer.asked, "asked", []))
