@@ -63,6 +63,11 @@ class Mending(unittest.TestCase):
             ("Stipulation h#2½", "Stipulation h#2.5"),
             ("Stipulation h# 2", "Stipulation h#2"),
             ("Stipulation mate", "Stipulation mate"),
+            ("Stipulation mate in 2", "Stipulation #2"),
+            ("Stipulation Matt in zwei Zügen", "Stipulation #2"),
+            ("Stipulation help mate in 2 1/2 Option SetPlay", "Stipulation h#2.5 Option SetPlay"),
+            ("Stipulation mate in 17", "Stipulation mate in 17"),
+            ("Stipulation mate in 2.5", "Stipulation mate in 2.5"),
             ("Stipulation #2\nOption Variatons", "Stipulation #2\nOption Variation"),
             ("Stipulation #2\nSetPlay", "Stipulation #2\nOption SetPlay"),
             ("Stipulation #2\n# a comment", "Stipulation #2\nRemark # a comment"),
@@ -91,6 +96,13 @@ class Mending(unittest.TestCase):
             ("Stipulation h#2 2.1..", "Stipulation h#2\nRemark solutions 2"),
             ("Stipulation h#2.5 3.", "Stipulation h#2.5\nRemark solutions 3"),
             ("Stipulation h#2;2.3.1.1", "Stipulation h#2\nRemark solutions 6"),
+            ("Stipulation h#2 3.1;1.1", "Stipulation h#2\nRemark solutions 3"),
+            ("Stipulation h#2;3.1;1.1", "Stipulation h#2\nRemark solutions 3"),
+            ("Stipulation h#2 2;1,1,1", "Stipulation h#2\nRemark solutions 2"),
+            ("Stipulation h#2.5 0.2.1.1.1.1", "Stipulation h#2.5\nRemark solutions 2"),
+            ("Stipulation h#2 2 solutions", "Stipulation h#2\nRemark solutions 2"),
+            ("Stipulation h#2 (2 Lösungen)", "Stipulation h#2\nRemark solutions 2"),
+            ("Stipulation h#2, 2 sol.", "Stipulation h#2\nRemark solutions 2"),
             (
                 "Stipulation h#2 2.1.1.1 Option SetPlay",
                 "Stipulation h#2\nRemark solutions 2\n Option SetPlay",
@@ -120,6 +132,12 @@ class Mending(unittest.TestCase):
             "Stipulation hs#2",
             "Stipulation exact-#2",
             "Stipulation h#2 0.1.1.1",
+            "Stipulation h#3 0.2.1.1.1.1",
+            "Stipulation h#2;0.1.1.1",
+            "Stipulation h#2 2.1.1.1.1.1",
+            "Stipulation h#2 14;9",
+            "Stipulation h#2 12.5.1977",
+            "Stipulation #2 0.1.1",
         ):
             with self.subTest(wrong):
                 made = mend(text_of(PIECES, wrong))

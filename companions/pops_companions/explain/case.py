@@ -53,6 +53,12 @@ class Case:
     def after(self) -> Optional[Word]:
         return self.reading.neighbour(1)
 
+    def rest_of_line(self, most: int) -> list[Word]:
+        """Returns the faulty word and the words after it on its line, at most `most`."""
+        words = self.reading.words
+        place = words.index(self.word)
+        return [it for it in words[place : place + most] if it.line == self.word.line]
+
     @property
     def span_before(self) -> Optional[Span]:
         """Where the word before the faulty one stands, also where it ends the problem before."""

@@ -42,7 +42,6 @@ _SQUARE_LEFT_OUT = re.compile(r"(?:names .* twice|was given before, .*)\. Leave 
 _IN_ANOTHER_LANGUAGE = re.compile(
     rf" is (?:German|French), .* Write `(?:BeginProblem|Pieces|White|Black)`|Then {_QUOTED} is "
 )
-_STIPULATION_IN_WORDS = re.compile("A stipulation is one word")
 # What takes the rest of its line, or a line of its own, in place of the marked word or after it.
 _REMARK_IN_PLACE = re.compile("Write `(Remark solutions [0-9]+)` in its place")
 _REMARK_TOO = re.compile(f"Write {_QUOTED}, and `(Remark solutions [0-9]+)`")
@@ -197,7 +196,7 @@ def _proposed(text: bytes, reading: Reading, said: Explanation) -> Iterator[Edit
         yield Edit(Span(word.start, word.start), section[1].encode("utf-8") + b" ")
         return
     yield from _taken_out(text, reading, said.text)
-    yield from _on_own_lines(text, reading, said.text)
+    yield from _on_own_lines(text, reading, said)
     crossed = re.search(r"write `EnPassant ([a-h][1-8])`", said.text)
     if crossed is not None and reading.crossed_word is not None:
         yield Edit(reading.crossed_word.span, crossed[1].encode("ascii"))
@@ -249,22 +248,22 @@ def _end_of_word_before(text: bytes, word: Span) -> int:
     return word.start - (len(before) - len(before.rstrip(b" \t")) if before.strip() else 0)
 
 
-def _on_own_lines(text: bytes, reading: Reading, said: str) -> Iterator[Edit]:
+def _on_own_lines(text: bytes, reading: Reading, said: Explanation) -> Iterator[Edit]:
     """Yields what an explanation writes on a line of its own: a Remark, or the option of set play.
     """
-    word = reading.word.span
+    word = Span(reading.word.start, max([reading.word.span.stop, *(it.stop for it in said.marks)]))
     end = text.find(b"\n", word.stop)
     rest = text[word.stop : len(text) if end < 0 else end].strip()
     after = b"\n" if rest else b""
-    remark = _REMARK_IN_PLACE.search(said)
+    remark = _REMARK_IN_PLACE.search(said.text)
     if remark is not None:
         start = _end_of_word_before(text, word)
         before = b"\n" if start < word.start else b""
         yield Edit(Span(start, word.stop), before + remark[1].encode("ascii") + after)
-    both = _REMARK_TOO.search(said)
+    both = _REMARK_TOO.search(said.text)
     if both is not None:
         yield Edit(word, f"{both[1]}\n{both[2]}".encode("utf-8") + after)
-    star = _STAR.search(said)
+    star = _STAR.search(said.text)
     if star is not None and reading.opener is not None:
         stipulation, option = star[1].encode("utf-8"), star[2].encode("ascii")
         if not rest:
@@ -282,18 +281,10 @@ def _in_place(text: bytes, marks: tuple[Span, ...], said: str) -> Iterator[Edit]
     found = [_IN_PLACE.search(said), _JOINED.search(said), _PAWN.search(said)]
     texts = ([longer[2]] if longer else []) + [it[1] for it in found if it is not None]
     for wanted in texts:
-        if _STIPULATION_IN_WORDS.match(said) and not _has_number_of(wanted, text, marks):
-            continue
         if marks and not text[marks[0].start : marks[-1].stop].count(b"\n"):
             yield Edit(Span(marks[0].start, marks[-1].stop), wanted.encode("utf-8"))
         for mark in marks:
             yield Edit(mark, wanted.encode("utf-8"))
-
-
-def _has_number_of(wanted: str, text: bytes, marks: tuple[Span, ...]) -> bool:
-    """Returns whether a stipulation's number is in the marked words, and no example."""
-    number = re.sub("[^0-9]", "", wanted).encode("ascii")
-    return any(number in text[mark.start : mark.stop] for mark in marks)
 
 
 def further_faults(text: bytes, number: int) -> Iterator[FurtherFault]:

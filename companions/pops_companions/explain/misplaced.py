@@ -5,12 +5,12 @@ import re
 from collections.abc import Iterator
 from typing import Optional
 
-from pops_companions.explain import wordings
+from pops_companions.explain import wanted, wordings
 from pops_companions.explain.case import Case, Explanation, at, first_cause, listed, quoted
 from pops_companions.explain.characters import decoded
 from pops_companions.explain.other_men import foreign_letter, man_by_name, two_letters
 from pops_companions.explain.sentences import DATA, sentence
-from pops_companions.explain.stipulations import looks_like_stipulation, solution_numbers
+from pops_companions.explain.stipulations import looks_like_stipulation
 from pops_companions.explain.vocabulary import unread
 from pops_companions.input.reading import (
     COLOURS,
@@ -94,7 +94,7 @@ def word_misplaced(case: Case) -> Iterator[Optional[Explanation]]:
     section = case.reading.section
     yield _second_begin(case)
     yield from wordings.characters_in(case)
-    yield solution_numbers(case)
+    yield wanted.numbers(case)
     yield _wrong_section(case)
     yield wordings.position(case)
     if section is Section.PIECES:

@@ -1,11 +1,10 @@
 """Faults 8 to 10: a bad, a second or no stipulation."""
 
-import math
 import re
 from collections.abc import Iterator
 from typing import Any, Optional
 
-from pops_companions.explain import wordings
+from pops_companions.explain import wanted, wordings
 from pops_companions.explain.case import Case, Explanation, first_cause, first_of, quoted
 from pops_companions.explain.characters import decoded
 from pops_companions.explain.sentences import DATA, sentence
@@ -22,30 +21,25 @@ from pops_companions.input.words import Word, named
 
 _FORMS = sentence("forms")
 _STIPULATION = re.compile(r"(?:[a-z]{0,5}-)?[a-z]{0,2}(?:#|==?)[0-9]+(?:\.5)?", re.IGNORECASE)
-_COUNTS = re.compile(r"[1-9][0-9]*(?:(?:\.[1-9][0-9]*)+\.*|\.+)")
 _GOOD = re.compile(r"([sh]?)([#=])([0-9]+)(\.5)?", re.IGNORECASE)
 _KNOWN: dict[str, Any] = DATA["stipulations"]
 _OTHER_PLAY = tuple((re.compile(plays, re.IGNORECASE), what) for plays, what in _KNOWN["plays"])
 _OTHER_GOALS = re.compile(_KNOWN["goals"], re.IGNORECASE)
 _SIGNS_OF_MATE: str = _KNOWN["mates"]
 _WORDS: dict[str, str] = _KNOWN["words"]
+_NUMBERS: dict[str, str] = _KNOWN["numbers"]
+_A_NUMBER = "|".join(["[1-9][0-9]*(?:½| 1/2|[.,]5)?", *_NUMBERS])
+# As `mate in 2 moves`, `help mate in 2½`, `s 3`: how the play is called, and the number.
+_IN_WORDS = re.compile(
+    rf"((?:help|self)[- ]?mate|[a-z]+?)[-#= ]*(?:in|en)?[- ]*({_A_NUMBER})"
+    r"(?: (?:moves?|zügen?|coups?))?[.,;:]*(?= |$)"
+)
+_MOST_WORDS = 6
 
 
 def looks_like_stipulation(word: str) -> bool:
     """Returns whether a word would be a stipulation in Popeye, or nearly so."""
     return _STIPULATION.fullmatch(word) is not None
-
-
-def solution_numbers(case: Case) -> Optional[Explanation]:
-    """Explains a number of solutions after a stipulation, as `2.1.1.1`."""
-    if case.reading.section is not Section.STIPULATION or not _COUNTS.fullmatch(case.plain):
-        return None
-    return case.tells("count_of_solutions", count=_product(case.plain))
-
-
-def _product(numbers: str) -> int:
-    """Multiplies the numbers of a text as 2.1.1.1."""
-    return math.prod(int(it) for it in re.findall("[0-9]+", numbers))
 
 
 @first_cause
@@ -61,7 +55,7 @@ def bad(case: Case) -> Iterator[Optional[Explanation]]:
     yield _without_number(case)
     yield _number(case)
     yield _star(case)
-    yield _counted(case)
+    yield wanted.joined(case)
     yield _other_play(case)
     yield _exact(case)
     yield _other_goal(case)
@@ -121,7 +115,12 @@ def _without_number(case: Case) -> Optional[Explanation]:
 
 
 def _number(case: Case) -> Optional[Explanation]:
-    found = _GOOD.fullmatch(case.plain)
+    return _wrong_number(case, case.plain)
+
+
+def _wrong_number(case: Case, stipulation: str) -> Optional[Explanation]:
+    """Explains what is wrong with the number of a stipulation; None if its form is another."""
+    found = _GOOD.fullmatch(stipulation)
     if found is None:
         return None
     play, number, half = found[1].lower(), found[3], found[4]
@@ -141,13 +140,6 @@ def _star(case: Case) -> Optional[Explanation]:
     if found is None or not case.fits(found[1] + found[2]):
         return None
     return case.tells("star", first=found[1], second=found[2])
-
-
-def _counted(case: Case) -> Optional[Explanation]:
-    found = re.fullmatch(r"(.+?)[;:,(\[/]+([1-9][0-9]*(?:[.,][1-9][0-9]*)*)\.*[)\]]?", case.plain)
-    if found is None or not case.fits(found[1]) or re.fullmatch(r"h[#=]\d+,5", case.plain):
-        return None
-    return case.tells("counted", second=found[2], first=found[1], count=_product(found[2]))
 
 
 def _other_play(case: Case) -> Optional[Explanation]:
@@ -194,22 +186,20 @@ def _reversed(case: Case) -> Optional[Explanation]:
 
 
 def _in_words(case: Case) -> Optional[Explanation]:
-    word = case.plain.lower().strip("-")
     if is_number(case.word.bytes):
         return case.tells("only_number", plain=case.plain)
-    found = re.fullmatch(r"([a-z]+?)[-#=]*(?:in)?-*([0-9]*)", word)
-    sign = _WORDS.get(found[1]) if found is not None else None
-    if found is None or sign is None:
-        return None
-    number = found[2] or next(
-        (
-            decoded(it.bytes)
-            for it in case.reading.words[case.reading.words.index(case.word) + 1 :][:3]
-            if is_number(it.bytes)
-        ),
-        "2",
-    )
-    return case.tells("in_words", sign=sign, number=number)
+    words = case.rest_of_line(_MOST_WORDS)
+    found = _IN_WORDS.match(" ".join(decoded(it.bytes).lower() for it in words))
+    sign = None if found is None else _WORDS.get(re.sub("[- ]", "", found[1]))
+    if found is not None and sign is not None:
+        number = re.sub("(?:½| 1/2|[.,]5)$", ".5", found[2])
+        whole = sign + _NUMBERS.get(number, number)
+        if not case.fits(whole):
+            return _wrong_number(case, whole)
+        spans = [it.span for it in words[: found[0].count(" ") + 1]]
+        return case.tells("in_words", *spans, whole=whole)
+    sign = _WORDS.get(re.sub("[-#=]+$", "", case.plain.lower()))
+    return None if sign is None else case.tells("in_words_as", sign=sign)
 
 
 def second(case: Case) -> Explanation:
