@@ -307,6 +307,15 @@ class Command(unittest.TestCase):
         self.assertEqual(html.count('<svg class="diagram"'), 3)
         self.assertIn("Mine &amp; yours", html)
 
+    def test_a_problem_without_title(self) -> None:
+        file = self.room / "untitled.pop"
+        file.write_text(
+            "BeginProblem\nAuthor N. N.\nOrigin Ours 1900\nPieces White Kg6 Ra1 Black Kg8\n"
+            "Stipulation #1\nEndProblem\n"
+        )
+        self.run_on("--add", str(file))
+        self.assertIn(b": #1 (N. N.), Ours 1900\n", self.run_on("--author", "N. N.").output)
+
     def test_more_are_found_than_shown(self) -> None:
         self.added("excelsior_1861.pop", "morphy_1856.pop", "mate_in_two.pop")
         for words, counted in (

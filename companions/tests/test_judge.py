@@ -108,6 +108,12 @@ class Judging(unittest.TestCase):
         self.assertIn("undecided", outcome.output.decode().splitlines()[0])
         self.assertIn("some problems took longer: --resume", outcome.error)
 
+    def test_names_without_title_or_author(self) -> None:
+        text = ONE.replace(b"Title A mate\n", b"Author N. N.\n") + TWO
+        self.text.write_bytes(text.replace(b"Title A help\n", b""))
+        lines = self.judged().output.decode().splitlines()
+        self.assertEqual(lines[:2], ["problem 1: sound: #1 (N. N.)", "problem 2: sound: h#1"])
+
     def test_a_stopped_problem_is_named_by_the_collection(self) -> None:
         # The first one is cut within its head, which its verdict has to do without.
         shows = "case $(cat) in *'A help'*) printf 'problem 1\\nh#1\\nplay\\n' ;; esac"

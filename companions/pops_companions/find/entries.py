@@ -15,6 +15,7 @@ from pops_companions.report.items import HelpLine, Node, PhaseKind, SoundItem
 from pops_companions.report.moves import Mark
 from pops_companions.report.reader import ReportError, read_report
 from pops_companions.review.mates import mates_in
+from pops_companions.review.naming import joined_name
 from pops_companions.show.titles import shown, text_of
 
 _REPORT = re.compile(rb"problem [1-9][0-9]*\r?\n")
@@ -67,10 +68,9 @@ class Entry:
     @property
     def name(self) -> str:
         """As `#2, Excelsior (Sam Loyd), London Era 1861`."""
-        author = f"({self.author})" if self.author else ""
-        title = " ".join(filter(None, (self.title, author)))
         asked = " ".join(filter(None, (self.stipulation, self.condition)))
-        return ", ".join(filter(None, (asked, title, self.origin)))
+        named = joined_name(asked, self.title, self.author)
+        return ", ".join(filter(None, (named, self.origin)))
 
 
 def entries_of(source: str, data: bytes, encoding: str) -> tuple[list[Entry], list[str]]:

@@ -9,7 +9,7 @@ from typing import Optional
 from pops_companions.report.items import SoundItem
 from pops_companions.review.judged_groups import JudgedGroup
 from pops_companions.review.judging import Finding, Judgement, Verdict
-from pops_companions.review.naming import counted, described, shown
+from pops_companions.review.naming import counted, described, joined_name, shown
 from pops_companions.show.titles import printable
 
 # How many moves of a finding are shown without --all.
@@ -63,14 +63,10 @@ def as_text(judged: JudgedGroup, encoding: str, most: Optional[int]) -> str:
 def name_of(judged: JudgedGroup, encoding: str) -> str:
     """Returns stipulation, title and author; for twins the first one's, without the title's label."""
     first, group = judged.judgements[0], judged.group
-    whole = described(first.item, encoding, first.given)
     if group.is_alone:
-        return whole
-    asked = whole.split(", ", 1)[0] if isinstance(first.item, SoundItem) else ""
-    author = shown(group.author, encoding)
-    title = printable(group.title or "")
-    name = f"{title} ({author})".strip() if author else title
-    return ", ".join(filter(None, (asked, name)))
+        return described(first.item, encoding, first.given)
+    asked = first.item.asked if isinstance(first.item, SoundItem) else ""
+    return joined_name(asked, printable(group.title or ""), shown(group.author, encoding))
 
 
 def _findings(judgement: Judgement, indent: str, most: Optional[int]) -> Iterator[str]:

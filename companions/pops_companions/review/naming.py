@@ -14,22 +14,22 @@ def shown(text: Optional[bytes], encoding: str) -> str:
 
 
 def described(item: Optional[AnyItem], encoding: str, given: Optional[GivenProblem] = None) -> str:
-    """Returns stipulation, title and author: `#5, Excelsior (Sam Loyd)`; empty where none are
-    known.
+    """Returns stipulation, title and author, as `joined_name` does; empty where none are known.
 
     `given` has them for a problem whose report lacks them.
     """
     if isinstance(item, SoundItem):
-        return ", ".join(filter(None, (item.asked, _name(item.title, item.author, encoding))))
+        return joined_name(item.asked, shown(item.title, encoding), shown(item.author, encoding))
     if given is None:
         return ""
     asked = "" if given.stipulation is None else given.stipulation.text
-    return ", ".join(filter(None, (asked, _name(given.title, given.author, encoding))))
+    return joined_name(asked, shown(given.title, encoding), shown(given.author, encoding))
 
 
-def _name(title: Optional[bytes], author: Optional[bytes], encoding: str) -> str:
-    title_shown, author_shown = shown(title, encoding), shown(author, encoding)
-    return f"{title_shown} ({author_shown})".strip() if author_shown else title_shown
+def joined_name(asked: str, title: str, author: str) -> str:
+    """Returns a problem's name: `#5, Excelsior (Sam Loyd)`, without a title `#5 (Sam Loyd)`."""
+    name = ", ".join(filter(None, (asked, title)))
+    return " ".join(filter(None, (name, f"({author})" if author else "")))
 
 
 def counted(number: int, word: str) -> str:
