@@ -54,6 +54,7 @@ class Mending(unittest.TestCase):
             ("Pieces White Kg6 Ra1a1 Black Kg8", PIECES),
             ("Pieces Kg6 Ra1 Black Kg8", "Pieces Kg6 Ra1 Black Kg8"),
             ("Pieces White Kg6 Ra1 Blakc Kg8", PIECES),
+            ("White: Kg6 Ra1; Black: Kg8", PIECES),
         ):
             with self.subTest(wrong):
                 made = mend(text_of(wrong, "Stipulation #1"))
@@ -62,6 +63,8 @@ class Mending(unittest.TestCase):
             ("Stipulation 2#", "Stipulation #2"),
             ("Stipulation h#2½", "Stipulation h#2.5"),
             ("Stipulation h# 2", "Stipulation h#2"),
+            ("Stipulation H#2,5", "Stipulation H#2.5"),
+            ("Stipulation h#1,5.", "Stipulation h#1.5"),
             ("Stipulation mate", "Stipulation mate"),
             ("Stipulation mate in 2", "Stipulation #2"),
             ("Stipulation Matt in zwei Zügen", "Stipulation #2"),
@@ -70,6 +73,9 @@ class Mending(unittest.TestCase):
             ("Stipulation mate in 2.5", "Stipulation mate in 2.5"),
             ("Stipulation #2\nOption Variatons", "Stipulation #2\nOption Variation"),
             ("Stipulation #2\nSetPlay", "Stipulation #2\nOption SetPlay"),
+            ("Stipulation #2 (SetPlay)", "Stipulation #2 Option SetPlay"),
+            ("Stipulation #2 (3+1)", "Stipulation #2"),
+            ("Award 1st Prize\nStipulation #2", "Remark award: 1st Prize\nStipulation #2"),
             ("Stipulation #2\n# a comment", "Stipulation #2\nRemark # a comment"),
             ("Stipulation #2\nStipulation #2", "Stipulation #2"),
         ):
@@ -99,6 +105,7 @@ class Mending(unittest.TestCase):
             ("Stipulation h#2 3.1;1.1", "Stipulation h#2\nRemark solutions 3"),
             ("Stipulation h#2;3.1;1.1", "Stipulation h#2\nRemark solutions 3"),
             ("Stipulation h#2 2;1,1,1", "Stipulation h#2\nRemark solutions 2"),
+            ("Stipulation h#2,5;2.1.1.1.1", "Stipulation h#2.5\nRemark solutions 2"),
             ("Stipulation h#2.5 0.2.1.1.1.1", "Stipulation h#2.5\nRemark solutions 2"),
             ("Stipulation h#2 2 solutions", "Stipulation h#2\nRemark solutions 2"),
             ("Stipulation h#2 (2 Lösungen)", "Stipulation h#2\nRemark solutions 2"),
@@ -131,6 +138,11 @@ class Mending(unittest.TestCase):
             "Stipulation r#2",
             "Stipulation hs#2",
             "Stipulation exact-#2",
+            "Stipulation h=1,5.",
+            "Stipulation #1-2",
+            "Stipulation #=2",
+            "Stipulation h#1*2",
+            "Stipulation #2v",
             "Stipulation h#2 0.1.1.1",
             "Stipulation h#3 0.2.1.1.1.1",
             "Stipulation h#2;0.1.1.1",
@@ -192,6 +204,10 @@ class Further(unittest.TestCase):
     def test_a_word_that_cannot_be_mended_is_passed_over(self) -> None:
         found = self.found(PIECES, "Condition Koeko", "Stipulation 2#", "Option Nothing")
         self.assertEqual(found, ["4: 8: 2#", "5: 2: Nothing"])
+
+    def test_the_line_of_a_command_of_popeye_is_passed_over(self) -> None:
+        found = self.found(PIECES, "Stipulation #1", "Twin Move a1 b1", "Option Nothing")
+        self.assertEqual(found, ["5: 2: Nothing"])
 
     def test_what_lacks_for_a_word_passed_over_is_no_fault(self) -> None:
         self.assertEqual(self.found(PIECES, "Stipulation ser-h#3"), [])

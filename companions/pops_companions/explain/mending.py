@@ -10,8 +10,10 @@ from dataclasses import dataclass
 from typing import NamedTuple, Optional
 
 from pops_companions.explain.case import Explanation
+from pops_companions.explain.characters import decoded
 from pops_companions.explain.explaining import ExplainedFault, explanation
 from pops_companions.explain.fault_texts import FAULT_TEXTS
+from pops_companions.explain.vocabulary import is_unread_command
 from pops_companions.input.pieces import Piece, cut, rest_of
 from pops_companions.input.reading import (
     CASTLING_SQUARES,
@@ -314,7 +316,7 @@ def further_faults(text: bytes, number: int) -> Iterator[FurtherFault]:
         if edit is None:
             if reading.at is None or reading.number in _AT_THE_END:
                 return
-            edits = _passing_over(reading)
+            edits = _passing_over(changed, reading)
             is_passed_over = True
         else:
             edits = [edit]
@@ -325,12 +327,16 @@ def further_faults(text: bytes, number: int) -> Iterator[FurtherFault]:
             changed = one.of(changed)
 
 
-def _passing_over(reading: Reading) -> list[Edit]:
+def _passing_over(text: bytes, reading: Reading) -> list[Edit]:
     """Returns the edits that pass over a faulty word, the last place of the text first.
 
-    An option that awaits its value goes with the word, and alone where the word can't be its value.
+    An option that awaits its value goes with the word, and alone where the word can't be its value;
+    the rest of its line goes with a command of Popeye.
     """
     word, option = reading.word, reading.option
+    if is_unread_command(decoded(word.bytes)):
+        end = text.find(b"\n", word.start)
+        return [Edit(Span(word.start, len(text) if end < 0 else end), b"")]
     if reading.number is FaultKind.NONE_CASTLES_THERE:
         return [Edit(word.span, CASTLING_SQUARES[0].encode("ascii"))]
     if option is None or reading.awaited is None:

@@ -95,6 +95,7 @@ def word_misplaced(case: Case) -> Iterator[Optional[Explanation]]:
     yield _second_begin(case)
     yield from wordings.characters_in(case)
     yield wanted.numbers(case)
+    yield wanted.men(case)
     yield _wrong_section(case)
     yield wordings.position(case)
     if section is Section.PIECES:
@@ -121,17 +122,33 @@ def _second_begin(case: Case) -> Optional[Explanation]:
 def _wrong_section(case: Case) -> Optional[Explanation]:
     """Explains a word of pops that belongs to another section than the one at hand."""
     section, word = case.reading.section, case.word.bytes
-    if section is not Section.OPTION and named(word, OPTIONS):
-        return _belongs(case, sentence("an_option"), Section.OPTION)
-    if section is not Section.CONDITION and named(word, CONDITIONS):
-        return _belongs(case, sentence("a_condition"), Section.CONDITION)
-    if section is not Section.PIECES and named(word, COLOURS, 3):
-        return _belongs(case, sentence("a_colour"), Section.PIECES)
+    home = _home_of(word)
+    if home is not None and home[0] is not section:
+        return _belongs(case, sentence(home[1]), home[0])
     if section is not Section.PIECES and is_man(word):
         return case.tells("man_outside")
     if looks_like_stipulation(case.plain):
         return _belongs(case, sentence("a_stipulation"), Section.STIPULATION)
-    return None
+    return _wrong_section_with_signs(case)
+
+
+def _wrong_section_with_signs(case: Case) -> Optional[Explanation]:
+    """Explains a word of another section with signs around it, as `White:` before `Pieces`."""
+    bare = wordings.without_signs(case.plain)
+    home = _home_of(bare.encode("utf-8"))
+    if bare == case.plain or home is None or home[0] is case.reading.section:
+        return None
+    whole = f"{home[0].value} {bare}"
+    return case.tells("belongs_with_signs", what=sentence(home[1]), whole=whole)
+
+
+def _home_of(word: bytes) -> Optional[tuple[Section, str]]:
+    """Returns the section of an option, a condition or a colour, and the sentence of what it is."""
+    if named(word, OPTIONS):
+        return Section.OPTION, "an_option"
+    if named(word, CONDITIONS):
+        return Section.CONDITION, "a_condition"
+    return (Section.PIECES, "a_colour") if named(word, COLOURS, 3) else None
 
 
 def _belongs(case: Case, what: str, section: Section) -> Explanation:

@@ -31,7 +31,7 @@ _NUMBERS: dict[str, str] = _KNOWN["numbers"]
 _A_NUMBER = "|".join(["[1-9][0-9]*(?:½| 1/2|[.,]5)?", *_NUMBERS])
 # As `mate in 2 moves`, `help mate in 2½`, `s 3`: how the play is called, and the number.
 _IN_WORDS = re.compile(
-    rf"((?:help|self)[- ]?mate|[a-z]+?)[-#= ]*(?:in|en)?[- ]*({_A_NUMBER})"
+    rf"((?:help|self)[- ]?mate|[a-z]+?)[-# ]*(?:in|en)?[- ]*({_A_NUMBER})"
     r"(?: (?:moves?|zügen?|coups?))?[.,;:]*(?= |$)"
 )
 _MOST_WORDS = 6
@@ -139,6 +139,8 @@ def _star(case: Case) -> Optional[Explanation]:
     found = re.fullmatch(r"(.*?)\*+(.*)", case.plain)
     if found is None or not case.fits(found[1] + found[2]):
         return None
+    if re.search("[0-9]$", found[1]) and found[2]:
+        return None
     return case.tells("star", first=found[1], second=found[2])
 
 
@@ -198,7 +200,7 @@ def _in_words(case: Case) -> Optional[Explanation]:
             return _wrong_number(case, whole)
         spans = [it.span for it in words[: found[0].count(" ") + 1]]
         return case.tells("in_words", *spans, whole=whole)
-    sign = _WORDS.get(re.sub("[-#=]+$", "", case.plain.lower()))
+    sign = _WORDS.get(re.sub("[-#]+$", "", case.plain.lower()))
     return None if sign is None else case.tells("in_words_as", sign=sign)
 
 

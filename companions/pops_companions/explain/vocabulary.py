@@ -39,6 +39,11 @@ def unread(word: str) -> Optional[Unread]:
     return _found(word, _UNREAD)
 
 
+def is_unread_command(word: str) -> bool:
+    """Returns whether this is a command of Popeye that pops lacks, in full."""
+    return any(word.lower() == name.lower() for name in _KNOWN["commands"])
+
+
 def foreign(word: str) -> Optional[ForeignWord]:
     """Returns the German or French word that this is, in full; accents may stand or lack."""
     return _FOREIGN.get(folded(word))

@@ -1,4 +1,4 @@
-"""Numbers of solutions that stand after a stipulation, as magazines write them: `2.1.1.1`, `2 sol.`"""
+"""Numbers that stand after a stipulation, as magazines write them: `2.1.1.1`, `2 sol.`, `(3+1)`."""
 
 import math
 import re
@@ -12,6 +12,8 @@ from pops_companions.input.reading import Section
 
 # As 2.1.1.1, 2.1.., 3.1;1.1 and 0.2.1.1; not 2 alone.
 _COUNTS = re.compile(r"\(?[0-9]{1,3}(?:[.,;]+[0-9]{1,3})*[.,;]*\)?[.,;]*")
+_HALF = re.compile(r"^(h[#=][0-9]+),5(?![0-9]|\.[0-9])", re.IGNORECASE)
+_OF_MEN = re.compile(r"\(?[0-9]{1,2}(?:\+[0-9]{1,2}){1,2}\)?[.,;]*")
 _JOINED = re.compile(r"(.+?)[;:,(\[/]+([0-9]+(?:[.,;][0-9]+)*)[.,;]*[)\]]?")
 _OF_SOLUTIONS = re.compile(
     rf"\(?([1-9][0-9]{{0,3}}) ?(?:{DATA['stipulations']['solutions']})[.,;]*\)?[.,;]*", re.IGNORECASE
@@ -29,6 +31,14 @@ def numbers(case: Case) -> Optional[Explanation]:
     if not _COUNTS.fullmatch(case.plain) or re.fullmatch("[0-9]+", case.plain):
         return None
     return _counted(case, reading.stipulation)
+
+
+def men(case: Case) -> Optional[Explanation]:
+    """Explains the numbers of men after a stipulation."""
+    is_after = case.reading.section is Section.STIPULATION and case.reading.stipulation is not None
+    if not is_after or not _OF_MEN.fullmatch(case.plain):
+        return None
+    return case.tells("count_of_men")
 
 
 def _in_words(case: Case) -> Optional[Explanation]:
@@ -61,8 +71,9 @@ def _counted(case: Case, stipulation: Stipulation) -> Optional[Explanation]:
 
 def joined(case: Case) -> Optional[Explanation]:
     """Explains a number of solutions in one word with the stipulation, as `h#2;2.1.1.1`."""
-    found = _JOINED.fullmatch(case.plain)
-    if found is None or not case.fits(found[1]) or re.fullmatch(r"h[#=]\d+,5", case.plain):
+    # (in `h#2,5` the comma is a point)
+    found = _JOINED.fullmatch(_HALF.sub(r"\g<1>.5", case.plain))
+    if found is None or not case.fits(found[1]):
         return None
     count = _product(found[2])
     if not count:

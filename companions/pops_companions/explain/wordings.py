@@ -13,7 +13,8 @@ from pops_companions.input.words import TEXT_WORDS, named
 
 _SIGNS: dict[str, str] = DATA["signs"]
 _SIGN = "[" + re.escape("".join(_SIGNS)) + "]"
-_COMMENT = re.compile(r"(#|%|//|/\*|\*|;|--|<!--|\{|!|\")")
+_BETWEEN_DIGITS = re.compile(f"[0-9]{_SIGN}+[0-9]")
+_COMMENT = re.compile(r"(#(?![0-9=])|%|//|/\*|\*|;|--|<!--|\{|!|\")")
 _FEN = re.compile(r"(?:[kqrbnpKQRBNP1-8]{1,8}/){7}[kqrbnpKQRBNP1-8]{1,8}")
 _HALVES = re.compile(rb"^(?:\xff\xfe|\xfe\xff)|^[ -~]\x00|^\x00[ -~]")
 
@@ -78,15 +79,22 @@ def position(case: Case) -> Optional[Explanation]:
     return case.tells("position", plain=case.plain)
 
 
+def without_signs(word: str) -> str:
+    """Returns a word without the punctuation around it."""
+    return re.sub(f"^{_SIGN}+|{_SIGN}+$", "", word)
+
+
 def signs(case: Case) -> Optional[Explanation]:
     """Punctuation that belongs to the word, since blanks alone part words."""
     inside = re.findall(_SIGN, case.plain)
-    if not inside:
+    # (`#=2` may be either)
+    if not inside or re.match("[sh]?(?:#=|=#)", case.plain, re.IGNORECASE):
         return None
-    stripped = re.sub(f"^{_SIGN}+|{_SIGN}+$", "", case.plain)
+    stripped = without_signs(case.plain)
     parted = " ".join(re.sub(_SIGN, " ", case.plain).split())
-    joined = re.sub(_SIGN, "", case.plain)
-    mended = next((it for it in (stripped, parted, joined) if case.fits(it)), None)
+    # (without the comma `h#1,5.` would be h#15)
+    joined = [] if _BETWEEN_DIGITS.search(case.plain) else [re.sub(_SIGN, "", case.plain)]
+    mended = next((it for it in (stripped, parted, *joined) if case.fits(it)), None)
     if mended is None:
         return None
     kinds = {_SIGNS[it] for it in inside}
