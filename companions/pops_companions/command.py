@@ -11,6 +11,7 @@ import threading
 from collections.abc import Callable, Iterator
 from contextlib import contextmanager
 from enum import IntEnum
+from functools import lru_cache
 from typing import Any, BinaryIO, NoReturn, Optional, TextIO, cast
 
 from pops_companions import files, places
@@ -46,12 +47,31 @@ class CommandError(Exception):
         self.status = status
 
 
+class _HelpFormatter(argparse.RawDescriptionHelpFormatter):
+    """Help as wide as the terminal. argparse looks for the width at each option."""
+
+    def __init__(self, prog: str):
+        super().__init__(prog, width=_columns() - 2)
+
+
+@lru_cache(maxsize=None)
+def _columns() -> int:
+    """Returns how wide the help is: $COLUMNS, else the terminal, else 80 columns."""
+    columns = os.environ.get("COLUMNS", "")
+    if columns.isdecimal() and int(columns):
+        return int(columns)
+    try:
+        return os.get_terminal_size(1).columns or 80
+    except OSError:
+        return 80
+
+
 def parser(name: str, description: str, **more: object) -> argparse.ArgumentParser:
     """Returns a reader of a companion's arguments, which knows `--version`."""
     made = argparse.ArgumentParser(
         prog=name,
         description=description,
-        formatter_class=argparse.RawDescriptionHelpFormatter,
+        formatter_class=_HelpFormatter,
         **more,  # type: ignore[arg-type]
     )
     made.add_argument("--version", action="version", version=f"%(prog)s {places.version()}")

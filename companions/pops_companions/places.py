@@ -1,15 +1,34 @@
-"""Where the companions are: their folder, their version, the other commands."""
+"""Where the companions are: their folder, their version, the other commands.
 
-import shutil
+What takes long to load is loaded only where it is needed.
+"""
+
+import os
 import sys
-from pathlib import Path
 from typing import Optional
 
-# The folder of the commands: in a clone, or PREFIX/share/pops/companions.
-COMPANIONS = Path(__file__).resolve().parents[1]
-_VERSION = COMPANIONS.parent / "VERSION"
+
+def folder_above(path: str, steps: int = 1) -> str:
+    """Returns the folder that is some steps above a path, as `/a` is 2 steps above `/a/b/c`."""
+    for _ in range(steps):
+        path = os.path.dirname(path)
+    return path
+
+
+def _number_and_date() -> list[str]:
+    """Returns the words of the file VERSION; none where pip installed the package."""
+    path = os.path.join(REPOSITORY, "VERSION")
+    if not os.path.isfile(path):
+        return []
+    with open(path, encoding="utf-8") as file:
+        return file.read().split()
+
+
+# The folder of the commands: in a clone, or PREFIX/share/pops/companions. The folder that it is in.
+COMPANIONS = folder_above(os.path.realpath(__file__), 2)
+REPOSITORY = folder_above(COMPANIONS)
 # The number of this version, which pyproject.toml reads; empty where pip installed the package.
-NUMBER = _VERSION.read_text("ascii").split()[0] if _VERSION.is_file() else ""
+NUMBER = (_number_and_date() or [""])[0]
 # The name by which pip installs the package.
 _DISTRIBUTION = "pops"
 
@@ -18,7 +37,6 @@ def number() -> str:
     """Returns the number of this version, as `1.6.0`."""
     if NUMBER:
         return NUMBER
-    # (loaded only where pip installed the package: it takes longer than a small run)
     import importlib.metadata
 
     return importlib.metadata.version(_DISTRIBUTION)
@@ -28,21 +46,32 @@ def version() -> str:
     """Returns number and date of this version; only its number where pip installed the package."""
     if not NUMBER:
         return number()
-    _, date = _VERSION.read_text("ascii").split()
+    _, date = _number_and_date()
     return f"{NUMBER} ({date})"
+
+
+def found(name: str) -> Optional[str]:
+    """Returns the path of a program that is named, or is on the PATH."""
+    if os.path.dirname(name) and os.path.isfile(name) and os.access(name, os.X_OK):
+        return name
+    import shutil
+
+    return shutil.which(name)
 
 
 def command(name: str) -> str:
     """Returns the path of another companion: in their folder, or where pip installed this one."""
-    for folder in (COMPANIONS, Path(sys.argv[0]).resolve().parent):
-        if (folder / name).is_file():
-            return str(folder / name)
-    return shutil.which(name) or name
+    for folder in (COMPANIONS, folder_above(os.path.realpath(sys.argv[0]))):
+        path = os.path.join(folder, name)
+        if os.path.isfile(path):
+            return path
+    return found(name) or name
 
 
 def program(name: str) -> Optional[str]:
     """Returns the path of a program that pip installed with this package, if it did."""
     import importlib.metadata
+    from pathlib import Path
 
     try:
         files = importlib.metadata.files(_DISTRIBUTION) or []

@@ -9,7 +9,7 @@ from unittest import mock
 
 from pops_companions.many.bundles import Bundles, items_in, text_of
 from pops_companions.many.machines import is_small, logins_of
-from pops_companions.many.tasks import Source, Task, tasks_of
+from pops_companions.many.tasks import Source, Task, Tasks, tasks_of
 from tests import run_here, support
 from tests.shown_limit import limit_when_shown, shown
 
@@ -36,7 +36,7 @@ def input_of(*problems: str) -> bytes:
     return f"BeginProblem\n{'NextProblem '.join(problems)}EndProblem\n".encode()
 
 
-def tasks(text: bytes) -> list[Task]:
+def tasks(text: bytes) -> Tasks:
     return tasks_of([Source("x.pop", text)])
 
 
@@ -76,8 +76,8 @@ class Made(unittest.TestCase):
         self.assertEqual(slow[:3], [16, 2, 1])
         for sizes in (fast, slow):
             self.assertEqual(sum(sizes), 5000)
-        long_titles = tasks(input_of(*[f"Title {'x' * 900}\n{MATE}"] * 1000))
-        self.assertLessEqual(max(self.sizes(long_titles, 1, 1e-6)), 64)
+        long_titles = tasks(input_of(*[f"Title {'x' * 9900}\n{MATE}"] * 1000))
+        self.assertLessEqual(max(self.sizes(long_titles, 1, 1e-6)), 100)
 
     def test_what_is_given_back_comes_again(self) -> None:
         all_tasks = tasks(input_of(*[MATE] * 40))

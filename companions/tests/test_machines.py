@@ -109,7 +109,7 @@ class SharedConnections(unittest.TestCase):
 class Bundles(unittest.TestCase):
     def test_small_neighbours_together(self) -> None:
         """166 problems for two machines, which take eight logins at a time each."""
-        tasks = tasks_of([Source("x", input_of(*[MATE.format(it) for it in range(166)]))])
+        tasks = list(tasks_of([Source("x", input_of(*[MATE.format(it) for it in range(166)]))]))
         bundles = bundles_of(tasks, 16)
         self.assertEqual([task for bundle in bundles for task in bundle], tasks)
         self.assertEqual({len(bundle) for bundle in bundles}, {5, 1})

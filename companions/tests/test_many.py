@@ -12,7 +12,7 @@ from pathlib import Path
 from unittest import mock
 
 from pops_companions.input.pieces import Rest, cut, rest_of
-from pops_companions.many.cutting import cut_quickly
+from pops_companions.many.cutting import Pieces
 from pops_companions.many.progress import Progress, duration
 from tests import made_inputs, support
 from tests.six_problems import SIX, SixProblems
@@ -101,9 +101,10 @@ class Cutting(unittest.TestCase):
                     )
                     if number % 2:
                         text = re.sub(b"(?i)end", b"foo", text)
-                    self.assertEqual(cut_quickly(text), cut(text), text)
+                    self.assertEqual(list(Pieces(text)), cut(text), text)
+                    self.assertTrue(rest_of(text) is None or not Pieces(text).end_text, text)
                     made = made_inputs.made_input(chance)
-                    self.assertEqual(cut_quickly(made), cut(made), made)
+                    self.assertEqual(list(Pieces(made)), cut(made), made)
 
     def test_a_problem_alone_keeps_its_lines(self) -> None:
         text = b"BeginProblem\na\n\nNextProblem b\nc\nNextProblem d"

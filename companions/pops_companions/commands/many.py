@@ -4,7 +4,6 @@ import os
 import sys
 from collections.abc import Sequence
 from contextlib import ExitStack
-from pathlib import Path
 from typing import BinaryIO, NamedTuple, NoReturn, Optional
 
 from pops_companions import command
@@ -18,14 +17,14 @@ from pops_companions.commands.many_options import (
     moment_of,
 )
 from pops_companions.files import Links
-from pops_companions.input.pieces import rest_after
 from pops_companions.many.joining import Joined, Report, path_of_report, write_index
 from pops_companions.many.journal import Journal, JournalError, fingerprint
 from pops_companions.many.program import MissingError, Program, find, find_part_program
 from pops_companions.many.progress import Progress
 from pops_companions.many.running import Elsewhere, PartPrograms, Programs, Run
 from pops_companions.many.targets import Target
-from pops_companions.many.tasks import Source, Task, tasks_of
+from pops_companions.many.tasks import Input, Source, Tasks, tasks_of
+from pops_companions.places import folder_above
 
 _FILES_TOLD = 3
 # What the file's name ends in that has what was found of problems that aren't done.
@@ -42,7 +41,8 @@ def read_source(name: Optional[str], progress: Progress) -> Source:
             with command.opened(None) as given:
                 source = Source(None, given.read())
         else:
-            source = Source(name, Path(name).read_bytes())
+            with open(name, "rb") as file:
+                source = Source(name, file.read())
     except OSError as error:
         if name is None:
             raise
@@ -51,23 +51,24 @@ def read_source(name: Optional[str], progress: Progress) -> Source:
     return source
 
 
-def say_of_rests(tasks: Sequence[Task], progress: Progress) -> None:
+def say_of_rests(inputs: Sequence[Input], progress: Progress) -> None:
     """Says of each input what follows its EndProblem."""
-    last_of = {id(task.source): task for task in tasks if task.piece is not None}
-    for task in last_of.values():
-        assert task.piece is not None and task.source.text is not None
-        rest = rest_after(task.source.text, task.piece)
-        if rest is not None:
-            progress.say(f"{task.source.shown}: {rest.text}")
+    for source, pieces, _ in inputs:
+        if pieces is not None and source.text is not None and not pieces.end_text:
+            from pops_companions.input.pieces import rest_after
+
+            rest = rest_after(source.text, pieces.at(len(pieces) - 1))
+            if rest is not None:
+                progress.say(f"{source.shown}: {rest.text}")
 
 
 def reports_of(
-    settings: Settings, tasks: Sequence[Task], run: bytes
+    settings: Settings, tasks: Tasks, run: bytes
 ) -> list[Report]:
     """Returns the reports that are to be written, with their files."""
     limited = settings.seconds is not None or settings.split or settings.resume
 
-    def report(tasks: Sequence[Task], path: Optional[str]) -> Report:
+    def report(tasks: Tasks, path: Optional[str]) -> Report:
         second = None
         if settings.unfinished and limited:
             second = Target(settings.unfinished, run)
@@ -80,16 +81,15 @@ def reports_of(
     if settings.output:
         os.makedirs(settings.output, exist_ok=True)
     # What pops says of a FILE that can't be read goes to standard output.
-    reports = [Report([task for task in tasks if task.source.text is None], None, None)]
-    of_path: dict[str, tuple[Source, list[Task]]] = {}
-    for task in tasks:
-        if task.source.text is not None:
-            path = path_of_report(str(task.source.name), settings.output)
-            source, of_file = of_path.setdefault(path, (task.source, []))
-            if source is not task.source:
+    unread = [it.first for it in tasks.inputs if it.source.text is None]
+    reports = {"": Report(tasks.only(unread), None, None)}
+    for read in tasks.inputs:
+        if read.source.text is not None:
+            path = path_of_report(str(read.source.name), settings.output)
+            if path in reports:
                 raise CommandError(Status.USAGE, f"two FILEs have the report {path}")
-            of_file.append(task)
-    return reports + [report(of_file, path) for path, (_, of_file) in of_path.items()]
+            reports[path] = report(tasks.only(read.places), path)
+    return list(reports.values())
 
 
 def path_of_journal(settings: Settings) -> Optional[str]:
@@ -104,16 +104,22 @@ def open_journal(
 ) -> Journal:
     """Returns the run's journal; that of a run that stopped isn't overwritten."""
     try:
-        if path is None:
-            import tempfile
-
-            handle, path = tempfile.mkstemp(prefix=f"{NAME}-", suffix=".journal")
-            os.close(handle)
-        return Journal(path, run, settings.resume, settings.seconds)
+        return Journal(path or _new_journal(), run, settings.resume, settings.seconds)
     except JournalError as error:
         raise CommandError(Status.USAGE, str(error)) from None
     except OSError as error:
-        raise CommandError(Status.DEVICE, f"cannot write {path}: {error.strerror}") from None
+        where = path or error.filename
+        raise CommandError(Status.DEVICE, f"cannot write {where}: {error.strerror}") from None
+
+
+def _new_journal() -> str:
+    """Makes an empty file among the temporary ones, which only its owner reads; returns its path."""
+    folder = os.environ.get("TMPDIR", "")
+    if not os.access(folder, os.W_OK | os.X_OK):
+        folder = "/tmp"
+    path = os.path.join(os.path.abspath(folder), f"{NAME}-{os.urandom(6).hex()}.journal")
+    os.close(os.open(path, os.O_CREAT | os.O_EXCL | os.O_NOFOLLOW | os.O_CLOEXEC, 0o600))
+    return path
 
 
 class StoppedError(CommandError):
@@ -142,21 +148,21 @@ def refuse_shared(read: Sequence[str], written: Sequence[str]) -> None:
             taken.add(real)
 
 
-def is_cut_unasked(settings: Settings, tasks: Sequence[Task]) -> bool:
+def is_cut_unasked(settings: Settings, tasks: Tasks) -> bool:
     """Returns whether the run is of one problem alone, which is cut into parts without --split.
 
     The program of parts has to be of the same build as pops.
     """
     others = settings.check or settings.seconds is not None or settings.sshlogin
-    if others or len(tasks) != 1 or tasks[0].piece is None:
+    if others or len(tasks) != 1 or tasks[0].pieces is None:
         return False
     try:
-        pops = Path(find(settings.pops)).resolve()
-        part_program = Path(find_part_program(None, str(pops))).resolve()
+        pops = os.path.realpath(find(settings.pops))
+        part_program = os.path.realpath(find_part_program(None, pops))
     except MissingError:
         return False
     # (in the folder of a release, or in crates/pops/out and crates/pops_part/out)
-    return any(part_program.parents[it] == pops.parents[it] for it in (0, 2))
+    return any(folder_above(part_program, it) == folder_above(pops, it) for it in (1, 3))
 
 
 def programs_of(settings: Settings, options: list[str]) -> Programs:
@@ -229,7 +235,7 @@ class Solving:
         self._progress = Progress(NAME)
         sources = [read_source(name, self._progress) for name in settings.inputs]
         self._tasks = tasks_of(sources)
-        say_of_rests(self._tasks, self._progress)
+        say_of_rests(self._tasks.inputs, self._progress)
         settings.split = settings.split or is_cut_unasked(settings, self._tasks)
         self._programs = programs_of(settings, self._options)
         self._jobs = settings.jobs or len(os.sched_getaffinity(0))
@@ -309,7 +315,7 @@ class Solving:
     def _say_unfinished(self, joined: Joined, kept_in: Sequence[str]) -> None:
         """Says how many problems are unfinished, and in which files their solutions are."""
         how = "aren't done" if self._settings.split else "took longer"
-        unfinished = sum(joined.has_unfinished(task.place) for task in self._tasks)
+        unfinished = sum(map(joined.has_unfinished, self._tasks.places))
         more = f" and {len(kept_in) - _FILES_TOLD} more" if kept_in[_FILES_TOLD:] else ""
         self._progress.say(
             f"{unfinished} of {len(self._tasks)} problems {how}:"

@@ -9,9 +9,6 @@ from typing import NamedTuple, Optional
 
 from pops_companions.input.words import BLANKS, TEXT_WORDS, Token, short_forms, tokens_in
 
-# The most bytes that pops reads of an input. A longer one is left to one run of pops.
-LONGEST_INPUT = 1 << 30
-
 _BEFORE = rb"(^|[" + BLANKS + rb"])"
 _WORD_ENDS = rb"(?![^" + BLANKS + rb"])"
 _MARKS = re.compile(

@@ -43,8 +43,11 @@ class BundleRun:
         self._tasks = tasks
         self._seconds = seconds
         self._bundles = bundles
+        # What was written, when each piece came, and how many pieces were looked through.
         self._written: list[bytes] = []
-        # How many problems are whole, and since when the next one is at work.
+        self._times: list[float] = []
+        self._seen = 0
+        # How many problems are whole in these, and since when the next one is at work.
         self._whole = 0
         self._begun = self._since = time.monotonic()
         # Whether problems were given back, and whether the one at work took too long.
@@ -64,7 +67,6 @@ class BundleRun:
             self._child.run.stdout.close()
             self._child.run.wait()
             self._child.release()
-        self._note()
         return self._came()
 
     def _read(self, output: int) -> None:
@@ -78,27 +80,32 @@ class BundleRun:
             piece = os.read(output, _PIECE)
             if not piece:
                 return
-            self._take(piece)
+            self._written.append(piece)
+            self._times.append(time.monotonic())
             if len(piece) < _PIECE // 2:
                 end.poll(_PAUSE)
         self._child.send(signal.SIGKILL)
         while piece := os.read(output, _PIECE):
             self._written.append(piece)
 
-    def _take(self, piece: bytes) -> None:
-        """Takes what was written, and notes which problem is at work."""
-        last = self._written[-1][-1:] if self._written else b""
-        ends = (last + piece).count(lines.ITEM_END)
-        self._written.append(piece)
-        if ends:
-            self._whole += ends
-            self._since = time.monotonic()
+    def _look(self) -> None:
+        """Looks through what came since the last look, for which problem is at work."""
+        for piece, came in zip(self._written[self._seen :], self._times[self._seen :]):
+            last = self._written[self._seen - 1][-1:] if self._seen else b""
+            ends = piece.count(lines.ITEM_END) + (last + piece[:1] == lines.ITEM_END)
+            self._seen += 1
+            if ends:
+                self._whole += ends
+                self._since = came
 
     def _is_over(self) -> bool:
         """Returns whether the run is to be ended; after a moment gives back what can be."""
+        now = time.monotonic()
+        if self._seconds is None and now - self._begun < MOMENT:
+            return False
+        self._look()
         if self._whole >= len(self._tasks):
             return self._is_cut
-        now = time.monotonic()
         self._is_late = self._is_out_of_time(now)
         if self._is_late or now - self._begun >= MOMENT:
             self._give_back()
@@ -128,8 +135,14 @@ class BundleRun:
         # (rounded up, so that then the time is over)
         return 1000 * max(min(until) - time.monotonic(), 0) + 1 if until else None
 
-    def _note(self) -> None:
-        """Notes how long its problems took; of one that took longer than a moment, that it did."""
+    def _note(self, count: int) -> None:
+        """Notes how long its problems took, of which this many are whole; of one that took longer than
+        a moment, that it did.
+        """
+        if count == len(self._tasks) and self._times and not self._is_cut:
+            self._bundles.note(count, self._times[-1] - self._begun)
+            return
+        self._look()
         if self._whole:
             self._bundles.note(self._whole, self._since - self._begun)
         else:
@@ -140,6 +153,7 @@ class BundleRun:
         report = b"".join(self._written)
         status = self._child.run.returncode
         items = items_in(report, self._tasks, self._is_cut)
+        self._note(0 if items is None else items.count)
         is_ended = status in _WELL and not self._is_late
         if items is None or (is_ended and items.count < len(self._tasks)):
             self._bundles.give_back_apart(self._tasks[1:])

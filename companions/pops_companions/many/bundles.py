@@ -6,10 +6,10 @@ run takes much longer, the problem at work stays with it, and those after it are
 
 import threading
 from collections import deque
-from collections.abc import Sequence
+from collections.abc import Iterator, Sequence
 from typing import NamedTuple, Optional
 
-from pops_companions.many.tasks import Task
+from pops_companions.many.tasks import Input, Task, Tasks
 from pops_companions.report import lines
 
 # The seconds of work of a bundle, at most and at least; after MOMENT it gives the rest back.
@@ -22,10 +22,12 @@ _BUNDLES_OF_A_JOB = 4
 # How much a bundle may differ in size from the one before it, and how much its time counts.
 _MOST_GROWTH = 8.0
 _WEIGHT = 0.4
-# The most bytes of a bundle.
-_LONGEST = 60_000
+# The most bytes of a bundle: a pipe takes them at once.
+_LONGEST = 1_000_000
 _HEAD = b"problem "
 _BETWEEN = lines.ITEM_END + _HEAD
+# In each fault, and seldom elsewhere.
+_FAULT = b": fault "
 
 
 class Items(NamedTuple):
@@ -39,29 +41,42 @@ class Items(NamedTuple):
     report: bytes
 
 
-def neighbours(tasks: Sequence[Task]) -> list[list[Task]]:
+def neighbours(tasks: Sequence[Task]) -> list[Sequence[Task]]:
     """Returns the tasks in runs of problems that follow each other in an input and are closed."""
-    runs: list[list[Task]] = []
+    if isinstance(tasks, Tasks) and isinstance(tasks.places, range) and tasks.places.step == 1:
+        return [tasks.only(places) for places in _places_of_runs(tasks.inputs, tasks.places)]
+    runs: list[Sequence[Task]] = []
     begin = 0
     for place in range(1, len(tasks) + 1):
         if place == len(tasks) or not _follows(tasks[place - 1], tasks[place]):
-            runs.append(list(tasks[begin:place]))
+            runs.append(tasks[begin:place])
             begin = place
     return runs
 
 
+def _places_of_runs(inputs: Sequence[Input], places: range) -> Iterator[range]:
+    """Yields the places of `neighbours` among places without a gap."""
+    for of_input, pieces in ((it.places, it.pieces) for it in inputs):
+        stop = last = min(of_input.stop, places.stop)
+        begin = max(of_input.start, places.start)
+        if pieces is not None and not pieces.is_closed(stop - 1 - of_input.start):
+            last -= 1
+        yield from (run for run in (range(begin, last), range(max(begin, last), stop)) if run)
+
+
 def _follows(before: Task, task: Task) -> bool:
-    if task.piece is None or not task.piece.closed or task.source is not before.source:
+    if task.pieces is None or task.source is not before.source:
         return False
-    return task.place == before.place + 1
+    return task.pieces.is_closed(task.at) and task.place == before.place + 1
 
 
 def text_of(bundle: Sequence[Task]) -> bytes:
     """Returns the problems of a bundle as one input."""
-    first, last, text = bundle[0].piece, bundle[-1].piece, bundle[0].source.text
-    assert first is not None and last is not None and text is not None
-    begin = b"Beg" if first.number > 1 else b""
-    return b"".join([begin, text[first.start : last.stop], b"End"])
+    first, last, text = bundle[0], bundle[-1], bundle[0].source.text
+    assert first.pieces is not None and text is not None
+    begin = b"Beg" if first.at else b""
+    problems = text[first.pieces.starts[first.at] : first.pieces.stops[last.at]]
+    return b"".join([begin, problems, b"End"])
 
 
 def items_in(report: bytes, bundle: Sequence[Task], may_go_on: bool = False) -> Optional[Items]:
@@ -77,19 +92,33 @@ def items_in(report: bytes, bundle: Sequence[Task], may_go_on: bool = False) -> 
     if not bodies[0].startswith(_HEAD) or len(bodies) > len(bundle):
         return None
     bodies[0] = bodies[0][len(_HEAD) :]
-    first = bundle[0].piece
-    assert first is not None
+    numbers = _number_lines(1, len(bodies))
+    if not all(map(bytes.startswith, bodies, numbers)):
+        return None
+    bodies = list(map(bytes.removeprefix, bodies, numbers))
+    is_faulty = _FAULT in report and _move_faults(bodies, bundle[0])
+    pieces = [_BETWEEN] * (3 * len(bodies))
+    pieces[1::3] = _number_lines(bundle[0].at + 1, len(bodies))
+    pieces[2::3] = bodies
+    pieces[0] = _HEAD
+    return Items(len(bodies), int(is_faulty), b"".join([*pieces, lines.ITEM_END]))
+
+
+def _number_lines(first: int, count: int) -> list[bytes]:
+    """Returns the lines that this many numbers are alone on, from the first one on."""
+    text = "%d\n" * count % tuple(range(first, first + count))
+    return text.encode("ascii").splitlines(keepends=True)
+
+
+def _move_faults(bodies: list[bytes], first: Task) -> bool:
+    """Moves the faults among items down to their lines; returns whether there are any."""
     is_faulty = False
+    line_ends = first.piece.line_ends if first.piece is not None else 0
     for place, body in enumerate(bodies):
-        number, _, rest = body.partition(b"\n")
-        if number != b"%d" % (place + 1):
-            return None
-        if rest.startswith(b"line ") and (fault := lines.FAULT.match(rest)) is not None:
+        if body.startswith(b"line ") and (fault := lines.FAULT.match(body)) is not None:
             is_faulty = True
-            rest = b"line %d%s" % (int(fault[1]) + first.line_ends, rest[fault.end(1) :])
-        bodies[place] = b"%d\n%s" % (first.number + place, rest)
-    whole = b"".join([_HEAD, _BETWEEN.join(bodies), lines.ITEM_END])
-    return Items(len(bodies), int(is_faulty), whole)
+            bodies[place] = b"line %d%s" % (int(fault[1]) + line_ends, body[fault.end(1) :])
+    return is_faulty
 
 
 class _Run(NamedTuple):
@@ -134,11 +163,11 @@ class Bundles:
         left = len(tasks) - begin
         most = min(left, self._most, max(self._left // (2 * self._jobs), self._least))
         size = max(min(int(self._size), most), 1)
-        first = tasks[begin].piece
+        first = tasks[begin]
         while size > 1:
-            last = tasks[begin + size - 1].piece
-            assert first is not None and last is not None
-            if last.stop - first.start <= _LONGEST:
+            last = tasks[begin + size - 1]
+            assert first.pieces is not None
+            if first.pieces.stops[last.at] - first.pieces.starts[first.at] <= _LONGEST:
                 break
             size //= 2
         return size

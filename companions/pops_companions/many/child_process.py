@@ -18,8 +18,10 @@ from collections.abc import Sequence
 from typing import IO, NamedTuple, Optional, Union
 
 Stream = Union[None, int, IO[bytes]]
-# The bytes that a pipe takes at once.
+# The bytes that a pipe takes at once, and the most that it can be made to take (F_SETPIPE_SZ).
 _ROOM = 1 << 16
+MOST_ROOM = 1 << 20
+_SET_ROOM = 1031
 
 # The processor time after which a program ends that outlives its seconds, in seconds beyond them.
 _SECONDS_MORE = 2
@@ -106,9 +108,10 @@ class ChildProcess:
     def feed(self, text: bytes) -> None:
         """Writes the program's standard input, a pipe, and closes it.
 
-        A long text is written in a thread, so that the output can be read meanwhile.
+        A text that the pipe doesn't take is written in a thread, so that the output can be read
+        meanwhile.
         """
-        if len(text) <= _ROOM:
+        if len(text) <= _ROOM or has_room(self.run.stdin, len(text)):
             self._feed(text)
         else:
             threading.Thread(target=self._feed, args=(text,), daemon=True).start()
@@ -132,6 +135,15 @@ class ChildProcess:
     def release(self) -> None:
         """Closes the pipe, once the program has ended."""
         os.close(self._held)
+
+
+def has_room(pipe: Optional[IO[bytes]], length: int) -> bool:
+    """Lets an empty pipe take this many bytes at once; returns whether it does."""
+    assert pipe is not None
+    try:
+        return length <= fcntl.fcntl(pipe.fileno(), _SET_ROOM, length)
+    except OSError:
+        return False
 
 
 def _plain(path: str) -> str:

@@ -6,7 +6,7 @@ from typing import BinaryIO, NamedTuple, Optional
 
 from pops_companions.many.journal import Journal, Kept
 from pops_companions.many.targets import Target
-from pops_companions.many.tasks import Task
+from pops_companions.many.tasks import Task, Tasks
 from pops_companions.report import lines
 from pops_companions.tables import row_of
 
@@ -19,7 +19,7 @@ class Report(NamedTuple):
     Without a file it goes to standard output.
     """
 
-    tasks: Sequence[Task]
+    tasks: Tasks
     file: Optional[Target]
     unfinished: Optional[Target]
 
@@ -41,7 +41,10 @@ class Joined:
         self._journal = journal
         self._reports = reports
         self._output = output
-        self._report_of = {task.place: report for report in reports for task in report.tasks}
+        # (one report needs no table)
+        self._report_of: dict[int, Report] = {}
+        for report in reports if len(reports) > 1 else ():
+            self._report_of.update(dict.fromkeys(report.tasks.places, report))
         self._unsettled = {id(report): len(report.tasks) for report in reports}
         self._to_write = {id(report) for report in reports if report.tasks}
         self._streamed = 0
@@ -50,13 +53,13 @@ class Joined:
 
     def begin(self) -> None:
         """Writes what is due before the first run."""
-        for place in self._report_of if self._journal.kept else ():
-            if self._journal.is_settled(place):
+        for report in self._reports if self._journal.kept else ():
+            for place in filter(self._journal.is_settled, report.tasks.places):
                 self.settle(place)
 
     def settle(self, place: int, tasks: int = 1) -> None:
         """Writes what is due now that some tasks of a report are done or stopped."""
-        report = self._report_of[place]
+        report = self._report_of[place] if self._report_of else self._reports[0]
         self._unsettled[id(report)] -= tasks
         if report.file is None:
             self._stream(report)
@@ -68,7 +71,7 @@ class Joined:
     def _stream(self, report: Report) -> None:
         before = self._streamed
         while self._streamed < len(report.tasks):
-            place = report.tasks[self._streamed].place
+            place = report.tasks.places[self._streamed]
             if not self._journal.is_settled(place):
                 break
             self._streamed += self._copy(place, self._output)
@@ -86,7 +89,7 @@ class Joined:
         done = 0
         with target.opened() as file:
             while done < len(report.tasks):
-                done += self._copy(report.tasks[done].place, file)
+                done += self._copy(report.tasks.places[done], file)
 
     @property
     def complete(self) -> bool:
@@ -99,7 +102,7 @@ class Joined:
         for report in self._reports:
             if report.unfinished is None:
                 continue
-            tasks = [task for task in report.tasks if self.has_unfinished(task.place)]
+            tasks = report.tasks.only(list(filter(self.has_unfinished, report.tasks.places)))
             if not tasks:
                 report.unfinished.remove()
                 continue
@@ -117,7 +120,6 @@ class Joined:
 
     def _marked(self, task: Task) -> bytes:
         """Returns the lines of an unfinished problem, with a last line that says so."""
-        assert task.piece is not None
         known = self.in_parts(task.place)
         if known is None:
             seconds = self._journal.kept[task.place].seconds
@@ -126,7 +128,7 @@ class Joined:
         return text + lines.UNFINISHED + os.fsencode(f"{how_far} ({task.where})\n\n")
 
 
-def write_index(target: Target, tasks: Sequence[Task], journal: Journal) -> None:
+def write_index(target: Target, tasks: Tasks, journal: Journal) -> None:
     """Writes a table of the items of a report on all tasks: their places and their sources."""
     start = place = 0
     with target.opened() as file:

@@ -13,10 +13,13 @@ import os
 import re
 import zlib
 from collections.abc import Sequence
-from typing import NamedTuple, Optional
+from typing import TYPE_CHECKING, NamedTuple, Optional
 
-from pops_companions.many.parts import Key, Part
 from pops_companions.many.tasks import Result, Source
+
+if TYPE_CHECKING:
+    # (loaded only by runs that need them: they take longer than a small run)
+    from pops_companions.many.parts import Key, Part
 
 _HEAD = b"pops-many journal 1 "
 _RECORD = re.compile(rb"task (\d+) status (\d+)(?: seconds (\d+\.\d+))? bytes (\d+) sum (\d+)\n")
@@ -139,6 +142,8 @@ class Journal:
             place, tasks, status = (int(part) for part in of_some.group(1, 2, 3))
             self._note(place, Kept(status, None, start, length, tasks))
         elif of_part:
+            from pops_companions.many.parts import Key
+
             place, number, depth = (int(part) for part in of_part.group(1, 3, 4))
             key = Key(place, of_part[2].decode("ascii"), number, depth)
             self.parts[key] = Kept(0, None, start, length)
@@ -164,7 +169,7 @@ class Journal:
         start = self._add(head, report)
         self._note(place, Kept(result.status, result.seconds, start, len(report), result.tasks))
 
-    def keep_part(self, part: Part, report: bytes) -> None:
+    def keep_part(self, part: "Part", report: bytes) -> None:
         """Adds the report of a part."""
         place, phase, number, depth = part.key
         head = b"part %d %s %d depth %d bytes %d sum %d\n" % (
@@ -190,7 +195,7 @@ class Journal:
         """Returns the kept report of a task, with the tasks that share its record."""
         return self._read(self.kept[place])
 
-    def part(self, part: Part) -> bytes:
+    def part(self, part: "Part") -> bytes:
         """Returns the kept report of a part."""
         return self._read(self.parts[part.key])
 

@@ -2,7 +2,7 @@
 
 import threading
 import time
-from collections.abc import Callable, Iterable, Sequence
+from collections.abc import Callable, Sequence
 from queue import Empty, SimpleQueue
 from typing import NamedTuple, Optional, Union
 
@@ -100,7 +100,7 @@ class _Workers:
 
 def run_locally(
     program: Program,
-    tasks: Iterable[Task],
+    tasks: Sequence[Task],
     jobs: int,
     keep: Callable[[Result], None],
     wait_on: Callable[[], None] = lambda: None,
@@ -110,9 +110,8 @@ def run_locally(
     A result is of some tasks in turn. Returns the tasks that failed, with the reasons.
     """
     failed: list[Failed] = []
-    waiting = list(tasks)
-    at_work = min(jobs, len(waiting))
-    workers = _Workers(program, Bundles(waiting, jobs), at_work)
+    at_work = min(jobs, len(tasks))
+    workers = _Workers(program, Bundles(tasks, jobs), at_work)
     try:
         while at_work:
             at_work -= _take(workers.came, keep, failed, wait_on)

@@ -69,10 +69,10 @@ def coded(text: bytes) -> str:
 
 def is_small(task: Task) -> bool:
     """Returns whether a problem may take a moment only; one that hasn't a stipulation is faulty."""
-    piece, text = task.piece, task.source.text
-    if piece is None or text is None or not piece.closed:
+    pieces, text = task.pieces, task.source.text
+    if pieces is None or text is None or not pieces.is_closed(task.at):
         return False
-    found = _STIPULATION.search(text, piece.start, piece.stop)
+    found = _STIPULATION.search(text, pieces.starts[task.at], pieces.stops[task.at])
     if found is None:
         return True
     play = found["play"].lower()
@@ -126,7 +126,7 @@ def bundles_of(tasks: Sequence[Task], places: int) -> list[Sequence[Task]]:
         while begin < len(run):
             bundle = run[begin : begin + most]
             while len(bundle) > 1 and not _fits(text_of(bundle)):
-                del bundle[len(bundle) // 2 :]
+                bundle = bundle[: len(bundle) // 2]
             bundles.append(bundle)
             begin += len(bundle)
     return bundles
@@ -266,7 +266,7 @@ class Machines:
     @staticmethod
     def takes(task: Task) -> bool:
         """Returns whether a task can go to another machine."""
-        return task.piece is not None and 0 < len(task.text) and _fits(task.text)
+        return task.pieces is not None and 0 < len(task.text) and _fits(task.text)
 
     def run(self, tasks: Sequence[Task], keep: Callable[[Result], None]) -> list[tuple[Task, str]]:
         """Runs tasks and passes each result on; returns the tasks without a report, with the reasons."""

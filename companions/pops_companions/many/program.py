@@ -2,20 +2,25 @@
 
 import os
 import select
-import shutil
 import signal
 import subprocess
 import threading
 from collections.abc import Callable, Generator, Sequence
-from pathlib import Path
 from typing import Optional
 
 from pops_companions import places
 from pops_companions.many.bundle_run import BundleRun, Came
 from pops_companions.many.bundles import Bundles, text_of
-from pops_companions.many.child_process import ChildProcess, Outcome, Stream, outcome_of
+from pops_companions.many.child_process import (
+    MOST_ROOM,
+    ChildProcess,
+    Outcome,
+    Stream,
+    has_room,
+    outcome_of,
+)
 from pops_companions.many.tasks import UNFINISHED, Result, Task, is_whole, whole_lines
-from pops_companions.places import COMPANIONS
+from pops_companions.places import COMPANIONS, REPOSITORY, folder_above
 
 # A run of pops ends with one of these where every byte of its report was written.
 SOUND, FAULTY = 0, 1
@@ -24,6 +29,8 @@ SOUND, FAULTY = 0, 1
 # much: it writes line by line, and waking for each line would cost more than the search.
 PAUSE = 20
 _PIECE = 1 << 16
+# The most runs at a time that have room for what they write in a pause: pipes take little in all.
+_MOST_WITH_ROOM = 16
 
 LOOKED_FOR = (
     "the program (default: $POPS, the one built in this repository or released with its sources,"
@@ -44,20 +51,23 @@ def find(named: Optional[str]) -> str:
     """Finds the program as LOOKED_FOR says; builds none. MissingError where it is nowhere."""
     named = named or os.environ.get("POPS")
     if named:
-        found = shutil.which(named)
+        found = places.found(named)
         if found is None:
             raise MissingError(f"there is no program {named}")
         return _without_script(found)
-    repository = COMPANIONS.parent
-    beside = places.program("pops")
-    if COMPANIONS.parts[-3:] == ("share", "pops", "companions"):
-        beside = shutil.which(str(COMPANIONS.parents[2] / "bin" / "pops"))
-    for found in (_of_sources(repository, "pops"), beside, shutil.which("pops")):
-        if found is not None:
-            return _without_script(found)
-    if _is_repository(repository):
-        raise _unbuilt(repository)
+    found = _of_sources(REPOSITORY, "pops") or _beside() or places.found("pops")
+    if found is not None:
+        return _without_script(found)
+    if _is_repository(REPOSITORY):
+        raise _unbuilt(REPOSITORY)
     raise MissingError("there is no program pops: name it with --pops")
+
+
+def _beside() -> Optional[str]:
+    """Returns pops as it was installed with the companions, by ./install or by pip."""
+    if COMPANIONS.endswith("/share/pops/companions"):
+        return places.found(os.path.join(folder_above(COMPANIONS, 3), "bin", "pops"))
+    return places.program("pops")
 
 
 def find_part_program(named: Optional[str], pops: str) -> str:
@@ -66,35 +76,35 @@ def find_part_program(named: Optional[str], pops: str) -> str:
     """
     named = named or os.environ.get("POPS_PART")
     if named:
-        found = shutil.which(named)
+        found = places.found(named)
         if found is None:
             raise MissingError(f"there is no program {named}")
         return _without_script(found, "pops-part")
-    folder = Path(pops).resolve().parent
+    folder = folder_above(os.path.realpath(pops))
     # (built in crates/pops/out, or released in release)
-    above = list(folder.parents)
-    repositories = [it for it in above[2:3] + above[:1] if _is_repository(it)]
-    beside = [] if repositories else [shutil.which(str(folder / "pops-part"))]
-    repositories.append(COMPANIONS.parent)
+    above = [folder_above(folder, 3), folder_above(folder)]
+    repositories = [it for it in above if _is_repository(it)]
+    beside = [] if repositories else [places.found(os.path.join(folder, "pops-part"))]
+    repositories.append(REPOSITORY)
     of_sources = [_of_sources(it, "pops-part") for it in repositories]
-    for found in (*beside, *of_sources, shutil.which("pops-part")):
+    for found in (*beside, *of_sources, places.found("pops-part")):
         if found is not None:
             return _without_script(found, "pops-part")
-    if _is_repository(COMPANIONS.parent):
-        raise _unbuilt(COMPANIONS.parent, "pops-part")
+    if _is_repository(REPOSITORY):
+        raise _unbuilt(REPOSITORY, "pops-part")
     raise MissingError("there is no program pops-part, for --split: name it with --pops-part")
 
 
-def _is_repository(folder: Path) -> bool:
-    return (folder / "crates" / "pops").is_dir()
+def _is_repository(folder: str) -> bool:
+    return os.path.isdir(os.path.join(folder, "crates", "pops"))
 
 
-def _of_sources(repository: Path, name: str) -> Optional[str]:
+def _of_sources(repository: str, name: str) -> Optional[str]:
     """Returns the program of a repository's sources, built or released, if there is one."""
-    script = repository / "scripts" / "find-program"
-    if not _is_repository(repository) or not script.is_file():
+    script = os.path.join(repository, "scripts", "find-program")
+    if not _is_repository(repository) or not os.path.isfile(script):
         return None
-    found = outcome_of([str(script), name], errors=None)
+    found = outcome_of([script, name], errors=None)
     return os.fsdecode(found.output).removesuffix("\n") or None
 
 
@@ -102,7 +112,7 @@ def _without_script(found: str, name: str = "pops") -> str:
     """Returns what was found; for a repository's script, which may build, the program of its
     sources.
     """
-    folder = Path(found).resolve().parent
+    folder = folder_above(os.path.realpath(found))
     if not _is_repository(folder):
         return found
     program = _of_sources(folder, name)
@@ -111,8 +121,8 @@ def _without_script(found: str, name: str = "pops") -> str:
     return program
 
 
-def _unbuilt(repository: Path, name: str = "pops") -> MissingError:
-    words = [str(repository / name), str(repository / "examples" / "mate_in_one.pop")]
+def _unbuilt(repository: str, name: str = "pops") -> MissingError:
+    words = [f"{repository}/{name}", f"{repository}/examples/mate_in_one.pop"]
     if name != "pops":
         words.insert(1, "--list")
     return MissingError(
@@ -222,7 +232,7 @@ class Program(Runs):
 
     def solve(self, task: Task) -> Result:
         """Runs a task. RunError where pops didn't come to its end, but for its time."""
-        if task.piece is None:
+        if task.pieces is None:
             return self._whole(task)
         return self.told_anew(task, *self._one(task.text))
 
@@ -230,6 +240,8 @@ class Program(Runs):
         """Runs a bundle in one process; what it doesn't solve goes back to the bundles."""
         child = self._started([], subprocess.PIPE, subprocess.DEVNULL)
         try:
+            if len(self._running) <= _MOST_WITH_ROOM:
+                has_room(child.run.stdout, MOST_ROOM)
             if self.seconds is not None:
                 child.limit(self.seconds * len(bundle))
             child.feed(text_of(bundle))

@@ -10,7 +10,6 @@ import re
 from collections.abc import Callable, Iterable, Sequence
 from typing import NamedTuple, Optional
 
-from pops_companions.input.pieces import cut
 from pops_companions.many.machines import (
     FAILURES,
     PROBE,
@@ -25,7 +24,7 @@ from pops_companions.many.parallel import UNLESS_OVER, Ended, Parallel, machine_
 from pops_companions.many.part_program import PartProgram
 from pops_companions.many.parts import Key, Part, PartsError, count_in
 from pops_companions.many.program import SOUND, RunError
-from pops_companions.many.tasks import Source, Task
+from pops_companions.many.tasks import Source, tasks_of
 
 # The program is $0; the one word after it holds number, phase, part and text of each in turn.
 _SCRIPT = (
@@ -176,7 +175,7 @@ class RemoteParts:
         self._probe()
 
     def _probe(self) -> None:
-        part = Part(Task(0, Source(None, PROBE), cut(PROBE)[0]), "play", 1, self._program.depth)
+        part = Part(tasks_of([Source(None, PROBE)])[0], "play", 1, self._program.depth)
         try:
             self._program.phases(PROBE)
             wanted = self._program.report(part)

@@ -8,7 +8,7 @@ from pops_companions.many.journal import Journal
 from pops_companions.many.local import run_locally
 from pops_companions.many.program import Program
 from pops_companions.many.progress import Progress
-from pops_companions.many.tasks import Result, Task
+from pops_companions.many.tasks import Result, Task, Tasks
 
 if TYPE_CHECKING:
     # (loaded only by runs that need them: they take longer than a small run)
@@ -50,7 +50,7 @@ class Run:
 
     def __init__(
         self,
-        tasks: Sequence[Task],
+        tasks: Tasks,
         programs: Programs,
         journal: Journal,
         joined: Joined,
@@ -67,17 +67,22 @@ class Run:
             checking, parts = programs.parts
             self._splitting = Splitting(checking, parts, journal, progress, self._settle)
             joined.in_parts = self._splitting.lines_found
-        left = [task for task in tasks if not journal.is_settled(task.place)]
+        # (all where nothing is kept: then they are neighbours)
+        left = tasks.places
+        if journal.kept:
+            left = [place for place in left if not journal.is_settled(place)]
         progress.begin(len(tasks) - len(left), len(tasks))
-        self._long = [task for task in left if self._splitting and self._is_long(task)]
-        long = {task.place for task in self._long}
-        self._left = [task for task in left if task.place not in long]
+        long = list(filter(self._is_long, left)) if self._splitting and journal.kept else []
+        self._long: list[Task] = list(tasks.only(long))
+        if long:
+            left = sorted(set(left).difference(long))
+        self._left = tasks.only(left)
 
-    def _is_long(self, task: Task) -> bool:
+    def _is_long(self, place: int) -> bool:
         """Returns whether an earlier run found that a problem takes longer than a moment."""
-        if self._splitting is None or not self._journal.has_unfinished(task.place):
+        if not self._journal.has_unfinished(place):
             return False
-        had, moment = self._journal.kept[task.place].seconds, self._program.seconds
+        had, moment = self._journal.kept[place].seconds, self._program.seconds
         return had is not None and moment is not None and had >= moment
 
     def _settle(self, result: Result) -> None:
@@ -97,7 +102,7 @@ class Run:
         self._joined.begin()
         if self._splitting is not None:
             self._splitting.cut(self._long)
-        here = self._left
+        here: Sequence[Task] = self._left
         failed: list[tuple[Task, str]] = []
         if elsewhere is not None:
             takes = elsewhere.machines.takes

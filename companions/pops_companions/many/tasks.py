@@ -1,12 +1,18 @@
 """What is to be run, and what came of it."""
 
+from bisect import bisect
 from collections.abc import Sequence
-from typing import NamedTuple, Optional
+from typing import TYPE_CHECKING, NamedTuple, Optional, Union, overload
 
 from pops_companions.command import Status
-from pops_companions.input.pieces import LONGEST_INPUT, Piece
-from pops_companions.many.cutting import cut_quickly
+from pops_companions.many.cutting import Pieces
 from pops_companions.report import lines
+
+if TYPE_CHECKING:
+    from pops_companions.input.pieces import Piece
+
+# The most bytes that pops reads of an input. A longer one is left to one run of pops.
+LONGEST_INPUT = 1 << 30
 
 # The most line ends that a first run gets before its problem. A problem further down first runs
 # without them, and only a faulty one runs again with them: reports of sound problems name no lines.
@@ -34,54 +40,66 @@ class Task(NamedTuple):
 
     place: int
     source: Source
-    piece: Optional[Piece]
+    # The problems of its input, and its place among these; None where it is all of them.
+    pieces: Optional[Pieces]
+    at: int = 0
+
+    @property
+    def piece(self) -> "Optional[Piece]":
+        """The problem; None where the source is left to pops."""
+        return None if self.pieces is None else self.pieces.at(self.at)
 
     @property
     def shown(self) -> str:
         """The problem as messages name it."""
-        if self.piece is None:
+        if self.pieces is None:
             return self.source.shown
-        return f"problem {self.piece.number} ({self.where})"
+        return f"problem {self.at + 1} ({self.where})"
 
     @property
     def where(self) -> str:
         """Where a problem begins. For a problem alone."""
-        assert self.piece is not None
-        return f"{self.source.shown}, line {self.piece.line}"
+        piece = self.piece
+        assert piece is not None
+        return f"{self.source.shown}, line {piece.line}"
 
     @property
     def text(self) -> bytes:
         """The input of the first run. For a problem alone."""
-        assert self.piece is not None and self.source.text is not None
-        return self.piece.alone(self.source.text, self.piece.line_ends <= LINE_ENDS_AT_ONCE)
+        piece = self.piece
+        assert piece is not None and self.source.text is not None
+        return piece.alone(self.source.text, piece.line_ends <= LINE_ENDS_AT_ONCE)
 
     @property
     def text_with_line_ends(self) -> bytes:
         """The input that gives a fault its right line. For a problem alone."""
-        assert self.piece is not None and self.source.text is not None
-        return self.piece.alone(self.source.text, True)
+        piece = self.piece
+        assert piece is not None and self.source.text is not None
+        return piece.alone(self.source.text, True)
 
     @property
     def text_without_line_ends(self) -> bytes:
         """The shortest input, for a problem that is known to be sound."""
-        assert self.piece is not None and self.source.text is not None
-        return self.piece.alone(self.source.text, False)
+        piece = self.piece
+        assert piece is not None and self.source.text is not None
+        return piece.alone(self.source.text, False)
 
     def wants_line_ends(self, report: bytes) -> bool:
         """Returns whether the report of the first run is a fault with a wrong line."""
-        assert self.piece is not None
-        lacking = self.piece.number > 1 and self.piece.line_ends > LINE_ENDS_AT_ONCE
+        piece = self.piece
+        assert piece is not None
+        lacking = piece.number > 1 and piece.line_ends > LINE_ENDS_AT_ONCE
         line = report[len(_HEAD) :].partition(b"\n")[0]
         return lacking and lines.FAULT.fullmatch(line) is not None
 
     def numbered(self, report: bytes) -> bytes:
         """Returns the report with the problem's number in its input."""
-        return report if self.piece is None else self.under_its_number(report[len(_HEAD) :])
+        return report if self.pieces is None else self.under_its_number(report[len(_HEAD) :])
 
     def under_its_number(self, rest: bytes) -> bytes:
         """Returns the lines of a report after their first one, which has the problem's number."""
-        assert self.piece is not None
-        return lines.problem_line(self.piece.number) + rest
+        assert self.pieces is not None
+        return lines.problem_line(self.at + 1) + rest
 
 
 class Result(NamedTuple):
@@ -108,13 +126,54 @@ def whole_lines(report: bytes) -> bytes:
     return report[: report.rfind(b"\n") + 1]
 
 
-def tasks_of(sources: Sequence[Source]) -> list[Task]:
+class Input(NamedTuple):
+    """An input with its problems, the first of which has this place among all tasks."""
+
+    source: Source
+    # None where the input is left to pops: it is one task then.
+    pieces: Optional[Pieces]
+    first: int
+
+    @property
+    def places(self) -> range:
+        """The places of its tasks."""
+        return range(self.first, self.first + (1 if self.pieces is None else len(self.pieces)))
+
+
+class Tasks(Sequence[Task]):
+    """Some tasks of the inputs, by their places among all; each is made when it is asked for."""
+
+    def __init__(self, inputs: Sequence[Input], places: Sequence[int]):
+        self.inputs = inputs
+        self.places = places
+        self._firsts = [it.first for it in inputs]
+
+    def __len__(self) -> int:
+        return len(self.places)
+
+    @overload
+    def __getitem__(self, at: int) -> Task: ...
+    @overload
+    def __getitem__(self, at: slice) -> "Tasks": ...
+    def __getitem__(self, at: Union[int, slice]) -> "Union[Task, Tasks]":
+        if isinstance(at, slice):
+            return self.only(self.places[at])
+        place = self.places[at]
+        source, pieces, first = self.inputs[bisect(self._firsts, place) - 1]
+        return Task(place, source, pieces, place - first)
+
+    def only(self, places: Sequence[int]) -> "Tasks":
+        """Returns only the tasks at these places among all."""
+        return Tasks(self.inputs, places)
+
+
+def tasks_of(sources: Sequence[Source]) -> Tasks:
     """Returns all tasks of the inputs, in their order."""
-    tasks: list[Task] = []
+    inputs: list[Input] = []
+    number = 0
     for source in sources:
-        if source.text is None or len(source.text) > LONGEST_INPUT:
-            tasks.append(Task(len(tasks), source, None))
-        else:
-            for piece in cut_quickly(source.text):
-                tasks.append(Task(len(tasks), source, piece))
-    return tasks
+        is_left = source.text is None or len(source.text) > LONGEST_INPUT
+        pieces = None if is_left or source.text is None else Pieces(source.text)
+        inputs.append(Input(source, pieces, number))
+        number = inputs[-1].places.stop
+    return Tasks(inputs, range(number))
