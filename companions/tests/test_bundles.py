@@ -67,7 +67,7 @@ class Made(unittest.TestCase):
         self.assertEqual(self.sizes(all_tasks, 8, 0.002), [1] * 32)
         self.assertEqual(self.sizes(all_tasks[::2], 1, 0.002), [1] * 16)
         both = tasks_of([Source(name, input_of(*[MATE] * 6)) for name in ("a", "b")])
-        self.assertEqual(self.sizes(both, 1, 0.0001), [3, 3, 3, 3])
+        self.assertEqual(self.sizes(both, 1, 0.0001), [3, 3, 6])
 
     def test_bundles_grow_and_shrink_to_a_tenth_of_a_second(self) -> None:
         all_tasks = tasks(input_of(*[MATE] * 5000))
@@ -76,6 +76,8 @@ class Made(unittest.TestCase):
         self.assertEqual(slow[:3], [16, 2, 1])
         for sizes in (fast, slow):
             self.assertEqual(sum(sizes), 5000)
+        tiny = self.sizes(tasks(input_of(*[MATE] * 10_000)), 4, 0.00001)
+        self.assertEqual((sum(tiny), len(tiny) <= 12), (10_000, True), tiny)
         long_titles = tasks(input_of(*[f"Title {'x' * 9900}\n{MATE}"] * 1000))
         self.assertLessEqual(max(self.sizes(long_titles, 1, 1e-6)), 100)
 

@@ -14,9 +14,10 @@ from pops_companions.report import lines
 
 # The seconds of work of a bundle, at most and at least; after MOMENT it gives the rest back.
 _SECONDS = 0.1
-_LEAST_SECONDS = 0.01
+_LEAST_SECONDS = 0.02
 MOMENT = 0.5
-# The problems of the first bundles, and how many bundles of each processor there are at least.
+# The problems of the first bundles, and how many bundles of each processor there are at least, unless
+# they are of less work than the least.
 _FIRST = 16
 _BUNDLES_OF_A_JOB = 4
 # How much a bundle may differ in size from the one before it, and how much its time counts.
@@ -161,8 +162,8 @@ class Bundles:
     def _size_in(self, tasks: Sequence[Task], begin: int) -> int:
         """Returns how many problems of a run, from one on, are the next bundle."""
         left = len(tasks) - begin
-        most = min(left, self._most, max(self._left // (2 * self._jobs), self._least))
-        size = max(min(int(self._size), most), 1)
+        most = max(min(self._most, self._left // (2 * self._jobs)), self._least)
+        size = max(min(int(self._size), left, most), 1)
         first = tasks[begin]
         while size > 1:
             last = tasks[begin + size - 1]
