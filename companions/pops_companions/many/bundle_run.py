@@ -153,16 +153,16 @@ class BundleRun:
         report = b"".join(self._written)
         status = self._child.run.returncode
         items = items_in(report, self._tasks, self._is_cut)
-        self._note(0 if items is None else items.count)
+        self._note(0 if items is None else items.number)
         is_ended = status in _WELL and not self._is_late
-        if items is None or (is_ended and items.count < len(self._tasks)):
+        if items is None or (is_ended and items.number < len(self._tasks)):
             self._bundles.give_back_apart(self._tasks[1:])
             return Came([], self._tasks[0])
         results = []
-        if items.count:
+        if items.number:
             first = self._tasks[0]
-            results.append(Result(first, items.status, items.report, None, items.count))
-        left = self._tasks[items.count :]
+            results.append(Result(first, items.status, items.report, None, items.number))
+        left = self._tasks[items.number :]
         if left and self._is_late:
             results.append(self._unfinished(left[0], report))
             left = left[1:]

@@ -37,7 +37,7 @@ class Items(NamedTuple):
     They are numbered as in their input, and faults have its lines.
     """
 
-    count: int
+    number: int
     status: int
     report: bytes
 
@@ -183,8 +183,8 @@ class Bundles:
         with self._changed:
             each = max(seconds / max(count, 1), 1e-6)
             before = self._seconds_each or each
-            self._seconds_each = before ** (1 - _WEIGHT) * each**_WEIGHT
-            wanted = _SECONDS / self._seconds_each
+            mean = before ** (1 - _WEIGHT) * each**_WEIGHT
+            self._seconds_each, wanted = mean, _SECONDS / mean
             self._size = max(min(wanted, self._size * _MOST_GROWTH), self._size / _MOST_GROWTH, 1)
 
     def give_back(self, tasks: Sequence[Task]) -> None:

@@ -190,13 +190,13 @@ class _Round:
         """Keeps what a bundle has solved; the problem after it is alone from now on, or all are."""
         items = items_in(report, bundle)
         self.has_come = True
-        if items is None or (status in (SOUND, FAULTY) and items.count < len(bundle)):
+        if items is None or (status in (SOUND, FAULTY) and items.number < len(bundle)):
             self._alone.update(task.place for task in bundle)
             return
-        if items.count:
-            self._settle(Result(bundle[0], items.status, items.report, None, items.count))
-        if items.count < len(bundle):
-            self._alone.add(bundle[items.count].place)
+        if items.number:
+            self._settle(Result(bundle[0], items.status, items.report, None, items.number))
+        if items.number < len(bundle):
+            self._alone.add(bundle[items.number].place)
 
     def _settle(self, result: Result) -> None:
         self.has_come = True
