@@ -6,6 +6,7 @@ import subprocess
 import sys
 import tempfile
 import unittest
+from collections.abc import Iterator
 from pathlib import Path
 from unittest import mock
 
@@ -13,7 +14,7 @@ from pops_companions.input.pieces import rest_of
 from pops_companions.many.bundles import Bundles, neighbours
 from pops_companions.many.child_process import has_room
 from pops_companions.many.cutting import Pieces
-from pops_companions.many.tasks import Source, tasks_of
+from pops_companions.many.tasks import Input, Source, tasks_of
 from tests import run_here, support
 from tests.test_bundles import MATE, input_of, steady
 
@@ -91,6 +92,18 @@ class Quick(unittest.TestCase):
             for stop in range(begin + 1, len(tasks) + 1):
                 runs = [list(run) for run in neighbours(tasks[begin:stop])]
                 self.assertEqual(runs, neighbours(list(tasks)[begin:stop]))
+
+    def test_a_part_of_many_inputs(self) -> None:
+        """It is taken without a look at each input."""
+
+        class Unread(list[Input]):
+            def __iter__(self) -> Iterator[Input]:
+                raise AssertionError("all inputs are gone through")
+
+        tasks = tasks_of([Source(f"{it}.pop", input_of(MATE, MATE)) for it in range(20)])
+        tasks.inputs = Unread(tasks.inputs)
+        shown = [task.shown for task in tasks[20:22]]
+        self.assertEqual(shown, ["problem 1 (10.pop, line 1)", "problem 2 (10.pop, line 4)"])
 
     def test_the_usual_end_of_a_text(self) -> None:
         for end, is_usual in (("EndProblem\n", True), ("END \r\n", True), ("", True), ("End\nx", False)):

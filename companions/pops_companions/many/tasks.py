@@ -143,18 +143,21 @@ class Input(NamedTuple):
 class Tasks(Sequence[Task]):
     """Some tasks of the inputs, by their places among all; each is made when it is asked for."""
 
-    def __init__(self, inputs: Sequence[Input], places: Sequence[int]):
+    def __init__(self, inputs: Sequence[Input], firsts: Sequence[int], places: Sequence[int]):
+        """`firsts` are the places of the inputs' first tasks."""
         self.inputs = inputs
         self.places = places
-        self._firsts = [it.first for it in inputs]
+        self._firsts = firsts
 
     def __len__(self) -> int:
         return len(self.places)
 
     @overload
     def __getitem__(self, at: int) -> Task: ...
+
     @overload
     def __getitem__(self, at: slice) -> "Tasks": ...
+
     def __getitem__(self, at: Union[int, slice]) -> "Union[Task, Tasks]":
         if isinstance(at, slice):
             return self.only(self.places[at])
@@ -164,7 +167,7 @@ class Tasks(Sequence[Task]):
 
     def only(self, places: Sequence[int]) -> "Tasks":
         """Returns only the tasks at these places among all."""
-        return Tasks(self.inputs, places)
+        return Tasks(self.inputs, self._firsts, places)
 
 
 def tasks_of(sources: Sequence[Source]) -> Tasks:
@@ -176,4 +179,4 @@ def tasks_of(sources: Sequence[Source]) -> Tasks:
         pieces = None if is_left or source.text is None else Pieces(source.text)
         inputs.append(Input(source, pieces, number))
         number = inputs[-1].places.stop
-    return Tasks(inputs, range(number))
+    return Tasks(inputs, [it.first for it in inputs], range(number))
