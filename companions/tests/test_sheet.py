@@ -4,6 +4,7 @@ The texts of tries come from the plain solver of the tests.
 """
 
 import functools
+import html
 import io
 import re
 import shutil
@@ -580,6 +581,15 @@ class Forms(Case):
                 self.assertEqual([it.entry for it in persons(text)], entries)
                 if names is not None:
                     self.assertEqual([it.name for it in persons(text)], names)
+
+    def test_three_authors(self) -> None:
+        text = TWINS.replace(b"Shinkman, Will", b"Shinkman, Will; A. Third")
+        names = "Samuel Loyd, Will Shinkman & A. Third"
+        for form, said in (("html", html.escape(names)), ("text", names)):
+            self.assertIn(said, self.sheet(text, "--to", form).output.decode())
+        faulty = text.replace(b"Kg6", b"Xg6")
+        said = self.sheet(faulty, "--to", "latex").output.decode()
+        self.assertIn(names.replace("&", r"\&"), said)
 
     def test_awards(self) -> None:
         """As pops-import keeps them: of Popeye, of YAML as a text, and of YAML with its parts."""

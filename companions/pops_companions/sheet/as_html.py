@@ -10,6 +10,7 @@ from pops_companions.sheet.entries import Entry, Part, index_of
 from pops_companions.sheet.languages import FIGURES, Language, marked_as
 from pops_companions.sheet.sheet_words import WORDS
 from pops_companions.show import diagram
+from pops_companions.show.authors import joined
 from pops_companions.show.page import STYLE
 from pops_companions.show.titles import printable
 
@@ -105,7 +106,7 @@ class _Page:
         yield f'</div>\n<div class="after">\n<h2>{WORDS[self.language.code].solutions}</h2>\n'
         for entry in entries:
             parts = "".join(line for part in entry.parts for line in self._part(part))
-            names = " &amp; ".join(html.escape(person.name) for person in entry.authors)
+            names = html.escape(joined(entry.authors))
             link = f'<a href="#problem-{entry.anchor}">{entry.number}</a>'
             yield f"<article>\n<h2>{link} {names}</h2>\n{parts}</article>\n"
         yield "</div>\n"
@@ -140,7 +141,7 @@ class _Page:
 
     def _names(self, entry: Entry) -> Iterator[str]:
         """Yields what is above a diagram."""
-        names = " &amp; ".join(html.escape(person.name) for person in entry.authors)
+        names = html.escape(joined(entry.authors))
         number = f'<a href="#problem-{entry.anchor}">{entry.number}</a>'
         yield f"<h2>{number} {names}</h2>\n"
         for label, text in (("title", entry.title), ("origin", entry.origin)):

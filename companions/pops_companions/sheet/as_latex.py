@@ -8,6 +8,7 @@ from pops_companions.chess.men import Kind
 from pops_companions.sheet.entries import Entry, Part, index_of
 from pops_companions.sheet.languages import Language, marked_as
 from pops_companions.sheet.latex_letters import letters_of
+from pops_companions.show.authors import joined
 from pops_companions.show.latex import Sheet, escaped, latex
 
 _CLASS = "\\documentclass[a4paper]{article}\n"
@@ -69,8 +70,7 @@ def _problem(entry: Entry, encoding: str, language: Language, marks: dict[int, s
 
 def _box(entry: Entry, marks: dict[int, str]) -> str:
     """Returns a problem without a diagram: number, authors, title, source, and its fault."""
-    names = " \\& ".join(escaped(person.name) for person in entry.authors)
-    lines = [rf"\textbf{{{entry.number}}} {names}".rstrip()]
+    lines = [rf"\textbf{{{entry.number}}} {escaped(joined(entry.authors))}".rstrip()]
     lines += [escaped(text) for text in (entry.title, entry.origin) if text]
     lines += [line for part in entry.parts for line in _part(part, marks)]
     # (a line break would take `[` or a star for its own)

@@ -4,6 +4,7 @@ from collections.abc import Iterable, Iterator
 
 from pops_companions.sheet.entries import Entry, Part, index_of
 from pops_companions.sheet.languages import Language, marked_as
+from pops_companions.show.authors import joined
 from pops_companions.show.diagram import position_in_words
 
 _INDENT = "  "
@@ -21,8 +22,7 @@ def as_text(entries: Iterable[Entry], language: Language) -> str:
 
 
 def _entry(entry: Entry, language: Language) -> Iterator[str]:
-    names = " & ".join(person.name for person in entry.authors)
-    title = ": ".join(filter(None, (names, entry.title)))
+    title = ": ".join(filter(None, (joined(entry.authors), entry.title)))
     yield f"{entry.number}. {title}".rstrip()
     if entry.origin:
         yield _INDENT + entry.origin

@@ -1,6 +1,7 @@
 """The authors of a problem: one person each, by name and as entries of an index."""
 
 import re
+from collections.abc import Sequence
 from dataclasses import dataclass
 
 # (tried only where blanks begin: many blanks would take the square of their number)
@@ -41,6 +42,12 @@ class Person:
 def persons(text: str) -> list[Person]:
     """Returns the authors of a text, parted by `;`, `&` or `and`; `Loyd, Samuel` is one."""
     return [_person(name) for name in map(str.strip, _BETWEEN.split(text)) if name]
+
+
+def joined(people: Sequence[Person]) -> str:
+    """Returns names as `Samuel Loyd, Frank Healey & Paul Morphy`."""
+    names = [person.name for person in people]
+    return " & ".join(filter(None, (", ".join(names[:-1]), *names[-1:])))
 
 
 def _person(text: str) -> Person:
