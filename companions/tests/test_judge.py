@@ -8,6 +8,7 @@ import sys
 import tempfile
 import unittest
 from pathlib import Path
+from unittest import mock
 
 from pops_companions.chess.game_counts import impossible_counts
 from pops_companions.chess.men import Man, Square
@@ -107,6 +108,16 @@ class Judging(unittest.TestCase):
         self.assertEqual(outcome.status, 1)
         self.assertIn("undecided", outcome.output.decode().splitlines()[0])
         self.assertIn("some problems took longer: --resume", outcome.error)
+
+    def test_a_help_mate_with_many_solutions(self) -> None:
+        """Two rooks mate on the eighth rank."""
+        self.text.write_bytes(ONE + TWO.replace(b"Ra1", b"Ra1b1"))
+        for words, said in (((), (True, False, True)), (("--all",), (True, True, False))):
+            with mock.patch("pops_companions.review.sheet._MOST_SOLUTIONS", 1):
+                self.judged(*words)
+            shown = "\n".join(self.articles()[1].words)
+            texts = ("1.Kg8 Ra8#", "1.Kg8 Rb8#", ".. and 1 more (--all shows them)")
+            self.assertEqual(tuple(text in shown for text in texts), said)
 
     def test_names_without_title_or_author(self) -> None:
         text = ONE.replace(b"Title A mate\n", b"Author N. N.\n") + TWO

@@ -42,6 +42,8 @@ _COLUMNS: Mapping[str, Callable[[Judgement], str]] = {
 }
 # More lines are folded.
 _LINES_SHOWN = 12
+# The most solutions of a phase on the sheet, without --all.
+_MOST_SOLUTIONS = 1000
 
 
 class Evidence(NamedTuple):
@@ -155,6 +157,9 @@ def solutions_of(judgement: Judgement, evidence: Evidence) -> list[str]:
     board = evidence.boards.get(number)
     if not isinstance(item, SoundItem) or board is None:
         return []
+    left_out = 0
+    if evidence.most is not None:
+        item, left_out = _shortened(item)
     solution = Solution(board.men, item.condition, _ENGLISH)
     blocks = solution.blocks(item, evidence.tries.get(number))
     lines: list[str] = []
@@ -163,7 +168,20 @@ def solutions_of(judgement: Judgement, evidence: Evidence) -> list[str]:
         indent = "  " * (len(blocks) > 1)
         for line in block.lines:
             lines.append(indent + "  " * line.level + line.text.translate(_MARKS))
-    return lines
+    return [*lines, *([f".. and {left_out} more (--all shows them)"] if left_out else [])]
+
+
+def _shortened(item: SoundItem) -> tuple[SoundItem, int]:
+    """Returns a problem with at most `_MOST_SOLUTIONS` in a phase, and how many are left out.
+
+    A cooked help mate may have a million.
+    """
+    phases = item.phases or ()
+    left_out = sum(max(len(it.solutions) - _MOST_SOLUTIONS, 0) for it in phases)
+    if not left_out:
+        return item, 0
+    shown = tuple(replace(it, solutions=it.solutions[:_MOST_SOLUTIONS]) for it in phases)
+    return replace(item, phases=shown), left_out
 
 
 def _folded(summary: str, lines: Sequence[str]) -> str:
