@@ -269,7 +269,7 @@ class Judging(unittest.TestCase):
         """The cells of the table's rows but the first two and the last one."""
         page = self.sheet.read_text("utf-8")
         head, *rows = re.findall("<tr>(.*?)</tr>", page, re.S)
-        names = ["Verdict", "Keys", "Check, capture", "Short", "Duals", "Threats", "Tries", "Set play"]
+        names = ["Verdict", "Solutions", "Check, capture", "Short", "Duals", "Threats", "Tries", "Set play"]
         self.assertEqual(re.findall("<th>(.*?)</th>", head)[2:-1], names)
         return [re.findall("<td[^>]*>(.*?)</td>", row)[2:-1] for row in rows]
 

@@ -32,7 +32,7 @@ _ENGLISH = LANGUAGES["en"]
 _MARKS = marked_as(_ENGLISH, {})
 # What the table says of a problem, of its twins one after the other.
 _COLUMNS: Mapping[str, Callable[[Judgement], str]] = {
-    "Keys": lambda it: _shown(it.solutions) + "+" * (it.solutions is not None and it.stopped),
+    "Solutions": lambda it: _shown(it.solutions) + "+" * (it.solutions is not None and it.stopped),
     "Check, capture": lambda it: ", ".join(it.key_traits),
     "Short": lambda it: _shown(it.short_solutions),
     "Duals": lambda it: _shown(_sum(it.duals_at_the_end, it.duals_earlier)),
