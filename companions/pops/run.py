@@ -12,14 +12,7 @@ from typing import IO, Optional, Union
 
 from pops_companions.many.child_process import ChildProcess
 from pops_companions.many.program import FAULTY, PAUSE, SOUND, RunError, Runs
-from pops_companions.report.events import (
-    Event,
-    FirstMoveEvent,
-    FirstMoveKind,
-    LineEvent,
-    NodeEvent,
-    Place,
-)
+from pops_companions.report import events
 from pops_companions.report.item_builder import ItemBuilder
 from pops_companions.report.items import AnyItem
 from pops_companions.report.reader import Allowed, ReportReader
@@ -134,10 +127,10 @@ class Run:
         timer.start()
         return timer
 
-    def __iter__(self) -> Iterator[Event]:
+    def __iter__(self) -> Iterator[events.Event]:
         return self
 
-    def __next__(self) -> Event:
+    def __next__(self) -> events.Event:
         """Waits for the next event.
 
         RunError at the end of a run that failed, ReportError where the program writes something
@@ -182,7 +175,7 @@ class Run:
                 self._ending = ending
                 self._child.send(SIGKILL)
 
-    def _read(self) -> Generator[Event, None, None]:
+    def _read(self) -> Generator[events.Event, None, None]:
         output = self._solver.output(self._child)
         try:
             for piece in output:
@@ -213,7 +206,7 @@ class Run:
             self._errors.seek(0)
             return self._solver.reason(status, self._errors.read())
 
-    def _events_of(self, piece: bytes) -> Iterator[Event]:
+    def _events_of(self, piece: bytes) -> Iterator[events.Event]:
         """Yields what a piece of the text says, as far as the limits let it."""
         if self._room is not None:
             is_over = len(piece) > self._room
@@ -231,7 +224,7 @@ class Run:
             self._counted += is_solution
             self._build(event)
             yield event
-            if isinstance(event, LineEvent) and self._has_enough():
+            if isinstance(event, events.LineEvent) and self._has_enough():
                 self._stop(Ending.SOLUTIONS)
         if is_over:
             self._stop(Ending.BYTES)
@@ -239,16 +232,16 @@ class Run:
     def _has_enough(self) -> bool:
         return self._limits.solutions is not None and self._counted >= self._limits.solutions
 
-    def _build(self, event: Event) -> None:
+    def _build(self, event: events.Event) -> None:
         item = self._builder.take(event)
         if item is not None:
             self._items.append(item)
 
 
-def _is_solution(event: Event) -> bool:
+def _is_solution(event: events.Event) -> bool:
     """Returns whether an event is a solution, or begins one."""
-    if isinstance(event, NodeEvent):
-        return event.place is Place.SOLUTION and event.level == 0
-    if isinstance(event, FirstMoveEvent):
-        return event.kind is FirstMoveKind.KEY
-    return isinstance(event, LineEvent)
+    if isinstance(event, events.NodeEvent):
+        return event.place is events.Place.SOLUTION and event.level == 0
+    if isinstance(event, events.FirstMoveEvent):
+        return event.kind is events.FirstMoveKind.KEY
+    return isinstance(event, events.LineEvent)

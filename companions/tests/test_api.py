@@ -67,7 +67,3 @@ class Examples(unittest.TestCase):
             words = ["mypy", "--cache-dir", f"{room}/cache", *files]
             done = subprocess.run(words, cwd=support.REPOSITORY, capture_output=True, text=True)
         self.assertEqual(done.returncode, 0, done.stdout + done.stderr)
-
-
-if __name__ == "__main__":
-    unittest.main()

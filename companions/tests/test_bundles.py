@@ -250,7 +250,3 @@ class Solved(unittest.TestCase):
         text = input_of(*[MATE] * 12)
         outcome = self.many(text, "--jobs", "1", "--pops", odd)
         self.assertEqual(outcome.output, support.run([support.pops()], text).output)
-
-
-if __name__ == "__main__":
-    unittest.main()

@@ -50,7 +50,3 @@ class Chain(unittest.TestCase):
             keys, [["Ra1-a6"], ["Qb3-b8+"], ["Qf3-f6+"], ["Bc4*f7+"], ["Qf4-h6+"], ["Qf3*c6+"]]
         )
         self.assertEqual(objects[0]["title"], "Paul Morphy, 1856")
-
-
-if __name__ == "__main__":
-    unittest.main()

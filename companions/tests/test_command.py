@@ -80,7 +80,3 @@ class Streams(unittest.TestCase):
                 )
                 self.assertEqual(run.returncode, 3)
                 self.assertEqual(run.stderr, b"pops-page: No space left on device\n")
-
-
-if __name__ == "__main__":
-    unittest.main()

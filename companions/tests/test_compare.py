@@ -354,7 +354,3 @@ class Command(unittest.TestCase):
         self.assertIn(b"exit status: 0 if nothing differs", outcome.output)
         version = support.companion("pops-compare", "--version")
         self.assertTrue(version.output.startswith(b"pops-compare"))
-
-
-if __name__ == "__main__":
-    unittest.main()

@@ -320,7 +320,3 @@ class Command(unittest.TestCase):
         outcome = support.companion("pops-diagram", "--help")
         self.assertEqual(outcome.status, 0)
         self.assertIn(b"example:", outcome.output)
-
-
-if __name__ == "__main__":
-    unittest.main()

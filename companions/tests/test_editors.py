@@ -171,7 +171,3 @@ class Vim(unittest.TestCase):
         )
         said = self.said(text, script)
         self.assertEqual(said, ["1"] * 5 + ["0"] * 2 + ["Remark %s", "- #2, A "])
-
-
-if __name__ == "__main__":
-    unittest.main()

@@ -298,7 +298,3 @@ class Json(unittest.TestCase):
             report.write_bytes(b"problem 1\nline 2: fault 5: square given twice\n\n")
             outcome = support.companion("pops-explain", "--json", str(text), str(report))
         self.assertEqual((outcome.status, outcome.output), (1, b""))
-
-
-if __name__ == "__main__":
-    unittest.main()

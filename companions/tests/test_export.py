@@ -295,7 +295,3 @@ class Command(unittest.TestCase):
         for words, status in cases:
             with self.subTest(words):
                 self.assertEqual(run_here.companion("pops-export", *words).status, status)
-
-
-if __name__ == "__main__":
-    unittest.main()

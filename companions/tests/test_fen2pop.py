@@ -405,7 +405,3 @@ class Games(unittest.TestCase):
             tags = path.read_bytes().count(b"[FEN ")
             outcome = support.companion("fen2pop", "-s", "#2", "-f", str(path))
             self.assertEqual(outcome.output.count(b"Stipulation #2\n"), tags)
-
-
-if __name__ == "__main__":
-    unittest.main()

@@ -372,7 +372,3 @@ class Command(unittest.TestCase):
         self.assertIn("mine.db", outcome.error)
         with self.assertRaises(CollectionError):
             Collection(self.path, new=True)
-
-
-if __name__ == "__main__":
-    unittest.main()

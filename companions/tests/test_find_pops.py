@@ -252,7 +252,3 @@ class Told(unittest.TestCase):
             self.assertIn(done.returncode, (2, 3))
             said = f"{path.name}: there is no program nowhere\n"
             self.assertEqual(done.stderr.decode(), said)
-
-
-if __name__ == "__main__":
-    unittest.main()

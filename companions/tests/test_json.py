@@ -376,7 +376,3 @@ class Command(unittest.TestCase):
         outcome = support.companion("pops2json", "--help")
         self.assertEqual(outcome.status, 0)
         self.assertIn(b"examples:", outcome.output)
-
-
-if __name__ == "__main__":
-    unittest.main()

@@ -358,7 +358,3 @@ class Judging(unittest.TestCase):
         self.assertIn("some.pop is no input of pops: pops-import makes one", outcome.error)
         self.assertEqual(self.judged("--seconds", "-1").status, 2)
         self.assertEqual(support.companion("pops-judge", str(self.text)).status, 2)
-
-
-if __name__ == "__main__":
-    unittest.main()

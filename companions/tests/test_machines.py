@@ -193,7 +193,3 @@ class OnMachines(unittest.TestCase):
         self.assertEqual(outcome, (0, support.run([support.pops()], text).output, ""))
         self.assertTrue(all("ControlMaster" in login for login in self.logins()))
         self.assertEqual(shutil.which("ssh", path=path), str(self.room / "ssh"))
-
-
-if __name__ == "__main__":
-    unittest.main()

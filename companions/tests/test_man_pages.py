@@ -29,7 +29,3 @@ class ManPages(unittest.TestCase):
                 done = subprocess.run(words, capture_output=True, text=True, timeout=support.PATIENCE)
                 self.assertEqual((done.returncode, done.stderr), (0, ""))
                 self.assertIn("EXAMPLES", done.stdout)
-
-
-if __name__ == "__main__":
-    unittest.main()

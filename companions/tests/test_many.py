@@ -344,7 +344,3 @@ class Command(unittest.TestCase):
         self.assertEqual(duration(5), "0:05")
         self.assertEqual(duration(3723), "1:02:03")
         self.assertEqual(duration(2 * 86400 + 3 * 3600 + 4 * 60 + 5), "2 days 3:04:05")
-
-
-if __name__ == "__main__":
-    unittest.main()

@@ -130,7 +130,3 @@ class Heartbeat(unittest.TestCase):
         problem.keep(Part(task, "play", 100, 2), b"1.a\n1.b\nsolutions: 2, stopped\n")
         self.assertEqual(problem.first_moves, (2, 15))
         self.assertTrue(SplitProblem(task, b"", Cutting(phases, phases, 2), None).is_by_first_moves)
-
-
-if __name__ == "__main__":
-    unittest.main()

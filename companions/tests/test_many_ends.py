@@ -212,7 +212,3 @@ class LastLine(unittest.TestCase):
             time.sleep(0.7)
             progress.wait_on()
         self.assertEqual(shown.getvalue(), "\rpops-many: 1 of 1 problems")
-
-
-if __name__ == "__main__":
-    unittest.main()

@@ -168,7 +168,3 @@ class Several(SixProblems):
         words += ["-o", "/dev/stdout", "--journal", str(self.journal), str(self.input)]
         done = subprocess.run(words, capture_output=True, timeout=support.PATIENCE)
         self.assertEqual((done.returncode, done.stdout), (0, self.wanted))
-
-
-if __name__ == "__main__":
-    unittest.main()

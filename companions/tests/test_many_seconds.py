@@ -140,7 +140,3 @@ class Seconds(SixProblems):
             assert run.stdout is not None
             self.assertEqual(run.stdout.read(len(lines)), lines)
             run.kill()
-
-
-if __name__ == "__main__":
-    unittest.main()

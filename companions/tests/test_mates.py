@@ -140,7 +140,3 @@ class Programs(unittest.TestCase):
         self.assertEqual(self.numbers(*words), ["1"])
         told = run_here.companion("pops-find", str(self.room / "some.db"), *words).output.decode()
         self.assertIn("mirrored left to right; with these men", told)
-
-
-if __name__ == "__main__":
-    unittest.main()

@@ -309,7 +309,3 @@ class Command(unittest.TestCase):
         said = f"pops-explain: {self.input}: nothing could be corrected\n"
         self.assertEqual((outcome.status, outcome.error), (1, said))
         self.assertEqual(run_here.companion("pops-explain", "--fix").status, 2)
-
-
-if __name__ == "__main__":
-    unittest.main()

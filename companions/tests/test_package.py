@@ -199,7 +199,3 @@ class Wheel(unittest.TestCase):
         )
         self.assertEqual((done.returncode, done.stderr.decode()), (0, ""))
         return done.stdout.decode()
-
-
-if __name__ == "__main__":
-    unittest.main()

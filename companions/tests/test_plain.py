@@ -121,7 +121,3 @@ class Definitions(unittest.TestCase):
             "problem 1\nh#1\nno tries in help play\n\n"
             "problem 2\nline 8: fault 18: side not to move is in check\n\n",
         )
-
-
-if __name__ == "__main__":
-    unittest.main()

@@ -179,7 +179,3 @@ class Published(unittest.TestCase):
         self.assertEqual(phase(text, "play")[0], "1.Qh8-b2!")
         after = text.split("\n1.Qh8-h2?\n")[1].split("\ntries")[0]
         self.assertEqual(after.split("  but\n")[1], "    1...Ke1-d1!")
-
-
-if __name__ == "__main__":
-    unittest.main()

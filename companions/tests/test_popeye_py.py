@@ -114,7 +114,3 @@ class Command(unittest.TestCase):
         )
         self.assertEqual(solved("").status, 1)
         self.assertEqual(solved("", "/no/such.inp").status, 3)
-
-
-if __name__ == "__main__":
-    unittest.main()

@@ -350,7 +350,3 @@ class Public(unittest.TestCase):
         folder = Path(pops.__file__).parent
         self.assertTrue(os.path.isfile(folder / "py.typed"))
         self.assertTrue(os.path.isfile(support.PACKAGE / "py.typed"))
-
-
-if __name__ == "__main__":
-    unittest.main()

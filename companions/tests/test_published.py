@@ -89,7 +89,3 @@ class Collections(unittest.TestCase):
         self.assertEqual(found.faults, [])
         self.assertGreater(found.counts["refutations of a try"], _TRIES)
         self.assertEqual(found.counts["refutations of a try"], found.counts["try"])
-
-
-if __name__ == "__main__":
-    unittest.main()

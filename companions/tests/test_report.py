@@ -251,7 +251,3 @@ class Stipulations(unittest.TestCase):
         ):
             with self.subTest(text), self.assertRaises(ValueError):
                 Stipulation.of_text(text)
-
-
-if __name__ == "__main__":
-    unittest.main()

@@ -704,7 +704,3 @@ class Command(Case):
         outcome = self.made(OF_THE_MANUAL, "--pops-tries", str(self.tries))
         self.assertEqual((outcome.status, outcome.output), (3, b""))
         self.assertIn("pops-tries ended with status 4", outcome.error)
-
-
-if __name__ == "__main__":
-    unittest.main()

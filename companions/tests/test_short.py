@@ -80,7 +80,3 @@ class Short(unittest.TestCase):
                     self.assertEqual(is_told_apart, ends[move.kind, move.arrival] > 1, text)
                     tried += is_told_apart
         self.assertGreater(tried, 400)
-
-
-if __name__ == "__main__":
-    unittest.main()

@@ -808,7 +808,3 @@ class Command(unittest.TestCase):
         self.assertIn(b"example:", outcome.output)
         version = run_here.companion("pops-test", "--version")
         self.assertTrue(version.output.startswith(b"pops-test "))
-
-
-if __name__ == "__main__":
-    unittest.main()

@@ -450,7 +450,3 @@ class Problems(unittest.TestCase):
         for number in range(1, 9):
             self.assertFalse(problem.keep(self.part(number), self.report(1000)))
         self.assertEqual((problem.tally, problem.found), ((8, 10), 8000))
-
-
-if __name__ == "__main__":
-    unittest.main()

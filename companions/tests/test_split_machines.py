@@ -227,7 +227,3 @@ class Words(unittest.TestCase):
 if not has_gnu_parallel():
     print("GNU parallel: not here, so parts on other machines were not tried")
     del Fails, Limits, Ends
-
-
-if __name__ == "__main__":
-    unittest.main()

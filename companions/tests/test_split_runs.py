@@ -302,7 +302,3 @@ class Command(unittest.TestCase):
             wanted = support.run([support.pops()], text)
             with self.subTest(text):
                 self.assertEqual(support.companion("pops-many", *words, text=text), wanted)
-
-
-if __name__ == "__main__":
-    unittest.main()

@@ -196,7 +196,3 @@ class Testing(unittest.TestCase):
         outcome = self.judged(SEVERAL_THREATS, b"problem 1\n")
         self.assertEqual(outcome.status, 3)
         self.assertIn("some.tries is no text of pops-tries: line 2: ", outcome.error)
-
-
-if __name__ == "__main__":
-    unittest.main()

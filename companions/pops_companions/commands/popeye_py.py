@@ -12,14 +12,7 @@ from pops.run import Ending, Limits, Result
 from pops_companions import command
 from pops_companions.chess.stipulation import Play
 from pops_companions.command import CommandError, Status
-from pops_companions.export.popeye_layout import (
-    Shown,
-    asked_line,
-    board_lines,
-    help_lines,
-    solution_lines,
-    with_all_defences,
-)
+from pops_companions.export import popeye_layout
 from pops_companions.import_.draft import Draft, Options
 from pops_companions.import_.posing import Posed, posed
 from pops_companions.import_.sources import read_drafts
@@ -97,10 +90,10 @@ class Solver:
         phases = solved.phases or () if isinstance(solved, SoundItem) else ()
         if item.stipulation.play is Play.HELP:
             for phase in phases:
-                yield from help_lines(phase)
+                yield from popeye_layout.help_lines(phase)
                 yield ""
         else:
-            yield from solution_lines(_joined(item, phases), _shown_by(draft.options))
+            yield from popeye_layout.solution_lines(_joined(item, phases), _shown_by(draft.options))
         self.is_whole = tries.ending is result.ending is Ending.COMPLETE
         said = "solution finished." if self.is_whole else "Partial solution"
         yield f"{said} Time = {time.monotonic() - begun:.3f} s"
@@ -112,12 +105,12 @@ class Solver:
         return engine.solve(text, Limits(seconds=left)).result
 
 
-def _shown_by(options: Options) -> Shown:
+def _shown_by(options: Options) -> popeye_layout.Shown:
     """Returns what the options of an input ask for."""
-    asked = Shown.KEYS
+    asked = popeye_layout.Shown.KEYS
     if "Variation" in options.words:
-        asked |= Shown.VARIATIONS
-    return asked | Shown.TRIES if options.refutations else asked
+        asked |= popeye_layout.Shown.VARIATIONS
+    return asked | popeye_layout.Shown.TRIES if options.refutations else asked
 
 
 def _with_all_shown(lines: list[str]) -> list[str]:
@@ -135,9 +128,9 @@ def _head(label: str, item: TriesItem) -> Iterator[str]:
         if text is not None:
             yield shown(text, "utf-8")
     yield ""
-    yield from board_lines(item.board.men)
+    yield from popeye_layout.board_lines(item.board.men)
     condition = "" if item.condition is None else f" {item.condition.value}"
-    yield asked_line(item.stipulation, item.board.men) + condition
+    yield popeye_layout.asked_line(item.stipulation, item.board.men) + condition
     yield ""
     if label:
         yield label
@@ -152,7 +145,7 @@ def _joined(tries: TriesItem, phases: Iterable[Phase]) -> TriesItem:
 
     def whole(first: FirstMove) -> FirstMove:
         key = keys.get(first.move.text)
-        return first if key is None else with_all_defences(first, key)
+        return first if key is None else popeye_layout.with_all_defences(first, key)
 
     return replace(tries, keys=tuple(map(whole, tries.keys)))
 

@@ -4,31 +4,7 @@ from collections.abc import Sequence
 from dataclasses import dataclass, field
 from typing import Any, NamedTuple, Optional, Union
 
-from pops_companions.report import lines
-from pops_companions.report.events import (
-    CheckedEvent,
-    EndEvent,
-    Event,
-    FaultEvent,
-    HeadEvent,
-    LineEvent,
-    NodeEvent,
-    NotPossibleEvent,
-    PhaseEvent,
-    TotalEvent,
-)
-from pops_companions.report.items import (
-    AnyItem,
-    Fault,
-    FaultyItem,
-    HeadlessItem,
-    HelpLine,
-    Node,
-    Phase,
-    PhaseKind,
-    SoundItem,
-    Total,
-)
+from pops_companions.report import events, items, lines
 from pops_companions.report.moves import PlayedMove
 
 
@@ -49,18 +25,18 @@ _MOST_LEVELS = 64
 class GrowingPhase:
     """A phase whose solutions come one by one."""
 
-    kind: PhaseKind
-    solutions: list[Union[HelpLine, Node]] = field(default_factory=list)
+    kind: items.PhaseKind
+    solutions: list[Union[items.HelpLine, items.Node]] = field(default_factory=list)
     lines: list[str] = field(default_factory=list)
-    _path: list[tuple[int, Node]] = field(default_factory=list)
+    _path: list[tuple[int, items.Node]] = field(default_factory=list)
 
-    def add_line(self, line: HelpLine) -> None:
+    def add_line(self, line: items.HelpLine) -> None:
         self.solutions.append(line)
         self.lines.append(line.text)
 
-    def add_node(self, event: NodeEvent) -> None:
+    def add_node(self, event: events.NodeEvent) -> None:
         text = "  " * event.level + event.text
-        node = Node(text, event.move)
+        node = items.Node(text, event.move)
         while self._path and self._path[-1][0] >= event.level:
             self._path.pop()
         if self._path:
@@ -85,8 +61,8 @@ class GrowingPhase:
             if found is None or found[0] > deepest:
                 break
             level, text, move = found
-            nodes: list[Node] = []
-            below[level].append(Node(text, move, nodes))
+            nodes: list[items.Node] = []
+            below[level].append(items.Node(text, move, nodes))
             deepest = level + 1
             below[deepest] = nodes
             texts.append(text)
@@ -99,15 +75,15 @@ class GrowingPhase:
         return len(self._path)
 
     @property
-    def nodes(self) -> tuple[Node, ...]:
+    def nodes(self) -> tuple[items.Node, ...]:
         """The moves of battle play of its first level."""
-        return tuple(it for it in self.solutions if isinstance(it, Node))
+        return tuple(it for it in self.solutions if isinstance(it, items.Node))
 
-    def ended(self, total: Optional[Total], last_line: str) -> Phase:
-        return Phase(self.kind, tuple(self.solutions), tuple(self.lines), total, last_line)
+    def ended(self, total: Optional[items.Total], last_line: str) -> items.Phase:
+        return items.Phase(self.kind, tuple(self.solutions), tuple(self.lines), total, last_line)
 
 
-def total_text(total: Total) -> str:
+def total_text(total: items.Total) -> str:
     """Returns the line of a phase's total."""
     return lines.total_line(total.count, total.stopped).decode("ascii").rstrip("\n")
 
@@ -119,35 +95,35 @@ class ItemBuilder:
         self._begin()
 
     def _begin(self) -> None:
-        self._fault: Optional[Fault] = None
-        self._head: Optional[HeadEvent] = None
+        self._fault: Optional[items.Fault] = None
+        self._head: Optional[events.HeadEvent] = None
         self._is_checked = False
-        self._phases: list[Phase] = []
+        self._phases: list[items.Phase] = []
         self._growing: Optional[GrowingPhase] = None
 
-    def take(self, event: Event) -> Optional[AnyItem]:
+    def take(self, event: events.Event) -> Optional[items.AnyItem]:
         """Takes the next event; returns the item that it ends, if it ends one."""
-        if isinstance(event, EndEvent):
+        if isinstance(event, events.EndEvent):
             item = self._item(event)
             self._begin()
             return item
-        if isinstance(event, FaultEvent):
+        if isinstance(event, events.FaultEvent):
             self._fault = event.fault
-        elif isinstance(event, HeadEvent):
+        elif isinstance(event, events.HeadEvent):
             self._head = event
-        elif isinstance(event, CheckedEvent):
+        elif isinstance(event, events.CheckedEvent):
             self._is_checked = True
-        elif isinstance(event, PhaseEvent):
+        elif isinstance(event, events.PhaseEvent):
             self._end_phase(None, "unfinished")
             self._growing = GrowingPhase(event.phase)
-        elif isinstance(event, NotPossibleEvent):
+        elif isinstance(event, events.NotPossibleEvent):
             self._end_phase(None, lines.NOT_POSSIBLE.decode("ascii"))
-        elif isinstance(event, TotalEvent):
+        elif isinstance(event, events.TotalEvent):
             self._end_phase(event.total, total_text(event.total))
         elif self._growing is not None:
-            if isinstance(event, LineEvent):
+            if isinstance(event, events.LineEvent):
                 self._growing.add_line(event.line)
-            elif isinstance(event, NodeEvent):
+            elif isinstance(event, events.NodeEvent):
                 self._growing.add_node(event)
         return None
 
@@ -162,18 +138,18 @@ class ItemBuilder:
         assert self._growing is not None
         return len(self._growing.solutions), self._growing.depth
 
-    def _end_phase(self, total: Optional[Total], last_line: str) -> None:
+    def _end_phase(self, total: Optional[items.Total], last_line: str) -> None:
         if self._growing is not None:
             self._phases.append(self._growing.ended(total, last_line))
             self._growing = None
 
-    def _item(self, end: EndEvent) -> AnyItem:
+    def _item(self, end: events.EndEvent) -> items.AnyItem:
         if self._fault is not None:
-            return FaultyItem(end.problem, self._fault)
+            return items.FaultyItem(end.problem, self._fault)
         head = self._head
         if head is None:
-            return HeadlessItem(end.problem, end.unfinished or "")
+            return items.HeadlessItem(end.problem, end.unfinished or "")
         self._end_phase(None, f"unfinished: {end.unfinished}")
         names = (head.title, head.author, head.board, head.stipulation, head.condition)
         phases = None if self._is_checked else tuple(self._phases)
-        return SoundItem(end.problem, *names, phases, end.unfinished)
+        return items.SoundItem(end.problem, *names, phases, end.unfinished)

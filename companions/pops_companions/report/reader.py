@@ -14,32 +14,8 @@ from typing import Optional
 
 from pops_companions.chess.men import Colour
 from pops_companions.chess.stipulation import Condition, Play, Stipulation
-from pops_companions.report import lines
-from pops_companions.report.events import (
-    CheckedEvent,
-    EndEvent,
-    Event,
-    FaultEvent,
-    HeadEvent,
-    LineEvent,
-    NodeEvent,
-    NotPossibleEvent,
-    PhaseEvent,
-    Place,
-    ProblemEvent,
-    TotalEvent,
-)
+from pops_companions.report import events, items, lines
 from pops_companions.report.item_builder import ItemBuilder, KnownNode, KnownNodes
-from pops_companions.report.items import (
-    AnyItem,
-    Board,
-    Fault,
-    HeadlessItem,
-    HelpLine,
-    Item,
-    PhaseKind,
-    Total,
-)
 from pops_companions.report.moves import PlayedMove, prefix, read_move
 
 
@@ -65,7 +41,7 @@ _LONGEST_SHOWN = 60
 _MOST_KNOWN = 100_000
 _PIECE = 1 << 16
 # What a state makes of a line.
-State = Callable[[bytes], Iterator[Event]]
+State = Callable[[bytes], Iterator[events.Event]]
 
 
 class LineReader:
@@ -86,7 +62,7 @@ class LineReader:
         self._author: Optional[bytes] = None
         self._ranks: list[str] = []
 
-    def feed(self, data: bytes) -> Iterator[Event]:
+    def feed(self, data: bytes) -> Iterator[events.Event]:
         """Takes some bytes of the text, cut anywhere, and yields what they say.
 
         Take all events before the next call. ReportError where the text departs from the grammar,
@@ -100,7 +76,7 @@ class LineReader:
         *whole, self._begun = (self._begun + data).split(b"\n")
         return whole
 
-    def close(self, reason: str = CUT) -> Iterator[Event]:
+    def close(self, reason: str = CUT) -> Iterator[events.Event]:
         """Ends the text and yields the end of a problem that it is cut in, with the reason.
 
         A cut line is left out. ReportError where unfinished problems aren't allowed.
@@ -112,10 +88,10 @@ class LineReader:
                 raise ReportError(self._line + 1, "the report is cut inside a problem")
         if self._state != self._problem:
             is_whole = self._state == self._end
-            yield EndEvent(self._number, self._unfinished if is_whole else reason)
+            yield events.EndEvent(self._number, self._unfinished if is_whole else reason)
         self._begun, self._state = b"", self._problem
 
-    def take(self, line: bytes) -> Iterator[Event]:
+    def take(self, line: bytes) -> Iterator[events.Event]:
         """Takes the next line and yields what it says."""
         self._line += 1
         is_marked = line.startswith(lines.UNFINISHED) and self._state != self._problem
@@ -131,7 +107,7 @@ class LineReader:
         shown = text if len(text) <= _LONGEST_SHOWN else text[:_LONGEST_SHOWN] + ".."
         return ReportError(self._line, f"expected {expected}, found {shown!r}")
 
-    def _problem(self, line: bytes) -> Iterator[Event]:
+    def _problem(self, line: bytes) -> Iterator[events.Event]:
         found = lines.PROBLEM.fullmatch(line)
         if found is None:
             raise self.refused("a line 'problem' with its number", line)
@@ -139,36 +115,36 @@ class LineReader:
         self._unfinished = self._title = self._author = None
         self._ranks = []
         self._state = self._fault_or_title
-        yield ProblemEvent(self._number)
+        yield events.ProblemEvent(self._number)
 
-    def _fault_or_title(self, line: bytes) -> Iterator[Event]:
+    def _fault_or_title(self, line: bytes) -> Iterator[events.Event]:
         found = lines.FAULT.fullmatch(line)
         if found is None:
             yield from self._title_line(line)
             return
         self._state = self._end
-        fault = Fault(int(found[1]), int(found[2]), found[3].decode("latin-1"))
-        yield FaultEvent(self._number, fault)
+        fault = items.Fault(int(found[1]), int(found[2]), found[3].decode("latin-1"))
+        yield events.FaultEvent(self._number, fault)
 
-    def _title_line(self, line: bytes) -> Iterator[Event]:
+    def _title_line(self, line: bytes) -> Iterator[events.Event]:
         self._state = self._author_line
         if not line.startswith(lines.TITLE):
             return self._author_line(line)
         self._title = line[len(lines.TITLE) :]
         return iter(())
 
-    def _author_line(self, line: bytes) -> Iterator[Event]:
+    def _author_line(self, line: bytes) -> Iterator[events.Event]:
         self._state = self._board_line
         if not line.startswith(lines.AUTHOR):
             return self._board_line(line)
         self._author = line[len(lines.AUTHOR) :]
         return iter(())
 
-    def _board_line(self, line: bytes) -> Iterator[Event]:
+    def _board_line(self, line: bytes) -> Iterator[events.Event]:
         self._state = self._rank if line.startswith(b"8 ") else self._stipulation_line
         return self._state(line)
 
-    def _rank(self, line: bytes) -> Iterator[Event]:
+    def _rank(self, line: bytes) -> Iterator[events.Event]:
         rank = 8 - len(self._ranks)
         found = lines.RANK.fullmatch(line)
         if found is None or int(found[1]) != rank:
@@ -178,13 +154,13 @@ class LineReader:
             self._state = self._files
         return iter(())
 
-    def _files(self, line: bytes) -> Iterator[Event]:
+    def _files(self, line: bytes) -> Iterator[events.Event]:
         if line != lines.FILES:
             raise self.refused("the line of files below a board", line)
         self._state = self._stipulation_line
         return iter(())
 
-    def _stipulation_line(self, line: bytes) -> Iterator[Event]:
+    def _stipulation_line(self, line: bytes) -> Iterator[events.Event]:
         words = line.decode("latin-1").split(" ")
         try:
             stipulation = Stipulation.of_text(words[0])
@@ -193,19 +169,20 @@ class LineReader:
             raise self.refused("a stipulation", line) from None
         if len(words) > 2:
             raise self.refused("a stipulation and at most one condition", line)
-        board = Board(tuple(self._ranks)) if self._ranks else None
+        board = items.Board(tuple(self._ranks)) if self._ranks else None
         self._begin(stipulation)
-        yield HeadEvent(self._number, self._title, self._author, board, stipulation, condition)
+        names = (self._title, self._author, board)
+        yield events.HeadEvent(self._number, *names, stipulation, condition)
 
     def _begin(self, stipulation: Stipulation) -> None:
         """Sets the state that takes the first line after the head."""
         raise NotImplementedError
 
-    def _end(self, line: bytes) -> Iterator[Event]:
+    def _end(self, line: bytes) -> Iterator[events.Event]:
         if line != b"":
             raise self.refused("an empty line", line)
         self._state = self._problem
-        yield EndEvent(self._number, self._unfinished)
+        yield events.EndEvent(self._number, self._unfinished)
 
 
 class ReportReader(LineReader):
@@ -214,14 +191,14 @@ class ReportReader(LineReader):
     def __init__(self, allowed: Allowed):
         super().__init__(allowed)
         self._stipulation = Stipulation.of_text("#1")
-        self._kind = PhaseKind.PLAY
+        self._kind = items.PhaseKind.PLAY
         self._count = 0
         self._deepest = 0
         # What lines of battle play say, for each first half-move.
         self._known: dict[int, KnownNodes] = {}
         self._known_here: KnownNodes = {}
 
-    def feed_builder(self, data: bytes, builder: ItemBuilder) -> Iterator[AnyItem]:
+    def feed_builder(self, data: bytes, builder: ItemBuilder) -> Iterator[items.AnyItem]:
         """Takes some bytes as `feed` does, and yields the items that end in them.
 
         Lines of battle play that were read before make no events: a tree repeats its lines.
@@ -252,38 +229,38 @@ class ReportReader(LineReader):
         self._stipulation = stipulation
         self._state = self._first_phase
 
-    def _first_phase(self, line: bytes) -> Iterator[Event]:
+    def _first_phase(self, line: bytes) -> Iterator[events.Event]:
         if line == lines.SOUND:
             self._state = self._end
-            return iter((CheckedEvent(self._number),))
-        if line == PhaseKind.SET.value.encode("ascii"):
-            return self._phase(PhaseKind.SET)
+            return iter((events.CheckedEvent(self._number),))
+        if line == items.PhaseKind.SET.value.encode("ascii"):
+            return self._phase(items.PhaseKind.SET)
         return self._play(line)
 
-    def _play(self, line: bytes) -> Iterator[Event]:
-        if line != PhaseKind.PLAY.value.encode("ascii"):
+    def _play(self, line: bytes) -> Iterator[events.Event]:
+        if line != items.PhaseKind.PLAY.value.encode("ascii"):
             raise self.refused("'play'", line)
-        return self._phase(PhaseKind.PLAY)
+        return self._phase(items.PhaseKind.PLAY)
 
-    def _phase(self, kind: PhaseKind) -> Iterator[Event]:
+    def _phase(self, kind: items.PhaseKind) -> Iterator[events.Event]:
         self._kind, self._count, self._deepest = kind, 0, 0
         self._known_here = self._known.setdefault(self._first_half, {})
         self._state = self._first_solution
-        yield PhaseEvent(self._number, kind)
+        yield events.PhaseEvent(self._number, kind)
 
-    def _first_solution(self, line: bytes) -> Iterator[Event]:
+    def _first_solution(self, line: bytes) -> Iterator[events.Event]:
         if line != lines.NOT_POSSIBLE:
             self._state = self._solution
             yield from self._solution(line)
             return
         self._state = self._after_phase()
-        yield NotPossibleEvent(self._number, self._kind)
+        yield events.NotPossibleEvent(self._number, self._kind)
 
     def _after_phase(self) -> State:
-        return self._play if self._kind is PhaseKind.SET else self._end
+        return self._play if self._kind is items.PhaseKind.SET else self._end
 
-    def _solution(self, line: bytes) -> Iterator[Event]:
-        is_set = self._kind is PhaseKind.SET
+    def _solution(self, line: bytes) -> Iterator[events.Event]:
+        is_set = self._kind is items.PhaseKind.SET
         if self._allowed is Allowed.UNFINISHED and is_set and line == b"play":
             # (as pops-many writes an unfinished problem of which parts of both phases were solved)
             yield from self._play(line)
@@ -292,12 +269,13 @@ class ReportReader(LineReader):
         if total is not None:
             self._refuse_other_count(int(total[1]), line)
             self._state = self._after_phase()
-            yield TotalEvent(self._number, self._kind, Total(self._count, total[2] is not None))
+            counted = items.Total(self._count, total[2] is not None)
+            yield events.TotalEvent(self._number, self._kind, counted)
         elif self._stipulation.play is Play.HELP:
             self._count += 1
-            yield LineEvent(self._number, self._kind, self._help_line(line))
+            yield events.LineEvent(self._number, self._kind, self._help_line(line))
         else:
-            yield self._node(line, Place.SOLUTION, 0)
+            yield self._node(line, events.Place.SOLUTION, 0)
 
     def _refuse_other_count(self, count: int, line: bytes) -> None:
         if count != self._count:
@@ -305,9 +283,9 @@ class ReportReader(LineReader):
 
     @property
     def _first_half(self) -> int:
-        return self._stipulation.first_half + (1 if self._kind is PhaseKind.SET else 0)
+        return self._stipulation.first_half + (1 if self._kind is items.PhaseKind.SET else 0)
 
-    def _help_line(self, line: bytes) -> HelpLine:
+    def _help_line(self, line: bytes) -> items.HelpLine:
         text = line.decode("latin-1")
         halves = self._stipulation.first_half + self._stipulation.half_moves - self._first_half
         place = 0
@@ -324,9 +302,9 @@ class ReportReader(LineReader):
             place = found[1]
         if place != len(text) or not moves or len(moves) != halves:
             raise self.refused(f"a line of {halves} half-moves", line)
-        return HelpLine(text, tuple(moves))
+        return items.HelpLine(text, tuple(moves))
 
-    def _node(self, line: bytes, place: Place, least: int) -> NodeEvent:
+    def _node(self, line: bytes, place: events.Place, least: int) -> events.NodeEvent:
         """Returns the node of a line, whose level is from `least` to one more than the level before."""
         text = line.decode("latin-1")
         level = (len(text) - len(text.lstrip(" "))) // 2
@@ -340,7 +318,7 @@ class ReportReader(LineReader):
         self._deepest = level + 1
         if len(self._known_here) < _MOST_KNOWN:
             self._known_here[line] = KnownNode(level, text, move)
-        return NodeEvent(self._number, self._kind, place, level, text[2 * level :], move)
+        return events.NodeEvent(self._number, self._kind, place, level, text[2 * level :], move)
 
 
 def whole_move(text: str, lead: str, half: int, side: Colour) -> Optional[PlayedMove]:
@@ -349,24 +327,24 @@ def whole_move(text: str, lead: str, half: int, side: Colour) -> Optional[Played
     return None if found is None or found[1] != len(text) else found[0]
 
 
-def read_events(reader: LineReader, source: Iterable[bytes]) -> Iterator[Event]:
+def read_events(reader: LineReader, source: Iterable[bytes]) -> Iterator[events.Event]:
     """Yields what a text says, whose bytes come in pieces of any size."""
     for data in source:
         yield from reader.feed(data)
     yield from reader.close()
 
 
-def read_report(source: Iterable[bytes]) -> Iterator[Item]:
+def read_report(source: Iterable[bytes]) -> Iterator[items.Item]:
     """Yields the items of a report, whose bytes come in pieces, as from a binary file.
 
     ReportError where the text departs from the grammar, after the items before.
     """
     for item in _items(Allowed.FINISHED, source):
-        assert not isinstance(item, HeadlessItem)
+        assert not isinstance(item, items.HeadlessItem)
         yield item
 
 
-def read_unfinished_report(source: Iterable[bytes]) -> Iterator[AnyItem]:
+def read_unfinished_report(source: Iterable[bytes]) -> Iterator[items.AnyItem]:
     """Yields items as `read_report` does, also of stopped problems and of a report that is cut.
 
     These problems have what the report shows of them. A cut line is left out.
@@ -374,7 +352,7 @@ def read_unfinished_report(source: Iterable[bytes]) -> Iterator[AnyItem]:
     return _items(Allowed.UNFINISHED, source)
 
 
-def _items(allowed: Allowed, source: Iterable[bytes]) -> Iterator[AnyItem]:
+def _items(allowed: Allowed, source: Iterable[bytes]) -> Iterator[items.AnyItem]:
     reader, builder = ReportReader(allowed), ItemBuilder()
     for data in _pieces(source):
         yield from reader.feed_builder(data, builder)

@@ -9,39 +9,8 @@ from dataclasses import dataclass, field
 from typing import Optional, Union
 
 from pops_companions.chess.stipulation import Condition, Play, Stipulation
-from pops_companions.report import lines
-from pops_companions.report.events import (
-    CheckedEvent,
-    EndEvent,
-    Event,
-    FaultEvent,
-    FirstMoveEvent,
-    FirstMoveKind,
-    HeadEvent,
-    Menace,
-    MenaceEvent,
-    NodeEvent,
-    NotPossibleEvent,
-    NoTriesEvent,
-    PhaseEvent,
-    Place,
-    RefutationEvent,
-    StalemateEvent,
-    TotalEvent,
-    TriesEvent,
-    TriesTotalEvent,
-)
+from pops_companions.report import events, items, lines
 from pops_companions.report.item_builder import GrowingPhase, total_text
-from pops_companions.report.items import (
-    Board,
-    Fault,
-    FaultyItem,
-    HeadlessItem,
-    Node,
-    Phase,
-    PhaseKind,
-    Total,
-)
 from pops_companions.report.moves import PlayedMove, prefix
 from pops_companions.report.reader import Allowed, ReportReader, State, read_events, whole_move
 
@@ -51,6 +20,8 @@ _BUT = "  but"
 _STALEMATE = "    stalemate"
 _TRIES_TOTAL = re.compile(r"tries: ([0-9]{1,18})")
 _NODE = re.compile(r"( *)[0-9]")
+_Below = Union[events.MenaceEvent, events.RefutationEvent, events.StalemateEvent]
+_OfPhase = Union[events.PhaseEvent, events.NotPossibleEvent, events.TotalEvent]
 
 
 @dataclass(frozen=True)
@@ -63,10 +34,10 @@ class FirstMove:
 
     text: str
     move: PlayedMove
-    menace: Optional[Menace] = None
-    threats: tuple[Node, ...] = ()
-    defences: tuple[Node, ...] = ()
-    refutations: tuple[Node, ...] = ()
+    menace: Optional[events.Menace] = None
+    threats: tuple[items.Node, ...] = ()
+    defences: tuple[items.Node, ...] = ()
+    refutations: tuple[items.Node, ...] = ()
     is_stalemate: bool = False
 
 
@@ -81,19 +52,19 @@ class TriesItem:
     number: int
     title: Optional[bytes]
     author: Optional[bytes]
-    board: Optional[Board]
+    board: Optional[items.Board]
     stipulation: Stipulation
     condition: Optional[Condition]
-    set_play: Optional[Phase] = None
+    set_play: Optional[items.Phase] = None
     keys: tuple[FirstMove, ...] = ()
-    total: Optional[Total] = None
+    total: Optional[items.Total] = None
     tries: tuple[FirstMove, ...] = ()
     lines: tuple[str, ...] = ()
     unfinished: Optional[str] = None
 
 
-TriesReportItem = Union[FaultyItem, TriesItem]
-AnyTriesItem = Union[FaultyItem, TriesItem, HeadlessItem]
+TriesReportItem = Union[items.FaultyItem, TriesItem]
+AnyTriesItem = Union[items.FaultyItem, TriesItem, items.HeadlessItem]
 
 
 class TriesReader(ReportReader):
@@ -101,31 +72,31 @@ class TriesReader(ReportReader):
 
     def __init__(self, allowed: Allowed):
         super().__init__(allowed)
-        self._sign = FirstMoveKind.KEY
+        self._sign = events.FirstMoveKind.KEY
 
     def _begin(self, stipulation: Stipulation) -> None:
         super()._begin(stipulation)
         if stipulation.play is Play.HELP:
             self._state = self._no_tries
-        self._sign = FirstMoveKind.KEY
+        self._sign = events.FirstMoveKind.KEY
 
-    def _no_tries(self, line: bytes) -> Iterator[Event]:
+    def _no_tries(self, line: bytes) -> Iterator[events.Event]:
         if line == lines.SOUND:
             return self._first_phase(line)
         self._refuse_other(line, NO_TRIES)
         self._state = self._end
-        return iter((NoTriesEvent(self._number),))
+        return iter((events.NoTriesEvent(self._number),))
 
     def _refuse_other(self, line: bytes, wanted: str) -> None:
         if line.decode("latin-1") != wanted:
             raise self.refused(repr(wanted), line)
 
-    def _phase(self, kind: PhaseKind) -> Iterator[Event]:
+    def _phase(self, kind: items.PhaseKind) -> Iterator[events.Event]:
         yield from super()._phase(kind)
-        if kind is PhaseKind.PLAY:
+        if kind is items.PhaseKind.PLAY:
             self._state = self._first_move
 
-    def _first_move(self, line: bytes) -> Iterator[Event]:
+    def _first_move(self, line: bytes) -> Iterator[events.Event]:
         if not line[:1].isdigit():
             yield from self._total(line)
             return
@@ -133,7 +104,7 @@ class TriesReader(ReportReader):
         move = self._signed_move(text, self._stipulation.first_half, prefix(1), self._sign.value)
         self._count += 1
         self._state = self._menace
-        yield FirstMoveEvent(self._number, self._sign, text, move)
+        yield events.FirstMoveEvent(self._number, self._sign, text, move)
 
     def _signed_move(self, text: str, half: int, lead: str, sign: str) -> PlayedMove:
         """Returns the move of a line that has this sign after it."""
@@ -144,10 +115,10 @@ class TriesReader(ReportReader):
             raise self.refused(f"a move with {sign}", text.encode("latin-1"))
         return move
 
-    def _menace(self, line: bytes) -> Iterator[Event]:
+    def _menace(self, line: bytes) -> Iterator[events.Event]:
         text = line.decode("latin-1")
-        menace = next((it for it in Menace if text == f"  {it.value}"), None)
-        if menace is None and self._sign is FirstMoveKind.TRY:
+        menace = next((it for it in events.Menace if text == f"  {it.value}"), None)
+        if menace is None and self._sign is events.FirstMoveKind.TRY:
             self._refuse_other(line, _BUT)
             self._state = self._stalemate
             return
@@ -156,23 +127,23 @@ class TriesReader(ReportReader):
             return
         self._deepest = 2
         self._state = self._threat
-        if menace is not Menace.THREAT:
+        if menace is not events.Menace.THREAT:
             self._go_to_defences()
-        yield MenaceEvent(self._number, menace)
+        yield events.MenaceEvent(self._number, menace)
 
     def _go_to_defences(self) -> State:
         self._deepest, self._state = 1, self._defence
         return self._state
 
-    def _threat(self, line: bytes) -> Iterator[Event]:
+    def _threat(self, line: bytes) -> Iterator[events.Event]:
         if not self._is_node(line, 2):
             return self._go_to_defences()(line)
-        return iter((self._node(line, Place.THREAT, 2),))
+        return iter((self._node(line, events.Place.THREAT, 2),))
 
-    def _defence(self, line: bytes) -> Iterator[Event]:
+    def _defence(self, line: bytes) -> Iterator[events.Event]:
         if self._is_node(line, 1):
-            return iter((self._node(line, Place.DEFENCE, 1),))
-        if self._sign is FirstMoveKind.KEY:
+            return iter((self._node(line, events.Place.DEFENCE, 1),))
+        if self._sign is events.FirstMoveKind.KEY:
             return self._first_move(line)
         self._refuse_other(line, _BUT)
         self._state = self._refutation
@@ -183,52 +154,52 @@ class TriesReader(ReportReader):
         found = _NODE.match(line.decode("latin-1"))
         return found is not None and len(found[1]) >= 2 * level
 
-    def _refutation(self, line: bytes) -> Iterator[Event]:
+    def _refutation(self, line: bytes) -> Iterator[events.Event]:
         text, lead = line.decode("latin-1"), f"    {prefix(2)}"
         if not text.startswith(lead):
             yield from self._first_move(line)
             return
         move = self._signed_move(text, self._stipulation.first_half + 1, lead, "!")
-        yield RefutationEvent(self._number, text.lstrip(" "), move)
+        yield events.RefutationEvent(self._number, text.lstrip(" "), move)
 
-    def _stalemate(self, line: bytes) -> Iterator[Event]:
+    def _stalemate(self, line: bytes) -> Iterator[events.Event]:
         self._refuse_other(line, _STALEMATE)
         self._state = self._first_move
-        yield StalemateEvent(self._number)
+        yield events.StalemateEvent(self._number)
 
-    def _total(self, line: bytes) -> Iterator[Event]:
-        if self._sign is FirstMoveKind.TRY:
+    def _total(self, line: bytes) -> Iterator[events.Event]:
+        if self._sign is events.FirstMoveKind.TRY:
             yield from self._total_of_tries(line)
             return
         total = lines.TOTAL.fullmatch(line)
         if total is None or int(total[1]) != self._count:
             raise self.refused(f"'solutions: {self._count}', the number of keys above", line)
         self._state = self._tries
-        is_stopped = total[2] is not None
-        yield TotalEvent(self._number, PhaseKind.PLAY, Total(self._count, is_stopped))
+        counted = items.Total(self._count, total[2] is not None)
+        yield events.TotalEvent(self._number, items.PhaseKind.PLAY, counted)
 
-    def _tries(self, line: bytes) -> Iterator[Event]:
+    def _tries(self, line: bytes) -> Iterator[events.Event]:
         self._refuse_other(line, _TRIES)
-        self._sign, self._count, self._state = FirstMoveKind.TRY, 0, self._first_move
-        yield TriesEvent(self._number)
+        self._sign, self._count, self._state = events.FirstMoveKind.TRY, 0, self._first_move
+        yield events.TriesEvent(self._number)
 
-    def _total_of_tries(self, line: bytes) -> Iterator[Event]:
+    def _total_of_tries(self, line: bytes) -> Iterator[events.Event]:
         count = _TRIES_TOTAL.fullmatch(line.decode("latin-1"))
         if count is None or int(count[1]) != self._count:
             raise self.refused(f"'tries: {self._count}', the number of tries above", line)
         self._state = self._end
-        yield TriesTotalEvent(self._number, self._count)
+        yield events.TriesTotalEvent(self._number, self._count)
 
 
 @dataclass
 class _GrowingMove:
     """A first move; what is below it comes line by line."""
 
-    first: FirstMoveEvent
-    menace: Optional[Menace] = None
-    threats: GrowingPhase = field(default_factory=lambda: GrowingPhase(PhaseKind.PLAY))
-    defences: GrowingPhase = field(default_factory=lambda: GrowingPhase(PhaseKind.PLAY))
-    refutations: list[Node] = field(default_factory=list)
+    first: events.FirstMoveEvent
+    menace: Optional[events.Menace] = None
+    threats: GrowingPhase = field(default_factory=lambda: GrowingPhase(items.PhaseKind.PLAY))
+    defences: GrowingPhase = field(default_factory=lambda: GrowingPhase(items.PhaseKind.PLAY))
+    refutations: list[items.Node] = field(default_factory=list)
     is_stalemate: bool = False
 
     def ended(self) -> FirstMove:
@@ -246,109 +217,110 @@ class TriesBuilder:
         self._begin()
 
     def _begin(self) -> None:
-        self._fault: Optional[Fault] = None
-        self._head: Optional[HeadEvent] = None
-        self._set_play: Optional[Phase] = None
+        self._fault: Optional[items.Fault] = None
+        self._head: Optional[events.HeadEvent] = None
+        self._set_play: Optional[items.Phase] = None
         self._growing: Optional[GrowingPhase] = None
         self._moves: list[_GrowingMove] = []
-        self._total: Optional[Total] = None
+        self._total: Optional[items.Total] = None
         self._lines: list[str] = []
 
-    def take(self, event: Event) -> Optional[AnyTriesItem]:
+    def take(self, event: events.Event) -> Optional[AnyTriesItem]:
         """Takes the next event; returns the item that it ends, if it ends one."""
-        if isinstance(event, EndEvent):
+        if isinstance(event, events.EndEvent):
             item = self._item(event)
             self._begin()
             return item
         self._lines.extend(lines_of(event))
-        if isinstance(event, FaultEvent):
+        if isinstance(event, events.FaultEvent):
             self._fault = event.fault
-        elif isinstance(event, HeadEvent):
+        elif isinstance(event, events.HeadEvent):
             self._head = event
-        elif isinstance(event, FirstMoveEvent):
+        elif isinstance(event, events.FirstMoveEvent):
             self._moves.append(_GrowingMove(event))
-        elif isinstance(event, (MenaceEvent, RefutationEvent, StalemateEvent)):
+        elif isinstance(event, (events.MenaceEvent, events.RefutationEvent, events.StalemateEvent)):
             self._add_to_move(event)
-        elif isinstance(event, (PhaseEvent, NotPossibleEvent, TotalEvent)):
+        elif isinstance(event, (events.PhaseEvent, events.NotPossibleEvent, events.TotalEvent)):
             self._take_of_phase(event)
-        elif isinstance(event, NodeEvent):
+        elif isinstance(event, events.NodeEvent):
             self._add_node(event)
         return None
 
-    def _add_to_move(self, event: Union[MenaceEvent, RefutationEvent, StalemateEvent]) -> None:
+    def _add_to_move(self, event: _Below) -> None:
         move = self._moves[-1]
-        if isinstance(event, MenaceEvent):
+        if isinstance(event, events.MenaceEvent):
             move.menace = event.menace
             return
         if not move.refutations:
             self._lines.insert(-1, _BUT)
-        if isinstance(event, StalemateEvent):
+        if isinstance(event, events.StalemateEvent):
             move.is_stalemate = True
         else:
-            move.refutations.append(Node(f"    {event.text}", event.move))
+            move.refutations.append(items.Node(f"    {event.text}", event.move))
 
-    def _take_of_phase(self, event: Union[PhaseEvent, NotPossibleEvent, TotalEvent]) -> None:
+    def _take_of_phase(self, event: _OfPhase) -> None:
         growing = self._growing
-        if isinstance(event, PhaseEvent):
+        if isinstance(event, events.PhaseEvent):
             if growing is not None:
                 self._set_play = growing.ended(None, "unfinished")
-            self._growing = GrowingPhase(PhaseKind.SET) if event.phase is PhaseKind.SET else None
-        elif event.phase is PhaseKind.SET and growing is not None:
-            total = event.total if isinstance(event, TotalEvent) else None
+            is_set = event.phase is items.PhaseKind.SET
+            self._growing = GrowingPhase(event.phase) if is_set else None
+        elif event.phase is items.PhaseKind.SET and growing is not None:
+            total = event.total if isinstance(event, events.TotalEvent) else None
             (last_line,) = lines_of(event)
             self._set_play, self._growing = growing.ended(total, last_line), None
-        elif isinstance(event, TotalEvent):
+        elif isinstance(event, events.TotalEvent):
             self._total = event.total
 
-    def _add_node(self, event: NodeEvent) -> None:
-        if event.place is Place.SOLUTION:
+    def _add_node(self, event: events.NodeEvent) -> None:
+        if event.place is events.Place.SOLUTION:
             if self._growing is not None:
                 self._growing.add_node(event)
-        elif event.place is Place.THREAT:
+        elif event.place is events.Place.THREAT:
             self._moves[-1].threats.add_node(event)
         else:
             self._moves[-1].defences.add_node(event)
 
-    def _item(self, end: EndEvent) -> AnyTriesItem:
+    def _item(self, end: events.EndEvent) -> AnyTriesItem:
         if self._fault is not None:
-            return FaultyItem(end.problem, self._fault)
+            return items.FaultyItem(end.problem, self._fault)
         head = self._head
         if head is None:
-            return HeadlessItem(end.problem, end.unfinished or "")
+            return items.HeadlessItem(end.problem, end.unfinished or "")
         if self._growing is not None:
             self._set_play = self._growing.ended(None, f"unfinished: {end.unfinished}")
         names = (head.title, head.author, head.board, head.stipulation, head.condition)
-        keys = tuple(it.ended() for it in self._moves if it.first.kind is FirstMoveKind.KEY)
-        tries = tuple(it.ended() for it in self._moves if it.first.kind is FirstMoveKind.TRY)
+        keys = tuple(it.ended() for it in self._moves if it.first.kind is events.FirstMoveKind.KEY)
+        tries = tuple(it.ended() for it in self._moves if it.first.kind is events.FirstMoveKind.TRY)
         shown = (self._set_play, keys, self._total, tries, tuple(self._lines))
         return TriesItem(end.problem, *names, *shown, end.unfinished)
 
 
-def lines_of(event: Event) -> list[str]:
+def lines_of(event: events.Event) -> list[str]:
     """Returns the lines below a stipulation that an event stands for; `but` has no event."""
-    if isinstance(event, NoTriesEvent):
+    if isinstance(event, events.NoTriesEvent):
         return [NO_TRIES]
-    if isinstance(event, CheckedEvent):
+    if isinstance(event, events.CheckedEvent):
         return [lines.SOUND.decode("ascii")]
-    if isinstance(event, PhaseEvent):
+    if isinstance(event, events.PhaseEvent):
         return [event.phase.value]
-    if isinstance(event, NotPossibleEvent):
+    if isinstance(event, events.NotPossibleEvent):
         return [lines.NOT_POSSIBLE.decode("ascii")]
-    if isinstance(event, NodeEvent):
+    if isinstance(event, events.NodeEvent):
         return ["  " * event.level + event.text]
-    if isinstance(event, FirstMoveEvent):
+    if isinstance(event, events.FirstMoveEvent):
         return [event.text]
-    if isinstance(event, MenaceEvent):
+    if isinstance(event, events.MenaceEvent):
         return [f"  {event.menace.value}"]
-    if isinstance(event, RefutationEvent):
+    if isinstance(event, events.RefutationEvent):
         return [f"    {event.text}"]
-    if isinstance(event, StalemateEvent):
+    if isinstance(event, events.StalemateEvent):
         return [_STALEMATE]
-    if isinstance(event, TotalEvent):
+    if isinstance(event, events.TotalEvent):
         return [total_text(event.total)]
-    if isinstance(event, TriesEvent):
+    if isinstance(event, events.TriesEvent):
         return [_TRIES]
-    return [f"tries: {event.count}"] if isinstance(event, TriesTotalEvent) else []
+    return [f"tries: {event.count}"] if isinstance(event, events.TriesTotalEvent) else []
 
 
 def read_tries(source: Iterable[bytes]) -> Iterator[TriesReportItem]:
@@ -357,7 +329,7 @@ def read_tries(source: Iterable[bytes]) -> Iterator[TriesReportItem]:
     ReportError where the text isn't of the form, after the items before.
     """
     for item in _items(Allowed.FINISHED, source):
-        assert not isinstance(item, HeadlessItem)
+        assert not isinstance(item, items.HeadlessItem)
         yield item
 
 

@@ -8,37 +8,7 @@ from typing import Any, Optional, Union
 
 from pops_companions.chess.stipulation import Stipulation
 from pops_companions.input.given import GivenProblem
-from pops_companions.report.events import (
-    CheckedEvent,
-    EndEvent,
-    Event,
-    FaultEvent,
-    FirstMoveEvent,
-    HeadEvent,
-    LineEvent,
-    MenaceEvent,
-    NodeEvent,
-    NotPossibleEvent,
-    NoTriesEvent,
-    PhaseEvent,
-    ProblemEvent,
-    RefutationEvent,
-    StalemateEvent,
-    TotalEvent,
-    TriesEvent,
-    TriesTotalEvent,
-)
-from pops_companions.report.items import (
-    AnyItem,
-    Board,
-    Fault,
-    FaultyItem,
-    HeadlessItem,
-    HelpLine,
-    Node,
-    Phase,
-    SoundItem,
-)
+from pops_companions.report import events, items
 from pops_companions.report.moves import PlayedMove
 from pops_companions.report.tries import AnyTriesItem, FirstMove, TriesItem
 from pops_companions.show.titles import shown
@@ -72,7 +42,7 @@ def _stored(form: Form) -> Json:
 
 
 def item_object(
-    item: Union[AnyItem, AnyTriesItem], encoding: str, given: Optional[GivenProblem] = None
+    item: Union[items.AnyItem, AnyTriesItem], encoding: str, given: Optional[GivenProblem] = None
 ) -> Json:
     """Returns the object of an item; title, author and origin that aren't in the encoding are
     Latin-1.
@@ -80,11 +50,11 @@ def item_object(
     With the problem of the input it also has its origin, and if it has no head title and author.
     """
     names = {} if given is None else _names(given, given, encoding)
-    if isinstance(item, FaultyItem):
+    if isinstance(item, items.FaultyItem):
         return {"number": item.number, "sound": False, **names, "fault": _fault(item.fault)}
-    if isinstance(item, HeadlessItem):
+    if isinstance(item, items.HeadlessItem):
         return {"number": item.number, **names, "unfinished": item.unfinished}
-    solutions = {"phases": _phases(item)} if isinstance(item, SoundItem) else _tries(item)
+    solutions = {"phases": _phases(item)} if isinstance(item, items.SoundItem) else _tries(item)
     ending = {} if item.unfinished is None else {"unfinished": item.unfinished}
     return {
         "number": item.number,
@@ -96,11 +66,11 @@ def item_object(
     }
 
 
-def _fault(fault: Fault) -> Json:
+def _fault(fault: items.Fault) -> Json:
     return {"line": fault.line, "number": fault.number, "text": fault.text}
 
 
-def _head(source: Union[SoundItem, TriesItem, HeadEvent]) -> Json:
+def _head(source: Union[items.SoundItem, TriesItem, events.HeadEvent]) -> Json:
     return {
         "board": None if source.board is None else _board(source.board),
         "stipulation": _stipulation(source.stipulation),
@@ -109,7 +79,7 @@ def _head(source: Union[SoundItem, TriesItem, HeadEvent]) -> Json:
 
 
 def _names(
-    source: Union[SoundItem, TriesItem, HeadEvent, GivenProblem],
+    source: Union[items.SoundItem, TriesItem, events.HeadEvent, GivenProblem],
     given: Optional[GivenProblem],
     encoding: str,
 ) -> Json:
@@ -123,7 +93,7 @@ def _text(text: Optional[bytes], encoding: str) -> Optional[str]:
     return None if text is None else shown(text, encoding)
 
 
-def _board(board: Board) -> Json:
+def _board(board: items.Board) -> Json:
     men = [
         {"square": square.name, "colour": man.colour.value, "man": man.kind.word}
         for square, man in board.men.items()
@@ -141,11 +111,11 @@ def _stipulation(stipulation: Stipulation) -> Json:
     }
 
 
-def _phases(item: SoundItem) -> Optional[list[Json]]:
+def _phases(item: items.SoundItem) -> Optional[list[Json]]:
     return None if item.phases is None else [_phase(phase) for phase in item.phases]
 
 
-def _phase(phase: Phase) -> Json:
+def _phase(phase: items.Phase) -> Json:
     if not phase.is_possible:
         return {"phase": phase.kind.value, "possible": False}
     return {
@@ -179,8 +149,8 @@ def _first_move(first: FirstMove) -> Json:
     }
 
 
-def _solution(solution: Union[HelpLine, Node]) -> Json:
-    if isinstance(solution, HelpLine):
+def _solution(solution: Union[items.HelpLine, items.Node]) -> Json:
+    if isinstance(solution, items.HelpLine):
         return {"text": solution.text, "moves": [_move(move) for move in solution.moves]}
     below = [_solution(node) for node in solution.below]
     return {"text": solution.text.lstrip(" "), "move": _move(solution.move), "below": below}
@@ -210,61 +180,56 @@ def _move(move: PlayedMove) -> Json:
     }
 
 
-def event_object(event: Event, encoding: str) -> Json:
+def event_object(event: events.Event, encoding: str) -> Json:
     """Returns the object of an event."""
     name = _EVENT_NAMES[type(event)]
     return {"event": name, "problem": event.problem, **_said(event, encoding)}
 
 
-_EVENT_NAMES: dict[type[Event], str] = {
-    ProblemEvent: "problem",
-    FaultEvent: "fault",
-    HeadEvent: "head",
-    CheckedEvent: "checked",
-    PhaseEvent: "phase",
-    NotPossibleEvent: "not_possible",
-    LineEvent: "line",
-    NodeEvent: "node",
-    TotalEvent: "total",
-    NoTriesEvent: "no_tries",
-    FirstMoveEvent: "first_move",
-    MenaceEvent: "menace",
-    RefutationEvent: "refutation",
-    StalemateEvent: "stalemate",
-    TriesEvent: "tries",
-    TriesTotalEvent: "tries_total",
-    EndEvent: "end",
+_EVENT_NAMES: dict[type[events.Event], str] = {
+    events.ProblemEvent: "problem",
+    events.FaultEvent: "fault",
+    events.HeadEvent: "head",
+    events.CheckedEvent: "checked",
+    events.PhaseEvent: "phase",
+    events.NotPossibleEvent: "not_possible",
+    events.LineEvent: "line",
+    events.NodeEvent: "node",
+    events.TotalEvent: "total",
+    events.NoTriesEvent: "no_tries",
+    events.FirstMoveEvent: "first_move",
+    events.MenaceEvent: "menace",
+    events.RefutationEvent: "refutation",
+    events.StalemateEvent: "stalemate",
+    events.TriesEvent: "tries",
+    events.TriesTotalEvent: "tries_total",
+    events.EndEvent: "end",
 }
 
 
-def _said(event: Event, encoding: str) -> Json:
-    if isinstance(event, FaultEvent):
+def _said(event: events.Event, encoding: str) -> Json:
+    if isinstance(event, events.FaultEvent):
         return {"fault": _fault(event.fault)}
-    if isinstance(event, HeadEvent):
+    if isinstance(event, events.HeadEvent):
         return {**_names(event, None, encoding), **_head(event)}
-    if isinstance(event, MenaceEvent):
+    if isinstance(event, events.MenaceEvent):
         return {"menace": event.menace.value}
-    if isinstance(event, TriesTotalEvent):
+    if isinstance(event, events.TriesTotalEvent):
         return {"count": event.count}
-    if isinstance(event, EndEvent):
+    if isinstance(event, events.EndEvent):
         return {"unfinished": event.unfinished}
-    if isinstance(event, FirstMoveEvent):
+    if isinstance(event, events.FirstMoveEvent):
         return {"kind": event.kind.name.lower(), "text": event.text, "move": _move(event.move)}
-    if isinstance(event, RefutationEvent):
+    if isinstance(event, events.RefutationEvent):
         return {"text": event.text, "move": _move(event.move)}
-    if isinstance(event, (PhaseEvent, NotPossibleEvent, LineEvent, NodeEvent, TotalEvent)):
-        return {"phase": event.phase.value, **_said_of_phase(event)}
-    return {}
-
-
-def _said_of_phase(
-    event: Union[PhaseEvent, NotPossibleEvent, LineEvent, NodeEvent, TotalEvent],
-) -> Json:
-    if isinstance(event, LineEvent):
-        return _solution(event.line)
-    if isinstance(event, NodeEvent):
-        shown_move = {"text": event.text, "move": _move(event.move)}
-        return {"place": event.place.value, "level": event.level, **shown_move}
-    if isinstance(event, TotalEvent):
-        return {"count": event.total.count, "stopped": event.total.stopped}
+    if isinstance(event, (events.PhaseEvent, events.NotPossibleEvent)):
+        return {"phase": event.phase.value}
+    if isinstance(event, events.LineEvent):
+        return {"phase": event.phase.value, **_solution(event.line)}
+    if isinstance(event, events.NodeEvent):
+        place = {"phase": event.phase.value, "place": event.place.value, "level": event.level}
+        return {**place, "text": event.text, "move": _move(event.move)}
+    if isinstance(event, events.TotalEvent):
+        total = {"count": event.total.count, "stopped": event.total.stopped}
+        return {"phase": event.phase.value, **total}
     return {}
