@@ -1,12 +1,14 @@
 // @ts-check
 // The list of the text's problems, and the twins of the problem on the board.
 import { element, madeWith, makeButton } from './elements.js';
+import { itemOfContent } from './items.js';
 import { sayCondition } from './names.js';
+import { companions } from './out/companions.js';
+import { givenOf } from './outputs.js';
 import { goToProblem } from './page/editing.js';
 import { blockNow, textNow } from './page/state.js';
 import { inSlices } from './slices.js';
 import { blocksOf, CONDITIONS, fieldsOf, isShort, menOf, sidesOf, valueOf } from './text.js';
-import { givenOf, saidOfTwin, twinChange, twinGroups } from './twins.js';
 import { say } from './words.js';
 
 const LONGEST_NAME = 60;
@@ -44,21 +46,27 @@ function nameOfProblem({ number, title, asked, men }) {
   return `${number}. ${name.slice(0, LONGEST_NAME)}`;
 }
 
+/** @param {Content | undefined} problem whether its title ends as a twin's that isn't the first one */
+const isLabelled = problem => /(?:\)|duplex)$/.test(problem?.title ?? '');
+
 /**
  * Returns the group of twins that a problem belongs to, each with what changes in it; empty if it has no twins.
  * @param {string} text
  * @param {Content[]} contents
- * @param {number | undefined} number
+ * @param {number} number
  */
 export function twinsOf(text, contents, number) {
-  const group = twinGroups(contents).find(twins => twins.some(twin => twin.number === number)) ?? [];
-  if (group.length < 2) return [];
-  const given = givenOf(text);
-  return group.map((twin, index) => {
-    const remarks = given[twin.number - 1]?.remarks ?? [];
-    const change = index ? twinChange({ ...twin, remarks }, group[0]).said : saidOfTwin(twin.label, remarks);
-    return { ...twin, change };
-  });
+  let [first, last] = [number - 1, number];
+  while (first > 0 && isLabelled(contents[first])) first--;
+  while (isLabelled(contents[last])) last++;
+  if (last - first < 2) return [];
+  const blocks = blocksOf(text);
+  const given = givenOf(`BeginProblem${text.slice(blocks[first].start, blocks[last - 1].end)}\nEndProblem`);
+  for (const { title, twins } of companions.groups(contents.slice(first, last).map(itemOfContent), given, 'utf-8', false)) {
+    const own = twins.map((/** @type {any} */ { item, label, change }) => ({ ...contents[first + item.number - 1], title, label, change }));
+    if (own.length > 1 && own.some((/** @type {ContentTwin} */ it) => it.number === number)) return own;
+  }
+  return [];
 }
 
 /** Ends the showing of an earlier list. */
@@ -73,7 +81,7 @@ export function showContents() {
   if (length > MOST_LISTED) return;
   endShowing = inSlices(text.length, shownContents(text), contents => {
     element('problems').value = String(blockNow()?.number ?? 1);
-    showTwins(twinsOf(text, contents, blockNow()?.number));
+    showTwins(twinsOf(text, contents, blockNow()?.number ?? 1));
   });
 }
 

@@ -22,33 +22,56 @@ MADE = f"{HERE}/out/companions.js"
 PARTS = {
     "pops_companions.chess.attacks": ("attackers",),
     "pops_companions.chess.men": ("Colour", "Kind", "Man", "Square"),
+    "pops_companions.chess.stipulation": ("Condition", "Stipulation"),
     "pops_companions.explain.characters": ("decoded", "shown"),
     "pops_companions.explain.explaining": ("explanation",),
+    "pops_companions.explain.sentences": ("DATA", "sentence"),
     "pops_companions.explain.mending": ("edit_for", "read_number"),
     "pops_companions.explain.vocabulary": ("foreign", "unread"),
-    "pops_companions.export.yaml_fields": ("fields_of", "source_of"),
+    "pops_companions.export.problems": ("Exported", "joined", "read_problems"),
+    "pops_companions.export.yaml_form": ("yaml_of",),
     "pops_companions.import_.popeye": ("begins", "read_popeye"),
     "pops_companions.import_.posing": ("posed",),
     "pops_companions.import_.yaml_problems": ("read_yaml",),
+    "pops_companions.input.given": ("given_problems",),
     "pops_companions.input.writing": ("text_of_problems",),
     "pops_companions.input.pieces": ("cut",),
-    "pops_companions.input.reading": ("read_piece",),
+    "pops_companions.input.reading": ("FaultKind", "read_piece"),
+    "pops_companions.report.events": ("Menace",),
+    "pops_companions.report.items": ("Board", "Fault", "FaultyItem", "HeadlessItem", "HelpLine", "Node", "Phase", "PhaseKind", "SoundItem", "Total"),
+    "pops_companions.report.moves": ("read_move",),
+    "pops_companions.report.tries": ("FirstMove", "TriesItem"),
+    "pops_companions.sheet.as_latex": ("as_latex",),
+    "pops_companions.sheet.entries": ("Sheet", "boards_of"),
+    "pops_companions.sheet.languages": ("LANGUAGES", "marked_as"),
+    "pops_companions.sheet.latex_letters": ("beyond_latex",),
+    "pops_companions.sheet.sheet_words": ("WORDS",),
+    "pops_companions.sheet.solution": ("Solution",),
+    "pops_companions.show.as_json": ("item_object",),
+    "pops_companions.show.diagram": ("diagram", "diagram_file"),
+    "pops_companions.show.page": ("Page",),
+    "pops_companions.show.twins": ("groups",),
 }
 # Modules that JavaScript has by hand.
 BY_HAND = {
-    "pops_companions.explain.sentences": "../explanations.js",
     "pops_companions.import_.yaml_text": "../yaml.js",
+    "pops_companions.show.men_shapes": "../shapes.js",
+    "pops_companions.sheet.latex_commands": "../letters.js",
 }
 PACKAGE = "pops_companions"
+# The module whose function returns a table of JSON, which becomes part of the script.
+STORED = f"{PACKAGE}.stored"
 RESERVED = frozenset("case default new function var delete this switch void with const let export enum super".split())
 # Methods of Python's own types, which web/python.js has as functions.
 METHODS = frozenset(
-    "add append count decode encode endswith extend find format get index isalnum isalpha isascii isdecimal isdigit islower isupper items"
-    " join keys lower lstrip pop replace rfind rpartition rstrip setdefault split startswith strip title translate update upper values"
-    .split()
+    "add append casefold count decode encode endswith extend find format get index isalnum isalpha isascii isdecimal isdigit islower isupper items"
+    " isprintable join keys lower lstrip partition pop replace rfind rpartition rstrip setdefault split startswith strip title translate"
+    " update upper values".split()
 )
+# Methods of Python's patterns and of documents, which objects of JavaScript have by the same names.
+METHODS_ALIKE = frozenset("end findall finditer fullmatch group groups match node search start sub".split())
 OPERATORS: dict[type, str] = {
-    ast.Lt: "<", ast.LtE: "<=", ast.Gt: ">", ast.GtE: ">=", ast.Is: "===", ast.IsNot: "!==", ast.Sub: "-", ast.Mod: "%", ast.LShift: "<<",
+    ast.Lt: "<", ast.LtE: "<=", ast.Gt: ">", ast.GtE: ">=", ast.Is: "===", ast.IsNot: "!==", ast.Sub: "-", ast.Div: "/", ast.Mod: "%", ast.LShift: "<<",
 }
 RUN_BY_PYTHON: dict[type, str] = {ast.Add: "plus", ast.Mult: "times", ast.BitAnd: "common", ast.BitOr: "joined"}
 # Functions whose result is true or false.
@@ -105,6 +128,8 @@ def read_source(module: str) -> Source:
         elif isinstance(it, (ast.Assign, ast.AnnAssign)):
             for target in targets_of(it):
                 definitions.update(dict.fromkeys(names_in(target), it))
+        elif not is_docstring(it) and not isinstance(it, ast.If):
+            raise UntranslatedError(f"{path}:{it.lineno}: no translation of what a module does beside definitions")
     return Source(path, definitions, imports)
 
 
@@ -130,7 +155,7 @@ class Program:
 
     def use(self, module: str, name: str) -> None:
         """Marks a definition as used, and all that it uses."""
-        if (module, name) in self.used or name not in self.source(module).definitions:
+        if module == STORED or (module, name) in self.used or name not in self.source(module).definitions:
             return
         self.used.add((module, name))
         for it in without_types(self.source(module).definitions[name]):
@@ -306,7 +331,7 @@ class Writer:
             return f"${{py.repr({self.value(node.value)})}}"
         if node.format_spec is None:
             return f"${{{self.value(node.value)}}}"
-        return f"${{py.format({self.value(node.value)}, {self.value(node.format_spec)})}}"
+        return f"${{py.formatted({self.value(node.value)}, {self.value(node.format_spec)})}}"
 
     def value_Subscript(self, node: ast.Subscript) -> str:
         if not isinstance(node.slice, ast.Slice):
@@ -323,6 +348,8 @@ class Writer:
         one, two = self.value(node.left), self.value(node.right)
         if isinstance(node.op, ast.Add) and (is_plain(node.left) or is_plain(node.right)):
             return f"({one} + {two})"
+        if isinstance(node.op, ast.Mod) and is_plain(node.left):
+            return f"py.percent({one}, {two})"
         if type(node.op) in RUN_BY_PYTHON:
             return f"py.{RUN_BY_PYTHON[type(node.op)]}({one}, {two})"
         if isinstance(node.op, ast.FloorDiv):
@@ -407,10 +434,15 @@ class Writer:
     def value_Call(self, node: ast.Call) -> str:
         function = node.func
         place = self.place_of(function)
+        if place == (STORED, "stored") and isinstance(node.args[0], ast.Constant):
+            with open(f"{COMPANIONS}/{PACKAGE}/{node.args[0].value}", encoding="utf-8") as file:
+                return json.dumps(json.load(file), ensure_ascii=False)
         definition = self.program.definition(place)
         if isinstance(definition, ast.ClassDef):
             bases = {ast.unparse(it) for it in definition.bases}
             made = self.value(function)
+            if any(it.arg is None for it in node.keywords):
+                return f"py.record({made}, {self.arguments(node, None)})"
             said = self.arguments(node, self.signature(definition))
             return f"{made}.of({said})" if bases & {"Enum", "IntEnum"} else f"new {made}({said})"
         if isinstance(definition, ast.FunctionDef):
@@ -419,7 +451,10 @@ class Writer:
             if function.attr in METHODS:
                 said = self.arguments(node, None)
                 return f"py.{function.attr}({self.value(function.value)}{', ' if said else ''}{said})"
-            return f"{self.value(function.value)}.{function.attr}({self.arguments(node, self.method(function.attr))})"
+            owner = self.value(function.value)
+            if not (owner.startswith("py.") or function.attr in METHODS_ALIKE or self.has_member(function.attr)):
+                raise self.fail(node, f"the method {function.attr}")
+            return f"{owner}.{function.attr}({self.arguments(node, self.method(function.attr))})"
         return f"{self.value(function)}({self.arguments(node, None)})"
 
     def signature(self, node: ast.ClassDef) -> ast.arguments:
@@ -434,12 +469,19 @@ class Writer:
         return ast.arguments(posonlyargs=[], args=args.args[1:], vararg=args.vararg, kwonlyargs=args.kwonlyargs, kw_defaults=[], kwarg=args.kwarg,
                              defaults=[])
 
+    def members(self) -> Iterator[ast.stmt]:
+        """Yields methods and fields of our classes."""
+        for source in self.program.sources.values():
+            for it in source.definitions.values():
+                yield from it.body if isinstance(it, ast.ClassDef) else ()
+
+    def has_member(self, name: str) -> bool:
+        """Returns whether a class of ours has a method, or a field that can be called, with this name."""
+        return any(name == getattr(it, "name", "") or isinstance(it, ast.AnnAssign) and name in names_in(it.target) for it in self.members())
+
     def method(self, name: str) -> Optional[ast.arguments]:
         """Returns the arguments of a method that only one of our classes has."""
-        found = [
-            it for source in self.program.sources.values() for one in source.definitions.values() if isinstance(one, ast.ClassDef)
-            for it in one.body if isinstance(it, ast.FunctionDef) and it.name == name
-        ]
+        found = [it for it in self.members() if isinstance(it, ast.FunctionDef) and it.name == name]
         return self.without_self(found[0].args) if len(found) == 1 and not decorators_of(found[0]) else None
 
     def arguments(self, node: ast.Call, wanted: Optional[ast.arguments]) -> str:
@@ -516,7 +558,7 @@ class Writer:
     def assigned(self, target: ast.expr, value: str) -> str:
         if isinstance(target, ast.Subscript):
             return f"py.put({self.value(target.value)}, {self.value(target.slice)}, {value});"
-        if isinstance(target, ast.Tuple) and not all(isinstance(it, (ast.Name, ast.Attribute)) for it in target.elts):
+        if isinstance(target, ast.Tuple) and not all(isinstance(it, (ast.Name, ast.Attribute, ast.Starred)) for it in target.elts):
             parts = "".join(f" {self.assigned(it, f'$all[{place}]')}" for place, it in enumerate(target.elts))
             return f"{{ const $all = {value};{parts} }}"
         return f"{self.value(target)} = {value};"
@@ -527,6 +569,10 @@ class Writer:
 
     def write_AnnAssign(self, node: ast.AnnAssign) -> list[str]:
         return [self.assigned(node.target, self.value(node.value))] if node.value else []
+
+    def write_Delete(self, node: ast.Delete) -> list[str]:
+        places = (it for it in node.targets if isinstance(it, ast.Subscript))
+        return [f"py.pop({self.value(it.value)}, {self.value(it.slice)});" for it in places]
 
     def write_AugAssign(self, node: ast.AugAssign) -> list[str]:
         return [self.assigned(node.target, self.value(ast.copy_location(ast.BinOp(node.target, node.op, node.value), node)))]

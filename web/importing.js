@@ -1,9 +1,10 @@
 // @ts-check
 // Turns texts of other programs into problems of pops, as pops-import does: inputs of Popeye, collections in YAML.
 import { explanationOf, faultsOf } from './explaining.js';
+import { sayFaultKind, sayReason } from './names.js';
 import { companions } from './out/companions.js';
 import { wordsOf } from './text.js';
-import { say } from './words.js';
+import { language, say } from './words.js';
 
 const TRIES_OPTIONS = ['Try', 'Defence', 'Threat'];
 const OF_YAML = /^[^\S\n\r]*algebraic[^\S\n\r]*:/m;
@@ -29,10 +30,11 @@ function isOfPopeye(text) {
  * @param {{ lines: string[], faults: { text: string }[] }} posed
  */
 function reasonOf({ lines, faults }) {
-  if (faults.length) return faults.map(it => it.text).join('; ');
+  if (faults.length) return faults.map(it => sayReason(it.text)).join('; ');
   const text = companions.textOfProblems([lines]);
   const [fault] = faultsOf(text);
-  return fault ? explanationOf(text, fault.read).text : '';
+  if (!fault) return '';
+  return language === 'en' ? explanationOf(text, fault.read).text : sayFaultKind(fault.fault);
 }
 
 /**

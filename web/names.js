@@ -1,21 +1,12 @@
 // @ts-check
-// What a report names, in the page's language: conditions, fairy men and faults as pops-sheet names them, phases and totals.
+// What a report names, in the page's language: conditions and faults as pops-sheet names them, reasons of an import, phases and totals.
 import { partText } from './elements.js';
+import { companions } from './out/companions.js';
+import { py } from './python.js';
 import { language, say } from './words.js';
 
-/** @typedef {{ conditions: Record<string, string>, men: Record<string, string>, faults: Record<string, string> }} Names */
-
-/** @type {Record<string, Names> | null} the names in each language, read when they are first needed */
-let tables = null;
-
-/** @returns {Names} */
-function namesNow() {
-  tables ??= /** @type {Record<string, Names>} */ (JSON.parse(partText('names')));
-  return tables[language];
-}
-
-/** @param {string} condition */
-export const sayCondition = condition => (language === 'en' ? condition : namesNow().conditions[condition]);
+/** @param {string} condition @returns {string} */
+export const sayCondition = condition => companions.WORDS.get(language).conditions[condition];
 
 /**
  * Writes a stipulation with its condition, as a report has it.
@@ -23,11 +14,25 @@ export const sayCondition = condition => (language === 'en' ? condition : namesN
  */
 export const sayAsked = asked => asked.replace(/ (Circe|Madrasi)$/, (_, condition) => ` ${sayCondition(condition)}`);
 
-/** @param {string} kind */
-export const sayFairyMan = kind => (language === 'en' ? say(kind)[0].toUpperCase() + say(kind).slice(1) : namesNow().men[kind]);
+/** @param {number} number @returns {string} */
+export const sayFaultKind = number => companions.WORDS.get(language).faults.get(companions.FaultKind.of(number));
 
 /** @param {ReportFault} fault */
-export const sayFault = ({ line, number, text }) => say('fault', { line, number, text: language === 'en' ? text : namesNow().faults[number] });
+export const sayFault = ({ line, number, text }) => say('fault', { line, number, text: language === 'en' ? text : sayFaultKind(number) });
+
+/**
+ * Returns why an import leaves a problem out, in the page's language.
+ * @param {string} reason the companions' words
+ */
+export function sayReason(reason) {
+  /** @type {Record<string, Record<string, string>>} */
+  const reasons = language === 'en' ? {} : JSON.parse(partText('reasons'));
+  for (const [english, others] of Object.entries(reasons)) {
+    const values = new RegExp(`^${english.split('{}').map(py.re.escape).join('(.+)')}$`).exec(reason)?.slice(1);
+    if (values) return others[language].replace(/\{\}/g, () => values.shift() ?? '');
+  }
+  return reason;
+}
 
 /**
  * Writes the total of a phase, or what is known of it so far.

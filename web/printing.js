@@ -1,9 +1,9 @@
 // @ts-check
 // The printed sheet: the problem on the board with its solutions, twins under one diagram.
 import { contentsOf, twinsOf } from './contents.js';
-import { diagramOf } from './diagrams.js';
 import { element, madeWith } from './elements.js';
 import { sayTotal } from './names.js';
+import { diagramOf } from './outputs.js';
 import { blockNow, state, textNow } from './page/state.js';
 import { countOf } from './position.js';
 import { blocksOf, fieldsOf, valueOf } from './text.js';

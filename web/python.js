@@ -9,7 +9,8 @@ export const py = (() => {
   }
 
   class ValueError extends Exception {}
-  class UnicodeDecodeError extends ValueError {}
+  class UnicodeError extends ValueError {}
+  class UnicodeDecodeError extends UnicodeError {}
   const numbers = new WeakMap();
   let most = 0;
 
@@ -112,13 +113,14 @@ export const py = (() => {
   const OF_ALL_LANGUAGES = [['[^\\W\\d_]', '\\p{L}'], ['[^\\W_]', '[\\p{L}\\p{N}]'], ['[^\\w\\n]', '[^\\p{L}\\p{N}_\\n]']];
   const IGNORECASE = 2;
   const MULTILINE = 8;
+  const DOTALL = 16;
 
   class Pattern {
     constructor(text, flags) {
       const plain = OF_ALL_LANGUAGES.reduce((made, [ours, theirs]) => made.replaceAll(ours, theirs), text.replaceAll('(?P<', '(?<'));
       this.text = plain.replace(/^\(\?i\)/, '');
       const isFolded = (flags & IGNORECASE) !== 0 || plain !== this.text;
-      this.flags = (isFolded ? 'i' : '') + (flags & MULTILINE ? 'm' : '') + (plain.includes('\\p{') ? 'u' : '');
+      this.flags = (isFolded ? 'i' : '') + (flags & MULTILINE ? 'm' : '') + (flags & DOTALL ? 's' : '') + (plain.includes('\\p{') ? 'u' : '');
       this.made = {};
     }
 
@@ -138,7 +140,7 @@ export const py = (() => {
 
     findall(text, from = 0) { return [...this.finditer(text, from)].map(it => it.all[it.all.length > 1 ? 1 : 0]); }
     sub(made, text) {
-      const said = typeof made === 'string' ? made.replaceAll('$', '$$$$').replace(/\\(?:g<)?([0-9])>?/g, '$$$1') : made;
+      const said = typeof made === 'string' ? made.replaceAll('$', '$$$$').replace(/\\(?:g<)?([0-9])>?/g, (_, group) => (group === '0' ? '$&' : `$${group}`)) : made;
       return text.replace(this.made.all ??= new RegExp(this.text, `g${this.flags}`), said);
     }
   }
@@ -153,7 +155,7 @@ export const py = (() => {
 
 
   const re = {
-    IGNORECASE, MULTILINE, ASCII: 0, compile,
+    IGNORECASE, MULTILINE, DOTALL, ASCII: 0, compile,
     search: (pattern, text, flags = 0) => compile(pattern, flags).search(text),
     match: (pattern, text, flags = 0) => compile(pattern, flags).match(text),
     fullmatch: (pattern, text, flags = 0) => compile(pattern, flags).fullmatch(text),
@@ -162,6 +164,7 @@ export const py = (() => {
     escape: text => text.replace(/[\]\\^$.*+?()[{}|/-]/g, '\\$&'),
   };
 
+  const ENTITIES = { '&': '&amp;', '<': '&lt;', '>': '&gt;', '"': '&quot;', "'": '&#x27;' };
   const CATEGORIES = ['Zs', 'Zl', 'Zp', 'Cf', 'Cc', 'Co', 'Cs', 'Cn'].map(name => [name, new RegExp(`^\\p{${name}}`, 'u')]);
   const unicodedata = {
     category: letter => CATEGORIES.find(([, pattern]) => pattern.test(letter))?.[0] ?? 'other',
@@ -238,11 +241,18 @@ export const py = (() => {
     return Array.from(new TextEncoder().encode(text), byte => String.fromCharCode(byte)).join('');
   }
 
-  const endsOf = signs => (signs === null ? '\\s' : `[${re.escape(signs)}]`);
-  const lstrip = (text, signs = null) => text.replace(new RegExp(`^${endsOf(signs)}+`), '');
-  const rstrip = (text, signs = null) => text.replace(new RegExp(`${endsOf(signs)}+$`), '');
+  /** Counts the letters at an end of a text that are among some signs, from a place on by steps. */
+  function countOfEnd(text, signs, start, step) {
+    let at = start;
+    while (at >= 0 && at < text.length && signs.includes(text[at])) at += step;
+    return Math.abs(at - start);
+  }
+  const lstrip = (text, signs = null) => (signs === null ? text.trimStart() : text.slice(countOfEnd(text, signs, 0, 1)));
+  const rstrip = (text, signs = null) => (signs === null ? text.trimEnd() : text.slice(0, text.length - countOfEnd(text, signs, text.length - 1, -1)));
 
-  function format(it, shape) {
+  /** Writes a value in the shape of a text with values. */
+  function formatted(it, shape) {
+    if (shape === 'g') return String(it);
     if (shape === ',') return String(it).replace(/\B(?=(\d{3})+$)/g, ',');
     return shape === '02' ? String(it).padStart(2, '0') : it.toString(16).toUpperCase().padStart(4, '0');
   }
@@ -266,8 +276,14 @@ export const py = (() => {
   const set = (it = []) => new PySet(list(it).map(key => [key, null]));
 
   return {
-    Exception, ValueError, UnicodeDecodeError, Record, Enum, re, unicodedata, members, iter, list, tuple: list, len, bool, at, sorted, min, max, range,
-    decode, encode, lstrip, rstrip, format, isinstance, str, dict, items, set, frozenset: set,
+    Exception, ValueError, UnicodeError, UnicodeDecodeError, Record, Enum, re, unicodedata, members, iter, list, tuple: list, len, bool, at, sorted, min, max, range,
+    decode, encode, lstrip, rstrip, formatted, isinstance, str, dict, items, set, frozenset: set,
+    format: (text, ...given) => text.replace(/\{(\w*)\}/g, (_, name) => (name ? given[name] ?? given[0][name] : given.shift())),
+    percent: (text, given) => { const all = [given].flat(); return text.replace(/%[ds]/g, () => all.shift()); },
+    translate: (text, table) => Array.from(text, letter => table.get(letter.codePointAt(0), letter)).join(''),
+    record: (kind, given) => new kind(...kind.fields.map(name => given[name])),
+    html: { escape: (text, { quote = true } = {}) => text.replace(quote ? /[&<>"']/g : /[&<>]/g, sign => ENTITIES[sign]) },
+    json: { dumps: it => JSON.stringify(it, (_, value) => (value instanceof Dict ? Object.fromEntries(items(value)) : value)) },
     math: { prod: all => list(all).reduce((one, next) => one * next, 1) },
     dataclasses: {
       replace: (it, changes) => new it.constructor(...it.constructor.fields.map(name => (name in changes ? changes[name] : it[name]))),
@@ -278,7 +294,7 @@ export const py = (() => {
     common: (one, next) => set([...one].filter(it => has(next, it))),
     times: (one, next) => (typeof one === 'string' ? one.repeat(next) : Array.isArray(one) ? range(Number(next)).flatMap(() => one) : one * next),
     slice: (it, from, to) => it.slice(from ?? 0, to ?? undefined),
-    put: (it, key, value) => (it instanceof Dict ? it.put(key, value) : (it[key] = value)),
+    put: (it, key, value) => (it instanceof Dict ? it.put(key, value) : (it[key < 0 ? it.length + key : key] = value)),
     or: (one, next) => (bool(one) ? one : next()),
     and: (one, next) => (bool(one) ? next() : one),
     any: all => list(all).some(bool),
@@ -286,7 +302,7 @@ export const py = (() => {
     next: (all, absent = null) => { for (const it of all) return it; return absent; },
     enumerate: (all, { start = 0 } = {}) => list(all).map((it, index) => [index + start, it]),
     zip: (one, next) => list(one).slice(0, list(next).length).map((it, index) => [it, list(next)[index]]),
-    map: (act, all) => list(all).map(it => act(it)),
+    map: (act, all) => list(all).map(it => (act.prototype instanceof Record ? new act(it) : act(it))),
     reversed: all => list(all).reverse(),
     abs: Math.abs, int: Number, ord: letter => letter.codePointAt(0), chr: String.fromCodePoint, repr: it => `'${it}'`,
     fields: it => (it instanceof Dict ? Object.fromEntries(items(it)) : it),
@@ -299,15 +315,19 @@ export const py = (() => {
     values: all => items(all).map(([, value]) => value),
     pop: (all, key = -1, absent = null) => { const it = at(all, key) ?? absent; if (all instanceof Dict) all.drop(key); else all.splice(key, 1); return it; },
     join: (between, all) => list(all).join(between),
-    split: (text, between = null) => (between === null ? text.split(/[ \t\n\v\f\r]+/).filter(Boolean) : text.split(between)),
+    split: (text, between = null) => (text instanceof Pattern ? between.split(new RegExp(text.text, text.flags)) : between === null ? text.split(/[ \t\n\v\f\r]+/).filter(Boolean) : text.split(between)),
     strip: (text, signs = null) => lstrip(rstrip(text, signs), signs),
     extend: (all, more) => { all.push(...iter(more)); },
     filter: (_, all) => list(all).filter(bool),
+    update: (all, more) => { for (const it of more instanceof Dict ? items(more) : more) all.put(...(all instanceof PySet ? [it, null] : it)); },
+    sum: all => list(all).reduce((one, next) => one + Number(next), 0),
     setdefault: (all, key, value) => { if (!all.has(key)) all.put(key, value); return all.get(key); },
+    partition: (text, sign) => { const at = text.indexOf(sign); return at < 0 ? [text, '', ''] : [text.slice(0, at), sign, text.slice(at + sign.length)]; },
     rpartition: (text, sign) => { const at = text.lastIndexOf(sign); return at < 0 ? ['', '', text] : [text.slice(0, at), sign, text.slice(at + sign.length)]; },
     replace: (text, one, next) => text.replaceAll(one, () => next),
     lower: text => text.toLowerCase(),
     upper: text => text.toUpperCase(),
+    casefold: text => text.toUpperCase().toLowerCase(),
     title: text => text.toLowerCase().replace(/\p{L}+/gu, word => word[0].toUpperCase() + word.slice(1)),
     startswith: (text, one) => text.startsWith(one),
     endswith: (text, one) => text.endsWith(one),
@@ -315,6 +335,7 @@ export const py = (() => {
     isalnum: text => /^[\p{L}\p{N}]+$/u.test(text),
     isdecimal: text => /^\p{Nd}+$/u.test(text),
     isascii: isAscii,
+    isprintable: text => !/[\p{C}\p{Zl}\p{Zp}]|(?! )\p{Zs}/u.test(text),
     islower: text => text === text.toLowerCase() && text !== text.toUpperCase(),
     isupper: text => text === text.toUpperCase() && text !== text.toLowerCase(),
   };

@@ -1,18 +1,12 @@
 // @ts-check
-// Reads a report, with or without tries, or a beginning of one: items, phases, trees of moves; writes items as the companion
-// pops2json does.
-import { menOfRanks } from './position.js';
+// Reads a report, with or without tries, or a beginning of one: items, phases, trees of moves.
 
 /** @type {Record<string, string>} */
 export const MAN_NAMES = {
   K: 'king', Q: 'queen', R: 'rook', B: 'bishop', S: 'knight', P: 'pawn', G: 'grasshopper', N: 'nightrider',
 };
 /** @type {Record<string, string>} */
-export const COLOUR_NAMES = { w: 'white', b: 'black' };
-/** @type {Record<string, string>} */
 const PLAYS = { '': 'direct', s: 'self', h: 'help' };
-/** @type {Record<string, string>} */
-const MARKS = { '+': 'check', '#': 'mate' };
 const MOVE = new RegExp('^(?:(0-0-0|0-0)|([KQRBSGN])?([a-h][1-8])([-*])([a-h][1-8])( ep\\.)?(?:=([QRBSGN]))?'
   + '(?:\\[\\+([wb])([QRBSPGN])([a-h][1-8])\\])?)([+#=])?$');
 const HALF = /(?:([1-9][0-9]*)(\.\.\.|\.))?((?:[^ ]+)(?: ep\.[^ ]*)?)/g;
@@ -294,44 +288,3 @@ export function foundIn(item) {
  * @param {Item} item
  */
 export const triesIn = item => item.phases.find(phase => phase.kind === 'tries')?.count ?? null;
-
-/**
- * Makes the objects that pops2json writes for a report; the problem's text adds its origin.
- * @param {Item} item
- * @param {Given | null} [given]
- */
-export function objectOf(item, given = null) {
-  /** @param {{ title: string | null, author: string | null }} named */
-  const names = ({ title, author }) => ({ title, author, ...(given && { origin: given.origin }) });
-  if (item.fault) return { number: item.number, sound: false, ...(given && names(given)), fault: item.fault };
-  const { asked } = /** @type {SoundItem} */ (item);
-  /** @param {Square} square @param {Man} man */
-  const placed = (square, man) => ({ square, colour: COLOUR_NAMES[man[0]], man: MAN_NAMES[man[1]] });
-  const men = [...menOfRanks(item.ranks)].map(([square, man]) => placed(square, man));
-  return {
-    number: item.number, sound: true, ...names(item),
-    board: item.ranks.length ? { ranks: item.ranks, men } : null,
-    stipulation: { text: asked.text, play: asked.play, goal: asked.goal === '#' ? 'mate' : 'stalemate',
-      moves: asked.moves, half_moves: asked.halfMoves },
-    condition: asked.condition,
-    phases: item.isChecked ? null : item.phases.map(phase => phaseObject(phase, asked, placed)),
-  };
-}
-
-/** @param {Phase} phase @param {Asked} asked @param {(square: Square, man: Man) => object} placed */
-function phaseObject(phase, asked, placed) {
-  if (!phase.isPossible) return { phase: phase.kind, possible: false };
-  /** @param {Move} it */
-  const move = it => ({
-    text: it.said, half: it.half, side: COLOUR_NAMES[it.colour], man: MAN_NAMES[it.kind], from: it.from, to: it.to,
-    capture: it.captures, en_passant: it.enPassant, castling: it.castling,
-    promotion: it.promotion && MAN_NAMES[it.promotion], rebirth: it.rebirth && placed(it.rebirth.square, it.rebirth.man),
-    mark: it.mark && (MARKS[it.mark] ?? 'stalemate'),
-  });
-  /** @type {(row: Row) => object} */
-  const node = row => ({ text: row.word ?? labelOf(row.moves[0]), move: row.word ? null : move(row.moves[0]), below: row.below.map(node) });
-  const solutions = asked.isHelp
-    ? phase.solutions.map(({ line, moves }) => ({ text: line, moves: moves.map(move) }))
-    : nestedRows(phase.solutions).map(node);
-  return { phase: phase.kind, possible: true, count: phase.count, stopped: Boolean(phase.isStopped), solutions };
-}

@@ -4,6 +4,7 @@ The made files of data/import have the wanted output (.pop) and the wanted lines
 (`.told`) next to them, both written by hand.
 """
 
+import ast
 import contextlib
 import importlib.util
 import io
@@ -15,7 +16,7 @@ import subprocess
 import sys
 import tempfile
 import unittest
-from collections.abc import Mapping
+from collections.abc import Iterator, Mapping
 from pathlib import Path
 from typing import Any, NamedTuple
 from unittest import mock
@@ -512,6 +513,31 @@ class Yaml(unittest.TestCase):
                     document.node()
 
 
+def reasons_in(path: Path) -> Iterator[str]:
+    """Yields why a module leaves problems out, with `white` for each value."""
+    for call in ast.walk(ast.parse(path.read_text("utf-8"))):
+        if isinstance(call, ast.Call) and call.args:
+            name = ast.unparse(call.func)
+            text = call.args[-1]
+            parts = text.values if isinstance(text, ast.JoinedStr) else [text]
+            is_reason = name in ("Unreadable", "Impossible") or name.endswith("faults.append")
+            if is_reason and isinstance(text, (ast.JoinedStr, ast.Constant)):
+                yield "".join(it.value if isinstance(it, ast.Constant) else "white" for it in parts)
+
+
+class Reasons(unittest.TestCase):
+    """The page says in German and French why it leaves problems out."""
+
+    def test_each_is_translated(self) -> None:
+        text = (support.PACKAGE / "import_/reasons.json").read_text("utf-8")
+        known = [re.escape(it).replace(r"\{\}", ".+") for it in json.loads(text)]
+        modules = sorted((support.PACKAGE / "import_").glob("*.py"))
+        reasons = [it for path in modules if path.stem != "sources" for it in reasons_in(path)]
+        self.assertGreater(len(reasons), 30)
+        for reason in reasons:
+            self.assertRegex(reason, f"^(?:{'|'.join(known)})$")
+
+
 class WithoutPyYaml(unittest.TestCase):
     def test_yaml_is_refused_and_nothing_else(self) -> None:
         with mock.patch.dict(sys.modules, {"yaml": None}):
@@ -692,7 +718,3 @@ class Databases(unittest.TestCase):
         (document,) = documents(r'''{a: "\Diagram \"q\" \\D \u0041\x42 \
             next", b: '\D'}''')
         self.assertEqual(document.node(), {"a": r'''\Diagram "q" \D AB next''', "b": r"\D"})
-
-
-if __name__ == "__main__":
-    unittest.main()

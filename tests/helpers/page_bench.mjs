@@ -1,12 +1,12 @@
 // Uses the page in Node, with a stand-in for a browser's document: what the page does with gestures,
-// pasted texts and reports. Standard input: the parts of the template, and cases, each a text, a report of it
+// pasted texts and reports. Standard input: more parts of the page, and cases, each a text, a report of it
 // and steps, which are scripts. Standard output: for each case the values of its steps.
 import { readFileSync } from 'node:fs';
 import { drag, fill, paste, send } from './page_document.mjs';
-import { evaluated, importAll, modulePaths } from './page_imports.mjs';
+import { evaluated, importAll, modulePaths, sharedParts } from './page_imports.mjs';
 
 const given = JSON.parse(readFileSync(0, 'utf8'));
-fill(given.parts);
+fill({ ...sharedParts(), ...given.parts });
 const modules = await importAll(modulePaths());
 send('DOMContentLoaded', {});
 const report = text => {

@@ -113,9 +113,9 @@ TREES: list[Case] = [
     ("no report", "itemsOf(given).length", "<script>\n", 0),
     ("a fault", "itemsOf(given)[0].fault", "problem 1\nline 3: fault 8: bad stipulation\n\n",
      {"line": 3, "number": 8, "text": "bad stipulation"}),
-    ("markup in a title", "sheetOf(itemsOf(given), 'a', '', '').includes('<img')", "problem 1\ntitle: <img src=x onerror=a()>\n#1\nsound\n\n",
+    ("markup in a title", "sheetOf(itemsOf(given), 'a').includes('<img')", "problem 1\ntitle: <img src=x onerror=a()>\n#1\nsound\n\n",
      False),
-    ("markup in a drawing's title", "diagramFile(new Map(), given, '<svg><defs></defs></svg>').includes('<img')", "<img>", False),
+    ("markup in a drawing's title", "diagramFile(new Map(), given).includes('<img')", "<img>", False),
 ]
 ODD = ("beg Remark stays\n  pie wh kg6 ra1\nRemark in between\n b kg8\nsti #1 opt max\nRemark x\n 5 var\nOdd words <b>\n"
        "opt noc a1 h1 setp\nend tail\n")

@@ -4,22 +4,23 @@ import { readdirSync, readFileSync } from 'node:fs';
 import { fileURLToPath } from 'node:url';
 
 const WEB = new URL('../../web/', import.meta.url);
-export const EXPLANATIONS = readFileSync(new URL('../../companions/pops_companions/explain/explanations.json', import.meta.url), 'utf8');
+const COMPANIONS = new URL('../../companions/', import.meta.url);
+const textOf = (path, base) => readFileSync(new URL(path, base), 'utf8');
+let parts = null;
 
-let shared = null;
-
-/** Returns a part of what the page takes from the companions: `names` or `letters`. */
-export function sharedPart(name) {
-  const cwd = fileURLToPath(new URL('../../companions/', import.meta.url));
-  shared ??= JSON.parse(execFileSync('python3', ['-B', '-m', 'pops_companions.show.shared'], { cwd, encoding: 'utf8' }));
-  return JSON.stringify(shared[name]);
+/** Returns the parts of the page that hold tables and shapes, by their names. */
+export function sharedParts() {
+  if (parts) return parts;
+  const words = ['-B', '-m', 'pops_companions.show.shared'];
+  const { shapes, letters } = JSON.parse(execFileSync('python3', words, { cwd: fileURLToPath(COMPANIONS), encoding: 'utf8' }));
+  parts = { words: textOf('words.json', WEB),
+    reasons: textOf('pops_companions/import_/reasons.json', COMPANIONS), letters: JSON.stringify(letters), 'men-shapes': shapes };
+  return parts;
 }
 
-/** Makes a document that has only the sentences of explanations, and names and letters as the companions have them. */
+/** Makes a document that has only these parts. */
 export function makeDocument() {
-  const partOf = name => (name === 'explanations' ? EXPLANATIONS : sharedPart(name));
-  const known = ['explanations', 'names', 'letters'];
-  globalThis.document ??= { getElementById: name => (known.includes(name) ? { textContent: partOf(name) } : null) };
+  globalThis.document ??= { getElementById: name => (name in sharedParts() ? { textContent: sharedParts()[name] } : null) };
 }
 
 /** Returns the paths of the page's modules: not the worker, which is a script of its own, and not those of the package of npm. */

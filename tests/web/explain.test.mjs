@@ -5,24 +5,27 @@ import { test } from 'node:test';
 import { makeDocument } from '../helpers/page_imports.mjs';
 
 makeDocument();
-const { attackers } = await import('../../web/attacks.js');
 const { explain, explanationOf, faultsOf, markedLines, mendedProblem, shown } = await import('../../web/explaining.js');
-const { DATA, sentence } = await import('../../web/explanations.js');
 const { ownAdvice } = await import('../../web/faults.js');
 const { companions } = await import('../../web/out/companions.js');
+const { DATA, sentence } = companions;
 const { py } = await import('../../web/python.js');
 const { imported } = await import('../../web/importing.js');
 const { documents } = await import('../../web/yaml.js');
 const { contentsOf, twinsOf } = await import('../../web/contents.js');
-const { givenOf, saidOfTwin, twinChange, twinGroups } = await import('../../web/twins.js');
+const { knownMen, knownSide } = await import('../../web/items.js');
+const { givenOf } = await import('../../web/outputs.js');
 
 const posed = (...lines) => `BeginProblem\n${lines.join('\n')}\nEndProblem\n`;
 
+/** Returns the names of the squares of White's men that attack a square. */
+const attackers = (men, target, isMadrasi) => companions.attackers(knownMen(men), companions.Square.of_name(target), knownSide('w'), isMadrasi).map(it => it.name).sort();
+
 test('attacks: lines, hops and paralysed men', () => {
   const men = new Map([['a1', 'wR'], ['a4', 'wP'], ['a8', 'bK'], ['b8', 'wG'], ['h2', 'wN']]);
-  assert.deepEqual(attackers(men, 'a5', 'w', false), []);
-  assert.deepEqual(attackers(new Map([['a1', 'wR'], ['b3', 'wN']]), 'a5', 'w', false), ['a1', 'b3']);
-  assert.deepEqual(attackers(new Map([['a1', 'wR'], ['a2', 'bR']]), 'a2', 'w', true), []);
+  assert.deepEqual(attackers(men, 'a5', false), []);
+  assert.deepEqual(attackers(new Map([['a1', 'wR'], ['b3', 'wN']]), 'a5', false), ['a1', 'b3']);
+  assert.deepEqual(attackers(new Map([['a1', 'wR'], ['a2', 'bR']]), 'a2', true), []);
 });
 
 test('companions: what the module uses of Python is there', () => {
@@ -97,12 +100,15 @@ test('yaml: documents, their keys and lists', () => {
 });
 
 test('twins: groups, remarks and changes', () => {
-  const named = (number, title) => ({ number, title, author: null });
-  assert.deepEqual(twinGroups([named(1, 'A a)'), named(2, 'A b)'), named(3, 'B')]).map(it => it.length), [2, 1]);
-  assert.equal(saidOfTwin({ text: 'b)' }, ['b) Move a1 b2']), 'Move a1 b2');
-  const twin = { men: new Map([['b2', 'wR']]), asked: '#1', label: { text: 'b)', number: 2, isDuplex: false }, remarks: [] };
-  assert.deepEqual(twinChange(twin, { men: new Map([['a1', 'wR']]), asked: '#2' }), { said: 'white Ra1 to b2, #1', isLarge: false });
-  assert.equal(givenOf(posed('Title A', 'Origin O'))[0].origin, 'O');
+  const problem = (title, men, asked, remark) => [`Title ${title}`, ...(remark ? [`Remark ${remark}`] : []), `Pieces White ${men}`, `Stipulation ${asked}`].join('\n');
+  const twins = (...problems) => {
+    const text = `BeginProblem\n${problems.join('\nNextProblem\n')}\nEndProblem\n`;
+    return contentsOf(text).map((_, at) => twinsOf(text, contentsOf(text), at + 1).map(it => it.change));
+  };
+  assert.deepEqual(twins(problem('A a)', 'Ra1', '#2'), problem('A b)', 'Rb2', '#1'), problem('B', 'Ra1', '#2')),
+    [['', 'white Ra1 to b2, #1'], ['', 'white Ra1 to b2, #1'], []]);
+  assert.deepEqual(twins(problem('A a)', 'Ra1', '#2'), problem('A b)', 'Rb2', '#2', 'b) Move a1 b2'))[0], ['', 'Move a1 b2']);
+  assert.equal(py.decode(givenOf(posed('Title A', 'Origin O'))[0].origin, 'utf-8'), 'O');
 });
 
 test('contents: names and twins of a text', () => {

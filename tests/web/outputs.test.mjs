@@ -5,15 +5,18 @@ import { makeDocument } from '../helpers/page_imports.mjs';
 
 makeDocument();
 const { imported } = await import('../../web/importing.js');
-const { beyondLatex, latexOf, yamlOf } = await import('../../web/outputs.js');
+const { beyondLatex, diagramFile, latexOf, shortText, yamlOf } = await import('../../web/outputs.js');
+const { in_commands } = await import('../../web/letters.js');
+const { men_shapes } = await import('../../web/shapes.js');
 const { menOfRanks } = await import('../../web/position.js');
-const { itemsOf, movesOf } = await import('../../web/report.js');
-const { shortMove, shortText } = await import('../../web/short.js');
+const { itemsOf } = await import('../../web/report.js');
 const { blockAt, menOf } = await import('../../web/text.js');
 
 /** Returns the men of a text, as `White Ke1 Black Ke8`. */
 const menIn = men => menOf(blockAt(`BeginProblem Pieces ${men} EndProblem`, 0)).men;
-const short = (men, move, isHelp = false) => shortMove(menIn(men), movesOf(move, isHelp)[0], false);
+/** Returns the short notation of a first move, without its number and the sign of a key. */
+const short = (men, move, isHelp = false) => shortText(itemsOf(`problem 1\n${isHelp ? 'h#1' : '#1'}\nplay\n${move}\nsolutions: 1\n`)[0], menIn(men))
+  .slice(2).replace(/!?\n$/, '');
 
 test('short: a move names as much of its origin as is needed', () => {
   assert.equal(short('White Ka1 Sb1f1 Black Kh8', '1.Sb1-d2'), 'Sbd2');
@@ -43,7 +46,7 @@ const TEXT = 'BeginProblem\nTitle Mate in two\nAuthor Morphy, Paul; Another One\
 test('short: tries and keys with their variations', () => {
   const [item] = itemsOf(MORPHY);
   assert.equal(shortText(item, menOfRanks(item.ranks)), [
-    'Tries', '  1.Rxa7+?', '    but 1...Bxa7!', 'Solution', '  1.Ra6! zugzwang', '    1...bxa6 2.b7#', '    1...Bh2,Bg3 2.Rxa7#', ''].join('\n'));
+    'Tries', '  1.Rxa7+? Bxa7!', 'Solution', '  1.Ra6! zugzwang', '    1...bxa6 2.b7#', '    1...Bh2,Bg3 2.Rxa7#', ''].join('\n'));
 });
 
 test('short: threats, several continuations, longer play, help play, no solution', () => {
@@ -60,19 +63,20 @@ test('short: threats, several continuations, longer play, help play, no solution
 });
 
 test('outputs: YAML', () => {
-  assert.equal(yamlOf(TEXT, itemsOf(MORPHY)), [
+  assert.equal(yamlOf(TEXT, itemsOf(MORPHY)).text, [
     '---', 'authors:', '  - "Morphy, Paul"', '  - "Another One"', 'title: "Mate in two"', 'source: "Here; There"', 'algebraic:',
     '  white: [Kc8, Ra1, Pb6]', '  black: [Ka8, Bb8, Pa7, Pb7]', 'stipulation: "#2"', 'conditions: [Madrasi]', 'options:', '  - "SetPlay"', '  - "Variation"',
-    '  - "MaxSolutions 3"', '  - "NoCastling a1 h1"', 'intended-solutions: 1', 'comments:', '  - "\\"odd\\" & #1"', 'solution: |',
+    '  - "MaxSolutions 3"', '  - "NoCastling a1h1"', 'intended-solutions: 1', 'comments:', '  - "\\"odd\\" & #1"', 'solution: |',
     '  1.Ra1-a6 ! zugzwang.', '      1...b7*a6', '          2.b6-b7 #', '      1...Bb8-h2', '          2.Ra6*a7 #', '      1...Bb8-g3', '          2.Ra6*a7 #', '',
     '  1.Ra1*a7 + ?', '      but', '          1...Bb8*a7 !', ''].join('\n'));
-  assert.equal(yamlOf(TEXT, []).includes('solution: |'), false);
+  assert.equal(yamlOf(TEXT, []).text.includes('solution: |'), false);
 });
 
 test('outputs: a name with many blanks takes little time', () => {
   const begun = process.cpuUsage();
-  const text = `BeginProblem\nAuthor A${' '.repeat(2e5)}B & C\nPieces White Kg6 Black Kg8\nStipulation #1\nEndProblem\n`;
-  assert.match(yamlOf(text, []), /^  - "A B"\n  - "C"$/m);
+  const text = blanks => `BeginProblem\nAuthor A${' '.repeat(blanks)}B & C\nPieces White Kg6 Black Kg8\nStipulation #1\nEndProblem\n`;
+  assert.match(yamlOf(text(100), []).text, /^  - "A B"\n  - "C"$/m);
+  assert.ok(/^  - "A"$/m.test(yamlOf(text(2e5), []).text), 'the first 200 bytes are the name');
   const { user, system } = process.cpuUsage(begun);
   assert.ok(user + system < 3e7, `${user + system} microseconds`);
 });
@@ -81,23 +85,35 @@ test('outputs: YAML of what an import kept has its keys again', () => {
   const given = ['---', 'id: 77', 'authors:', '  - "Loyd, Samuel"', 'source: "New York Albion"', 'date: "1858-07-03"', 'algebraic:', '  white: [Kg6, Ra1]', '  black: [Kg8]',
     'stipulation: "#1"', 'source-id: "A7"', 'award:', '  tourney: "A tourney"', '  distinction: "1st Prize"', 'keywords:', '  - "Zugzwang"', 'comments:', '  - "a comment"',
     'solution: |', '  1.Ra8 #', '    and more', ''].join('\n');
-  assert.equal(yamlOf(imported(given).text, []), given);
+  assert.equal(yamlOf(imported(given).text, []).text, given);
 });
 
 test('outputs: a faulty problem in LaTeX is a box, and letters that plain LaTeX lacks are known', () => {
-  const made = latexOf('BeginProblem\nTitle A&B\nAuthor Loyd, Samuel\nPieces White Kg6 Rz1 Black Kg8\nStipulation #1\nEndProblem\n', new Map(), new Map([[1, 'line 4']]));
+  const made = latexOf('BeginProblem\nTitle A&B\nAuthor Loyd, Samuel\nPieces White Kg6 Rz1 Black Kg8\nStipulation #1\nEndProblem\n',
+    itemsOf('problem 1\nline 4: fault 14: square expected\n\n'));
   assert.equal(made.includes('\\begin{diagram}'), false);
-  assert.match(made, /\\raggedright\nLoyd, Samuel\\\\\nA\\&B\\\\\n\\textbf\{line 4\}\n\\end\{minipage\}/);
-  assert.equal(beyondLatex('é ǿ ſ Ж ơ Ɓ Ɓ'), 'ſ Ɓ');
+  assert.match(made, /\\raggedright\n\\textbf\{1\} Samuel Loyd\\\\\nA\\&B\\\\\n\\textbf\{line 4: square expected\}\n\\end\{minipage\}/);
+  assert.equal(beyondLatex('é ǿ ſ Ж ơ ả Ɓ Ɓ'), 'ſ Ɓ');
+  assert.deepEqual(['ả', 'ỉ', 'ſ'].map(in_commands), [['\\hooked{a}', true], ['\\hooked{\\i}', true], ['s', false]]);
+});
+
+test('outputs: a drawing has the shapes of its men alone', () => {
+  assert.deepEqual([...men_shapes()].filter(it => it !== 'board').length, 8);
+  const made = diagramFile(menIn('White Ka1 Ga2 Black Kh8'), 'A & B');
+  assert.match(made, /<title>A &amp; B<\/title>/);
+  assert.deepEqual(['king', 'queen', 'grasshopper', 'rook'].map(it => made.includes(`<g id="${it}">`)), [true, true, true, false]);
 });
 
 test('outputs: LaTeX', () => {
-  const made = latexOf(TEXT.replace('Here', '50% {x} Ж_1'), new Map([[1, 'Solution\n  1.Ra6#\n']]));
-  assert.match(made, /^% the package diagram.*\n\\documentclass\[a4paper\]\{article\}\n/);
+  const report = MORPHY.replace('\n8 ', '\nauthor: Morphy, Paul; Another One\n8 ').replace('#2', '#2 Madrasi');
+  const made = latexOf(TEXT.replace('Here', '50% {x} Ж_1'), itemsOf(report));
+  assert.match(made, /^\\documentclass\[a4paper\]\{article\}\n/);
   assert.match(made, /\n\\cyrillicletter\{0416\}\{Ж\}\{Ж\}\n/);
   assert.equal(made.slice(made.indexOf('\\begin{diagram}')), [
-    '\\begin{diagram}', '\\author{Morphy, Paul; {Another One}, {}}', '\\dedic{Mate in two}', '\\source{50\\% \\{x\\} Ж\\_1; There}',
-    '\\pieces[3+4]{wKc8, wTa1, wBb6, sKa8, sLb8, sBa7b7}', '\\stipulation{\\#2}', '\\condition{Madrasi}', '\\solution{Solution\\newline', '\\hspace*{1em}1.Ra6\\#}',
-    '\\end{diagram}', '', '\\putsol', '\\end{document}', ''].join('\n'));
-  assert.match(latexOf('BeginProblem\nPieces White Ga1 Nb1 Black Gc1\nStipulation #1\nEndProblem\n', new Map()), /\\piecedefs\{\{ws\}\{DU\}\{Grasshopper\}; \{w\}\{SU\}\{Nightrider\}\}/);
+    '\\begin{diagram}', '\\specialdiagnum{1}', '\\author{Morphy, Paul; {Another One}, {}}', '\\dedic{Mate in two}', '\\source{50\\% \\{x\\} Ж\\_1; There}',
+    '\\pieces[3+4]{wKc8, wTa1, wBb6, sKa8, sLb8, sBa7b7}', '\\stipulation{\\#2}', '\\condition{Madrasi}',
+    '\\solution{\\textit{Tries}\\newline', '1.Rxa7+? Bxa7!\\newline', '\\textit{Solution}\\newline', '1.Ra6! zugzwang\\newline', '\\hspace*{1em}1...bxa6 2.b7\\#\\newline',
+    '\\hspace*{1em}1...Bh2,\\allowbreak{}Bg3 2.Rxa7\\#}', '\\end{diagram}', '\\hspace{1em}', '', '\\putsol', '', '\\section*{Authors}',
+    'Morphy, Paul \\dotfill\\ 1\\par', 'One, Another \\dotfill\\ 1\\par', '\\end{document}', ''].join('\n'));
+  assert.match(latexOf('BeginProblem\nPieces White Kh1 Ga1 Nb1 Black Kh3 Gc1\nStipulation #1\nEndProblem\n', []), /\\piecedefs\{\{ws\}\{DU\}\{Grasshopper\}; \{w\}\{SU\}\{Nightrider\}\}/);
 });

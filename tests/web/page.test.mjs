@@ -1,18 +1,16 @@
 // The modules that show the page, with a stand-in for a browser's document.
 import assert from 'node:assert/strict';
-import { readFileSync } from 'node:fs';
 import { test } from 'node:test';
 import { fill, kept, keptInTab, made, paste, send } from '../helpers/page_document.mjs';
-import { EXPLANATIONS, sharedPart } from '../helpers/page_imports.mjs';
+import { sharedParts } from '../helpers/page_imports.mjs';
 
 const TEXT = 'BeginProblem\nPieces White Kg6 Ra1 Black Kg8\nStipulation #1\nEndProblem\n';
 const REPORT = 'problem 1\n#1\nplay\n1.Ra1-a8#\nsolutions: 1\n\n';
 const TWO_MOVES = 'BeginProblem\nPieces White Kh8 Qb1 Black Kf8 Pa7\nStipulation #2\nEndProblem\n';
 const TRIES = 'problem 1\n#2\nplay\n1.Qb1-b6!\n  threat\n    2.Qb6-f6#\n  1...a7*b6\nsolutions: 1\ntries\n1.Qb1-b2?\n  zugzwang\n  but\n    1...a7-a5!\ntries: 1\n\n';
-fill({ names: sharedPart('names'), letters: sharedPart('letters'), explanations: EXPLANATIONS, example: TEXT, 'fault-words': '{"8": "what the manual says"}', 'men-shapes': '<svg><defs></defs></svg>', engine: 'AGFzbQEAAAA=' });
+fill({ ...sharedParts(), example: TEXT, 'fault-words': '{"8": "what the manual says"}', engine: 'AGFzbQEAAAA=' });
 const { comparisonOf } = await import('../../web/compared.js');
 const { Board } = await import('../../web/board.js');
-const { sheetOf } = await import('../../web/diagrams.js');
 const { element, makeButton, madeWith, partText } = await import('../../web/elements.js');
 const { faultBox } = await import('../../web/faults.js');
 const { makeProblem, move, solveFromHere } = await import('../../web/line.js');
@@ -29,7 +27,9 @@ const { beginReport, drawGrowth, drawReport, reportGrew } = await import('../../
 const { buildLive, liveChanged, showLive, solveLive } = await import('../../web/page/live.js');
 const { mostRefutations, sayDone, sayProblem, showMost, showSolve, solve, solvingNow } = await import('../../web/page/solving.js');
 const { blockNow, state, textNow } = await import('../../web/page/state.js');
-const { sayAsked, sayCondition, sayFairyMan, sayFault, sayTotal } = await import('../../web/names.js');
+const { sayAsked, sayCondition, sayFault, sayTotal } = await import('../../web/names.js');
+const { companions } = await import('../../web/out/companions.js');
+const { sheetOf, shortText } = await import('../../web/outputs.js');
 const { keep, kept: keptValue } = await import('../../web/page/storage.js');
 const { buildSwitches } = await import('../../web/page/switches.js');
 const views = await import('../../web/page/views.js');
@@ -37,10 +37,11 @@ const { beginVisit, drawVisit, openLink, storeVisit } = await import('../../web/
 const { leave, showPlace } = await import('../../web/page/walk.js');
 const { fillPrint } = await import('../../web/printing.js');
 const { fragmentOf } = await import('../../web/store.js');
-const { shortText } = await import('../../web/short.js');
 const { menOf } = await import('../../web/text.js');
 const { sayFound } = await import('../../web/tree.js');
-const { LANGUAGES, say, sayMan, speak } = await import('../../web/words.js');
+const { imported } = await import('../../web/importing.js');
+const words = await import('../../web/words.js');
+const { LANGUAGES, say, sayMan, speak } = words;
 await import('../../web/page.js');
 send('DOMContentLoaded', {});
 
@@ -543,10 +544,7 @@ test('editing: clear removes title, source and squares of options too, and leave
 });
 
 test('words: every language has every text, with the same values in it', () => {
-  const source = readFileSync(new URL('../../web/words.js', import.meta.url), 'utf8');
-  const tables = Object.keys(LANGUAGES).map(code => new RegExp(`^  ${code}: \\{\\n([^]*?)^  \\},$`, 'm').exec(source)[1]);
-  const names = text => [...text.matchAll(/(?:^ +|, )(?:'([a-z]+-[a-z#=]+)'|([A-Za-z0-9]+)): '/gm)].map(it => it[1] ?? it[2]);
-  const [english, ...others] = tables.map(text => new Set(names(text)));
+  const [english, ...others] = Object.keys(LANGUAGES).map(code => new Set(Object.keys(JSON.parse(sharedParts().words)[code])));
   assert.equal(english.size > 150, true);
   for (const [at, other] of others.entries()) {
     const code = Object.keys(LANGUAGES)[at + 1];
@@ -570,7 +568,8 @@ test('words: every language has every text, with the same values in it', () => {
 test('names: conditions, fairy men, faults and totals in each language', () => {
   const fault = { line: 3, number: 14, text: 'square expected' };
   const total = { kind: 'play', isPossible: true, total: 'solutions: 2, stopped', count: 2, isStopped: true, solutions: [] };
-  const said = () => [sayAsked('h#2.5 Circe'), sayAsked('#2'), sayCondition('Madrasi'), sayFairyMan('N'), sayFault(fault), sayTotal(total)];
+  const sayNightrider = () => companions.LANGUAGES.get(words.language).fairy_men.get(companions.Kind.NIGHTRIDER);
+  const said = () => [sayAsked('h#2.5 Circe'), sayAsked('#2'), sayCondition('Madrasi'), sayNightrider(), sayFault(fault), sayTotal(total)];
   assert.deepEqual(said(), ['h#2.5 Circe', '#2', 'Madrasi', 'Nightrider', 'line 3: fault 14: square expected', 'solutions: 2, stopped']);
   speak('de');
   assert.deepEqual(said(), ['h#2.5 Circe', '#2', 'Madrasi', 'Nachtreiter', 'Zeile 3: Fehler 14: Feld erwartet', 'Lösungen: 2, dann gestoppt']);
@@ -582,11 +581,25 @@ test('names: conditions, fairy men, faults and totals in each language', () => {
 test('names: the page of diagrams and the printed sheet speak the language', () => {
   speak('de');
   begin(TEXT.replace('#1', '#1\nCondition Circe'), REPORT.replace('#1\n', `${'8 .....k..\n'}#1 Circe\n`));
-  const sheet = sheetOf(state.items, say('sheet'), '', '');
+  const sheet = sheetOf(state.items, say('sheet'));
   assert.match(sheet, /<html lang="de">[^]*Problem 1<[^]*<h3>Spiel<[^]*Lösungen: 1</);
   fillPrint();
   assert.match(element('print').textContent, /Spiel\n1\.Ra1-a8#\nLösungen: 1/);
   speak('en');
+});
+
+test('names: an import says in the page\'s language why it leaves a problem out', () => {
+  const text = (men, asked, more = '') => `BeginProblem\nPieces ${men}\nStipulation ${asked}\n${more}EndProblem\n`;
+  const lost = () => [text('White Kg6 Ra1 Black Kh8', 'r#2', 'Option Try\n'), text('White Kg6 Ra1 Black', '#1', 'Option Try\n'),
+    text('White Kg6 Ra1 Black Kh8', 'h#1', 'Twin Move a2 b2\n')].map(it => imported(it)?.lost.join());
+  speak('de');
+  assert.deepEqual(lost(), ['Problem 1 wurde ausgelassen: pops kennt die Forderung r#2 nicht', 'Problem 1 wurde ausgelassen: der schwarze König fehlt',
+    'Problem 1 b) wurde ausgelassen: auf a2 steht kein Stein, der zieht']);
+  speak('fr');
+  assert.deepEqual(lost(), ['Le problème 1 a été omis : pops ne connaît pas l’énoncé r#2', 'Le problème 1 a été omis : il manque le roi noir',
+    'Le problème 1 b) a été omis : il n’y a pas de pièce en a2 à déplacer']);
+  speak('en');
+  assert.match(lost()[1], /there is no black king/);
 });
 
 test('switches: a reload in the same tab finds them as they were', () => {
@@ -608,7 +621,7 @@ test('words: the solution in short notation has the letters of its language', ()
   const [item] = state.items;
   const men = menOf(blockNow()).men;
   speak('de');
-  assert.equal(shortText(item, men), 'Verführungen\n  1.Db2? Zugzwang\n    aber 1...a5!\nLösung\n  1.Db6! droht: 2.Df6#\n    1...axb6\n');
+  assert.equal(shortText(item, men), 'Verführungen\n  1.Db2? a5!\nLösung\n  1.Db6! droht: 2.Df6#\n    1...axb6\n');
   speak('fr');
   assert.match(shortText(item, men), /1\.Db6! menace : 2\.Df6#/);
   speak('en');

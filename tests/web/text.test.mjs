@@ -6,6 +6,9 @@ import { after, changed, exchanged, fenOf, menOfRanks, placeOf, ranksOf, readFen
 import { fileNameOf, fragmentOf, keptOf, nameOfText, Steps, textOfBytes, textOfFragment, visitOf, withKept, writtenVisit } from '../../web/store.js';
 import { blockAt, blocksOf, fieldsOf, lineAt, menOf, posedIn, sidesOf, tailOf, valueOf, withField, withMen, withTail, wordsOf } from '../../web/text.js';
 import { language, say, sayMan } from '../../web/words.js';
+import { makeDocument } from '../helpers/page_imports.mjs';
+
+makeDocument();
 
 const TEXT = 'BeginProblem\nTitle A b\nPieces White Kg6 Ra1 Black Kg8\nStipulation #1\nOption MaxSolutions 3\nEndProblem\n';
 const men = (...placed) => new Map(placed.map(it => [it.slice(2), it.slice(0, 2)]));

@@ -1,15 +1,9 @@
 // @ts-check
 // What the page gives away: files of text, report, diagrams and other forms, the clipboard, links, and the printed sheet.
-import { diagramFile, sheetOf } from '../diagrams.js';
-import { partText } from '../elements.js';
-import { sayFault } from '../names.js';
-import { beyondLatex, latexOf, yamlOf } from '../outputs.js';
-import { menOfRanks, ranksOf } from '../position.js';
-import { objectOf } from '../report.js';
-import { shortText } from '../short.js';
+import { beyondLatex, diagramFile, givenOf, jsonOf, latexOf, sheetOf, shortText, yamlOf } from '../outputs.js';
+import { menOfRanks } from '../position.js';
 import { fileNameOf, fragmentOf } from '../store.js';
 import { blockAt, blocksOf, fieldsOf, menOf, valueOf } from '../text.js';
-import { givenOf } from '../twins.js';
 import { say } from '../words.js';
 import { blockNow, state, textNow } from './state.js';
 import { board, note } from './views.js';
@@ -35,9 +29,7 @@ function drawingNow() {
   const block = blockNow();
   const fields = block ? fieldsOf(textNow(), block) : {};
   const title = ['title', 'author', 'stipulation'].map(name => valueOf(fields, name)).filter(Boolean).join(', ');
-  // Sorts men in the order of a report's board, rank 8 first.
-  const men = menOfRanks(ranksOf(board.men));
-  return diagramFile(men, title, partText('men-shapes'));
+  return diagramFile(board.men, title);
 }
 
 /** Draws the board as a picture. @returns {Promise<Blob>} */
@@ -98,13 +90,12 @@ function saveItems(act) {
 export const OUTS = {
   outText: () => save('pop', 'text/plain', textNow()),
   outReport: () => saveItems(() => save('report', 'text/plain', state.report)),
-  outPage: () => saveItems(items => save('html', 'text/html',
-    sheetOf(items, say('sheet'), partText('men-shapes'), partText('sheet-style'), givenOf(state.solved)))),
+  outPage: () => saveItems(items => save('html', 'text/html', sheetOf(items, say('sheet'), givenOf(state.solved)))),
   outSvg: () => save('svg', 'image/svg+xml', drawingNow(), blockNow()),
   outPng: async () => save('png', 'image/png', await pictureNow(), blockNow()),
-  outJson: () => saveItems(items => save('json', 'application/json', jsonOf(items))),
+  outJson: () => saveItems(items => save('json', 'application/json', linesOfJson(items))),
   outLatex: saveLatex,
-  outYaml: () => save('yaml', 'application/yaml', yamlOf(textNow(), itemsNow())),
+  outYaml: saveYaml,
   outCopyDiagram: copyDiagram,
   outCopyShort: copyShort,
   outLink: makeLink,
@@ -113,20 +104,27 @@ export const OUTS = {
 
 /** Saves the problems in LaTeX, and says which letters only some of its engines set. */
 function saveLatex() {
-  const faults = state.items.flatMap(it => /** @type {[number, string][]} */ (it.fault && state.isPosedNow(it.number) ? [[it.number, sayFault(it.fault)]] : []));
-  const made = latexOf(textNow(), new Map(itemsNow().map(it => [it.number, shortOf(it)])), new Map(faults));
+  const faulty = state.items.filter(it => it.fault && state.isPosedNow(it.number));
+  const made = latexOf(textNow(), [...itemsNow(), ...faulty]);
   const letters = beyondLatex(made);
   save('tex', 'application/x-tex', made);
   note(letters ? say('latexLacks', { letters }) : '');
+}
+
+/** Saves the problems in YAML, and says which are left out. */
+function saveYaml() {
+  const { text, lost } = yamlOf(textNow(), itemsNow());
+  save('yaml', 'application/yaml', text);
+  note(lost.join(' '));
 }
 
 /**
  * Writes the objects of items, one per line.
  * @param {Item[]} items
  */
-function jsonOf(items) {
+function linesOfJson(items) {
   const given = givenOf(state.solved);
-  return items.map(item => `${JSON.stringify(objectOf(item, given[item.number - 1]))}\n`).join('');
+  return items.map(item => `${jsonOf(item, given[item.number - 1])}\n`).join('');
 }
 
 /** Says of a page from disk that its link leads nowhere on another computer. */

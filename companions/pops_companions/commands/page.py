@@ -11,7 +11,7 @@ from pops_companions.input.given_source import read_given
 from pops_companions.report.items import AnyItem, FaultyItem
 from pops_companions.report.reader import CUT
 from pops_companions.report.source import opened_unfinished_report
-from pops_companions.show.page import Page
+from pops_companions.show.page import Page, Words
 
 NAME = "pops-page"
 
@@ -58,7 +58,7 @@ def arguments(words: list[str]) -> Settings:
 def main(words: list[str]) -> Status:
     settings = arguments(words)
     given = () if settings.input is None else read_given(NAME, settings.input)
-    shown = Page(settings.heading, settings.encoding, given, settings.apart)
+    shown = Page(settings.heading, settings.encoding, given, settings.apart, Words())
     status = Status.GOOD
 
     def noted(items: Iterator[AnyItem]) -> Iterator[AnyItem]:

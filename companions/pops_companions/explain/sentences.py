@@ -3,13 +3,11 @@
 The page reads the same file: a sentence changed there changes in both.
 """
 
-import json
-from pathlib import Path
 from typing import Any
 
-DATA: dict[str, Any] = json.loads(
-    Path(__file__).resolve().with_name("explanations.json").read_text("utf-8")
-)
+from pops_companions.stored import stored
+
+DATA: dict[str, Any] = stored("explain/explanations.json")
 _SENTENCES: dict[str, str] = DATA["sentences"]
 
 

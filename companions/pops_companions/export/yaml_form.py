@@ -17,6 +17,9 @@ _WANTED = re.compile("solutions ([1-9][0-9]{0,8})")
 # Keys whose texts are a list, also a single one.
 _LISTS = ("keywords",)
 _MAN = re.compile("([KQRBSPGN])((?:[a-h][1-8])+)")
+_SIGNS = re.compile("(.*?)([#+=]?)([!?]?)")
+# What Popeye prints after a first move in place of the line that a text of tries has below it.
+_MENACES = {"threat": " threat:", "zugzwang": " zugzwang.", "check": ""}
 
 
 def yaml_of(problems: Iterable[Exported], items: Mapping[int, SoundItem]) -> Iterator[str]:
@@ -127,7 +130,7 @@ def _men(pieces: str) -> "dict[str, list[str]]":
 
 def _remarks(fields: Fields) -> Iterator[str]:
     """Yields the keys that Remarks were made of, the number of solutions, and the other Remarks."""
-    found = list(map(_WANTED.fullmatch, fields.comments))
+    found = [_WANTED.fullmatch(text) for text in fields.comments]
     wanted = [number[1] for number in found if number]
     comments = [text for text, number in zip(fields.comments, found) if not number]
     if wanted and "intended-solutions" not in fields.keys:
@@ -157,17 +160,27 @@ def solution_lines(item: Optional[SoundItem]) -> list[str]:
     lines: list[str] = []
     for phase in () if item is None else item.phases or ():
         lines += [""] if lines and phase.lines else []
-        lines += [_line(line, _is_key(line, phase.kind.value, item)) for line in phase.lines]
+        for line in phase.lines:
+            menace = _MENACES.get(line.strip())
+            if menace is None:
+                lines.append(_line(line, _is_key(line, phase.kind.value, item)))
+            else:
+                lines[-1] += menace
     return lines
 
 
 def _is_key(line: str, phase: str, item: Optional[SoundItem]) -> bool:
     is_battle = item is not None and item.stipulation.play.value != "help"
-    return is_battle and phase == "play" and not line.startswith(" ")
+    return is_battle and phase == "play" and not line.startswith(" ") and not line.endswith("!")
 
 
 def _line(line: str, is_key: bool) -> str:
     text = line.lstrip(" ")
     indent = 2 * (len(line) - len(text))
-    moves: Sequence[str] = [re.sub(r"(?<=[^ ])([#+=])$", r" \1", word) for word in text.split(" ")]
-    return " " * indent + " ".join(moves) + (" !" if is_key else "")
+    return " " * indent + " ".join(map(_parted, text.split(" "))) + (" !" if is_key else "")
+
+
+def _parted(word: str) -> str:
+    """Returns a move with its signs apart."""
+    parts = _SIGNS.fullmatch(word)
+    return word if parts is None else " ".join(filter(None, parts.groups()))

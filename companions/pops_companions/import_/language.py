@@ -4,9 +4,10 @@ import unicodedata
 from collections.abc import Iterable, Iterator, Mapping
 from dataclasses import dataclass
 from enum import Enum
-from typing import AbstractSet, NamedTuple, Optional, TypeVar
+from typing import AbstractSet, Any, NamedTuple, Optional, TypeVar
 
 from pops_companions.chess.men import Kind
+from pops_companions.stored import stored
 
 Meaning = TypeVar("Meaning")
 
@@ -104,113 +105,14 @@ class Twinning(Enum):
     CONTINUED = "Continued"
 
 
-# Each row: what the words mean, then the words in English, German and French.
-_COMMANDS = (
-    (Command.BEGIN, "BeginProblem", "AnfangProblem", "DebutProbleme"),
-    (Command.END, "EndProblem", "EndeProblem EndProblem", "FinProbleme"),
-    (Command.NEXT, "NextProblem", "WeiteresProblem NaechstesProblem", "ASuivre"),
-    (Command.ZERO_POSITION, "ZeroPosition", "NullStellung", "ZeroPosition"),
-    (Command.TWIN, "Twin", "Zwilling Mehrling Mehrlinge", "Jumeau"),
-    (Command.PIECES, "Pieces", "Steine", "Pieces"),
-    (Command.STIPULATION, "Stipulation", "Forderung", "Enonce"),
-    (Command.STRUCTURED, "SStipulation", "SForderung", "SEnonce"),
-    (Command.CONDITION, "Condition", "Bedingung", "Condition"),
-    (Command.OPTION, "Option", "Option", "Option"),
-    (Command.FORSYTH, "Forsyth", "Forsyth", "Forsyth"),
-    (Command.ARRAY, "Array", "PartieAnfangsStellung", "PositionInitiale"),
-    (Command.TITLE, "Title", "Titel", "Titre"),
-    (Command.AUTHOR, "Author", "Autor", "Auteur"),
-    (Command.ORIGIN, "Origin", "Quelle", "Source Origine"),
-    (Command.REMARK, "Remark", "Bemerkung", "Remarque"),
-    (Command.AWARD, "Award", "Auszeichnung", "Distinction Prix"),
-    (Command.PROTOCOL, "Protocol", "Protokoll", "Protocole"),
-    (Command.LATEX, "LaTeX", "LaTeX", "LaTeX"),
-    (Command.LATEX_PIECES, "LaTeXPieces", "LaTeXSteine", "LaTeXPieces"),
-    (Command.TRACE, "Trace", "Trace Spur", "Trace"),
-    (Command.INPUT, "InputFile", "EingabeDatei", "Entree Lecture"),
-)
-_OPTIONS = (
-    (Option.SET_PLAY, "SetPlay", "SatzSpiel", "ApparentJeu JeuApparent"),
-    (Option.VARIATION, "Variation", "Variante Varianten Variation", "Variante Variantes"),
-    (Option.NO_BOARD, "NoBoard", "OhneBrett KeinBrett", "SansEchiquier"),
-    (Option.MAX_SOLUTIONS, "MaxSolutions", "MaxLoesungen", "MaxSolutions"),
-    (Option.EN_PASSANT, "EnPassant", "EnPassant", "EnPassant PriseEnPassant"),
-    (Option.NO_CASTLING, "NoCastling", "KeineRochade OhneRochade", "SansRoque RoqueInterdit"),
-    (Option.DUPLEX, "Duplex", "Duplex", "Duplex"),
-    (Option.HALF_DUPLEX, "HalfDuplex", "HalbDuplex", "DemiDuplex SemiDuplex"),
-    (
-        Option.WHITE_TO_PLAY,
-        "WhiteToPlay",
-        "WeissBeginnt WeissAmZug",
-        "TraitAuxBlancs BlancsAuTrait",
-    ),
-    (Option.TRY, "Try", "Verfuehrung Verfuehrungen", "Essai Essais"),
-    (Option.DEFENCE, "Defence Defense", "Verteidigung Widerlegung", "Defense"),
-    (Option.THREAT, "Threat", "Drohung", "Menace"),
-    (Option.NO_THREAT, "NoThreat", "OhneDrohung KeineDrohung", "SansMenace"),
-    (Option.NON_TRIVIAL, "NonTrivial", "NichtTrivial", "NonTrivial"),
-    (Option.MAX_FLIGHT_SQUARES, "MaxFlightSquares", "MaxFluchtFelder", "MaxFuites"),
-    (
-        Option.NO_SHORT_VARIATIONS,
-        "NoShortVariations",
-        "OhneKurzVarianten KeineKurzVarianten",
-        "SansVariantesCourtes",
-    ),
-    (
-        Option.STOP_ON_SHORT_SOLUTIONS,
-        "StopOnShortSolutions",
-        "StopBeiKurzLoesungen",
-        "ArretSolutionsCourtes",
-    ),
-    (Option.INTELLIGENT, "Intelligent", "Intelligent", "Intelligent"),
-    (Option.MAX_TIME, "MaxTime", "MaxZeit", "MaxTemps"),
-    (Option.MOVE_NUMBERS, "MoveNumbers", "ZugNummern", "NumerosDeCoups"),
-    (Option.START_MOVE_NUMBER, "StartMoveNumber", "StartZugNummer", "PremierCoup"),
-    (Option.BEEP, "Beep", "Beep", "Beep"),
-    (Option.POST_KEY_PLAY, "PostKeyPlay", "NachSchluessel", "ApresClef ApresCle"),
-    (Option.QUODLIBET, "Quodlibet", "Quodlibet", "Quodlibet"),
-)
-_TWINNINGS = (
-    (Twinning.MOVE, "Move", "Versetze Versetzung", "Deplacement Deplacer"),
-    (Twinning.EXCHANGE, "Exchange", "Tausche Vertausche", "Echange Echanger"),
-    (Twinning.REMOVE, "Remove", "Entferne Entfernen", "Enlever Oter Retirer Supprimer"),
-    (Twinning.ADD, "Add", "HinzuFuegen", "Ajouter"),
-    (Twinning.SUBSTITUTE, "Substitute", "Ersetze Ersetzen", "Remplacer Substituer"),
-    (Twinning.STIPULATION, "Stipulation", "Forderung", "Enonce"),
-    (Twinning.STRUCTURED, "SStipulation", "SForderung", "SEnonce"),
-    (Twinning.CONDITION, "Condition", "Bedingung", "Condition"),
-    (Twinning.ROTATE, "Rotate", "Drehung Drehe", "Rotation"),
-    (Twinning.MIRROR, "Mirror", "Spiegelung Spiegele", "Miroir"),
-    (Twinning.SHIFT, "Shift", "Verschiebung Verschiebe", "Translation Decalage"),
-    (
-        Twinning.POLISH_TYPE,
-        "PolishType",
-        "PolnischerTyp PolishType",
-        "TypePolonais Polonais PolishType",
-    ),
-    (Twinning.CONTINUED, "Continued", "Fortgesetzt", "Continue Suite"),
-)
-_COLOURS = (
-    ("white", "White", "Weiss", "Blanc Blancs"),
-    ("black", "Black", "Schwarz", "Noir Noirs"),
-    ("neutral", "Neutral", "Neutral", "Neutre Neutres"),
-)
-_LETTERS = (
-    (Kind.KING, "K", "K", "R"),
-    (Kind.QUEEN, "Q", "D", "D"),
-    (Kind.ROOK, "R", "T", "T"),
-    (Kind.BISHOP, "B", "L", "F"),
-    (Kind.KNIGHT, "S", "S", "C"),
-    (Kind.PAWN, "P", "B", "P"),
-    (Kind.GRASSHOPPER, "G", "G", "S"),
-    (Kind.NIGHTRIDER, "N", "N", "N"),
-)
-# Words before men that give them other powers; English, German and French together.
-_ATTRIBUTES = (
-    "Royal Koeniglich Kamikaze Paralysing Laehmend Paralysant Chameleon Chamaeleon Cameleon Jigger"
-    " Volage Functionary Funktionaer Fonctionnaire Half HalfNeutral HalbNeutral SemiNeutre Protean"
-    " Magic Magisch Magique Uncapturable"
-)
+# What each word means, with the words in English, German and French; `attributes` are words before
+# men that give them other powers, of all languages together.
+_WORDS: dict[str, Any] = stored("import_/words.json")
+_COMMANDS = [(Command(it), words) for it, words in _WORDS["commands"].items()]
+_OPTIONS = [(Option(it), words) for it, words in _WORDS["options"].items()]
+_TWINNINGS = [(Twinning(it), words) for it, words in _WORDS["twinnings"].items()]
+_COLOURS = [(str(it), words) for it, words in _WORDS["colours"].items()]
+_LETTERS = [(Kind(it), words) for it, words in _WORDS["letters"].items()]
 
 
 def folded(word: str) -> str:
@@ -273,9 +175,9 @@ def table_of(words: Iterable[tuple[str, Meaning]]) -> Table[Meaning]:
 
 
 def _words(
-    rows: Iterable[tuple[Meaning, str, str, str]], place: int
+    rows: Iterable[tuple[Meaning, list[str]]], place: int
 ) -> Iterator[tuple[str, Meaning]]:
-    for what, *words in rows:
+    for what, words in rows:
         for word in words[place].split():
             yield word, what
 
@@ -291,7 +193,7 @@ def _language(place: int, name: str) -> Language:
     )
 
 
-_ATTRIBUTE_FORMS = frozenset(_ATTRIBUTES.lower().split())
+_ATTRIBUTE_FORMS = frozenset(_WORDS["attributes"].lower().split())
 _NAMES = ("English", "German", "French")
 ENGLISH, GERMAN, FRENCH = LANGUAGES = tuple(
     _language(place, name) for place, name in enumerate(_NAMES)
@@ -309,15 +211,9 @@ class ForeignWord(NamedTuple):
 def foreign_words() -> Iterator[ForeignWord]:
     """Yields the words that are German or French and not English too, the German ones first."""
     for place in (1, 2):
-        for rows in (_COMMANDS, _OPTIONS, _COLOURS):
-            yield from _foreign_words(rows, place)
-
-
-def _foreign_words(
-    rows: Iterable[tuple[Meaning, str, str, str]], place: int
-) -> Iterator[ForeignWord]:
-    for _, *words in rows:
-        english = words[0].split()
-        for word in words[place].split():
-            if word not in english:
-                yield ForeignWord(_NAMES[place], word, english[0])
+        for name in ("commands", "options", "colours"):
+            for words in _WORDS[name].values():
+                own, english = words[place].split(), words[0].split()
+                yield from (
+                    ForeignWord(_NAMES[place], it, english[0]) for it in own if it not in english
+                )

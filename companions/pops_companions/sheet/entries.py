@@ -123,7 +123,7 @@ class Sheet:
         """Returns the award that Remarks name; the distinction comes first."""
         found = [_AWARD.fullmatch(self._text(remark)) for remark in given.remarks]
         parts = [(it[1] or "distinction", it[2] or it[3]) for it in found if it is not None]
-        parts.sort(key=lambda part: part[0].lower() != "distinction")
+        parts = sorted(parts, key=lambda part: part[0].lower() != "distinction")
         return ", ".join(text for _, text in parts)
 
     def _parts(self, group: Group) -> Iterator[Part]:

@@ -4,6 +4,7 @@ from collections.abc import Mapping
 from typing import NamedTuple
 
 from pops_companions.chess.men import Colour, Kind
+from pops_companions.stored import stored
 
 # The men of a line before it is put into letters or figures: characters of private use.
 MARKS: Mapping[Kind, str] = {kind: chr(0xE000 + place) for place, kind in enumerate(Kind)}
@@ -46,69 +47,9 @@ class Language(NamedTuple):
         return self.letters[list(Kind).index(kind)]
 
 
-_ALL = (
-    Language(
-        code="en",
-        letters="KQRBSPGN",
-        colours="wb",
-        sides=("White", "Black"),
-        no_men="none",
-        threat="threat:",
-        zugzwang="zugzwang",
-        but="but",
-        stalemate="stalemate",
-        set_play="Set play",
-        tries="Tries",
-        solution="Solution",
-        impossible="not possible",
-        no_solution="no solution",
-        stopped="and perhaps more",
-        authors="Authors",
-        grasshopper="Grasshopper",
-        nightrider="Nightrider",
-    ),
-    Language(
-        code="de",
-        letters="KDTLSBGN",
-        colours="ws",
-        sides=("Weiß", "Schwarz"),
-        no_men="keine",
-        threat="droht:",
-        zugzwang="Zugzwang",
-        but="aber",
-        stalemate="Patt",
-        set_play="Satzspiel",
-        tries="Verführungen",
-        solution="Lösung",
-        impossible="nicht möglich",
-        no_solution="unlösbar",
-        stopped="und vielleicht weitere",
-        authors="Autoren",
-        grasshopper="Grashüpfer",
-        nightrider="Nachtreiter",
-    ),
-    Language(
-        code="fr",
-        letters="RDTFCPSN",
-        colours="bn",
-        sides=("Blancs", "Noirs"),
-        no_men="aucune",
-        threat="menace :",
-        zugzwang="blocus",
-        but="mais",
-        stalemate="pat",
-        set_play="Jeu apparent",
-        tries="Essais",
-        solution="Solution",
-        impossible="impossible",
-        no_solution="pas de solution",
-        stopped="et peut-être d'autres",
-        authors="Auteurs",
-        grasshopper="Sauterelle",
-        nightrider="Noctambule",
-    ),
-)
-LANGUAGES: Mapping[str, Language] = {it.code: it for it in _ALL}
+LANGUAGES: Mapping[str, Language] = {
+    code: Language(code=code, **words) for code, words in stored("sheet/languages.json").items()
+}
 
 
 def colour_mark(colour: Colour) -> str:

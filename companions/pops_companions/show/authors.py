@@ -4,8 +4,7 @@ import re
 from collections.abc import Sequence
 from dataclasses import dataclass
 
-# (tried only where blanks begin: many blanks would take the square of their number)
-_BETWEEN = re.compile(r";|(?<!\s)\s+(?:&|and|und|et)\s+")
+_BETWEEN = re.compile(" ?; ?| (?:&|and|und|et) ")
 # A surname, a comma, and names that aren't a date, a place or the like.
 _SURNAME_FIRST = re.compile(r"([^\W\d_][^,\d]*), *([^\W\d_][^,\d]*)")
 _NAMES = re.compile(r"[^\W\d_][^,\d]*")
@@ -41,7 +40,7 @@ class Person:
 
 def persons(text: str) -> list[Person]:
     """Returns the authors of a text, parted by `;`, `&` or `and`; `Loyd, Samuel` is one."""
-    return [_person(name) for name in map(str.strip, _BETWEEN.split(text)) if name]
+    return [_person(name) for name in _BETWEEN.split(" ".join(text.split())) if name]
 
 
 def joined(people: Sequence[Person]) -> str:

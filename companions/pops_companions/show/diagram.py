@@ -5,14 +5,12 @@ diagram refers to them. A grasshopper is a queen turned upside down, a nightride
 upside down.
 """
 
-import re
 from collections.abc import Iterable, Mapping
-from functools import lru_cache
-from pathlib import Path
-from xml.sax.saxutils import escape, quoteattr
+from html import escape
 
 from pops_companions.chess.men import Colour, Kind, Square
 from pops_companions.report.items import Board
+from pops_companions.show.men_shapes import men_shapes
 from pops_companions.show.titles import printable
 
 # The side of a square, in the units of the shapes.
@@ -30,13 +28,6 @@ _FILLS = {
     Colour.WHITE: 'fill="#fff" color="#000"',
     Colour.BLACK: 'fill="#000" color="#fff"',
 }
-
-
-@lru_cache(maxsize=None)
-def _men() -> dict[str, str]:
-    """Returns the shapes of the men by the names of their kinds."""
-    text = Path(__file__).with_name("men.svg").read_text("utf-8")
-    return {shape[1]: shape[0] for shape in re.finditer(r'<g id="(\w+)">.*?</g>\n', text, re.S)}
 
 
 def _left(square: Square) -> int:
@@ -78,7 +69,7 @@ def _definitions(kinds: Iterable[Kind]) -> str:
         f'{frame} fill="none" stroke="#000" stroke-width="2"/>'
         f'<g font-family="sans-serif" font-size="{COORDINATES}" text-anchor="middle" fill="#444">'
         f"{files}{ranks}</g></g>\n"
-        + "".join(_men()[kind.word] for kind in Kind if kind in kinds)
+        + "".join(men_shapes()[kind.word] for kind in Kind if kind in kinds)
         + "</defs>\n"
     )
 
@@ -105,14 +96,14 @@ def diagram_file(board: Board, title: str) -> str:
     return (
         '<svg xmlns="http://www.w3.org/2000/svg" xmlns:xlink="http://www.w3.org/1999/xlink"'
         f' width="{2 * WIDTH}" height="{2 * HEIGHT}" {_frame(board)}>\n'
-        f"<title>{escape(printable(title))}</title>\n"
+        f"<title>{escape(printable(title), quote=False)}</title>\n"
         f"{_definitions(kinds)}{_drawing(board)}\n</svg>\n"
     )
 
 
 def _frame(board: Board) -> str:
-    said = quoteattr(position_in_words(board))
-    return f'viewBox="0 -1 {WIDTH} {HEIGHT}" role="img" aria-label={said}'
+    said = position_in_words(board)
+    return f'viewBox="0 -1 {WIDTH} {HEIGHT}" role="img" aria-label="{said}"'
 
 
 def _drawing(board: Board) -> str:

@@ -11,7 +11,7 @@ from pops_companions.show.titles import printable, shown
 from pops_companions.show.twins import Group, Twin
 
 _COLOURS = {Colour.WHITE: "w", Colour.BLACK: "s"}
-_KINDS = {
+_UPRIGHT = {
     Kind.KING: "K",
     Kind.QUEEN: "D",
     Kind.ROOK: "T",
@@ -19,7 +19,7 @@ _KINDS = {
     Kind.KNIGHT: "S",
     Kind.PAWN: "B",
 }
-_KINDS.update({kind: _KINDS[upright] + "U" for kind, upright in UPSIDE_DOWN.items()})
+_KINDS = {**_UPRIGHT, **{kind: _UPRIGHT[upright] + "U" for kind, upright in UPSIDE_DOWN.items()}}
 _SPECIAL = {
     "\\": r"\textbackslash{}",
     "~": r"\textasciitilde{}",

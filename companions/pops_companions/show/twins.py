@@ -27,8 +27,8 @@ class Label:
     is_duplex: bool
 
     @property
-    def place(self) -> tuple[int, bool]:
-        return self.number, self.is_duplex
+    def place(self) -> int:
+        return 2 * self.number + self.is_duplex
 
 
 _NONE = Label("", 0, False)
