@@ -57,6 +57,7 @@ export const py = (() => {
 
   class Enum {
     static members = {};
+    static byValue = new Map();
     name = '';
     value = null;
     static [Symbol.iterator]() {
@@ -64,7 +65,7 @@ export const py = (() => {
     }
 
     static of(value) {
-      const found = Object.values(this.members).find(it => it.value === value);
+      const found = this.byValue.get(value);
       if (!found) throw new ValueError(`${value} is no ${this.name}`);
       return found;
     }
@@ -220,7 +221,9 @@ export const py = (() => {
 
   function range(one, end, step = 1) {
     const [from, to] = end === undefined ? [0, one] : [one, end];
-    return Array.from({ length: Math.max(Math.ceil((to - from) / step), 0) }, (_, index) => from + index * step);
+    const all = [];
+    for (let at = from; step > 0 ? at < to : at > to; at += step) all.push(at);
+    return all;
   }
 
   const isAscii = text => /^[\0-\x7f]*$/.test(text);
@@ -260,6 +263,7 @@ export const py = (() => {
   /** Makes the members of a class of constants. */
   function members(kind, values) {
     kind.members = Object.fromEntries(Object.entries(values).map(([name, value]) => [name, Object.assign(new kind(), { name, value })]));
+    kind.byValue = new Map(Object.values(kind.members).map(it => [it.value, it]));
     Object.assign(kind, Object.fromEntries(Object.entries(kind.members).filter(([name]) => name !== 'name')));
   }
 
@@ -301,7 +305,7 @@ export const py = (() => {
     all: all => list(all).every(bool),
     next: (all, absent = null) => { for (const it of all) return it; return absent; },
     enumerate: (all, { start = 0 } = {}) => list(all).map((it, index) => [index + start, it]),
-    zip: (one, next) => list(one).slice(0, list(next).length).map((it, index) => [it, list(next)[index]]),
+    zip: (one, next) => { const others = list(next); return list(one).slice(0, others.length).map((it, index) => [it, others[index]]); },
     map: (act, all) => list(all).map(it => (act.prototype instanceof Record ? new act(it) : act(it))),
     reversed: all => list(all).reverse(),
     abs: Math.abs, int: Number, ord: letter => letter.codePointAt(0), chr: String.fromCodePoint, repr: it => `'${it}'`,

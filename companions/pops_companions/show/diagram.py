@@ -135,18 +135,17 @@ def position_in_words(
     The letters are in the order of Kind; `no_men` stands for the men of a side without any.
     """
     by_kind = list(zip(Kind, letters))
+    men = sorted(board.men.items(), key=lambda placed: (placed[0].rank, placed[0].file))
     texts = []
     for colour, side in zip(Colour, sides):
-        men = [(letter, _squares_of(board, colour, kind)) for kind, letter in by_kind]
-        words = [letter + square.name for letter, squares in men for square in squares]
+        words = [
+            letter + square.name
+            for kind, letter in by_kind
+            for square, man in men
+            if man.kind is kind and man.colour is colour
+        ]
         texts.append(f"{side} {' '.join(words) or no_men}")
     return ", ".join(texts)
-
-
-def _squares_of(board: Board, colour: Colour, kind: Kind) -> list[Square]:
-    """Returns the squares of a side's men of a kind, by rank and file."""
-    squares = [it for it, man in board.men.items() if (man.colour, man.kind) == (colour, kind)]
-    return sorted(squares, key=lambda square: (square.rank, square.file))
 
 
 def numbers_of_men(board: Board) -> tuple[int, int]:
