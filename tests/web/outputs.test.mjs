@@ -97,6 +97,17 @@ test('outputs: a faulty problem in LaTeX is a box, and letters that plain LaTeX 
   assert.deepEqual(['ả', 'ỉ', 'ſ'].map(in_commands), [['\\hooked{a}', true], ['\\hooked{\\i}', true], ['s', false]]);
 });
 
+test('outputs: twins are one problem in LaTeX and YAML, and what cannot be posed is left out of YAML', () => {
+  const { text } = imported('BeginProblem\nTitle A pair\nPieces White Kg6 Ra1 Black Kh8\nStipulation h#1\nTwin Move a1 b2\nEndProblem\n');
+  const made = latexOf(text, []);
+  assert.equal(made.split('\\begin{diagram}').length, 2);
+  assert.match(made, /\n\\twins\{b\) Ra1\$\\rightarrow\$b2\}\n/);
+  assert.match(yamlOf(text, []).text, /^title: "A pair"\n[^]*\ntwins:\n  b: "Move a1 b2"\n$/m);
+  const { text: left, lost } = yamlOf(text.replace('Rb2', 'Ra9'), []);
+  assert.deepEqual([left.split('---').length, lost.length], [2, 1]);
+  assert.match(lost[0], /problem 2: left out/);
+});
+
 test('outputs: a drawing has the shapes of its men alone', () => {
   assert.deepEqual([...men_shapes()].filter(it => it !== 'board').length, 8);
   const made = diagramFile(menIn('White Ka1 Ga2 Black Kh8'), 'A & B');
