@@ -15,6 +15,8 @@ export class YamlError extends py.ValueError {
 /** Returns a text of a collection. @param {string} text */
 export const Scalar = Object.defineProperty((/** @type {string} */ text) => text, Symbol.hasInstance, { value: (/** @type {any} */ it) => typeof it === 'string' });
 export const line_of = () => 1;
+// As pops-import has it.
+const MOST_LEVELS = 40;
 
 const KEY = /^("[^"]*"|'[^']*'|[^\s"'[\]{},:#](?:[^:#]*[^\s:#])?)\s*:(?:\s+(.*))?$/;
 
@@ -49,33 +51,57 @@ function scalar(text) {
  * @param {string} text
  */
 function flow(text) {
-  const parts = text.match(/\s*(?:"(?:[^"\\]|\\.)*"|'(?:[^']|'')*'|[[\]{},]|:(?=\s|$)|(?:[^[\]{},:]|:(?!\s|$))+)/g)?.map(it => it.trim()).filter(Boolean) ?? [];
-  const value = flowValue(parts);
-  if (parts.length) throw new YamlError(text);
+  const words = text.match(/\s*(?:"(?:[^"\\]|\\.)*"|'(?:[^']|'')*'|[[\]{},]|:(?=\s|$)|(?:[^[\]{},:]|:(?!\s|$))+)/g)?.map(it => it.trim()).filter(Boolean) ?? [];
+  const parts = new Parts(words);
+  const value = flowValue(parts, 1);
+  if (parts.next !== undefined) throw new YamlError(text);
   return value;
 }
 
-/** @param {string[]} parts @returns {any} */
-function flowValue(parts) {
-  const first = parts.shift();
+/** The parts of a flow, one after another. */
+class Parts {
+  /** @param {string[]} parts */
+  constructor(parts) {
+    this.parts = parts;
+    this.at = 0;
+  }
+
+  get next() {
+    return this.parts[this.at];
+  }
+
+  take() {
+    return this.parts[this.at++];
+  }
+}
+
+/** @param {Parts} parts @param {number} level @returns {any} */
+function flowValue(parts, level) {
+  const first = parts.take();
   if (first === undefined) throw new YamlError('the text ends too early');
   if (first !== '[' && first !== '{') return scalar(first);
+  refuseLevel(level);
   const isList = first === '[';
   /** @type {any[]} */
   const list = [];
   const found = py.dict();
-  while (parts[0] !== (isList ? ']' : '}')) {
-    if (isList) list.push(flowValue(parts));
+  while (parts.next !== (isList ? ']' : '}')) {
+    if (isList) list.push(flowValue(parts, level + 1));
     else {
-      const key = scalar(parts.shift() ?? '');
-      if (parts.shift() !== ':') throw new YamlError(key);
-      found.put(key, flowValue(parts));
+      const key = scalar(parts.take() ?? '');
+      if (parts.take() !== ':') throw new YamlError(key);
+      found.put(key, flowValue(parts, level + 1));
     }
-    if (parts[0] === ',') parts.shift();
-    if (!parts.length) throw new YamlError('the text ends too early');
+    if (parts.next === ',') parts.take();
+    if (parts.next === undefined) throw new YamlError('the text ends too early');
   }
-  parts.shift();
+  parts.take();
   return isList ? list : found;
+}
+
+/** @param {number} level */
+function refuseLevel(level) {
+  if (level > MOST_LEVELS) throw new YamlError(`there are more than ${MOST_LEVELS} levels`);
 }
 
 class YamlReader {
@@ -107,13 +133,13 @@ class YamlReader {
 
   /** @param {string} text @param {string} sign */
   toEnd(text, sign) {
-    let whole = text;
-    while (!whole.endsWith(sign)) {
+    const texts = [text];
+    while (!texts[texts.length - 1].endsWith(sign)) {
       if (!this.line) throw new YamlError('the text ends too early');
-      whole += ` ${this.line.text}`;
+      texts.push(this.line.text);
       this.at++;
     }
-    return whole;
+    return texts.join(' ');
   }
 
   /** @param {number} indent */
@@ -124,7 +150,8 @@ class YamlReader {
     }
     const first = texts.find(it => it.trim()) ?? '';
     const own = first.length - first.trimStart().length;
-    return texts.map(it => it.slice(Math.min(own, it.length - it.trimStart().length)).trimEnd()).join('\n').replace(/^\n+|\n+$/g, '');
+    const lines = texts.map(it => it.slice(Math.min(own, it.length - it.trimStart().length)).trimEnd());
+    return py.strip(lines.join('\n'), '\n');
   }
 
   /** @param {number} indent @returns {any[]} */

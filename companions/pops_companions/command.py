@@ -1,6 +1,7 @@
 """What all companions share as commands: input and output, messages, exit status."""
 
 import argparse
+import codecs
 import gc
 import io
 import os
@@ -8,10 +9,11 @@ import re
 import signal
 import sys
 import threading
-from collections.abc import Callable, Iterator
+from collections.abc import Callable, Iterator, Sequence
 from contextlib import contextmanager
 from enum import IntEnum
 from functools import lru_cache
+from itertools import takewhile
 from typing import Any, BinaryIO, NoReturn, Optional, TextIO, cast
 
 from pops_companions import files, places
@@ -21,6 +23,10 @@ _SIGNALS = (signal.SIGINT, signal.SIGTERM, signal.SIGHUP)
 _LONGEST_NUMBER = 18
 # Characters that a terminal obeys, but for line end, tab, and the return to the begin of a line.
 _OBEYED = re.compile("[\x00-\x08\x0b\x0c\x0e-\x1f\x7f-\x9f]")
+# What Python says where the system lets it start no thread.
+_NO_THREAD = "can't start new thread"
+# An option whose value is `--`.
+_BARE = re.compile("(?:--[a-z-]+=|-[a-z])--")
 # Longer waits are no waits: without a limit a run takes as long as it likes.
 MOST_SECONDS = 2_000_000
 MOST_JOBS = 1000
@@ -106,10 +112,16 @@ def _ended(name: str, command: Callable[[list[str]], int]) -> int:
     except Exception as error:
         if sys.flags.dev_mode:
             raise
-        message, status = f"failed: {type(error).__name__}: {error}", Status.FAILED
-        message = " ".join(message.split())
+        message, status = _of_fault(error)
     _say(f"{name}: {message}\n")
     return status
+
+
+def _of_fault(error: Exception) -> tuple[str, Status]:
+    """Returns what is said of an exception that nobody caught, and the status for it."""
+    if isinstance(error, RuntimeError) and str(error) == _NO_THREAD:
+        return "no more threads can be started: a limit of the machine", Status.DEVICE
+    return " ".join(f"failed: {type(error).__name__}: {error}".split()), Status.FAILED
 
 
 def said_of(error: OSError) -> str:
@@ -125,9 +137,12 @@ def _signals_as_interrupts() -> Iterator[None]:
     if threading.current_thread() is not threading.main_thread():
         heeded = []
 
+    def pass_over(*_: object) -> None:
+        """Heeds nothing. (Python complains where SIG_IGN is set while a signal is on its way.)"""
+
     def stop(*_: object) -> NoReturn:
-        for sign in _SIGNALS:
-            signal.signal(sign, signal.SIG_IGN)
+        for sign in heeded:
+            signal.signal(sign, pass_over)
         raise KeyboardInterrupt
 
     for sign in heeded:
@@ -186,10 +201,18 @@ def _say(text: str) -> None:
 
 def _status_of(command: Callable[[list[str]], int]) -> int:
     """Returns a command's status, also where argparse ends it, as for `--help`."""
+    _refuse_bare(sys.argv[1:])
     try:
         return command(sys.argv[1:])
     except SystemExit as end:
         return int(end.code or 0)
+
+
+def _refuse_bare(words: Sequence[str]) -> None:
+    """Refuses `--` as the value of an option, which argparse loses."""
+    for word in takewhile("--".__ne__, words):
+        if _BARE.fullmatch(word):
+            raise CommandError(Status.USAGE, f"{word[:-2].rstrip('=')} needs a value, which can't be --")
 
 
 def _buffer_output() -> None:
@@ -200,7 +223,7 @@ def _buffer_output() -> None:
     """
     if sys.stdout is None:
         raise CommandError(Status.DEVICE, "standard output is closed")
-    if isinstance(sys.stdout, io.TextIOWrapper) and sys.stdout.errors == "strict":
+    if isinstance(sys.stdout, io.TextIOWrapper) and not _takes_all(sys.stdout):
         sys.stdout.reconfigure(errors="backslashreplace")
     if not isinstance(sys.stdout.buffer, io.BufferedIOBase):
         sys.stdout = open(
@@ -210,6 +233,15 @@ def _buffer_output() -> None:
             errors=sys.stdout.errors,
             closefd=False,
         )
+
+
+def _takes_all(stream: io.TextIOWrapper) -> bool:
+    """Returns whether a stream has a way to write each character, and bytes of names that are no text.
+    """
+    if stream.errors == "surrogateescape":
+        # (in the locale C, where the encoding may be ASCII)
+        return codecs.lookup(stream.encoding).name == "utf-8"
+    return stream.errors != "strict"
 
 
 def _close_output() -> None:

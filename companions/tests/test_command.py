@@ -1,6 +1,7 @@
 """What all companions do alike as commands: outputs and inputs that go away or are closed."""
 
 import os
+import signal
 import subprocess
 import sys
 import tempfile
@@ -80,3 +81,38 @@ class Streams(unittest.TestCase):
                 )
                 self.assertEqual(run.returncode, 3)
                 self.assertEqual(run.stderr, b"pops-page: No space left on device\n")
+
+
+class Ends(unittest.TestCase):
+    """How a companion ends whose command is a text of Python."""
+
+    def ended(self, command: str) -> "support.Outcome":
+        lines = ["import os, signal, sys", f"sys.path.insert(0, {str(support.COMPANIONS)!r})"]
+        lines += ["signal.signal(signal.SIGINT, signal.default_int_handler)", command]
+        return support.run([sys.executable, "-c", "\n".join(lines)])
+
+    def run_of(self, *lines: str) -> "support.Outcome":
+        """How a companion ends whose command has these lines."""
+        head = ["from pops_companions import command", "def main(words):"]
+        body = [f"    {line}" for line in lines]
+        return self.ended("\n".join([*head, *body, "command.run('it', main)"]))
+
+    def test_an_interrupt_while_a_command_is_loaded(self) -> None:
+        interrupt = "os.kill(os.getpid(), signal.SIGINT)"
+        outcome = self.ended(f"import pops_companions.commands\n{interrupt}")
+        self.assertEqual(outcome, (-signal.SIGINT, b"", ""))
+
+    def test_two_signals_at_once(self) -> None:
+        both = "{signal.SIGINT, signal.SIGTERM}"
+        sent = [f"os.kill(os.getpid(), {it})" for it in ("signal.SIGINT", "signal.SIGTERM")]
+        outcome = self.run_of(
+            f"signal.pthread_sigmask(signal.SIG_BLOCK, {both})",
+            *sent,
+            f"signal.pthread_sigmask(signal.SIG_UNBLOCK, {both})",
+        )
+        self.assertEqual(outcome, (6, b"", "it: stopped\n"))
+
+    def test_no_more_threads(self) -> None:
+        outcome = self.run_of("raise RuntimeError(\"can't start new thread\")")
+        said = "it: no more threads can be started: a limit of the machine\n"
+        self.assertEqual(outcome, (3, b"", said))

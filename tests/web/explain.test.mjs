@@ -126,12 +126,23 @@ test('importing: long lines of blanks, comments and line ends, and long chains o
     [`${head}title: a${' '.repeat(most)}b\n`, true], [`${head}a${' '.repeat(most)}b: c\n`, true], [`${head}x${' '.repeat(most)}y\n`, false],
     [`${head}title: "a"${' #'.repeat(most)}\n`, true], [`${head}title: ${' #'.repeat(most)}"\n`, true], [`${'\r'.repeat(most)}${'\n'.repeat(most)}a: b\n`, false],
     [`BeginProblem\nPieces White Kg6 Ra1 Black Kh8\nStipulation h#1\n${chain}EndProblem\n`, true],
+    [`BeginProblem\nTitle a${' '.repeat(4 * most)}b\nPieces White Kg6 Ra1 Black Kh8\nStipulation h#1\nTwin Move a1 b2\nEndProblem\n`, true],
+    [`${head}x: |\n  a\n${'\n'.repeat(4 * most)}  b\n`, true], [`${head}x: [${'a, '.repeat(most)}b]\n`, true], [`${head}x: [\n${'a,\n'.repeat(most)}b]\n`, true],
   ]) {
     const begun = process.cpuUsage();
     assert.equal(Boolean(imported(text)?.text), isRead);
     const { user, system } = process.cpuUsage(begun);
     assert.ok(user + system < 3e7, `${user + system} microseconds for ${text.length} letters`);
   }
+});
+
+test('importing: flows of many lines, levels and parts', () => {
+  const head = "algebraic:\n  white: [Kg6, Ra1]\n  black: [Kg8]\nstipulation: '#1'\n";
+  const remarks = text => imported(head + text).text.match(/^Remark .*$/gm);
+  assert.deepEqual(remarks('x: [a, [b,\n  c], {d: e,\n f: g}]\n'), ['x: a', 'x: b', 'x: c', 'x.d: e', 'x.f: g'].map(it => `Remark ${it}`));
+  assert.match(imported(`${head}x: ${'['.repeat(20000)}${']'.repeat(20000)}\n`).lost.join(), /more than 40 levels/);
+  assert.match(imported(`${head}x: [a\n`).lost.join(), /the text ends too early/);
+  assert.equal(remarks(`x: [${'a, '.repeat(3000)}b]\n`).length, 3001);
 });
 
 test('importing: comments and keys', () => {

@@ -124,6 +124,11 @@ def arguments(words: list[str]) -> Settings:
     return settings
 
 
+def typed(text: Optional[str]) -> str:
+    """Returns a word of the command line as text: it may be in another encoding than the terminal's."""
+    return os.fsencode(text or "").decode("utf-8", "replace")
+
+
 def wanted_of(parser: argparse.ArgumentParser, settings: Settings) -> Wanted:
     """Returns what found problems have to have."""
     try:
@@ -138,14 +143,14 @@ def wanted_of(parser: argparse.ArgumentParser, settings: Settings) -> Wanted:
             parser.error("--count needs two numbers, as 3+4")
         counts = int(parts[1]), int(parts[2])
     return Wanted(
-        settings.author or "",
-        settings.title or "",
-        settings.stipulation or "",
-        settings.condition or "",
+        typed(settings.author),
+        typed(settings.title),
+        typed(settings.stipulation),
+        typed(settings.condition),
         men,
         counts,
-        settings.source or "",
-        settings.keyword or "",
+        typed(settings.source),
+        typed(settings.keyword),
         dates_of(parser, settings.date),
         board_of(fragment) if fragment else "",
     )

@@ -67,6 +67,7 @@ def reports_of(
 ) -> list[Report]:
     """Returns the reports that are to be written, with their files."""
     limited = settings.seconds is not None or settings.split or settings.resume
+    links = Links.REPLACED if settings.each else Links.FOLLOWED
 
     def report(tasks: Tasks, path: Optional[str]) -> Report:
         second = None
@@ -74,7 +75,7 @@ def reports_of(
             second = Target(settings.unfinished, run)
         elif path and limited:
             second = Target(path + UNFINISHED, run, Links.REPLACED)
-        return Report(tasks, Target(path, run) if path else None, second)
+        return Report(tasks, Target(path, run, links) if path else None, second)
 
     if not settings.each:
         return [report(tasks, settings.output)]

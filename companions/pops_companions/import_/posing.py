@@ -17,6 +17,8 @@ from pops_companions.input.writing import pieces_line
 
 # How much of what is said of a whole problem its further twins repeat: Origins, and notes.
 _MOST_REPEATED = 20
+# How much of a stipulation or a condition that pops doesn't know is repeated, for each twin.
+_MOST_QUOTED = 100
 
 
 class Posed(NamedTuple):
@@ -190,13 +192,14 @@ class _Checked:
         try:
             stipulation = Stipulation.of_text(plain)
         except ValueError:
-            self.faults.append(f"pops knows no stipulation {text}")
+            self.faults.append(f"pops knows no stipulation {_quoted(text)}")
             return None
         if self._version.options.white_to_play:
             stipulation = self._with_white_to_play(stipulation)
         least, most = (0, MOST_MOVES - 1) if stipulation.half_more else (1, MOST_MOVES)
         if not least <= stipulation.moves <= most:
-            self.faults.append(f"stipulation {text} has more or fewer moves than {least} to {most}")
+            shown = _quoted(text)
+            self.faults.append(f"stipulation {shown} has more or fewer moves than {least} to {most}")
         return stipulation
 
     def _with_white_to_play(self, stipulation: Stipulation) -> Stipulation:
@@ -217,7 +220,7 @@ class _Checked:
         try:
             return Condition(text)
         except ValueError:
-            self.faults.append(f"pops knows no condition {text}")
+            self.faults.append(f"pops knows no condition {_quoted(text)}")
             return None
 
     def _check_men(self) -> None:
@@ -306,6 +309,11 @@ def _texts(said: _Said, version: _Version, notes: list[Message], is_first: bool)
     remarks += [note.text for note in [*said.notes[:most], *notes]]
     lines += [f"Remark {remark}" for remark in remarks if remark]
     return [line.replace("\n", " ") for line in lines]
+
+
+def _quoted(text: str) -> str:
+    """Returns what is unknown as messages show it."""
+    return text if len(text) <= _MOST_QUOTED else f"{text[:_MOST_QUOTED]} .."
 
 
 def _shortened(text: str, most: int) -> str:

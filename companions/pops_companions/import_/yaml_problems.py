@@ -16,6 +16,9 @@ from pops_companions.import_.yaml_text import Node, Scalar, YamlError, documents
 _COLOURS = ("white", "black", "neutral")
 # The twin that stands in place of the position itself.
 _FIRST_TWIN = "a"
+# The longest names of twins, and of values that become Remarks, each of which repeats its name.
+_LONGEST_LABEL = 40
+_LONGEST_NAME = 200
 
 
 def read_yaml(text: str) -> list[Draft]:
@@ -181,7 +184,7 @@ def _read_comments(_: str, value: Node, draft: Draft) -> None:
 
 def _read_other(key: str, value: Node, draft: Draft) -> None:
     """Keeps what pops has no word for: a Remark for each line."""
-    for name, text in _named_texts(key, value):
+    for name, text in _named_texts(_shortened(key), value):
         for line in text.split("\n"):
             draft.texts.append(TextLine(Command.REMARK, f"{name}: {line}".rstrip()))
 
@@ -189,12 +192,16 @@ def _read_other(key: str, value: Node, draft: Draft) -> None:
 def _named_texts(name: str, node: Node) -> Iterator[tuple[str, Scalar]]:
     if isinstance(node, dict):
         for key, value in node.items():
-            yield from _named_texts(f"{name}.{key}", value)
+            yield from _named_texts(_shortened(f"{name}.{key}"), value)
     elif isinstance(node, list):
         for one in node:
             yield from _named_texts(name, one)
     elif node is not None:
         yield name, node
+
+
+def _shortened(name: str) -> str:
+    return name if len(name) <= _LONGEST_NAME else f"{name[:_LONGEST_NAME]}.."
 
 
 def _words_of(text: Scalar, read: Callable[[Words], None], draft: Draft, before: str = "") -> None:
@@ -240,6 +247,9 @@ def _read_twins(key: str, value: Node, draft: Draft) -> None:
     if not isinstance(value, dict):
         raise Unreadable(line_of(key), "twins holds no keys b, c ..")
     for label, node in value.items():
+        if len(label) > _LONGEST_LABEL:
+            reason = f"the name of a twin has more than {_LONGEST_LABEL} characters"
+            raise Unreadable(line_of(label), reason)
         twin = Twin(f"{label})", line_of(label))
         draft.twins.append(twin)
         if label == _FIRST_TWIN:

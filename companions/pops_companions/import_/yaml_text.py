@@ -26,8 +26,9 @@ _MEANINGS = (
     (r"expected ',' or '(.)', .*", r"a comma or \1 is missing"),
     (r"expected <block end>, .*", "this line belongs to nothing above it"),
 )
-# A text in double quotes, and an escape in it.
-_IN_QUOTES = re.compile(r'"(?:[^"\\]|\\.)*"', re.S)
+# A text in double quotes, or one up to the end whose quote isn't closed: after it no other is. An
+# escape in it.
+_IN_QUOTES = re.compile(r'"(?:[^"\\]|\\.)*(?:(")|\\?\Z)', re.S)
 _ESCAPE = re.compile(r"\\(.)", re.S)
 # The characters that begin escapes of YAML.
 _ESCAPES = '0abt\tnvfre "/\\N_LP\nxuU'
@@ -67,10 +68,12 @@ class Document:
     def __init__(self, line: int):
         self.line = line
         self.lines: list[str] = []
+        self.is_empty = True
 
-    @property
-    def is_empty(self) -> bool:
-        return not any(line.strip() and not line.lstrip().startswith("#") for line in self.lines)
+    def add(self, line: str) -> None:
+        """Adds a line; an empty one, or a comment alone, leaves an empty document empty."""
+        self.lines.append(line)
+        self.is_empty = self.is_empty and line.lstrip()[:1] in ("", "#")
 
     def node(self) -> Node:
         """Returns what the document holds. YamlError where that can't be read."""
@@ -88,7 +91,7 @@ def documents(text: str) -> Iterator[Document]:
             line = "   " + line[3:] if _MARK.match(line) else ""
         elif line.startswith("%") and document.is_empty:
             line = ""
-        document.lines.append(line)
+        document.add(line)
     if not document.is_empty:
         yield document
 
@@ -110,7 +113,9 @@ def _with_known_escapes(text: str) -> str:
     def read(escape: "re.Match[str]") -> str:
         return escape[0] if escape[1] in _ESCAPES else f"\\{escape[0]}"
 
-    return _IN_QUOTES.sub(lambda quoted: _ESCAPE.sub(read, quoted[0]), text)
+    return _IN_QUOTES.sub(
+        lambda quoted: _ESCAPE.sub(read, quoted[0]) if quoted[1] else quoted[0], text
+    )
 
 
 def _events(text: str, first: int) -> list[Any]:

@@ -11,11 +11,13 @@ import fcntl
 import hashlib
 import os
 import re
+import stat
 import zlib
 from collections.abc import Sequence
 from typing import TYPE_CHECKING, NamedTuple, Optional
 
 from pops_companions.many.tasks import Result, Source
+from pops_companions.report import lines
 
 if TYPE_CHECKING:
     # (loaded only by runs that need them: they take longer than a small run)
@@ -84,6 +86,9 @@ class Journal:
             if not resume:
                 raise
             raise JournalError(f"there is no journal {path}: nothing to go on with") from None
+        if not stat.S_ISREG(os.fstat(opened).st_mode):
+            os.close(opened)
+            raise JournalError(f"{path} is a device or a pipe: a journal is a file")
         self._file = os.fdopen(opened, "r+b")
         try:
             self._begin(resume)
@@ -97,17 +102,19 @@ class Journal:
             fcntl.flock(self._file, fcntl.LOCK_EX | fcntl.LOCK_NB)
         except BlockingIOError:
             raise JournalError(f"{self.path} is in use by another run") from None
-        if resume:
+        start = self._file.read(len(self._head) + 1)
+        self._file.seek(0)
+        if self._head.startswith(start):
+            # (new, or of a run that ended before it kept anything, maybe within this line)
+            self._file.write(self._head)
+            self._file.flush()
+        elif resume:
             self._read_all()
-        elif not self._head.startswith(self._file.read()):
+        else:
             raise JournalError(
                 f"{self.path} is the journal of a run that stopped: go on with --resume,"
                 " or remove it"
             )
-        else:
-            self._file.seek(0)
-            self._file.write(self._head)
-            self._file.flush()
 
     def _read_all(self) -> None:
         """Reads what is kept; a last record that was cut is dropped."""
@@ -132,6 +139,8 @@ class Journal:
             return False
         length, checksum = (int(part) for part in found.groups()[-2:])
         start = self._file.tell()
+        if length > os.fstat(self._file.fileno()).st_size - start:
+            return False
         report = self._file.read(length)
         if len(report) != length or zlib.crc32(report) != checksum:
             return False
@@ -140,6 +149,8 @@ class Journal:
             self._note(int(of_task[1]), Kept(int(of_task[2]), seconds, start, length))
         elif of_some:
             place, tasks, status = (int(part) for part in of_some.group(1, 2, 3))
+            if tasks > report.count(lines.ITEM_END):
+                return False
             self._note(place, Kept(status, None, start, length, tasks))
         elif of_part:
             from pops_companions.many.parts import Key
