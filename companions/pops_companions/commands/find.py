@@ -264,6 +264,9 @@ def main(words: list[str]) -> Status:
             if settings.add is None:
                 return find(collection, settings)
             return add(collection, settings.add, settings)
+        except sqlite3.Error as error:
+            message = f"cannot read {settings.collection}: {collection.reason(error)}"
+            raise CommandError(Status.DEVICE, message) from None
         finally:
             collection.close()
     except CollectionError as error:

@@ -45,6 +45,10 @@ _TYPES: tuple[Any, ...] = tuple(
 )
 # How many hashes one question names.
 _HASHES_AT_ONCE = 500
+# SQLite's steps between two looks at a question, and how many a question may take: a scan takes
+# fewer for each byte of the file.
+_STEPS_AT_ONCE = 100_000
+_LEAST_STEPS, _STEPS_OF_A_BYTE, _STEPS_OF_AN_ENTRY = 1_000_000, 20, 10_000
 
 
 def _without_blanks(statement: str) -> str:
@@ -120,8 +124,30 @@ class Collection:
         if form != _FORM:
             raise CollectionError(f"{path} is no collection of pops-find")
         self._path = path
+        self._steps = _LEAST_STEPS + _STEPS_OF_A_BYTE * os.path.getsize(path)
+        self._left = self._steps
+        self._data.set_progress_handler(self._is_over, _STEPS_AT_ONCE)
         self._refuse_others()
         self._add_keywords(path)
+
+    def _is_over(self) -> bool:
+        """Returns whether a question has taken too many steps. (Here signals are heeded too.)"""
+        self._left -= _STEPS_AT_ONCE
+        return self._left < 0
+
+    def _asked(self, question: str, values: Sequence[Any] = ()) -> sqlite3.Cursor:
+        """Asks a question, which may take the steps of a scan: pages that name each other have no end.
+        """
+        self._left = self._steps
+        return self._data.execute(question, values)
+
+    def reason(self, error: sqlite3.Error) -> str:
+        """Returns why a question failed. KeyboardInterrupt where a signal ended it."""
+        if str(error) != "interrupted":
+            return str(error)
+        if self._left >= 0:
+            raise KeyboardInterrupt
+        return "it is damaged: a question has no end"
 
     def _refuse_others(self) -> None:
         """Refuses tables, views and triggers of others: they may have no end, or change what is added."""
@@ -157,7 +183,8 @@ class Collection:
         self._data.close()
 
     def __len__(self) -> int:
-        return int(self._data.execute("SELECT count(*) FROM problems").fetchone()[0])
+        # (without a condition SQLite counts in one step, which nothing ends)
+        return int(self._asked("SELECT count(*) FROM problems WHERE id > 0").fetchone()[0])
 
     def add(self, source: str, entries: Iterable[Entry]) -> int:
         """Adds the problems of a source, whose older ones go; returns their number."""
@@ -166,6 +193,7 @@ class Collection:
                 self._remove(source)
                 (last,) = self._data.execute("SELECT max(id) FROM problems").fetchone()
                 numbered = list(enumerate(entries, (last or 0) + 1))
+                self._left = self._steps + _STEPS_OF_AN_ENTRY * len(numbered)
                 marks = ", ".join("?" * (1 + len(fields(Entry))))
                 self._data.executemany(
                     f"INSERT INTO problems (id, {_COLUMNS}) VALUES ({marks})",
@@ -176,11 +204,12 @@ class Collection:
                 )
                 self._data.executemany("INSERT OR IGNORE INTO positions VALUES (?, ?)", rows)
         except sqlite3.Error as error:
-            raise CollectionError(f"cannot write the collection: {error}") from None
+            reason = self.reason(error)
+            raise CollectionError(f"cannot write the collection: {reason}") from None
         return len(numbered)
 
     def _remove(self, source: str) -> None:
-        rows = self._data.execute("SELECT id, board FROM problems WHERE source = ?", (source,))
+        rows = self._asked("SELECT id, board FROM problems WHERE source = ?", (source,))
         keys = [(one, number) for number, board in rows for one in hashes(self._board(board))]
         self._data.executemany("DELETE FROM positions WHERE hash = ? AND problem = ?", keys)
         self._data.execute("DELETE FROM problems WHERE source = ?", (source,))
@@ -191,7 +220,7 @@ class Collection:
         conditions, values = _conditions(wanted)
         where = f" WHERE {' AND '.join(conditions)}" if conditions else ""
         question = f"SELECT {_COLUMNS} FROM problems{where} ORDER BY id"
-        for row in self._data.execute(question, values):
+        for row in self._asked(question, values):
             entry = self._entry_of(row)
             if wanted.counts is not None and wanted.counts != _counts(entry.board):
                 continue
@@ -232,7 +261,7 @@ class Collection:
             some = wanted[start : start + _HASHES_AT_ONCE]
             marks = ", ".join("?" * len(some))
             question = f"SELECT hash, problem FROM positions WHERE hash IN ({marks})"
-            with closing(self._data.execute(question, some)) as rows:
+            with closing(self._asked(question, some)) as rows:
                 yield from rows
 
     def _entry(self, number: int) -> Entry:
@@ -260,7 +289,7 @@ class Collection:
         found: list[Found] = []
         for one, how in ((play, ()), (mirrored_play(play), ("mirrored left to right",))):
             question = f"SELECT {_COLUMNS} FROM problems WHERE play = ? ORDER BY id"
-            entries = [self._entry_of(row) for row in self._data.execute(question, (one,))]
+            entries = [self._entry_of(row) for row in self._asked(question, (one,))]
             known = [it.entry for it in found]
             changes = ("the same key and mates",)
             found += [Found(entry, how, changes) for entry in entries if entry not in known]
