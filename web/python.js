@@ -321,7 +321,7 @@ export const py = (() => {
     join: (between, all) => list(all).join(between),
     split: (text, between = null) => (text instanceof Pattern ? between.split(new RegExp(text.text, text.flags)) : between === null ? text.split(/[ \t\n\v\f\r]+/).filter(Boolean) : text.split(between)),
     strip: (text, signs = null) => lstrip(rstrip(text, signs), signs),
-    extend: (all, more) => { all.push(...iter(more)); },
+    extend: (all, more) => { for (const one of iter(more)) all.push(one); },
     filter: (_, all) => list(all).filter(bool),
     update: (all, more) => { for (const it of more instanceof Dict ? items(more) : more) all.put(...(all instanceof PySet ? [it, null] : it)); },
     sum: all => list(all).reduce((one, next) => one + Number(next), 0),
