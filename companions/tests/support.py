@@ -73,18 +73,24 @@ def run(words: Sequence[str], text: bytes = b"") -> Outcome:
     return Outcome(done.returncode, done.stdout, done.stderr.decode("utf-8", "replace"))
 
 
-def said_on_terminal(words: Sequence[str], text: bytes = b"", columns: int = 0) -> tuple[int, str]:
-    """Status, and what a run writes to standard error, a terminal of that width."""
+def said_on_terminal(
+    words: Sequence[str], text: bytes = b"", columns: int = 0, look: Callable[[str], None] = lambda _: None
+) -> tuple[int, str]:
+    """Status, and what a run writes to standard error, a terminal of that width. `look` gets all that is there so far."""
     terminal, other_side = pty.openpty()
     if columns:
         run(["stty", "-F", os.ttyname(other_side), "cols", str(columns)])
-    done = subprocess.run(words, input=text, stdout=subprocess.DEVNULL, stderr=other_side)
-    os.close(other_side)
     said = b""
-    # (a read returns at most a page of it; after the last one it fails, since the other side is closed)
-    with contextlib.suppress(OSError):
-        while more := os.read(terminal, 100000):
-            said += more
+    with tempfile.TemporaryFile() as given:
+        given.write(text)
+        given.seek(0)
+        with subprocess.Popen(words, stdin=given, stdout=subprocess.DEVNULL, stderr=other_side) as done:
+            os.close(other_side)
+            # (a terminal takes some pages only: a run that nobody reads would wait for ever; the last read fails)
+            with contextlib.suppress(OSError):
+                while more := os.read(terminal, 100000):
+                    said += more
+                    look(said.decode())
     os.close(terminal)
     return done.returncode, said.decode()
 

@@ -6,11 +6,43 @@ import subprocess
 import sys
 import tempfile
 import unittest
+from pathlib import Path
 
-from tests import support
+from tests import run_here, support
 
 # More than a pipe holds, as a page, as JSON and as problems.
 REPORT = b"problem 1\ntitle: A title\n#1\nplay\n1.Ra1-a8#\nsolutions: 1\n\n" * 2_000
+PROBLEM = b"BeginProblem\nPieces White Kg6 Ra1 Black Kg8\nStipulation #1\nEndProblem\n"
+# Each companion with a missing file, `@`, for each thing that it reads; others begin with `@`.
+MISSING = (
+    ("fen2pop", "-s", "#1", "--file", "@"),
+    ("popeye-py", "@"),
+    ("pops-compare", "@", "@report"),
+    ("pops-compare", "@report", "@"),
+    ("pops-diagram", "--svg", "-o", "@drawn", "@"),
+    ("pops-diagram", "--svg", "-o", "@drawn", "--input", "@", "@report"),
+    ("pops-explain", "@"),
+    ("pops-explain", "@input", "@"),
+    ("pops-export", "--to", "yaml", "@"),
+    ("pops-find", "@", "--author", "x"),
+    ("pops-find", "@collection", "--add", "@"),
+    ("pops-import", "@"),
+    ("pops-judge", "@", "-o", "@sheet"),
+    ("pops-many", "@"),
+    ("pops-many", "--check", "@"),
+    ("pops-many", "@input", "-o", "@solved", "--resume", "--journal", "@"),
+    ("pops-page", "@"),
+    ("pops-page", "--input", "@", "@report"),
+    ("pops-sheet", "@"),
+    ("pops-sheet", "--report", "@", "@input"),
+    ("pops-sheet", "--report", "@report", "--tries-text", "@", "@input"),
+    ("pops-test", "@"),
+    ("pops-test", "--input", "@", "@report"),
+    ("pops-test", "--tries", "@", "@report"),
+    ("pops-test", "--pose", "@"),
+    ("pops2json", "@"),
+    ("pops2json", "--tries", "@"),
+)
 POSITIONS = b"6k1/8/6K1/8/8/8/8/R7 w - -\n" * 2_000
 
 
@@ -68,6 +100,25 @@ class Streams(unittest.TestCase):
                 outcome = support.companion(name, *words, "-", text=text)
                 self.assertNotIn("cannot open", outcome.error)
                 self.assertTrue(outcome.output)
+
+    def test_a_file_that_is_missing(self) -> None:
+        """Whatever its name is, and for whatever it is given."""
+        for companion, *words in MISSING:
+            for name in ("missing", "bad\udcff", ""):
+                with self.subTest(companion, words=words, name=name), tempfile.TemporaryDirectory() as room:
+                    for file, text in (("report", REPORT), ("input", PROBLEM)):
+                        Path(room, file).write_bytes(text)
+                    missing = os.path.join(room, name) if name else ""
+                    given = [missing if it == "@" else it.replace("@", f"{room}/") for it in words]
+                    outcome = run_here.companion(companion, *given)
+                    said = f"{companion}: cannot open {missing}: No such file or directory"
+                    self.assertEqual((outcome.status, outcome.output), (3, b""))
+                    self.assertIn(outcome.error, (f"{said}\n", f"{said}: --add makes a collection\n"))
+
+    def test_all_companions_are_tried_on_missing_files(self) -> None:
+        commands = {it.name for it in support.COMPANIONS.iterdir() if os.access(it, os.X_OK) and it.is_file()}
+        tried = {companion for companion, *_ in MISSING}
+        self.assertEqual({it for it in commands if not it.startswith("try-")}, tried)
 
     @unittest.skipUnless(os.path.exists("/dev/full"), "no device that is full")
     def test_a_full_device_is_told(self) -> None:

@@ -365,7 +365,7 @@ class Command(unittest.TestCase):
     def test_files_that_are_no_collection(self) -> None:
         outcome = self.run_on("--author", "x")
         self.assertEqual(outcome.status, 3)
-        self.assertIn("mine.db: --add makes a collection", outcome.error)
+        self.assertIn("mine.db: No such file or directory: --add makes a collection", outcome.error)
         Path(self.path).write_bytes(b"not a database, but a text of some length\n" * 100)
         outcome = self.run_on("--author", "x")
         self.assertEqual(outcome.status, 3)

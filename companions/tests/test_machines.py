@@ -15,7 +15,7 @@ from pops_companions.many import sessions
 from pops_companions.many.connections import Connections
 from pops_companions.many.machines import bundles_of
 from pops_companions.many.tasks import Source, tasks_of
-from tests import support
+from tests import run_here, support
 from tests.six_problems import wait_for
 from tests.test_split_machines import has_gnu_parallel
 
@@ -139,7 +139,9 @@ class OnMachines(unittest.TestCase):
         ssh = self.write("ssh", _SSH.format(room=self.room))
         words = ["--pops", support.pops(), "--remote-pops", pops or support.pops(), "--ssh", ssh]
         words += ["--sshlogin", "one,two", "--jobs", "2", str(self.room / "x.pop")]
-        return support.companion("pops-many", *words)
+        # (a busy machine takes no bundle to the end of this time)
+        with mock.patch("pops_companions.many.machines._SECONDS_OF_A_BUNDLE", float(support.PATIENCE)):
+            return run_here.companion("pops-many", *words)
 
     def logins(self) -> list[str]:
         return (self.room / "logins").read_text().splitlines()

@@ -7,7 +7,6 @@ import signal
 import subprocess
 import sys
 import tempfile
-import time
 import unittest
 from pathlib import Path
 from unittest import mock
@@ -15,6 +14,7 @@ from unittest import mock
 from pops_companions.many import sessions
 from pops_companions.many.progress import Progress
 from tests import support
+from tests.made_clock import made_clock
 from tests.six_problems import SixProblems, has_worked, wait_for
 
 WAITS = "sleep 6000 & sleep 6001"
@@ -116,17 +116,25 @@ class Journals(SixProblems):
         outcome = self.many(support.pops(), "--resume")
         self.assertEqual(
             outcome,
-            (2, b"", f"pops-many: there is no journal {self.journal}: nothing to go on with\n"),
+            (3, b"", f"pops-many: cannot open {self.journal}: No such file or directory\n"),
         )
         self.assertEqual(self.files(), [])
-        for text in (b"", b"no journal\n"):
-            self.journal.write_bytes(text)
-            outcome = self.many(support.pops(), "--resume")
-            self.assertEqual(
-                outcome, (2, b"", f"pops-many: {self.journal} is no journal of pops-many\n")
-            )
-            self.assertEqual(self.journal.read_bytes(), text)
-            self.assertEqual(self.files(), ["six.report.journal"])
+        self.journal.write_bytes(b"no journal\n")
+        outcome = self.many(support.pops(), "--resume")
+        self.assertEqual(
+            outcome, (2, b"", f"pops-many: {self.journal} is no journal of pops-many\n")
+        )
+        self.assertEqual(self.journal.read_bytes(), b"no journal\n")
+        self.assertEqual(self.files(), ["six.report.journal"])
+
+    def test_a_run_that_ended_before_it_kept_anything_is_resumed(self) -> None:
+        self.many(self.stand_in("kill -9 $$"))
+        head = self.journal.read_bytes().partition(b"\n")[0]
+        for kept in (b"", head[:9]):
+            self.journal.write_bytes(kept)
+            self.assertEqual(self.many(support.pops(), "--resume").status, 0)
+            self.assertEqual(self.files(), ["six.report"])
+            (self.room / "six.report").unlink()
 
     def test_what_a_killed_run_left_behind_is_swept(self) -> None:
         self.many(self.stand_in("kill -9 $$"))
@@ -204,11 +212,11 @@ class Sessions(unittest.TestCase):
 
 class LastLine(unittest.TestCase):
     def test_nothing_is_shown_after_it(self) -> None:
-        with mock.patch("sys.stderr", io.StringIO()) as shown:
+        with made_clock() as clock, mock.patch("sys.stderr", io.StringIO()) as shown:
             progress = Progress("pops-many")
             progress.is_shown = True
             progress.begin(0, 1)
             progress.one_more()
-            time.sleep(0.7)
+            clock.now += 1
             progress.wait_on()
         self.assertEqual(shown.getvalue(), "\rpops-many: 1 of 1 problems")

@@ -1,10 +1,14 @@
 """pops-explain --all and --fix: what is mended is what the explanation says, and no fault comes of it."""
 
+import io
+import sys
 import tempfile
 import unittest
+from collections.abc import Callable
 from pathlib import Path
 
-from pops_companions.explain.mending import further_faults, mend
+from pops_companions.explain.mended_text import mend
+from pops_companions.explain.mending import further_faults
 from pops_companions.explain.notices import notices
 from pops_companions.input.pieces import cut
 from tests import run_here, support
@@ -191,7 +195,7 @@ class Further(unittest.TestCase):
         return [
             f"{it.line}: {it.kind.value}: "
             + " | ".join(text[mark.start : mark.stop].decode() for mark in it.explanation.marks)
-            for it in further_faults(text, 1)
+            for it in further_faults(text, cut(text), 1)
         ]
 
     def test_each_fault_once_at_its_place_in_the_text(self) -> None:
@@ -236,7 +240,7 @@ class Further(unittest.TestCase):
 
     def test_a_text_without_a_problem_has_one_fault(self) -> None:
         text = b"8 ......k.\n7 ........\n"
-        self.assertEqual(list(further_faults(text, 1)), [])
+        self.assertEqual(list(further_faults(text, cut(text), 1)), [])
 
 
 class Notices(unittest.TestCase):
@@ -273,6 +277,72 @@ class Notices(unittest.TestCase):
                 self.assertIn("YAML or JSON", said)
                 self.assertIn("`pops-import FILE`", said)
                 self.assertEqual(mend(text.encode()).mended, 0)
+
+
+def calls_of(done: Callable[[], object]) -> int:
+    """How many calls Python makes meanwhile, also of its own functions."""
+    calls = 0
+
+    def note(_frame: object, event: str, _argument: object) -> None:
+        nonlocal calls
+        calls += event in ("call", "c_call")
+
+    sys.setprofile(note)
+    try:
+        done()
+    finally:
+        sys.setprofile(None)
+    return calls
+
+
+class Work(unittest.TestCase):
+    """Four times the problems take four times the calls, however the problems are divided."""
+
+    WRONG = "Pieces White Kg6 Ta1 Black Kg8\nStipulation mate\n"
+    RIGHT = f"{PIECES}\nStipulation #1\n"
+
+    def is_linear(self, made: Callable[[int], str], work: Callable[[bytes], object]) -> None:
+        few, many = made(30).encode(), made(120).encode()
+        work(few)
+        calls = calls_of(lambda: work(few))
+        self.assertGreater(calls, 30)
+        self.assertLess(calls_of(lambda: work(many)), 5 * calls)
+
+    def test_mending(self) -> None:
+        faults_in: dict[str, Callable[[int], str]] = {
+            "in each problem": lambda count: f"BeginProblem\n{'NextProblem '.join([self.WRONG] * count)}EndProblem\n",
+            "on one line": lambda count: f"BeginProblem {'Next '.join([self.WRONG] * count)}End".replace("\n", " "),
+            "blocks": lambda count: f"BeginProblem\n{self.RIGHT}EndProblem\n" * count,
+            "no ends": lambda count: f"BeginProblem\n{self.RIGHT}" * count,
+        }
+        for name, made in faults_in.items():
+            with self.subTest(name):
+                self.is_linear(made, mend)
+
+    def test_all_faults(self) -> None:
+        def made(count: int) -> str:
+            return f"BeginProblem\n{'NextProblem '.join([self.WRONG] * count)}EndProblem\n"
+
+        def work(text: bytes) -> None:
+            pieces = cut(text)
+            for piece in pieces:
+                self.assertEqual(len(list(further_faults(text, pieces, piece.number))), 1)
+
+        self.is_linear(made, work)
+
+    def test_the_command(self) -> None:
+        """As text and as JSON."""
+        reports = {}
+        for count in (30, 120):
+            text = f"BeginProblem\n{'NextProblem '.join([self.WRONG] * count)}EndProblem\n".encode()
+            reports[text] = support.run([support.pops(), "--check"], text).output
+
+        def made(count: int) -> str:
+            return list(reports)[count > 30].decode()
+
+        explained = support.loaded("pops-explain")
+        self.is_linear(made, lambda text: explained.write("x", text, io.BytesIO(reports[text]), io.BytesIO(), True))
+        self.is_linear(made, lambda text: explained.write_json("x", text, reports[text], io.BytesIO(), True))
 
 
 class Command(unittest.TestCase):

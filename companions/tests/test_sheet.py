@@ -25,6 +25,7 @@ from pops_companions.sheet.solution import Solution, TriesShown
 from pops_companions.show.authors import persons
 from tests import run_here, support
 from tests.plain_tries import plain_tries
+from tests.shown_limit import limit_when_shown, shown
 
 # As the database YACPDB has it, a version of a problem of 1859 (tests/tries/organ_pipes.pop).
 ORGAN_PIPES = (
@@ -111,7 +112,9 @@ class Case(unittest.TestCase):
         """The sheet of an input, for which pops is run."""
         given = self.room / "given.pop"
         given.write_bytes(text)
-        return run_here.companion("pops-sheet", str(given), "--pops", support.pops(), *words)
+        # (a busy machine takes no problem to the end of this time)
+        own = ["--pops", support.pops(), "--seconds", str(support.PATIENCE)]
+        return run_here.companion("pops-sheet", str(given), *own, *words)
 
     def text(self, text: bytes, *words: str) -> str:
         outcome = self.sheet(text, "--to", "text", *words)
@@ -665,7 +668,16 @@ class Command(Case):
         """What takes too long is shown as far as it went, and says so; the others are whole."""
         long = "Pieces White Kb1 Pc2e2g2 Black Ke8 Ra8h8 Pa7c7e7g7h7\nStipulation h#7\n"
         text = TWINS.decode().replace("EndProblem", f"NextProblem\nTitle Long\n{long}EndProblem")
-        outcome = self.made(text.encode(), "--to", "text", "--seconds", "1", "--language", "de")
+        slow = self.room / "slow"
+        head = f"printf '%s' \"$text\" | '{support.pops()}' --check | sed '/^sound$/,$d'"
+        slow.write_text(
+            f"#!/bin/sh\ntext=$(cat)\ncase $text in *Long*) {head}; {shown(self.room)}; exec sleep 6000 ;; esac\n"
+            f"printf '%s' \"$text\" | '{support.pops()}' \"$@\"\n"
+        )
+        slow.chmod(0o755)
+        words = ["--to", "text", "--seconds", "1", "--language", "de", "--pops", str(slow)]
+        with limit_when_shown(self.room):
+            outcome = self.made(text.encode(), *words)
         told = outcome.output.decode()
         self.assertEqual(outcome.status, 1)
         self.assertIn("1.Kg8 Ta8#", told)

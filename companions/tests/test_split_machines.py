@@ -145,10 +145,11 @@ class Limits(Machines):
 
     def test_parts_that_cannot_matter_are_stopped_and_others_go_on(self) -> None:
         # The second part is done at once, the first one that matters goes on and is begun once.
-        # (it waits until a third one is begun)
+        # (it waits until a third one is begun, and the first one until the second is kept)
         third = f"until grep -q play-3 {self.room}/parts; do sleep 0.1; done"
+        kept = f"until grep -q '^part 0 play 2 ' {self.journal}; do sleep 0.1; done"
         then = (
-            f"case $part in play-1) sleep 3 ;; play-2) {third} ;;"
+            f"case $part in play-1) {kept} ;; play-2) {third} ;;"
             " *) echo 1.x; exec sleep 6150 ;; esac"
         )
         for logins in ("one,two", ":"):

@@ -156,7 +156,8 @@ class Limits(SplitRoom):
 
     def test_parts_that_matter_still_go_on(self) -> None:
         """The second part has the first solution, long before the first one says that it has it."""
-        program = self.pops_part("problem-play-1", "sleep 1.5")
+        kept = f"until grep -q '^part 0 play 2 ' {self.journal}; do sleep 0.1; done"
+        program = self.pops_part("problem-play-1", kept)
         self.assertEqual(self.split(program, "--jobs", "30"), (0, b"", ""))
         self.assertEqual(self.report.read_bytes(), self.wanted)
         self.assertEqual(self.parts().count("play-1"), 1)
@@ -263,10 +264,18 @@ class Ends(SplitRoom):
     def on_terminal(self, columns: int) -> str:
         """What a run writes on a terminal of that width."""
         words: list[str] = [sys.executable, str(support.COMPANIONS / "pops-many")]
-        # The eighth part of the set play waits longer than a line is shown.
-        words += self.words_of_split(self.pops_part("problem-set-8", "sleep 0.6"), "--jobs", "1")
-        status, said = support.said_on_terminal(words, columns=columns)
+        # The eighth part of the set play waits until a time that is left is shown.
+        seen = self.room / "shown-left"
+        waits = f"until [ -e {seen} ]; do sleep 0.1; done"
+        words += self.words_of_split(self.pops_part("problem-set-8", waits), "--jobs", "1")
+
+        def look(said: str) -> None:
+            if re.search(r" about \d+:\d\d left", said):
+                seen.touch()
+
+        status, said = support.said_on_terminal(words, columns=columns, look=look)
         self.assertEqual(status, 0)
+        seen.unlink()
         return said
 
 

@@ -14,9 +14,11 @@ from pops_companions.command import STANDARD_INPUT, CommandError, Status
 from pops_companions.files import Links
 from pops_companions.explain.diagnostics import diagnostic_object, diagnostics
 from pops_companions.explain.explaining import ExplainedFault, OtherText, explain
-from pops_companions.explain.mending import further_faults, mend
+from pops_companions.explain.mended_text import mend
+from pops_companions.explain.mending import further_faults
 from pops_companions.explain.notices import notices
 from pops_companions.explain.showing import Shower
+from pops_companions.input.pieces import cut
 from pops_companions.many.program import LOOKED_FOR, MissingError, RunError
 from pops_companions.report.items import Item
 from pops_companions.report.reader import ReportError, read_report
@@ -107,7 +109,7 @@ def write(name: str, text: bytes, report: BinaryIO, target: BinaryIO, every: boo
     """
     total = faulty = further = 0
     name = printable(name)
-    shower = Shower(name, text)
+    shower, pieces = Shower(name, text), cut(text)
 
     def counted() -> Iterator[Item]:
         nonlocal total
@@ -121,7 +123,7 @@ def write(name: str, text: bytes, report: BinaryIO, target: BinaryIO, every: boo
     for explained in explain(text, counted()):
         faulty += 1
         show(explained)
-        for other in further_faults(text, explained.problem) if every else ():
+        for other in further_faults(text, pieces, explained.problem) if every else ():
             further += 1
             show(other.explained(explained.title))
     if not total:

@@ -105,12 +105,14 @@ def open_journal(
 ) -> Journal:
     """Returns the run's journal; that of a run that stopped isn't overwritten."""
     try:
-        return Journal(path or _new_journal(), run, settings.resume, settings.seconds)
+        named = _new_journal() if path is None else path
+        return Journal(named, run, settings.resume, settings.seconds)
     except JournalError as error:
         raise CommandError(Status.USAGE, str(error)) from None
     except OSError as error:
-        where = path or error.filename
-        raise CommandError(Status.DEVICE, f"cannot write {where}: {error.strerror}") from None
+        what = "open" if settings.resume else "write"
+        where = error.filename if path is None else path
+        raise CommandError(Status.DEVICE, f"cannot {what} {where}: {error.strerror}") from None
 
 
 def _new_journal() -> str:
@@ -210,21 +212,21 @@ def elsewhere_of(
         except (MachinesError, ParallelError) as error:
             raise CommandError(Status.DEVICE, str(error)) from None
         opened.pop_all()
-        return Elsewhere(machines, there)
+    return Elsewhere(machines, there)
 
 
 class Files(NamedTuple):
     """What a run writes besides its journal."""
 
     reports: list[Report]
-    index: Optional[Target]
+    table: Optional[Target]
 
     @property
     def targets(self) -> list[Target]:
         """All files, in the order in which they are refused."""
         files = [report.file for report in self.reports]
         seconds = [report.unfinished for report in self.reports]
-        return [target for target in [*files, *seconds, self.index] if target is not None]
+        return [target for target in [*files, *seconds, self.table] if target is not None]
 
 
 class Solving:
@@ -277,7 +279,7 @@ class Solving:
         if settings.split:
             second = Target(journal.path + UNFINISHED, self._name, Links.REPLACED)
             reports = [it._replace(unfinished=it.unfinished or second) for it in reports]
-        return self._go(journal, Joined(journal, reports, output), files.index, elsewhere)
+        return self._go(journal, Joined(journal, reports, output), files.table, elsewhere)
 
     def _go(
         self, journal: Journal, joined: Joined, index: Optional[Target], where: Optional[Elsewhere]

@@ -1,14 +1,16 @@
 """What is wrong with a text of problems, as data: where it is, why, and what mends it."""
 
 from bisect import bisect_right
-from collections.abc import Iterable, Iterator
+from collections.abc import Iterable, Iterator, Sequence
 from dataclasses import dataclass
 from itertools import accumulate
 from typing import Any, Optional
 
 from pops_companions.explain.explaining import ExplainedFault, explain
-from pops_companions.explain.mending import edit_for, further_faults, read_number
+from pops_companions.explain.mending import edit_for, further_faults
+from pops_companions.explain.near import near_of
 from pops_companions.explain.notices import notices
+from pops_companions.input.pieces import Piece, cut
 from pops_companions.input.words import Span
 from pops_companions.report.items import Fault, Item
 
@@ -120,7 +122,7 @@ def diagnostics(text: bytes, items: Iterable[Item], every: bool) -> Iterator[Dia
     `every` is whether the faults after the first one of a problem are found too. OtherText where
     the report isn't of this text.
     """
-    positions = _Positions(text)
+    positions, pieces = _Positions(text), cut(text)
 
     def told(explained: ExplainedFault, fix: Optional[Fix]) -> Diagnostic:
         ranges = positions.ranges(explained)
@@ -128,8 +130,8 @@ def diagnostics(text: bytes, items: Iterable[Item], every: bool) -> Iterator[Dia
         return Diagnostic(explained.problem, explained.fault, ranges, cause, fix)
 
     for explained in explain(text, items):
-        yield told(explained, _fix(text, explained.problem, positions))
-        for other in further_faults(text, explained.problem) if every else ():
+        yield told(explained, _fix(text, pieces, explained.problem, positions))
+        for other in further_faults(text, pieces, explained.problem) if every else ():
             yield told(other.explained(explained.title), None)
     for notice in notices(text):
         yield Diagnostic(
@@ -137,11 +139,17 @@ def diagnostics(text: bytes, items: Iterable[Item], every: bool) -> Iterator[Dia
         )
 
 
-def _fix(text: bytes, problem: int, positions: _Positions) -> Optional[Fix]:
-    reading = read_number(text, problem)
+def _fix(
+    text: bytes, pieces: Sequence[Piece], problem: int, positions: _Positions
+) -> Optional[Fix]:
+    if problem > len(pieces):
+        return None
+    near = near_of(text, pieces, problem)
+    reading = near.read()
     if reading is None or reading.number is None:
         return None
-    edit = edit_for(text, problem, reading)
+    edit = edit_for(near.text, near.number, reading)
     if edit is None:
         return None
-    return Fix(positions.range(edit.span), edit.text.decode("utf-8", "surrogateescape"))
+    span = near.in_whole(edit.span)
+    return Fix(positions.range(span), edit.text.decode("utf-8", "surrogateescape"))

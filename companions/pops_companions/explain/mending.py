@@ -1,11 +1,11 @@
-"""Mends the faults of a text as far as their explanations say how, and finds those after the first.
+"""Mends a fault as far as its explanation says how, and finds the faults of a problem after its first one.
 
 What an explanation says to write is written, and kept if the fault is gone then: if pops would read
 on, past the place of the fault.
 """
 
 import re
-from collections.abc import Callable, Iterator
+from collections.abc import Callable, Iterator, Sequence
 from dataclasses import dataclass
 from typing import NamedTuple, Optional
 
@@ -13,8 +13,9 @@ from pops_companions.explain.case import Explanation
 from pops_companions.explain.characters import decoded
 from pops_companions.explain.explaining import ExplainedFault, explanation
 from pops_companions.explain.fault_texts import FAULT_TEXTS
+from pops_companions.explain.near import Near, near_of
 from pops_companions.explain.vocabulary import is_unread_command
-from pops_companions.input.pieces import Piece, cut, rest_of
+from pops_companions.input.pieces import Piece, cut
 from pops_companions.input.reading import (
     CASTLING_SQUARES,
     COMMANDS,
@@ -24,7 +25,7 @@ from pops_companions.input.reading import (
     read_piece,
     squares_of,
 )
-from pops_companions.input.words import Span, named, short_forms
+from pops_companions.input.words import Span, named
 from pops_companions.report.items import Fault
 
 _QUOTED = "`([^`]+)`"
@@ -53,8 +54,7 @@ _BARE = re.compile(rb"(?i)^[ \t]*(?:sti|con|opt)[a-z]*[ \t]+$")
 # The number that goes with an option of Popeye.
 _ITS_NUMBER = re.compile(rb"[ \t]+[0-9]+(?!\S)")
 _BYTE_ORDER_MARK = "\ufeff".encode("utf-8")
-_END_AND_BEGIN = re.compile(rb"(?i)\S+\s+(?:" + short_forms("BeginProblem") + rb")(?!\S)")
-_MOST_FAULTS = 50
+MOST_FAULTS = 50
 # What may only be missing because a word before was passed over.
 _AT_THE_END = (
     FaultKind.STIPULATION_MISSING,
@@ -88,62 +88,6 @@ class FurtherFault:
         """Returns the fault as pops would report it, of a problem with this title."""
         fault = Fault(self.line, self.kind.value, FAULT_TEXTS[self.kind])
         return ExplainedFault(self.problem, title, fault, self.explanation)
-
-
-@dataclass
-class Mended:
-    """A text with the faults mended that could be; how many were, and how many could not be."""
-
-    text: bytes
-    mended: int = 0
-    left: int = 0
-
-
-def mend(text: bytes) -> Mended:
-    """Mends all faults of a text as far as their explanations say how.
-
-    A block after the first EndProblem is joined once those before it are mended.
-    """
-    made = Mended(text)
-    pieces = cut(text)
-    number = 1
-    while True:
-        while number <= len(pieces):
-            before = made.text
-            _mend_problem(made, number, read_piece(made.text, pieces[number - 1]))
-            # (faultless problems are read without cutting the text again)
-            pieces = pieces if made.text is before else cut(made.text)
-            number += 1
-        joined = _with_rest(made.text, pieces[-1])
-        if joined is None:
-            return made
-        made.text = joined
-        made.mended += 1
-        pieces = cut(joined)
-
-
-def _mend_problem(made: Mended, number: int, first: Reading) -> None:
-    """Mends the faults of a problem, as it is read at first."""
-    reading: Optional[Reading] = first
-    for _ in range(_MOST_FAULTS):
-        if reading is None or reading.number is None:
-            return
-        edit = edit_for(made.text, number, reading)
-        if edit is None:
-            made.left += 1
-            return
-        made.text = edit.of(made.text)
-        made.mended += 1
-        reading = read_number(made.text, number)
-
-
-def _with_rest(text: bytes, last: Piece) -> Optional[bytes]:
-    """Returns a text with the block after its first EndProblem joined; None where there is none."""
-    rest = rest_of(text)
-    if rest is None or not rest.problems:
-        return None
-    end = _END_AND_BEGIN.match(text, last.stop)
-    return None if end is None else text[: end.start()] + b"NextProblem" + text[end.end() :]
 
 
 def read_number(text: bytes, number: int) -> Optional[Reading]:
@@ -289,42 +233,48 @@ def _in_place(text: bytes, marks: tuple[Span, ...], said: str) -> Iterator[Edit]
             yield Edit(mark, wanted.encode("utf-8"))
 
 
-def further_faults(text: bytes, number: int) -> Iterator[FurtherFault]:
+def further_faults(text: bytes, pieces: Sequence[Piece], number: int) -> Iterator[FurtherFault]:
     """Yields the faults of a problem after its first one, each with the others mended or passed
     over.
 
     A word that can't be mended is passed over; what is missing at the end of the problem may be
     missing for that alone, and isn't reported then, nor is each word before `BeginProblem`.
     """
-    changed = text
-    back = _Places()
+    if number > len(pieces):
+        return
+    near = near_of(text, pieces, number)
+    back = _Places(near)
     is_passed_over = False
-    for fault in range(_MOST_FAULTS):
-        reading = read_number(changed, number)
+    for fault in range(MOST_FAULTS):
+        reading = near.read()
         if reading is None or reading.number is None:
             return
         if is_passed_over and reading.number in _AT_THE_END:
             return
         if fault > 0 and not (is_passed_over and reading.number is FaultKind.BEGIN_PROBLEM_MISSING):
-            said = explanation(changed, reading)
-            marks = tuple(back.span(mark, len(text)) for mark in said.marks)
-            at = len(changed) if reading.at is None else reading.word.start
-            at = back.span(Span(at, at), len(text)).start
-            line = text.count(b"\n", 0, at) + 1
+            said = explanation(near.text, reading)
+            marks = tuple(map(back.span, said.marks))
+            at = len(near.text) if reading.at is None else reading.word.start
+            line = _line_of(text, pieces[number - 1], back.span(Span(at, at)).start)
             yield FurtherFault(number, reading.number, line, Explanation(said.text, marks))
-        edit = edit_for(changed, number, reading, in_any_language=True)
+        edit = edit_for(near.text, near.number, reading, in_any_language=True)
         if edit is None:
             if reading.at is None or reading.number in _AT_THE_END:
                 return
-            edits = _passing_over(changed, reading)
+            edits = _passing_over(near.text, reading)
             is_passed_over = True
         else:
             edits = [edit]
         for one in edits:
-            if one.span == Span(0, len(changed)):
+            if one.span == Span(0, len(near.text)):
                 return
             back.note(one)
-            changed = one.of(changed)
+            near.text = one.of(near.text)
+
+
+def _line_of(text: bytes, piece: Piece, place: int) -> int:
+    """Returns the line of a place in a problem."""
+    return piece.line + text.count(b"\n", piece.start, place)
 
 
 def _passing_over(text: bytes, reading: Reading) -> list[Edit]:
@@ -346,9 +296,10 @@ def _passing_over(text: bytes, reading: Reading) -> list[Edit]:
 
 
 class _Places:
-    """Where the places of a changed text were before its edits."""
+    """Where the places of a changed text were before its edits, in the whole text."""
 
-    def __init__(self) -> None:
+    def __init__(self, near: Near) -> None:
+        self._near = near
         self._undo: list[Callable[[int], int]] = []
 
     def note(self, edit: Edit) -> None:
@@ -361,8 +312,9 @@ class _Places:
 
         self._undo.append(before)
 
-    def span(self, span: Span, end: int) -> Span:
+    def span(self, span: Span) -> Span:
         start, stop = span.start, span.stop
         for before in reversed(self._undo):
             start, stop = before(start), before(stop)
-        return Span(min(start, end), min(max(stop, start), end))
+        end = self._near.begin + self._near.stop - self._near.start
+        return self._near.in_whole(Span(min(start, end), min(max(stop, start), end)))

@@ -4,6 +4,7 @@ A position one man apart is found by hashes: the file has a hash of each positio
 without each of its men; a search looks up the hashes of all variants of a position.
 """
 
+import errno
 import os
 import re
 import sqlite3
@@ -108,7 +109,8 @@ class Collection:
     def __init__(self, path: str, new: bool):
         """Opens a file; `new` makes it where it isn't there. CollectionError for other files."""
         if not new and not os.path.exists(path):
-            raise CollectionError(f"there is no {path}: --add makes a collection")
+            reason = os.strerror(errno.ENOENT)
+            raise CollectionError(f"cannot open {path}: {reason}: --add makes a collection")
         # (what a killed run left half written is taken back where the file may be written)
         mode = "rwc" if new else "rw" if os.access(path, os.W_OK) else "ro"
         try:

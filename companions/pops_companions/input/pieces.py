@@ -28,6 +28,11 @@ _MARKS = re.compile(
     + rb")",
     re.IGNORECASE,
 )
+# Marks, and words that begin a problem.
+_STOPS = re.compile(
+    _MARKS.pattern[:-1] + rb"|(?P<begin>" + short_forms("BeginProblem") + rb")" + _WORD_ENDS + rb")",
+    re.IGNORECASE,
+)
 _NO_BLANK = re.compile(rb"[^" + BLANKS + rb"]")
 # A BeginProblem that begins a line.
 _BLOCK = re.compile(
@@ -143,3 +148,17 @@ def rest_after(text: bytes, last: Piece) -> Optional[Rest]:
         marks = _MARKS.finditer(text, end.end())
         problems += sum(mark.lastgroup == "next" for mark in marks)
     return Rest(text.count(b"\n", 0, first.start()) + 1, problems)
+
+
+def stop_after(text: bytes, start: int) -> int:
+    """Returns where the next word ends that begins or ends a problem; the end of the text without one.
+
+    The search begins in no word and in no text line.
+    """
+    marks = _STOPS.finditer(text, start)
+    return next((mark.end() for mark in marks if mark.lastgroup is not None), len(text))
+
+
+def last_block(text: bytes) -> int:
+    """Returns where the last BeginProblem is that begins a line; -1 where none does."""
+    return max((block.start() for block in _BLOCK.finditer(text)), default=-1)

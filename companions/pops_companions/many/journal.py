@@ -80,12 +80,7 @@ class Journal:
         self.parts: dict[Key, Kept] = {}
         self._seconds = seconds
         self._head = _HEAD + run + b"\n"
-        try:
-            opened = os.open(path, _OPEN | (0 if resume else os.O_CREAT), 0o666)
-        except FileNotFoundError:
-            if not resume:
-                raise
-            raise JournalError(f"there is no journal {path}: nothing to go on with") from None
+        opened = os.open(path, _OPEN | (0 if resume else os.O_CREAT), 0o666)
         if not stat.S_ISREG(os.fstat(opened).st_mode):
             os.close(opened)
             raise JournalError(f"{path} is a device or a pipe: a journal is a file")

@@ -24,6 +24,8 @@ from pops_companions.places import COMPANIONS, REPOSITORY, folder_above
 
 # A run of pops ends with one of these where every byte of its report was written.
 SOUND, FAULTY = 0, 1
+# A run of pops on a file that it can't open ends with this.
+UNREADABLE = 3
 
 # What a run writes is read after pauses of this many milliseconds, unless it ends sooner or writes
 # much: it writes line by line, and waking for each line would cost more than the search.
@@ -276,14 +278,24 @@ class Program(Runs):
         raise RunError(self._reason(run.status, run.errors))
 
     def _whole(self, task: Task) -> Result:
-        """Returns a source that is left to pops: it reads it by itself.
+        """Returns a source that is left to pops, which reads the file itself: it takes no name that isn't
+        UTF-8.
 
         What it says goes to standard error, unless the file was reported already.
         """
         name, text = task.source.name, task.source.text
-        source = subprocess.PIPE if name is None else None
         errors = subprocess.DEVNULL if text is None else None
-        child = self._started([] if name is None else [name], source, errors)
+        if name is None:
+            child = self._started([], subprocess.PIPE, errors)
+        else:
+            try:
+                opened = os.open(name, os.O_RDONLY | os.O_CLOEXEC)
+            except OSError:
+                return Result(task, UNREADABLE, b"")
+            try:
+                child = self._started([], opened, errors)
+            finally:
+                os.close(opened)
         run = self._ended(child, text if name is None else None, None)
         if run.status < 0:
             raise RunError(self._reason(run.status, b""))

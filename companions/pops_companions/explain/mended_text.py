@@ -1,0 +1,110 @@
+"""Mends all faults of a text, problem by problem, as far as their explanations say how."""
+
+import re
+from dataclasses import dataclass
+
+from pops_companions.explain.mending import MOST_FAULTS, edit_for
+from pops_companions.explain.near import Near
+from pops_companions.input.pieces import last_block
+from pops_companions.input.words import named, short_forms
+
+_NEXT = b"NextProblem"
+_BEGIN_AFTER = re.compile(rb"(?i)\s+(?:" + short_forms("BeginProblem") + rb")(?!\S)")
+
+
+@dataclass
+class Mended:
+    """A text with the faults mended that could be; how many were, and how many could not be."""
+
+    text: bytes
+    mended: int = 0
+    left: int = 0
+
+
+def mend(text: bytes) -> Mended:
+    """Mends all faults of a text as far as their explanations say how.
+
+    A block after the first EndProblem is joined once those before it are mended.
+    """
+    mender = _Mender(text)
+    while mender.mend_next():
+        pass
+    return mender.made
+
+
+class _Mender:
+    """A text on the way: what is done is kept apart, so that no step costs a look at the whole."""
+
+    def __init__(self, text: bytes):
+        self.made = Mended(text)
+        self._done: list[bytes] = []
+        # The rest of the text is this from a place on, which is after a word that closed a problem.
+        self._text = text
+        self._place = 0
+        self._closing = b""
+        self._number = 1
+        self._last_block = last_block(text)
+
+    def mend_next(self) -> bool:
+        """Mends the next problem. Returns whether there is another one."""
+        near = Near(self._text, self._place, self._closing)
+        reading = near.read()
+        if reading is None or reading.number is not None:
+            near.grow()
+            self._mend(near)
+        end = near.end()
+        if end is None:
+            self._finish(near.text[near.begin :] + self._text[near.stop :])
+            return False
+        self._pass_on(near, end.after)
+        self._done.append(near.text[near.begin : end.stop])
+        self._closing = near.text[end.stop : end.after]
+        self._number += 1
+        if named(self._closing, ["EndProblem"]) is not None and not self._joins():
+            self._finish(self._closing + self._text[self._place :])
+            return False
+        self._done.append(self._closing)
+        return True
+
+    def _mend(self, near: Near) -> None:
+        """Mends the faults of a problem."""
+        mended = 0
+        while mended < MOST_FAULTS:
+            reading = near.read()
+            if reading is None or reading.number is None:
+                return
+            if near.begin and reading.at is None or not (near.begin or near.is_all):
+                # What is said of the first problem and of the end is said of the whole text.
+                near.widen(b"".join(self._done), self._number)
+                self._done.clear()
+                continue
+            edit = edit_for(near.text, near.number, reading)
+            if edit is None:
+                self.made.left += 1
+                return
+            near.text = edit.of(near.text)
+            self.made.mended += 1
+            mended += 1
+
+    def _pass_on(self, near: Near, after: int) -> None:
+        """Goes on after a problem: in the text as it was, unless it was changed there too."""
+        rest = near.text[after:]
+        self._place = near.stop - len(rest)
+        if self._place < 0 or self._text[self._place : near.stop] != rest:
+            self._text = rest + self._text[near.stop :]
+            self._place = 0
+            self._last_block = last_block(self._text)
+
+    def _joins(self) -> bool:
+        """Joins the block after an EndProblem, where there is one. Returns whether it does."""
+        begin = _BEGIN_AFTER.match(self._text, self._place)
+        if begin is None or self._last_block < self._place:
+            return False
+        self._place = begin.end()
+        self._closing = _NEXT
+        self.made.mended += 1
+        return True
+
+    def _finish(self, rest: bytes) -> None:
+        self._done.append(rest)
+        self.made.text = b"".join(self._done)

@@ -1,0 +1,102 @@
+"""A problem with what follows it, as a text of its own: what is done there costs no look at all the others."""
+
+import re
+from collections.abc import Sequence
+from typing import NamedTuple, Optional
+
+from pops_companions.input.pieces import Piece, cut, stop_after
+from pops_companions.input.reading import Reading, read_piece
+from pops_companions.input.words import Span
+
+# What begins a text in which the problem at hand isn't the first one.
+_BEGIN = b"Beg "
+_WORD = re.compile(rb"\S*")
+
+
+class End(NamedTuple):
+    """Where a problem ends in its text of its own: before the word that closes it, and after it."""
+
+    stop: int
+    after: int
+
+
+class Near:
+    """A problem of a text, up to a word that begins or ends another one, as a text of its own.
+
+    There it has the number `number`. The first `begin` bytes stand for what is before it; the others
+    begin at `start` in the whole text, and end at `stop`. `line_ends` are those before it.
+    """
+
+    def __init__(self, whole: bytes, start: int, closing: bytes, line_ends: int = 0):
+        """Takes the problem that begins after `closing`, the word that closes the one before it."""
+        self.text = _BEGIN + closing if closing else b""
+        self.number = 2 if closing else 1
+        self.begin = len(self.text)
+        self.start = self.stop = start
+        self.line_ends = line_ends
+        self._whole = whole
+        self.grow()
+
+    @property
+    def is_all(self) -> bool:
+        """Whether it ends with the whole text."""
+        return self.stop == len(self._whole)
+
+    def grow(self) -> bool:
+        """Takes in what follows, up to a word that begins or ends a problem. Returns whether anything does."""
+        if self.is_all:
+            return False
+        stop = stop_after(self._whole, self.stop)
+        self.text += self._whole[self.stop : stop]
+        self.stop = stop
+        return True
+
+    def widen(self, before: bytes, number: int) -> None:
+        """Becomes the whole text, of which this is before the problem."""
+        self.text = before + self.text[self.begin :] + self._whole[self.stop :]
+        self.number, self.stop = number, len(self._whole)
+        self.begin = self.start = self.line_ends = 0
+
+    def read(self) -> Optional[Reading]:
+        """Reads the problem, and takes in as much as it needs; None where no problem has its number."""
+        while True:
+            piece = self._piece()
+            if piece is None:
+                return None
+            reading = read_piece(self.text, piece._replace(line_ends=piece.line_ends + self.line_ends))
+            if reading.number is None or reading.at is not None or not self.grow():
+                return reading
+
+    def end(self) -> Optional[End]:
+        """Returns where the problem ends; None where the whole text does."""
+        piece = self._piece()
+        while piece is not None and not piece.closed and self.grow():
+            piece = self._piece()
+        if piece is None or not piece.closed:
+            return None
+        word = _WORD.match(self.text, piece.stop)
+        assert word is not None
+        return End(piece.stop, word.end())
+
+    def _piece(self) -> Optional[Piece]:
+        pieces = cut(self.text)
+        return pieces[self.number - 1] if self.number <= len(pieces) else None
+
+    def in_whole(self, span: Span) -> Span:
+        """Returns where some bytes are in the whole text, as long as this one is unchanged."""
+        by = self.start - self.begin
+        return Span(max(span.start + by, 0), max(span.stop + by, 0))
+
+
+def near_of(text: bytes, pieces: Sequence[Piece], number: int) -> Near:
+    """Returns a problem with the one after it. What is said of the first problem and of one that nothing
+    closes is said of the whole text."""
+    piece = pieces[number - 1]
+    if number == 1 or not piece.closed:
+        near = Near(text, 0, b"")
+        near.widen(b"", number)
+        return near
+    closing = text[pieces[number - 2].stop : piece.start]
+    near = Near(text, piece.start, closing, piece.line_ends)
+    near.grow()
+    return near
