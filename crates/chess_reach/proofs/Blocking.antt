@@ -27,9 +27,9 @@ added_there ws i v t room on =
     ap (λ w. bit_at w t == 1) (get_or-set_same ws i (bit_or (slice_index_or ws i 0) v) 0 room) ∙ on_right (slice_index_or ws i 0) v t on
 
 -- a man gets where its chain says, whatever it captures
-pub man_gets : (m s : ℕ) (y : Man) (chain : List Whereabouts) (x : Man) → x ≡ y → IsChain (2 ^ 64 - 1) y s m chain
-    → (allowed : Kind → Bool) (n : ℕ) (j : Kind) (t : ℕ) → IsUsual allowed → n ≤ m → (takes : ℕ → Bool) → Gets allowed takes x.colour n x.kind s j t
+pub man_gets : (rb : Bool) (m s : ℕ) (y : Man) (chain : List Whereabouts) (x : Man) → x ≡ y → IsChain rb (2 ^ 64 - 1) y s m chain
+    → (allowed : Kind → Bool) (n : ℕ) (j : Kind) (t : ℕ) → IsUsual allowed → n ≤ m → (takes : ℕ → Bool) → Gets rb allowed takes x.colour n x.kind s j t
     → has x.kind j t (slice_index_or chain n nowhere) ≡ true
-man_gets m s y chain x same h allowed n j t usual le takes way =
+man_gets rb m s y chain x same h allowed n j t usual le takes way =
     subst (λ (z : Man). has z.kind j t (slice_index_or chain n nowhere) ≡ true) (sym same)
-    (h.gets allowed takes n j t (every_on takes) le usual (subst (λ (z : Man). Gets allowed takes z.colour n z.kind s j t) same way))
+    (h.gets allowed takes n j t (every_on takes) le usual (subst (λ (z : Man). Gets rb allowed takes z.colour n z.kind s j t) same way))

@@ -18,8 +18,8 @@ man_is o c j h = grind (arith, and_parts, same_colour-true, same_kind-true)
 -- a man that goes to an empty square
 pub gone_free : (p q : Position) (x : Man) (a b : ℕ) → length p.men ≡ 64 → a < 64 → b < 64 → a ≢ b → man_on p.men a ≡ Some x → man_on q.men b ≡ Some x → man_on q.men a ≡ None
     → man_on p.men b ≡ None → ((s : ℕ) → s ≢ a → s ≢ b → man_on q.men s ≡ man_on p.men s) → ((takes : ℕ → Bool) → goes (may_promote p) takes x.colour x.kind a x.kind b ≡ true)
-    → q.in_diagram ≡ p.in_diagram → IsGone p q x x a b None
-gone_free p q x a b size from to apart here there left free others way kinds = record {
+    → q.in_diagram ≡ p.in_diagram → (rb : Bool) → IsGone rb p q x x a b None None
+gone_free p q x a b size from to apart here there left free others way kinds rb = record {
   size = size;
   from = from;
   to = to;
@@ -28,9 +28,11 @@ gone_free p q x a b size from to apart here there left free others way kinds = r
   there = there;
   colour = refl;
   king = refl;
-  left = left;
+  left = λ _. left;
   cleared = λ s at. absurd (let bad : false ≡ true = at in grind arith);
-  others = λ s na nb none. others s na nb;
+  others = λ s na nb none old. others s na nb;
+  reborn = λ s at. absurd (let bad : false ≡ true = at in grind arith);
+  dies = λ _. refl;
   captured = λ s z at. absurd (let bad : false ≡ true = at in grind arith);
   free = λ none. free;
   on = λ s z at. absurd (let bad : false ≡ true = at in grind arith);
@@ -199,7 +201,7 @@ module _ (rule : RuleSet) (p : Position) (x : Man) (m : Move) (well : IsWellForm
       let far = king_castles rule p x m well here can in
       castles_at p.men m.from m.to (corner m) (halfway m) far.from far.far (well.homes m.from needs.0) (well.homes (corner m) needs.1.0) needs.1.1
 
-  module _ (none_reborn : captures_are_reborn rule ≡ false) where
+  module _ (rb : Bool) where
     side : Colour
     side = castles.0
 
@@ -254,20 +256,20 @@ module _ (rule : RuleSet) (p : Position) (x : Man) (m : Move) (well : IsWellForm
 
     -- the men after castling
     men_castled : (position_after rule p m).men ≡ with_man (without_man crossed.men (corner m)) (halfway m) rook_man
-    men_castled = unreborn_after rule p x m here (λ reborn. absurd (false≢true (sym none_reborn ∙ reborn))) ∙ (castled_men ∙ rw (arrived_is, rook_there) refl)
+    men_castled = unreborn_after rule p x m here (λ reborn. no_capture p x m parts.free (rw (king_is_no_pawn x.kind king) refl)) ∙ (castled_men ∙ rw (arrived_is, rook_there) refl)
 
     kinds_castled : (position_after rule p m).in_diagram ≡ p.in_diagram
     unfolding position_after position_after_by
     kinds_castled = rw here refl
 
-    first : IsGone p crossing king_man king_man m.from (halfway m) None
+    first : IsGone rb p crossing king_man king_man m.from (halfway m) None None
     unfolding crossing goes king_man
     first =
         gone_free p crossing king_man m.from (halfway m) well.size parts.small.0 parts.small.3 parts.apart.1 parts.king
         (moved_there p.men m.from (halfway m) king_man (omega (arith, parts.small.3, well.size))) (moved_left p.men m.from (halfway m) king_man parts.apart.1)
-        parts.crossed (moved_other p.men m.from (halfway m) king_man) (λ takes. and_from _ _ parts.first_step refl) refl
+        parts.crossed (moved_other p.men m.from (halfway m) king_man) (λ takes. and_from _ _ parts.first_step refl) refl rb
 
-    second : IsGone crossing crossed king_man king_man (halfway m) m.to None
+    second : IsGone rb crossing crossed king_man king_man (halfway m) m.to None None
     unfolding crossing crossed goes king_man
     second =
         gone_free crossing crossed king_man (halfway m) m.to (rw (length-set, length-set) well.size) parts.small.3 parts.small.1 (λ e. parts.apart.4 (sym e))
@@ -275,9 +277,9 @@ module _ (rule : RuleSet) (p : Position) (x : Man) (m : Move) (well : IsWellForm
         (moved_there p.men m.from m.to king_man (omega (arith, parts.small.1, well.size)))
         (moved_empty p.men m.from m.to king_man (halfway m) (λ e. parts.apart.4 (sym e)) parts.crossed)
         (moved_empty p.men m.from (halfway m) king_man m.to parts.apart.4 parts.free)
-        (λ s nh nt. moved_alike p.men m.from m.to (halfway m) king_man s nt nh) (λ takes. and_from _ _ parts.second_step refl) refl
+        (λ s nh nt. moved_alike p.men m.from m.to (halfway m) king_man s nt nh) (λ takes. and_from _ _ parts.second_step refl) refl rb
 
-    third : IsGone crossed (position_after rule p m) rook_man rook_man (corner m) (halfway m) None
+    third : IsGone rb crossed (position_after rule p m) rook_man rook_man (corner m) (halfway m) None None
     unfolding crossed goes rook_man
     third =
         gone_free crossed (position_after rule p m) rook_man (corner m) (halfway m) (rw (length-set, length-set) well.size) parts.small.2 parts.small.3 parts.apart.5
@@ -285,7 +287,7 @@ module _ (rule : RuleSet) (p : Position) (x : Man) (m : Move) (well : IsWellForm
         (rw men_castled (moved_there crossed.men (corner m) (halfway m) rook_man (rw (length-set, length-set) (omega (arith, parts.small.3, well.size)))))
         (rw men_castled (moved_left crossed.men (corner m) (halfway m) rook_man parts.apart.5))
         (moved_empty p.men m.from m.to king_man (halfway m) (λ e. parts.apart.4 (sym e)) parts.crossed)
-        (rw men_castled (moved_other crossed.men (corner m) (halfway m) rook_man)) (λ takes. and_from _ _ parts.rook_way refl) kinds_castled
+        (rw men_castled (moved_other crossed.men (corner m) (halfway m) rook_man)) (λ takes. and_from _ _ parts.rook_way refl) kinds_castled rb
 
     -- a man of the other side, or a knight or pawn, isn't one that has castled
     unlike : (z : Man) (j : Kind) → (same_colour z.colour x.colour ≡ false) ⊎ (checks_by_leap z.kind ≡ true) → checks_by_leap j ≡ false
@@ -300,43 +302,43 @@ module _ (rule : RuleSet) (p : Position) (x : Man) (m : Move) (well : IsWellForm
     stood_castled s z at other =
         let ends = stays p.men in
         let q = position_after rule p m in
-        let a = stood_before crossed q rook_man rook_man (corner m) (halfway m) None third ends s z at
-        (λ same. unlike z Rook other refl (arrived_as q.men s (halfway m) z rook_man at same third.there)) in
-        let b = stood_before crossing crossed king_man king_man (halfway m) m.to None second ends s z a.1.1
-        (λ same. unlike z King other refl (arrived_as crossed.men s m.to z king_man a.1.1 same second.there)) in
-        (stood_before p crossing king_man king_man m.from (halfway m) None first ends s z b.1.1
-        (λ same. unlike z King other refl (arrived_as crossing.men s (halfway m) z king_man b.1.1 same first.there))).1.1
+        let a = stood_before rb crossed q rook_man rook_man (corner m) (halfway m) None None third ends s z at
+        (λ same. unlike z Rook other refl (arrived_as q.men s (halfway m) z rook_man at same third.there)) refl in
+        let b = stood_before rb crossing crossed king_man king_man (halfway m) m.to None None second ends s z a.1.1
+        (λ same. unlike z King other refl (arrived_as crossed.men s m.to z king_man a.1.1 same second.there)) refl in
+        (stood_before rb p crossing king_man king_man m.from (halfway m) None None first ends s z b.1.1
+        (λ same. unlike z King other refl (arrived_as crossing.men s (halfway m) z king_man b.1.1 same first.there)) refl).1.1
 
     -- a plan after castling is one before it, with three moves more: of the mating side
-    pub own_castling : (goal : Goal) (sc : Bool) (c : Colour) (n o k : ℕ) (ends : Ends) → x.colour ≡ c → IsPlan goal sc (position_after rule p m) c n o k ends
-        → (before : Ends) × IsPlan goal sc p c (suc (suc (suc n))) o k before
+    pub own_castling : (goal : Goal) (sc : Bool) (c : Colour) (n o k : ℕ) (ends : Ends) → x.colour ≡ c → IsPlan goal sc rb (position_after rule p m) c n o k ends
+        → (before : Ends) × IsPlan goal sc rb p c (suc (suc (suc n))) o k before
     unfolding king_man rook_man
     own_castling goal sc c n o k ends his plan =
         let mine = sym side_is ∙ his in
         let q = position_after rule p m in
-        let last = own_step crossed q rook_man rook_man (corner m) (halfway m) None third ends goal sc c n o k mine plan in
-        let middle = own_step crossing crossed king_man king_man (halfway m) m.to None second last.0 goal sc c (suc n) o k mine last.1 in
-        own_step p crossing king_man king_man m.from (halfway m) None first middle.0 goal sc c (suc (suc n)) o k mine middle.1
+        let last = own_step rb crossed q rook_man rook_man (corner m) (halfway m) None None third ends goal sc c n o k mine plan in
+        let middle = own_step rb crossing crossed king_man king_man (halfway m) m.to None None second last.0 goal sc c (suc n) o k mine last.1 in
+        own_step rb p crossing king_man king_man m.from (halfway m) None None first middle.0 goal sc c (suc (suc n)) o k mine middle.1
 
     -- of the other side
-    pub other_castling : (goal : Goal) (sc : Bool) (c : Colour) (n o k : ℕ) (ends : Ends) → x.colour ≡ other c → IsPlan goal sc (position_after rule p m) c n o k ends
-        → (before : Ends) × IsPlan goal sc p c n (suc (suc (suc o))) k before
+    pub other_castling : (goal : Goal) (sc : Bool) (c : Colour) (n o k : ℕ) (ends : Ends) → x.colour ≡ other c → IsPlan goal sc rb (position_after rule p m) c n o k ends
+        → (before : Ends) × IsPlan goal sc rb p c n (suc (suc (suc o))) k before
     unfolding king_man rook_man
     other_castling goal sc c n o k ends his plan =
         let theirs = sym side_is ∙ his in
         let q = position_after rule p m in
-        let last = other_step crossed q rook_man rook_man (corner m) (halfway m) None third ends goal sc c n o k theirs plan in
-        let middle = other_step crossing crossed king_man king_man (halfway m) m.to None second last.0 goal sc c n (suc o) k theirs last.1 in
-        other_step p crossing king_man king_man m.from (halfway m) None first middle.0 goal sc c n (suc (suc o)) k theirs middle.1
+        let last = other_step rb crossed q rook_man rook_man (corner m) (halfway m) None None third ends goal sc c n o k theirs plan in
+        let middle = other_step rb crossing crossed king_man king_man (halfway m) m.to None None second last.0 goal sc c n (suc o) k theirs last.1 in
+        other_step rb p crossing king_man king_man m.from (halfway m) None None first middle.0 goal sc c n (suc (suc o)) k theirs middle.1
 
     -- no king is lost
     pub king_castled : (c : Colour) (s : ℕ) → is_man (man_on p.men s) c King ≡ true → (r : ℕ) × (is_man (man_on (position_after rule p m).men r) c King ≡ true)
     king_castled c s king =
         let ends = stays p.men in
         let q = position_after rule p m in
-        let a = king_goes p crossing king_man king_man m.from (halfway m) None first ends c s king in
-        let b = king_goes crossing crossed king_man king_man (halfway m) m.to None second ends c a.0 a.1 in
-        let d = king_goes crossed q rook_man rook_man (corner m) (halfway m) None third ends c b.0 b.1 in
+        let a = king_goes rb p crossing king_man king_man m.from (halfway m) None None first ends c s king in
+        let b = king_goes rb crossing crossed king_man king_man (halfway m) m.to None None second ends c a.0 a.1 in
+        let d = king_goes rb crossed q rook_man rook_man (corner m) (halfway m) None None third ends c b.0 b.1 in
         (d.0, d.1)
 
     -- the king arrives
@@ -344,9 +346,9 @@ module _ (rule : RuleSet) (p : Position) (x : Man) (m : Move) (well : IsWellForm
     king_castles_to c king =
         let ends = stays p.men in
         let q = position_after rule p m in
-        let a = king_arrives p crossing king_man king_man m.from (halfway m) None first ends c king in
-        let b = king_arrives crossing crossed king_man king_man (halfway m) m.to None second ends c a in
-        king_stays crossed q rook_man rook_man (corner m) (halfway m) None third ends c m.to b parts.apart.3
+        let a = king_arrives rb p crossing king_man king_man m.from (halfway m) None None first ends c king in
+        let b = king_arrives rb crossing crossed king_man king_man (halfway m) m.to None None second ends c a in
+        king_stays rb crossed q rook_man rook_man (corner m) (halfway m) None None third ends c m.to b parts.apart.3
 
     -- the other side's king stays
     pub other_king_castled : (c : Colour) (s : ℕ) → same_colour x.colour c ≡ false → is_man (man_on p.men s) c King ≡ true
@@ -356,6 +358,6 @@ module _ (rule : RuleSet) (p : Position) (x : Man) (m : Move) (well : IsWellForm
         let ends = stays p.men in
         let q = position_after rule p m in
         let differs : same_colour side c ≡ false = rw side_is at other in
-        let a = other_king_stays p crossing king_man king_man m.from (halfway m) None first ends c s differs king in
-        let b = other_king_stays crossing crossed king_man king_man (halfway m) m.to None second ends c s differs a in
-        other_king_stays crossed q rook_man rook_man (corner m) (halfway m) None third ends c s differs b
+        let a = other_king_stays rb p crossing king_man king_man m.from (halfway m) None None first ends c s differs king in
+        let b = other_king_stays rb crossing crossed king_man king_man (halfway m) m.to None None second ends c s differs a in
+        other_king_stays rb crossed q rook_man rook_man (corner m) (halfway m) None None third ends c s differs b

@@ -10,7 +10,7 @@ unfoldable use Rattle.chess_reach.specs.Reach.{Gets, goes, guards, pawn_goes}
 use Rattle.chess_reach.specs.Reach.{without_hops}
 use Rattle.chess_reach.specs.declared.whereabouts.Whereabouts.{Whereabouts}
 use Rattle.chess_reach.specs.ties.Whereabouts.{has, part}
-use Rattle.chess_reach.specs.ties.Ways.{CanBe, IsChain, IsUsual, Leads, TakesOn, nowhere}
+use Rattle.chess_reach.specs.ties.Ways.{CanBe, IsChain, IsUsual, Leads, Rests, TakesOn, nowhere}
 
 -- a piece stays what it is
 pub piece_part : (k j : Kind) (w : Whereabouts) → same_kind k Pawn ≡ false → part k j w ≡ w.unpromoted
@@ -151,26 +151,26 @@ module _ (prey : ℕ) (x : Man) (b : Whereabouts) (pawns last queens knights : �
     }
 
 -- what a man can become
-pub gets_be : (allowed : Kind → Bool) (takes : ℕ → Bool) (c : Colour) (n : ℕ) (k : Kind) (s : ℕ) (j : Kind) (t : ℕ) → IsUsual allowed → Gets allowed takes c n k s j t → CanBe k j
+pub gets_be : (rb : Bool) (allowed : Kind → Bool) (takes : ℕ → Bool) (c : Colour) (n : ℕ) (k : Kind) (s : ℕ) (j : Kind) (t : ℕ) → IsUsual allowed → Gets rb allowed takes c n k s j t → CanBe k j
 unfolding Gets
-gets_be allowed takes c zero k s j t usual (same, there) = record {
+gets_be rb allowed takes c zero k s j t usual (same, there) = record {
   piece = λ h. sym same;
   rider = λ h e. let is = same_kind-true k Pawn h in absurd (let bad : Pawn ≡ Nightrider = sym is ∙ same ∙ e in cc);
   king = λ h e. let is = same_kind-true k Pawn h in absurd (let bad : Pawn ≡ King = sym is ∙ same ∙ e in cc);
 }
-gets_be allowed takes c (suc n) k s j t usual (i, q, go, rest) =
-    let later : CanBe i j = gets_be allowed takes c n i q j t usual rest in
+gets_be rb allowed takes c (suc n) k s j t usual (from, i, q, start, go, rest) =
+    let later : CanBe i j = gets_be rb allowed takes c n i q j t usual rest in
     elim (cases_Bool (same_kind k Pawn)) [
-      | inr piece ↦ subst (λ x. CanBe x j) (sym (same_kind-true k i (piece_goes allowed takes c k s i q piece go).1)) later
+      | inr piece ↦ subst (λ x. CanBe x j) (sym (same_kind-true k i (piece_goes allowed takes c k from i q piece go).1)) later
       | inl pawn ↦ record {
         piece = λ h. absurd (false≢true (sym h ∙ pawn));
         rider = λ h. elim (cases_Bool (same_kind i Pawn)) [
           | inl still ↦ later.rider still
-          | inr now ↦ λ e. false≢true (sym usual.rider ∙ ap allowed (sym e ∙ later.piece now) ∙ became allowed takes c k s i q pawn now go)
+          | inr now ↦ λ e. false≢true (sym usual.rider ∙ ap allowed (sym e ∙ later.piece now) ∙ became allowed takes c k from i q pawn now go)
         ];
         king = λ h. elim (cases_Bool (same_kind i Pawn)) [
           | inl still ↦ later.king still
-          | inr now ↦ λ e. false≢true (sym usual.king ∙ ap allowed (sym e ∙ later.piece now) ∙ became allowed takes c k s i q pawn now go)
+          | inr now ↦ λ e. false≢true (sym usual.king ∙ ap allowed (sym e ∙ later.piece now) ∙ became allowed takes c k from i q pawn now go)
         ];
       }
     ]
@@ -183,38 +183,47 @@ gets_be allowed takes c (suc n) k s j t usual (i, q, go, rest) =
           (sym (same_kind-true k i (sym (cond-false _ (allowed i) (same_kind k i) elsewhere) ∙ (pawn_goes_on allowed takes c k s i q pawn go).1))) ∙ pawn))
     ]
 
--- a chain begins on the man's square
-pub chain_starts : (prey : ℕ) (x : Man) (s : ℕ) (chain : List Whereabouts) → ((k : Kind) → has k k s (slice_index_or chain 0 nowhere) ≡ true) → IsChain prey x s 0 chain
+-- a man can be what it is
+stays_be : (k : Kind) → CanBe k k
+stays_be k = record {
+  piece = λ h. refl;
+  rider = λ h e. absurd (false≢true (ap (λ x. same_kind x Pawn) (sym e) ∙ h));
+  king = λ h e. absurd (false≢true (ap (λ x. same_kind x Pawn) (sym e) ∙ h));
+}
+
+-- a chain begins where the man rests
+pub chain_starts : (rb : Bool) (prey : ℕ) (x : Man) (s : ℕ) (v : Whereabouts) (chain : List Whereabouts) → s < 64 → ((k : Kind) → has k k s v ≡ true)
+    → Rests rb x v (slice_index_or chain 0 nowhere) → IsChain rb prey x s 0 chain
 unfolding Gets
-chain_starts prey x s chain here = record {
+chain_starts rb prey x s v chain small here rest = record {
   gets = starts;
   grows = λ n l j t le most small h. subst (λ i. has x.kind j t (slice_index_or chain i nowhere) ≡ true) (omega arith) h;
 }
   where
     starts : (allowed : Kind → Bool) (takes : ℕ → Bool) (n : ℕ) (j : Kind) (t : ℕ) → TakesOn takes prey → n ≤ 0 → IsUsual allowed
-        → Gets allowed takes x.colour n x.kind s j t
+        → Gets rb allowed takes x.colour n x.kind s j t
         → has x.kind j t (slice_index_or chain n nowhere) ≡ true
-    starts allowed takes zero j t on le usual (same, there) = subst (λ q. has x.kind j q (slice_index_or chain 0 nowhere) ≡ true) there
-        (subst (λ i. has x.kind i s (slice_index_or chain 0 nowhere) ≡ true) same (here x.kind))
+    starts allowed takes zero j t on le usual (same, start) = subst (λ i. has x.kind i t (slice_index_or chain 0 nowhere) ≡ true) same
+        (rest.rests x.kind s t small (stays_be x.kind) (here x.kind) start)
     starts allowed takes (suc n) j t on le usual way = absurd (omega (arith, le))
 
 -- a chain for fewer moves
-pub chain_less : (prey : ℕ) (x : Man) (s m n : ℕ) (chain : List Whereabouts) → IsChain prey x s m chain → n ≤ m → IsChain prey x s n chain
-chain_less prey x s m n chain h le = record {
+pub chain_less : (rb : Bool) (prey : ℕ) (x : Man) (s m n : ℕ) (chain : List Whereabouts) → IsChain rb prey x s m chain → n ≤ m → IsChain rb prey x s n chain
+chain_less rb prey x s m n chain h le = record {
   gets = λ allowed takes i j t on less usual way. h.gets allowed takes i j t on (omega (arith, less, le)) usual way;
   grows = λ i l j t less more small has. h.grows i l j t less (omega (arith, more, le)) small has;
 }
 
 -- a chain goes on
-pub chain_goes_on : (prey : ℕ) (x : Man) (s m n : ℕ) (chain : List Whereabouts) (w : Whereabouts) → IsChain prey x s m chain → n ≡ suc m → n < length chain → s < 64
-    → Leads prey x (slice_index_or chain m nowhere) w
+pub chain_goes_on : (rb : Bool) (prey : ℕ) (x : Man) (s m n : ℕ) (chain : List Whereabouts) (v w : Whereabouts) → IsChain rb prey x s m chain → n ≡ suc m → n < length chain
+    → s < 64 → Leads prey x (slice_index_or chain m nowhere) v → Rests rb x v w
     → ((j : Kind) (t : ℕ) → t < 64 → has x.kind j t (slice_index_or chain m nowhere) ≡ true → has x.kind j t w ≡ true)
-    → IsChain prey x s n (slice_set chain n w)
-chain_goes_on prey x s m n chain w h next room small leads kept = record {
+    → IsChain rb prey x s n (slice_set chain n w)
+chain_goes_on rb prey x s m n chain v w h next room small leads rest kept = record {
   gets = λ allowed takes i j t on le usual way. elim (cases_eq i n) [
     | inr before ↦ subst (λ y. has x.kind j t y ≡ true) (sym (get_or-set_other chain n i w nowhere before)) (h.gets allowed takes i j t on (omega (arith, le, before, next)) usual way)
     | inl now ↦ subst (λ y. has x.kind j t y ≡ true) (sym (ap (λ y. slice_index_or (slice_set chain n w) y nowhere) now ∙ get_or-set_same chain n w nowhere room))
-        (steps allowed takes j t on usual (subst (λ y. Gets allowed takes x.colour y x.kind s j t) (now ∙ next) way))
+        (steps allowed takes j t on usual (subst (λ y. Gets rb allowed takes x.colour y x.kind s j t) (now ∙ next) way))
   ];
   grows = λ i l j t less more low had. elim (cases_eq l n) [
     | inr before ↦ subst (λ y. has x.kind j t y ≡ true) (sym (get_or-set_other chain n l w nowhere before))
@@ -226,11 +235,13 @@ chain_goes_on prey x s m n chain w h next room small leads kept = record {
 }
   where
     steps : (allowed : Kind → Bool) (takes : ℕ → Bool) (j : Kind) (t : ℕ) → TakesOn takes prey → IsUsual allowed
-        → Gets allowed takes x.colour (suc m) x.kind s j t → has x.kind j t w ≡ true
+        → Gets rb allowed takes x.colour (suc m) x.kind s j t → has x.kind j t w ≡ true
     steps allowed takes j t on usual way =
-        let (i, q, before, go) = gets_last allowed takes x.colour m x.kind s j t way in
-        leads.leads allowed takes i j q t on (gets_small allowed takes x.colour m x.kind s i q small before) (goes_small allowed takes x.colour i q j t go)
-        (gets_be allowed takes x.colour m x.kind s i q usual before) usual.pawn go (h.gets allowed takes m i q on (omega arith) usual before)
+        let (i, q, r, before, go, start) = gets_last rb allowed takes x.colour m x.kind s j t way in
+        let low = goes_small allowed takes x.colour i q j r go in
+        rest.rests j r t low (gets_be rb allowed takes x.colour (suc m) x.kind s j t usual way)
+        (leads.leads allowed takes i j q r on (gets_small rb allowed takes x.colour m x.kind s i q small before) low
+        (gets_be rb allowed takes x.colour m x.kind s i q usual before) usual.pawn go (h.gets allowed takes m i q on (omega arith) usual before)) start
 
     last : (i : ℕ) (j : Kind) (t : ℕ) → i ≤ n → t < 64 → has x.kind j t (slice_index_or (slice_set chain n w) i nowhere) ≡ true → has x.kind j t w ≡ true
     last i j t le low had = elim (cases_eq i n) [

@@ -1,5 +1,5 @@
 -- How far a man gets: a superset, move by move.
-use Rattle.chess_attacks.proofs.Chess.{Black, Bool, Colour, Gait, Hopper, Kind, Leaper, List, Man, Option, Rider, gait_of, goes_by, hops, kind_steps, Pawn, Step, White, [], all_at, along, and_from, and_parts, arith, bit_and, bit_at, bit_not, bit_or, cases_Bool, false, false≢true, first_of_and, forward, inl, inr, is_advance, is_square, leaps, list_any, not, on_left, on_right, or_cases, or_left, or_right, pawn_capture_steps, queen_steps, rank_of, reaches_as, refl, rides, rules, second_of_and, subst, suc, sym, true, w64, word, word_has, zero, ℕ, ◌-◌, ◌^◌, ◌&&◌, ◌<◌, ◌==◌, ◌||◌, ◌∙◌, ◌∷◌, ◌≡◌}
+use Rattle.chess_attacks.proofs.Chess.{Bishop, Black, Bool, Colour, Gait, Grasshopper, King, Knight, Nightrider, None, Queen, Rook, Some, Hopper, Kind, Leaper, List, Man, Option, Rider, gait_of, goes_by, hops, kind_steps, Pawn, Step, White, [], all_at, along, and_from, and_parts, arith, bit_and, bit_at, bit_not, bit_or, cases_Bool, false, false≢true, first_of_and, forward, inl, inr, is_advance, is_square, leaps, list_any, not, on_left, on_right, or_cases, or_left, or_right, pawn_capture_steps, queen_steps, rank_of, reaches_as, refl, rides, rules, second_of_and, subst, suc, sym, true, w64, word, word_has, zero, ℕ, ◌-◌, ◌^◌, ◌&&◌, ◌<◌, ◌==◌, ◌||◌, ◌∙◌, ◌∷◌, ◌≡◌}
 use Rattle.std.specs.Prelude.{◌⊎◌}
 use Rattle.chess_attacks.specs.ties.Lines.{AreReached}
 use Rattle.chess_core.specs.Position.{same_kind}
@@ -7,7 +7,12 @@ use Rattle.chess_core.proofs.Boards.{along-is}
 use Rattle.chess_rules.specs.Legal.{second_rank}
 use Rattle.chess_reach.proofs.Bitboards.{on_both}
 unfoldable use Rattle.chess_reach.specs.Reach.{Gets, goes, guards, pawn_goes}
-use Rattle.chess_reach.specs.Reach.{without_hops}
+use Rattle.chess_reach.specs.Reach.{Starts, without_hops}
+use Rattle.chess_core.specs.Squares.{file_of, square_at}
+use Rattle.chess_rules.proofs.Chess.{ap, eq-eqb, square_at-is}
+use Rattle.chess_rules.proofs.making_moves.Stays.{rebirth_small}
+use Rattle.chess_rules.specs.Play.{is_light}
+unfoldable use Rattle.chess_rules.specs.Play.{rebirth}
 use Rattle.chess_reach.specs.ties.Ways.{TakesOn, steps_to}
 
 -- two tests agree
@@ -121,28 +126,71 @@ goes_small allowed takes c k s j t h = elim (cases_Bool (same_kind k Pawn)) [
   | inr n ↦ guards_small c k s t (grind (arith, first_of_and, n))
 ]
 
+-- the square of a rank on the file of a square is that of its own file
+file_again : (s h r : ℕ) → square_at (file_of s) r ≡ Some h → square_at (file_of h) r ≡ Some h
+file_again s h r at = sym (ap (λ f. square_at f r) (square_at-is (file_of s) r h (rw at (eq-eqb h h refl))).file) ∙ at
+
+-- where a man starts is on the board
+pub starts_small : (rb : Bool) (c : Colour) (k : Kind) (s t : ℕ) → s < 64 → Starts rb c k s t → t < 64
+starts_small rb c k s t small (inl same) = subst (λ x. x < 64) same small
+starts_small rb c k s t small (inr reborn) = rebirth_small c k s t reborn.1
+
 -- where a man gets is on the board
-pub gets_small : (allowed : Kind → Bool) (takes : ℕ → Bool) (c : Colour) (n : ℕ) (k : Kind) (s : ℕ) (j : Kind) (t : ℕ) → s < 64
-    → Gets allowed takes c n k s j t → t < 64
+pub gets_small : (rb : Bool) (allowed : Kind → Bool) (takes : ℕ → Bool) (c : Colour) (n : ℕ) (k : Kind) (s : ℕ) (j : Kind) (t : ℕ) → s < 64
+    → Gets rb allowed takes c n k s j t → t < 64
 unfolding Gets
-gets_small allowed takes c zero k s j t small (same, there) = subst (λ x. x < 64) there small
-gets_small allowed takes c (suc n) k s j t small (i, q, go, rest) = gets_small allowed takes c n i q j t (goes_small allowed takes c k s i q go) rest
+gets_small rb allowed takes c zero k s j t small (same, there) = starts_small rb c k s t small there
+gets_small rb allowed takes c (suc n) k s j t small (h, i, q, start, go, rest) = gets_small rb allowed takes c n i q j t (goes_small allowed takes c k h i q go) rest
 
 -- without a move a man stays what it is
-pub gets_none : (allowed : Kind → Bool) (takes : ℕ → Bool) (c : Colour) (n : ℕ) (k : Kind) (s : ℕ) (j : Kind) (t : ℕ) → n ≡ 0 → Gets allowed takes c n k s j t → k ≡ j
+pub gets_none : (rb : Bool) (allowed : Kind → Bool) (takes : ℕ → Bool) (c : Colour) (n : ℕ) (k : Kind) (s : ℕ) (j : Kind) (t : ℕ) → n ≡ 0
+    → Gets rb allowed takes c n k s j t → k ≡ j
 unfolding Gets
-gets_none allowed takes c zero k s j t none way = way.0
-gets_none allowed takes c (suc n) k s j t none way = absurd (omega (arith, none))
+gets_none rb allowed takes c zero k s j t none way = way.0
+gets_none rb allowed takes c (suc n) k s j t none way = absurd (omega (arith, none))
 
 -- the last move of a way
-pub gets_last : (allowed : Kind → Bool) (takes : ℕ → Bool) (c : Colour) (n : ℕ) (k : Kind) (s : ℕ) (j : Kind) (t : ℕ) → Gets allowed takes c (suc n) k s j t
-    → (i : Kind) × (q : ℕ) × Gets allowed takes c n k s i q × (goes allowed takes c i q j t ≡ true)
+pub gets_last : (rb : Bool) (allowed : Kind → Bool) (takes : ℕ → Bool) (c : Colour) (n : ℕ) (k : Kind) (s : ℕ) (j : Kind) (t : ℕ)
+    → Gets rb allowed takes c (suc n) k s j t
+    → (i : Kind) × (q r : ℕ) × Gets rb allowed takes c n k s i q × (goes allowed takes c i q j r ≡ true) × Starts rb c j r t
 unfolding Gets
-gets_last allowed takes c zero k s j t (i, q, go, (same, there)) =
-    (k, s, (refl, refl), subst (λ x. goes allowed takes c k s x t ≡ true) same (subst (λ x. goes allowed takes c k s i x ≡ true) there go))
-gets_last allowed takes c (suc n) k s j t (i, q, go, rest) =
-    let (a, b, before, last) = gets_last allowed takes c n i q j t rest in
-    (a, b, (i, q, go, before), last)
+gets_last rb allowed takes c zero k s j t (h, i, q, start, go, (same, there)) =
+    (k, h, q, (refl, start), subst (λ x. goes allowed takes c k h x q ≡ true) same go, subst (λ x. Starts rb c x q t) same there)
+gets_last rb allowed takes c (suc n) k s j t (h, i, q, start, go, rest) =
+    let (a, b, r, before, last, there) = gets_last rb allowed takes c n i q j t rest in
+    (a, b, r, (h, i, q, start, go, before), last, there)
+
+-- a home square is its own
+home_again : (c : Colour) (k : Kind) (s h : ℕ) → rebirth c k s ≡ Some h → rebirth c k h ≡ Some h
+unfolding rebirth
+home_again White King s h at = at
+home_again Black King s h at = at
+home_again White Queen s h at = at
+home_again Black Queen s h at = at
+home_again White Rook s h at = grind (arith, cases_Bool (is_light s))
+home_again Black Rook s h at = grind (arith, cases_Bool (is_light s))
+home_again White Bishop s h at = grind (arith, cases_Bool (is_light s))
+home_again Black Bishop s h at = grind (arith, cases_Bool (is_light s))
+home_again White Knight s h at = grind (arith, cases_Bool (is_light s))
+home_again Black Knight s h at = grind (arith, cases_Bool (is_light s))
+home_again White Pawn s h at = file_again s h 2 at
+home_again Black Pawn s h at = file_again s h 7 at
+home_again White Grasshopper s h at = file_again s h 8 at
+home_again Black Grasshopper s h at = file_again s h 1 at
+home_again White Nightrider s h at = file_again s h 8 at
+home_again Black Nightrider s h at = file_again s h 1 at
+
+-- who is reborn starts where it could start again
+pub starts_again : (rb : Bool) (c : Colour) (k : Kind) (s h t : ℕ) → rb ≡ true → rebirth c k s ≡ Some h → Starts rb c k h t → Starts rb c k s t
+starts_again rb c k s h t lives home (inl same) = inr (lives, subst (λ x. rebirth c k s ≡ Some x) same home)
+starts_again rb c k s h t lives home (inr again) = inr (lives, home ∙ sym (home_again c k s h home) ∙ again.1)
+
+-- who is reborn gets where it gets from its home square
+pub gets_reborn : (rb : Bool) (allowed : Kind → Bool) (takes : ℕ → Bool) (c : Colour) (n : ℕ) (k : Kind) (s h : ℕ) (j : Kind) (t : ℕ) → rb ≡ true
+    → rebirth c k s ≡ Some h → Gets rb allowed takes c n k h j t → Gets rb allowed takes c n k s j t
+unfolding Gets
+gets_reborn rb allowed takes c zero k s h j t lives home (same, there) = (same, starts_again rb c k s h t lives home there)
+gets_reborn rb allowed takes c (suc n) k s h j t lives home (g, i, q, start, go, rest) = (g, i, q, starts_again rb c k s h g lives home start, go, rest)
 
 -- where a pawn may capture more, it goes too
 takes_more : (takes more : ℕ → Bool) (c : Colour) (s t : ℕ) → (takes t ≡ true → more t ≡ true) → pawn_goes takes c s t ≡ true → pawn_goes more c s t ≡ true
@@ -161,9 +209,9 @@ goes_more allowed takes more c k s j t grows go = elim (cases_Bool (same_kind k 
   | inr n ↦ grind (arith, n, and_parts, and_from)
 ]
 
-pub gets_more : (allowed : Kind → Bool) (takes more : ℕ → Bool) (c : Colour) (n : ℕ) (k : Kind) (s : ℕ) (j : Kind) (t : ℕ)
-    → ((t : ℕ) → takes t ≡ true → more t ≡ true) → Gets allowed takes c n k s j t → Gets allowed more c n k s j t
+pub gets_more : (rb : Bool) (allowed : Kind → Bool) (takes more : ℕ → Bool) (c : Colour) (n : ℕ) (k : Kind) (s : ℕ) (j : Kind) (t : ℕ)
+    → ((t : ℕ) → takes t ≡ true → more t ≡ true) → Gets rb allowed takes c n k s j t → Gets rb allowed more c n k s j t
 unfolding Gets
-gets_more allowed takes more c zero k s j t grows way = way
-gets_more allowed takes more c (suc n) k s j t grows (i, q, go, rest) =
-    (i, q, goes_more allowed takes more c k s i q (grows q) go, gets_more allowed takes more c n i q j t grows rest)
+gets_more rb allowed takes more c zero k s j t grows way = way
+gets_more rb allowed takes more c (suc n) k s j t grows (h, i, q, start, go, rest) =
+    (h, i, q, start, goes_more allowed takes more c k h i q (grows q) go, gets_more rb allowed takes more c n i q j t grows rest)

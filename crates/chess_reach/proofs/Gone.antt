@@ -1,15 +1,18 @@
--- What a legal move that doesn't castle does to the men, where captured men aren't reborn.
-use Rattle.chess_reach.proofs.Chess.{Black, White, Bool, ap, captures_to, is_ahead, subst, inl, inr, ◌<◌, ◌≤◌, ◌+◌, ◌||◌, Colour, IsWellFormed, King, Kind, List, Man, Move, None, Option, Pawn, Position, RuleSet, Some, and_from, and_parts, arith, arriving_man, becomes, capture_square, captured_man, captures_are_reborn, cases_Bool, cond-false, cond-true, eq-eqb, false, false≢true, goes, guards, is_castling, is_pawn_capture, is_pawn_step, is_promotion_right, is_pseudo_legal, is_some, is_square, man_on, may_promote, moved_men, if◌then◌else◌, not-true, ne_eqb, is_arrival_free, same_colour-refl, rank_of, last_rank, ◌==◌, or_left, or_right, pawn_goes, position_after, position_after_by, reaches, reborn_square, refl, same_colour, same_kind, same_kind-true, sym, true, ℕ, ◌&&◌, ◌∙◌, ◌≡◌, ◌≢◌, ◌⊎◌}
+-- What a legal move that doesn't castle does to the men.
+use Rattle.chess_reach.proofs.Chess.{Black, White, Bool, ap, captures_to, is_ahead, subst, inl, inr, ◌<◌, ◌≤◌, ◌+◌, ◌||◌, Colour, IsWellFormed, King, Kind, List, Man, Move, None, Option, Pawn, Position, RuleSet, Some, and_from, and_parts, arith, arriving_man, becomes, capture_square, captured_man, captures_are_reborn, cases_Bool, cond-false, cond-true, eq-eqb, false, false_from_ne_true, false≢true, goes, length, man_on-with_other, man_on-with_same, with_man, guards, is_castling, is_pawn_capture, is_pawn_step, is_promotion_right, is_pseudo_legal, is_some, is_square, man_on, may_promote, moved_men, if◌then◌else◌, not-true, ne_eqb, is_arrival_free, same_colour-refl, rank_of, last_rank, ◌==◌, or_left, or_right, pawn_goes, position_after, position_after_by, reaches, reborn_square, refl, same_colour, same_kind, same_kind-true, sym, true, ℕ, ◌&&◌, ◌∙◌, ◌≡◌, ◌≢◌, ◌⊎◌}
+use Rattle.chess_rules.proofs.Chess.{if_empty, length-set, man_on_at, put_at, rebirth}
+use Rattle.chess_rules.proofs.making_moves.Stays.{rebirth_small}
+use Rattle.chess_reach.proofs.OneMove.{IsReborn}
 use Rattle.chess_attacks.proofs.rays.Ends.{square_is}
 use Rattle.chess_attacks.proofs.rays.OnSquares.{on_board}
 use Rattle.chess_reach.proofs.EmptyBoard.{guards_reached}
 use Rattle.chess_reach.proofs.OneMove.{IsGone}
 use Rattle.chess_rules.proofs.Chess.{file_of, square_at, square_at-is, le-leb, can_castle, may_castle, rebirth_at}
-use Rattle.chess_rules.proofs.legality.Blocking.{arriving_colour, simple_after}
+use Rattle.chess_rules.proofs.legality.Blocking.{arriving_colour, moved_plainly}
 use Rattle.chess_rules.proofs.legality.Seeing.{kept_now, left_now, there_now}
 use Rattle.chess_rules.proofs.listing_moves.TripleNumbers.{made_is_triple}
 use Rattle.chess_rules.proofs.making_moves.Fits.{arrived, pawn_is_no_king, taken}
-use Rattle.chess_rules.proofs.making_moves.Plays.{none_from_is_some}
+use Rattle.chess_rules.proofs.making_moves.Plays.{length-without_at, none_from_is_some}
 use Rattle.chess_rules.proofs.making_moves.Pseudo.{Advances, IsMade, made, pawn_reaches, ways}
 
 -- nobody is reborn
@@ -21,6 +24,44 @@ rebirth_none (Some y) (Some s) men = refl
 pub reborn_none : (rule : RuleSet) (p : Position) (x : Man) (m : Move) → captures_are_reborn rule ≡ false → reborn_square rule p x m ≡ None
 unfolding reborn_square
 reborn_none rule p x m none_reborn = rw none_reborn (rebirth_none (captured_man p x m) (capture_square p x m) (moved_men p x m))
+
+-- nobody is captured, nobody is reborn
+pub reborn_nobody : (rule : RuleSet) (p : Position) (x : Man) (m : Move) → capture_square p x m ≡ None → reborn_square rule p x m ≡ None
+unfolding reborn_square
+reborn_nobody rule p x m none = rw none refl
+
+-- a man that is reborn on r was captured, and its home was empty
+pub record IsBorn (p : Position) (e : Option ℕ) (men : List (Option Man)) (rb : Bool) (r : ℕ) : Type 0 where
+  pub from : ℕ
+  pub man : Man
+  pub taken : e ≡ Some from
+  pub was : man_on p.men from ≡ Some man
+  pub lives : rb ≡ true
+  pub home : rebirth man.colour man.kind from ≡ Some r
+  pub empty : man_on men r ≡ None
+
+free_home : (men : List (Option Man)) (o : Option ℕ) (r : ℕ) → if_empty men o ≡ Some r → (o ≡ Some r) × (man_on men r ≡ None)
+free_home men None r at = grind (arith, at)
+free_home men (Some t) r at = grind (arith, at, none_from_is_some, cases_Bool (is_some (man_on men t)))
+
+lives_at : (b : Bool) (men : List (Option Man)) (o : Option ℕ) (r : ℕ) → (if b then if_empty men o else None) ≡ Some r
+    → (b ≡ true) × (if_empty men o ≡ Some r)
+lives_at true men o r at = (refl, at)
+lives_at false men o r at = grind (arith, at)
+
+born_at : (p : Position) (b : Bool) (men : List (Option Man)) (e : Option ℕ) (o : Option Man) (r : ℕ) → man_on_at p.men e ≡ o → rebirth_at b men o e ≡ Some r
+    → IsBorn p e men b r
+born_at p b men e None r is at = grind (arith, at)
+born_at p b men None (Some z) r is at = grind (arith, at)
+born_at p b men (Some f) (Some z) r is at =
+    let live = lives_at b men (rebirth z.colour z.kind f) r at in
+    let free = free_home men (rebirth z.colour z.kind f) r live.1 in
+    record { from = f; man = z; taken = refl; was = is; lives = live.0; home = free.0; empty = free.1 }
+
+pub born : (rule : RuleSet) (p : Position) (x : Man) (m : Move) (r : ℕ) → reborn_square rule p x m ≡ Some r
+    → IsBorn p (capture_square p x m) (moved_men p x m) (captures_are_reborn rule) r
+unfolding reborn_square
+born rule p x m r at = born_at p (captures_are_reborn rule) (moved_men p x m) (capture_square p x m) (captured_man p x m) r refl at
 
 -- a man reaches a square only where it guards it
 pub guards_from : (men : List (Option Man)) (x : Man) (s t : ℕ) → man_on men s ≡ Some x → reaches men s t ≡ true → guards x.colour x.kind s t ≡ true
@@ -163,36 +204,103 @@ module _ (rule : RuleSet) (p : Position) (x : Man) (m : Move) (well : IsWellForm
       let z_is : z ≡ t.man = let h : Some z ≡ Some t.man = sym stands ∙ t.there in cc in
       enemy_is x.colour p.turn z t.man z_is is_made.mine t.enemy t.mortal
 
-  module _ (none_reborn : captures_are_reborn rule ≡ false) where
-    -- the men after the move
-    men_after : (position_after rule p m).men ≡ arrived p x m
-    men_after = simple_after rule p x m here plain (λ reborn. absurd (false≢true (sym none_reborn ∙ reborn)))
+  moved : moved_men p x m ≡ arrived p x m
+  moved = moved_plainly p x m plain
 
-    kinds_after : (position_after rule p m).in_diagram ≡ p.in_diagram
-    unfolding position_after position_after_by
-    kinds_after = rw here refl
+  -- the men after the move
+  men_are : (o : Option ℕ) → reborn_square rule p x m ≡ o → (position_after rule p m).men ≡ put_at (arrived p x m) o (captured_man p x m)
+  unfolding position_after position_after_by
+  men_are o is = rw (here, moved, is) refl
 
-    -- what the move does
-    pub is_gone : IsGone p (position_after rule p m) x (arriving_man x m.promo) m.from m.to (capture_square p x m)
-    is_gone =
-        let small = (made_is_triple rule p m well.size may).1 in
-        record {
-          size = well.size;
-          from = on_board p.men m.from x well.size here;
-          to = small;
-          apart = apart;
-          here = here;
-          there = rw men_after (there_now p.men m.from (capture_square p x m) m.to (arriving_man x m.promo) (omega (arith, small, well.size)));
-          colour = arriving_colour x m.promo;
-          king = king_kept p x m m.promo is_made.promotion;
-          left = rw men_after (left_now p.men m.from (capture_square p x m) m.to (arriving_man x m.promo) m.from apart
-              (or_left _ _ (eq-eqb m.from m.from refl)));
-          cleared = λ s at ne. rw men_after (left_now p.men m.from (capture_square p x m) m.to (arriving_man x m.promo) s ne (or_right (m.from == s) _ at));
-          others = λ s na nb ne. rw men_after (kept_now p.men m.from (capture_square p x m) m.to (arriving_man x m.promo) s nb
-              (grind (arith, ne_eqb m.from s)));
-          captured = λ s z at stands. captured_is s z (square_is (capture_square p x m) s at) stands;
-          free = free_arrival;
-          on = λ s z at stands. on_board p.men s z well.size stands;
-          goes = man_goes;
-          kinds = kinds_after;
-        }
+  men_unborn : reborn_square rule p x m ≡ None → (position_after rule p m).men ≡ arrived p x m
+  men_unborn none = men_are None none
+
+  kinds_after : (position_after rule p m).in_diagram ≡ p.in_diagram
+  unfolding position_after position_after_by
+  kinds_after = rw here refl
+
+  arrival_small : m.to < 64
+  arrival_small = (made_is_triple rule p m well.size may).1
+
+  arrived_there : man_on (arrived p x m) m.to ≡ Some (arriving_man x m.promo)
+  arrived_there = there_now p.men m.from (capture_square p x m) m.to (arriving_man x m.promo) (omega (arith, arrival_small, well.size))
+
+  arrived_size : length (arrived p x m) ≡ 64
+  arrived_size = grind (arith, length-set, length-without_at, well.size)
+
+  -- with a man reborn on r
+  module _ (r : ℕ) (is : reborn_square rule p x m ≡ Some r) where
+    birth : IsBorn p (capture_square p x m) (arrived p x m) (captures_are_reborn rule) r
+    birth = subst (λ men. IsBorn p (capture_square p x m) men (captures_are_reborn rule) r) moved (born rule p x m r is)
+
+    men_born : (position_after rule p m).men ≡ with_man (arrived p x m) r birth.man
+    men_born = men_are (Some r) is ∙ ap (λ o. put_at (arrived p x m) (Some r) o) caught
+      where
+        caught : captured_man p x m ≡ Some birth.man
+        caught = rw birth.taken birth.was
+
+    born_small : r < 64
+    born_small = rebirth_small birth.man.colour birth.man.kind birth.from r birth.home
+
+    born_off : r ≢ m.to
+    born_off same = let h : None ≡ Some (arriving_man x m.promo) = sym birth.empty ∙ ap (λ s. man_on (arrived p x m) s) same ∙ arrived_there in grind (arith, h)
+
+    born_there : man_on (position_after rule p m).men r ≡ Some birth.man
+    born_there = ap (λ men. man_on men r) men_born ∙ man_on-with_same (arrived p x m) r birth.man (omega (arith, born_small, arrived_size))
+
+    -- where it is reborn nobody stood, origin and capture apart
+    born_vacant : r ≢ m.from → is_square (capture_square p x m) r ≡ false → man_on p.men r ≡ None
+    born_vacant off kept =
+        sym (kept_now p.men m.from (capture_square p x m) m.to (arriving_man x m.promo) r born_off (grind (arith, ne_eqb m.from r))) ∙ birth.empty
+
+  -- the men elsewhere
+  elsewhere_at : (o : Option ℕ) → reborn_square rule p x m ≡ o → (s : ℕ) → is_square o s ≡ false → man_on (position_after rule p m).men s ≡ man_on (arrived p x m) s
+  elsewhere_at None none s off = ap (λ men. man_on men s) (men_unborn none)
+  elsewhere_at (Some r) is s off = ap (λ men. man_on men s) (men_born r is) ∙ man_on-with_other (arrived p x m) r s (birth r is).man (λ same. grind (arith, eq-eqb))
+
+  elsewhere : (s : ℕ) → is_square (reborn_square rule p x m) s ≡ false → man_on (position_after rule p m).men s ≡ man_on (arrived p x m) s
+  elsewhere s off = elsewhere_at (reborn_square rule p x m) refl s off
+
+  is_reborn : (s : ℕ) → is_square (reborn_square rule p x m) s ≡ true
+      → IsReborn (captures_are_reborn rule) p (position_after rule p m) x m.from m.to (capture_square p x m) s
+  is_reborn s at =
+      let is = square_is (reborn_square rule p x m) s at in
+      let b = birth s is in
+      record {
+        from = b.from;
+        man = b.man;
+        taken = rw b.taken (eq-eqb b.from b.from refl);
+        was = b.was;
+        now = born_there s is;
+        lives = b.lives;
+        home = b.home;
+        small = born_small s is;
+        off = born_off s is;
+        vacant = born_vacant s is;
+      }
+
+  -- what the move does
+  pub is_gone : IsGone (captures_are_reborn rule) p (position_after rule p m) x (arriving_man x m.promo) m.from m.to (capture_square p x m) (reborn_square rule p x m)
+  is_gone =
+      record {
+        size = well.size;
+        from = on_board p.men m.from x well.size here;
+        to = arrival_small;
+        apart = apart;
+        here = here;
+        there = elsewhere m.to (false_from_ne_true _ (λ at. (is_reborn m.to at).off refl)) ∙ arrived_there;
+        colour = arriving_colour x m.promo;
+        king = king_kept p x m m.promo is_made.promotion;
+        left = λ old. elsewhere m.from old ∙ left_now p.men m.from (capture_square p x m) m.to (arriving_man x m.promo) m.from apart
+            (or_left _ _ (eq-eqb m.from m.from refl));
+        cleared = λ s at ne old. elsewhere s old ∙ left_now p.men m.from (capture_square p x m) m.to (arriving_man x m.promo) s ne (or_right (m.from == s) _ at);
+        others = λ s na nb ne old. elsewhere s old ∙ kept_now p.men m.from (capture_square p x m) m.to (arriving_man x m.promo) s nb
+            (grind (arith, ne_eqb m.from s));
+        reborn = is_reborn;
+        dies = reborn_none rule p x m;
+        captured = λ s z at stands. captured_is s z (square_is (capture_square p x m) s at) stands;
+        free = free_arrival;
+        on = λ s z at stands. on_board p.men s z well.size stands;
+        goes = man_goes;
+        kinds = kinds_after;
+      }

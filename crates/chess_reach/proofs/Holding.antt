@@ -106,6 +106,7 @@ module _ (q : Quest) (men : List (Option Man)) (ends : Ends) where
   unfolding unpaid
   placed places w ours theirs i p h lt room inside more = record {
     guards = h.guards;
+    away = h.away;
     blockers = h.blockers;
     few = h.few;
     inside = λ j jlt. elim (cases_eq j i) [
@@ -140,6 +141,7 @@ module _ (q : Quest) (men : List (Option Man)) (ends : Ends) where
   unfolding blocked squares
   fewer_held places w r ours theirs h inside = record {
     guards = h.guards;
+    away = h.away;
     blockers = h.blockers;
     few = h.few;
     inside = h.inside;
@@ -176,6 +178,7 @@ module _ (q : Quest) (men : List (Option Man)) (ends : Ends) where
   unfolding blocked squares
   block_paid places w r ours theirs z s price h on off inside small blocker there stays cheap = record {
     guards = h.guards;
+    away = h.away;
     blockers = h.blockers;
     few = h.few;
     inside = h.inside;

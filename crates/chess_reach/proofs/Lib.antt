@@ -14,6 +14,7 @@ mod Parts
 mod Getting
 mod Chains
 mod Returning
+mod Resting
 mod Holding
 mod Guarding
 mod Trying

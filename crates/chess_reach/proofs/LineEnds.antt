@@ -1,12 +1,11 @@
 -- A square without a plan is no end of a line.
-use Rattle.chess_reach.proofs.Chess.{Bool, Colour, Ends, IsPlan, IsWellFormed, King, List, Man, Move, None, Option, Position, RuleSet, Some, [], ap, arith, captures_are_reborn, false, false≢true, is_man, is_some, king_square, length, man_on, other, position_after, refl, squares, subst, sym, true, ℕ, ◌+◌, ◌-◌, ◌/◌, ◌<◌, ◌==◌, ◌∙◌, ◌∷◌, ◌≡◌, ◌≢◌}
+use Rattle.chess_reach.proofs.Chess.{Bool, Colour, Ends, IsPlan, IsWellFormed, King, List, Man, Move, None, Option, Position, RuleSet, Some, [], ap, arith, captures_are_reborn, false≢true, is_man, is_some, king_square, length, man_on, other, position_after, refl, squares, subst, sym, true, ℕ, ◌+◌, ◌-◌, ◌/◌, ◌<◌, ◌==◌, ◌∙◌, ◌∷◌, ◌≡◌, ◌≢◌}
 use Rattle.std.specs.Int.{bit_at}
 use Rattle.chess_attacks.proofs.Tests.{find_no}
 use Rattle.chess_attacks.proofs.rays.OnSquares.{on_board}
-use Rattle.chess_attacks.specs.RuleSet.{like_men_paralyse}
 use Rattle.chess_reach.proofs.Lines.{king_along, line_plan, turn_after, turn_shift}
 use Rattle.chess_reach.specs.Lines.{HoldsEnds, IsLegalLine, holds_king, line_end, mover}
-use Rattle.chess_reach.specs.Plans.{saved_moves}
+use Rattle.chess_reach.specs.Plans.{saved_moves, standing_checks}
 use Rattle.chess_rules.proofs.legality.Blocking.{man_there}
 use Rattle.chess_rules.proofs.legality.StayingInCheck.{king_there}
 use Rattle.chess_rules.proofs.listing_moves.Calls.{is_pseudo_legal-from_legal}
@@ -52,29 +51,30 @@ holds_at : (w : ℕ) (men : List (Option Man)) (t d : Colour) (k : ℕ) → t �
 holds_at w men t d k turn at h = rw (turn, at) h
 
 -- what holds the ends of lines still holds them without the squares that have no plan
-pub ends_held : (rule : RuleSet) (goal : Goal) (sc : Bool) (p : Position) (c d : Colour) (h n i j w v : ℕ) → IsWellFormed p → captures_are_reborn rule ≡ false → h ≢ 0 → h ≢ 1
+pub ends_held : (rule : RuleSet) (goal : Goal) (sc rb : Bool) (p : Position) (c d : Colour) (h n i j w v : ℕ) → IsWellFormed p → h ≢ 0 → h ≢ 1
     → p.turn ≡ mover c h → d ≡ other c → is_some (king_square p.men d) ≡ true → n ≡ h - h / 2 → i ≡ n + saved_moves p c
     → j ≡ h / 2 + saved_moves p d
-    → sc ≡ like_men_paralyse rule → ((k : ℕ) (ends : Ends) → k < 64 → IsPlan goal sc p c i j k ends → (bit_at w k == 1) ≡ true → (bit_at v k == 1) ≡ true)
+    → sc ≡ standing_checks rule → rb ≡ captures_are_reborn rule → ((k : ℕ) (ends : Ends) → k < 64 → IsPlan goal sc rb p c i j k ends → (bit_at w k == 1) ≡ true → (bit_at v k == 1) ≡ true)
     → HoldsEnds goal rule h p w → HoldsEnds goal rule h p v
 unfolding HoldsEnds
-ends_held rule goal sc p c d h n i j w v well none_reborn some more turn side has share ours theirs strict kept held = λ line len legal reaches.
+ends_held rule goal sc rb p c d h n i j w v well some more turn side has share ours theirs strict lives kept held = λ line len legal reaches.
     let king = king_some p.men (other c) (rw side at has) in
     let turns : p.turn ≡ mover c (length line) = turn ∙ ap (mover c) (sym len) in
     let ended = turn_along rule c line p well legal turns in
     let from = king_there p.men (other c) king.0 king.1 in
-    let there = king_along rule none_reborn (other c) line p king.0 well legal from.1 in
+    let there = king_along rule (other c) line p king.0 well legal from.1 in
     let man = man_there (man_on (line_end rule p line).men there.0) (other c) King there.1 in
     let small = on_board (line_end rule p line).men there.0 man.0 (well_along rule line p well legal).size man.1 in
     let at = king_found (line_end rule p line).men (other c) there.0 small there.1 in
-    let plan = line_plan rule none_reborn c goal at.0 line p well legal reaches turns at.1 (λ none. some (sym len ∙ none)) (λ one. absurd (more (sym len ∙ one))) in
+    let plan = line_plan rule c goal at.0 line p well legal reaches turns at.1 (λ none. some (sym len ∙ none)) (λ one. absurd (more (sym len ∙ one))) in
     let our_moves : (length line + 1) / 2 + saved_moves p c ≡ i = omega (arith, len, share, ours) in
     let their_share : j ≡ h / 2 + saved_moves p (other c) = rw side at theirs in
     let their_moves : length line / 2 + saved_moves p (other c) ≡ j = omega (arith, len, their_share) in
-    let now : IsPlan goal sc p c i j at.0 plan.0 =
-    subst (λ b. IsPlan goal b p c i j at.0 plan.0) (sym strict)
-    (subst (λ (o : ℕ). IsPlan goal (like_men_paralyse rule) p c i o at.0 plan.0) their_moves
-    (subst (λ (o : ℕ). IsPlan goal (like_men_paralyse rule) p c o (length line / 2 + saved_moves p (other c)) at.0 plan.0) our_moves plan.1)) in
+    let now : IsPlan goal sc rb p c i j at.0 plan.0 =
+    subst (λ b. IsPlan goal sc b p c i j at.0 plan.0) (sym lives)
+    (subst (λ b. IsPlan goal b (captures_are_reborn rule) p c i j at.0 plan.0) (sym strict)
+    (subst (λ (o : ℕ). IsPlan goal (standing_checks rule) (captures_are_reborn rule) p c i o at.0 plan.0) their_moves
+    (subst (λ (o : ℕ). IsPlan goal (standing_checks rule) (captures_are_reborn rule) p c o (length line / 2 + saved_moves p (other c)) at.0 plan.0) our_moves plan.1))) in
     let holds = held_at w (line_end rule p line).men (line_end rule p line).turn (other c) at.0 ended at.1 (held line len legal reaches) in
     holds_at v (line_end rule p line).men (line_end rule p line).turn (other c) at.0 ended at.1
     (kept at.0 plan.0 (king_there (line_end rule p line).men (other c) at.0 at.1).0 now holds)

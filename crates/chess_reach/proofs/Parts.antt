@@ -1,5 +1,5 @@
 -- The squares where a man can be, part by part.
-use Rattle.chess_attacks.proofs.Chess.{Some, cases_Bool, cond-false, eqb-true, false≢true, inl, inr, is_square, sym, word_has, word_only}
+use Rattle.chess_attacks.proofs.Chess.{Some, cases_Bool, cond-false, eq-eqb, eqb-true, false≢true, inl, inr, is_square, refl, subst, sym, word_has, word_only}
 use Rattle.chess_attacks.proofs.Basics.{Bool, ap, arith, bit_and, bit_at, bit_not, bit_or, false, if◌then◌else◌, not, one_shl, true, w64, ℕ, ◌%◌, ◌&&◌, ◌*◌, ◌<◌, ◌==◌, ◌^◌, ◌∙◌, ◌≡◌}
 use Rattle.chess_attacks.proofs.Bits.{off_zero, on_left, on_right}
 use Rattle.std.proofs.lemmas.Nat.Bits.{bit_at-pow_same}
@@ -74,3 +74,39 @@ has_now_alone k j s t small low h = elim (cases_Bool (same_kind k Pawn && not (s
   where
     nothing : (p r : Bool) → p ≡ true → (bit_at (chosen p r (1 * 2 ^ s % 2 ^ 64) 0 0) t == 1) ≡ (bit_at 0 t == 1)
     nothing p r is = grind (arith, cases_Bool r, is)
+
+-- a square of each part
+pub has_all : (k j : Kind) (s : ℕ) → s < 64
+    → has k j s (record { unpromoted = 1 * 2 ^ s % 2 ^ 64; queen = 1 * 2 ^ s % 2 ^ 64; knight = 1 * 2 ^ s % 2 ^ 64 }) ≡ true
+has_all k j s small = grind (arith, one_shl s 64 small, bit_at-pow_same s)
+
+chosen_either : (p r : Bool) (a q n b s m : ℕ) → chosen p r (bit_or a b) (bit_or q s) (bit_or n m) ≡ bit_or (chosen p r a q n) (chosen p r b s m)
+chosen_either p r a q n b s m = grind arith
+
+-- what one has, the squares of either have
+pub has_left : (k j : Kind) (t : ℕ) (a q n b s m : ℕ) → has k j t (record { unpromoted = a; queen = q; knight = n }) ≡ true
+    → has k j t (record { unpromoted = bit_or a b; queen = bit_or q s; knight = bit_or n m }) ≡ true
+has_left k j t a q n b s m h =
+    ap (λ x. bit_at x t == 1) (chosen_either (same_kind k Pawn && not (same_kind j Pawn)) (same_kind j Knight) a q n b s m) ∙ on_left _ _ t h
+
+pub has_right : (k j : Kind) (t : ℕ) (a q n b s m : ℕ) → has k j t (record { unpromoted = b; queen = s; knight = m }) ≡ true
+    → has k j t (record { unpromoted = bit_or a b; queen = bit_or q s; knight = bit_or n m }) ≡ true
+has_right k j t a q n b s m h =
+    ap (λ x. bit_at x t == 1) (chosen_either (same_kind k Pawn && not (same_kind j Pawn)) (same_kind j Knight) a q n b s m) ∙ on_right _ _ t h
+
+-- what any square of a bitboard brings
+abbrev Brings : ℕ → ℕ → ℕ → Type 0
+Brings a z b = (s h : ℕ) → (bit_at a s == 1) ≡ true → (bit_at (1 * 2 ^ z % 2 ^ 64) h == 1) ≡ true → (bit_at b h == 1) ≡ true
+
+brought : (p r : Bool) (s z a q n b t m : ℕ) → z < 64 → Brings a z b → Brings q z t → Brings n z m → (bit_at (chosen p r a q n) s == 1) ≡ true
+    → (bit_at (chosen p r b t m) z == 1) ≡ true
+brought true true s z a q n b t m small x y w h = w s z h (word_has (λ i. is_square (Some z) i) _ z (word_only z small) small ∙ eq-eqb z z refl)
+brought true false s z a q n b t m small x y w h = y s z h (word_has (λ i. is_square (Some z) i) _ z (word_only z small) small ∙ eq-eqb z z refl)
+brought false r s z a q n b t m small x y w h = x s z h (word_has (λ i. is_square (Some z) i) _ z (word_only z small) small ∙ eq-eqb z z refl)
+
+-- all that a man can be is put on one square
+pub has_brought : (k j : Kind) (s z i : ℕ) (a q n b t m : ℕ) → i ≡ z → z < 64 → Brings a i b → Brings q i t → Brings n i m
+    → has k j s (record { unpromoted = a; queen = q; knight = n }) ≡ true → has k j z (record { unpromoted = b; queen = t; knight = m }) ≡ true
+has_brought k j s z i a q n b t m same small x y w h =
+    brought (same_kind k Pawn && not (same_kind j Pawn)) (same_kind j Knight) s z a q n b t m small (subst (λ e. Brings a e b) same x)
+    (subst (λ e. Brings q e t) same y) (subst (λ e. Brings n e m) same w) h

@@ -1,8 +1,9 @@
 -- A position in which a side is mated or stalemated is its own plan.
-use Rattle.chess_reach.proofs.Chess.{Colour, IsGuarded, IsPlan, IsWellFormed, King, Kind, List, Man, Move, None, Option, Position, RuleSet, Some, and_from, and_parts, ap, arith, captures_are_reborn, cases_Bool, false, false_from_ne_true, false≢true, guards, in_check, inl, inr, is_arrival_free, is_attacked, is_attacker, is_castling, is_legal, is_man, is_of_colour, is_paralysed, is_pseudo_legal, king_square, man_on, not_from_false, or_left, other, position_after, price, reaches, reaches_as, refl, same_colour, same_colour-refl, same_colour-true, not, same_kind-true, some_square_true, squares, sym, true, ℕ, ◌<◌, ◌∙◌, ◌≡◌, ◌≢◌, ◌≤◌, Gets, subst, if◌then◌else◌}
+use Rattle.chess_reach.proofs.Chess.{Colour, IsDefended, IsGuarded, Pawn, capture_square, eqb-true, inl, is_some, is_square, reborn_square, same_kind, IsPlan, IsWellFormed, King, Kind, List, Man, Move, None, Option, Position, RuleSet, Some, and_from, and_parts, ap, arith, captures_are_reborn, cases_Bool, false, false_from_ne_true, false≢true, guards, in_check, inr, is_arrival_free, is_attacked, is_attacker, is_castling, is_legal, is_man, is_of_colour, is_paralysed, is_pseudo_legal, king_square, man_on, not_from_false, or_left, other, position_after, price, reaches, reaches_as, refl, same_colour, same_colour-refl, same_colour-true, not, same_kind-true, some_square_true, squares, sym, true, ℕ, ◌<◌, ◌∙◌, ◌≡◌, ◌≢◌, ◌≤◌, Gets, subst, if◌then◌else◌, ◌⊎◌}
 use Rattle.chess_attacks.proofs.rays.Flips.{king-back}
 use Rattle.chess_attacks.proofs.rays.OnSquares.{on_board}
 use Rattle.chess_rules.proofs.Chess.{like_men_paralyse, second_fails}
+use Rattle.chess_rules.specs.Play.{rebirth}
 use Rattle.chess_reach.proofs.EmptyBoard.{king_guards}
 use Rattle.chess_reach.proofs.Gone.{guards_from, is_gone}
 use Rattle.chess_reach.proofs.OneMove.{passing, stays, stood_before}
@@ -77,7 +78,19 @@ king_attacks rule men c k t small king h =
     some_square_true _ k small (and_from _ _ (and_from _ _ (rw here (same_colour-refl c)) (ap not (free_king rule men c k here)))
     (king_reaches men c k t here h))
 
-module _ (rule : RuleSet) (q : Position) (c : Colour) (k : ℕ) (well : IsWellFormed q) (turn : q.turn ≡ other c) (none_reborn : captures_are_reborn rule ≡ false)
+-- a king captures where it arrives
+capture_arrival : (q : Position) (x : Man) (m : Move) (s : ℕ) → same_kind x.kind Pawn ≡ false → is_square (capture_square q x m) s ≡ true → s ≡ m.to
+unfolding capture_square
+capture_arrival q x m s piece at = grind (arith, piece, at, cases_Bool (is_some (man_on q.men m.to)), eqb-true)
+
+-- the home of a man, by its colour and where it was captured
+reborn_there : (c : Colour) (y z : Man) → y ≡ z → (f t : ℕ) → f ≡ t → (h : ℕ) → rebirth z.colour z.kind f ≡ Some h → same_colour y.colour c ≡ true
+    → rebirth c y.kind t ≡ Some h
+reborn_there c y z same f t there h home mine =
+    subst (λ d. rebirth d y.kind t ≡ Some h) (same_colour-true y.colour c mine) (subst (λ (x : Man). rebirth x.colour x.kind t ≡ Some h) (sym same)
+    (subst (λ s. rebirth z.colour z.kind s ≡ Some h) there home))
+
+module _ (rule : RuleSet) (q : Position) (c : Colour) (k : ℕ) (well : IsWellFormed q) (turn : q.turn ≡ other c)
     (safe : in_check rule q.men c ≡ false) (at : king_square q.men (other c) ≡ Some k) where
   king_small : (s : ℕ) → is_man (man_on q.men s) c King ≡ true → s < 64
   king_small s king = let y = man_there (man_on q.men s) c King king in on_board q.men s y.0 well.size y.1
@@ -115,23 +128,40 @@ module _ (rule : RuleSet) (q : Position) (c : Colour) (k : ℕ) (well : IsWellFo
       (arrival (man_on q.men t) free (λ king. false≢true (sym (kings_apart t king) ∙ near)))) refl) (or_left _ _ reach))
 
   guarded : ((m : Move) → is_legal rule q m ≡ false) → (t : ℕ) → guards (other c) King k t ≡ true → is_of_colour (man_on q.men t) (other c) ≡ false
-      → IsGuarded q.men c (stays q.men) k t
+      → IsGuarded q.men c (stays q.men) k t ⊎ IsDefended (captures_are_reborn rule) q.men c (stays q.men) t
   unfolding is_legal step king_man
   guarded none t near free =
       let may = step_may t near free in
       let exposed : in_check rule (position_after rule q (step t)).men q.turn ≡ true = grind (arith, second_fails _ _ (none (step t)) may) in
       let plain : is_castling king_man (step t) ≡ false =
       false_from_ne_true _ (λ castling. king_no_step q king_man (step t) well king_here castling refl (king_reaches q.men (other c) k t king_here near)) in
-      let gone = is_gone rule q king_man (step t) well may king_here plain none_reborn in
+      let gone = is_gone rule q king_man (step t) well may king_here plain in
       let after = after_well_formed rule q (step t) well may in
       let king = king_is (position_after rule q (step t)).men (other c) t after.kings gone.to
       (rw gone.there (and_from _ _ (same_colour-refl (other c)) refl)) in
       let attacked = attacked_at rule (position_after rule q (step t)).men c t king
       (subst (λ (d : Colour). in_check rule (position_after rule q (step t)).men d ≡ true) turn exposed) in
       let by = attacker rule (position_after rule q (step t)).men t c attacked in
-      let from = stood_before q (position_after rule q (step t)) king_man king_man k t _ gone (stays q.men) by.0 by.1 by.2
-      (enemies_apart (position_after rule q (step t)).men by.0 t c by.1 king_man by.2 by.3 gone.there refl) in
-      record { by = by.0; ours = rw from.1.1 by.3; off = from.0; guards = rw from.1.1 by.4 }
+      let off = enemies_apart (position_after rule q (step t)).men by.0 t c by.1 king_man by.2 by.3 gone.there refl in
+      elim (cases_Bool (is_square (reborn_square rule q king_man (step t)) by.0)) [
+        | inr old ↦
+            let from = stood_before (captures_are_reborn rule) q (position_after rule q (step t)) king_man king_man k t _ _ gone (stays q.men) by.0 by.1 by.2 off old in
+            inl (record { by = by.0; ours = rw from.1.1 by.3; off = from.0; guards = rw from.1.1 by.4 })
+        | inl at ↦
+            let born = gone.reborn by.0 at in
+            let same : by.1 ≡ born.man = let h : Some by.1 ≡ Some born.man = sym by.2 ∙ born.now in cc in
+            let there : born.from ≡ t = capture_arrival q king_man (step t) born.from refl born.taken in
+            inr (record {
+              by = born.from;
+              ours = rw (born.was, ← same) by.3;
+              there = there;
+              lives = born.lives;
+              home = by.0;
+              rebirth = rw (born.was, ← same) (reborn_there c by.1 born.man same born.from t there by.0 born.home by.3);
+              off = off;
+              guards = rw (born.was, ← same) by.4;
+            })
+      ]
 
   -- nobody has to go anywhere
   free_stay : (d : Colour) → price q.men d (stays q.men) ≤ 0
@@ -150,21 +180,24 @@ module _ (rule : RuleSet) (q : Position) (c : Colour) (k : ℕ) (well : IsWellFo
       record { by = by.0; ours = rw by.2 by.3; off = enemies_apart q.men by.0 k c by.1 king_man by.2 by.3 king_here refl; guards = rw by.2 by.4 }
 
   -- no legal move, and check if the goal is mate
-  plan : (goal : Goal) → ((m : Move) → is_legal rule q m ≡ false) → (goal ≡ Mate → in_check rule q.men (other c) ≡ true) → IsPlan goal true q c 0 0 k (stays q.men)
+  plan : (goal : Goal) → ((m : Move) → is_legal rule q m ≡ false) → (goal ≡ Mate → in_check rule q.men (other c) ≡ true) → IsPlan goal true (captures_are_reborn rule) q c 0 0 k (stays q.men)
   unfolding Gets
   plan goal none check = record {
-    gets = λ s x here. rw here (refl, refl);
+    gets = λ s x here. rw here (refl, inl refl);
     ours = free_stay c;
     theirs = free_stay (other c);
     king = λ s king. well.kings.same (other c) s k king (king_there q.men (other c) k at).1;
     apart = λ s king. next_to_each c (other c) s k (king_small s king) (king_there q.men (other c) k at).0 ∙ kings_apart s king;
     around = λ t near. elim (cases_Bool (is_of_colour (man_on q.men t) (other c))) [
-      | inl theirs ↦ inr (record { by = t; theirs = theirs; there = refl; stays = refl })
-      | inr free ↦ inl (guarded none t near free)
+      | inl theirs ↦ inr (inr (record { by = t; theirs = theirs; there = refl; stays = refl }))
+      | inr free ↦ elim (guarded none t near free) [
+        | inl guard ↦ inl guard
+        | inr defends ↦ inr (inl defends)
+      ]
     ];
     check = λ mate. record { guarded = checked_by (check mate); arrives = λ strict. absurd (false≢true (sym strict)) };
   }
 
-  pub picture : (goal : Goal) → reaches_goal goal rule q ≡ true → IsPlan goal true q c 0 0 k (stays q.men)
+  pub picture : (goal : Goal) → reaches_goal goal rule q ≡ true → IsPlan goal true (captures_are_reborn rule) q c 0 0 k (stays q.men)
   picture Mate h = let m = (mate_is rule q well).0 h in plan Mate m.1 (λ _. rw turn at m.0)
   picture Stalemate h = plan Stalemate ((stalemate_is rule q well).0 h).1 (λ same. grind arith)

@@ -6,6 +6,7 @@ use Rattle.std.specs.List.{sum_by}
 use Rattle.chess_attacks.proofs.Tests.{find_first}
 use Rattle.chess_attacks.proofs.rays.Flips.{king-back}
 use Rattle.chess_core.specs.Position.{Position, may_promote, same_kind}
+use Rattle.chess_rules.specs.Play.{rebirth}
 use Rattle.chess_core.specs.declared.man.Kind.{Kind}
 use Rattle.chess_reach.proofs.Bitboards.{on_both, on_first}
 use Rattle.chess_attacks.proofs.Bits.{off_zero}
@@ -14,7 +15,7 @@ use Rattle.chess_reach.proofs.Getting.{every_on, gets_none, gets_small}
 use Rattle.chess_reach.proofs.Returning.{knight_back, pawn_back}
 use Rattle.chess_reach.proofs.Holding.{one_within, sum_less, sum_less_twice, sum_within, two_within}
 unfoldable use Rattle.chess_reach.specs.Plans.{may_capture, price}
-use Rattle.chess_reach.specs.Plans.{Arrives, Ends, IsBlocked, IsGuarded, IsPlan}
+use Rattle.chess_reach.specs.Plans.{Arrives, Ends, IsBlocked, IsDefended, IsGuarded, IsPlan}
 unfoldable use Rattle.chess_reach.specs.Reach.{guards}
 use Rattle.chess_reach.specs.Reach.{Gets}
 use Rattle.chess_reach.specs.declared.guards.Guard.{Guard}
@@ -22,8 +23,8 @@ use Rattle.chess_reach.specs.declared.hold.Place.{Place}
 use Rattle.chess_reach.specs.declared.hold.Ending.{Ending}
 use Rattle.chess_reach.specs.declared.hold.Quest.{Quest}
 use Rattle.chess_reach.specs.declared.whereabouts.Whereabouts.{Whereabouts}
-use Rattle.chess_reach.specs.ties.Guards.{AreBlocks, AreGuards, CanEnd, guard_at, is_blocker}
-use Rattle.chess_reach.specs.ties.Hold.{Captures, DoesCheck, DoesGuard, Holds, IsApart, IsHeld, IsIn, IsQuestOf, blocks_in, end_at, place_at}
+use Rattle.chess_reach.specs.ties.Guards.{AreBlocks, AreGuards, CanEnd, StaysAway, guard_at, is_blocker}
+use Rattle.chess_reach.specs.ties.Hold.{Captures, DoesCheck, DoesDefend, DoesGuard, Holds, IsApart, IsHeld, IsIn, IsQuestOf, blocks_in, end_at, place_at}
 unfoldable use Rattle.chess_reach.specs.ties.Hold.{blocked, unpaid}
 use Rattle.chess_reach.specs.ties.Whereabouts.{has}
 use Rattle.chess_reach.specs.ties.Ways.{IsChain, IsUsual, nowhere}
@@ -80,14 +81,14 @@ board_square : (men : List (Option Man)) (c : Colour) (s : ℕ) → length men �
 board_square men c s size h = grind (arith, cases_lt, get_or_past)
 
 module _ (goal : Goal) (prey captured : ℕ) (p : Position) (q : Quest) (king : Guard) (ours theirs : ℕ) (ends : Ends)
-    (plan : IsPlan goal q.ending.standing_checks p q.colour ours theirs q.king ends)
-    (captures : Captures prey captured p q.colour ends) (of : IsQuestOf prey p q king ours theirs) where
+    (plan : IsPlan goal q.ending.standing_checks q.ending.are_reborn p q.colour ours theirs q.king ends)
+    (captures : Captures q.ending.are_reborn prey captured p q.colour ends) (of : IsQuestOf prey p q king ours theirs) where
   -- the other side's king
   king_stands : is_man (man_on p.men king.from) (other q.colour) King ≡ true
   unfolding king_square squares
   king_stands = (find_first (λ s. is_man (man_on p.men s) (other q.colour) King) 0 64 king.from of.stands).here
 
-  king_gets : Gets (may_promote p) (may_capture p.men q.colour ends (other q.colour)) (other q.colour) (ends king.from).moves King king.from (ends king.from).kind (ends king.from).square
+  king_gets : Gets q.ending.are_reborn (may_promote p) (may_capture q.ending.are_reborn p.men q.colour ends (other q.colour)) (other q.colour) (ends king.from).moves King king.from (ends king.from).kind (ends king.from).square
   king_gets = plan.gets king.from _ (king_of (man_on p.men king.from) (other q.colour) king_stands)
 
   -- no man makes more moves than its side
@@ -135,12 +136,12 @@ module _ (goal : Goal) (prey captured : ℕ) (p : Position) (q : Quest) (king : 
 
   pub king_there : (w : Whereabouts) → ((k : Kind) → has k k q.king w ≡ true) → has king.kind (ends king.from).kind (ends king.from).square w ≡ true
   king_there w at =
-      let stays : (ends king.from).kind ≡ King = (gets_be (may_promote p) _ (other q.colour) (ends king.from).moves King king.from _ _ of.usual king_gets).piece refl in
+      let stays : (ends king.from).kind ≡ King = (gets_be q.ending.are_reborn (may_promote p) _ (other q.colour) (ends king.from).moves King king.from _ _ of.usual king_gets).piece refl in
       subst (λ s. has king.kind (ends king.from).kind s w ≡ true) (sym (plan.king king.from king_stands))
       (subst (λ k. has king.kind k q.king w ≡ true) (of.kind ∙ sym stays) (at king.kind))
 
   guard_gets : (i : ℕ) → i < q.count
-      → Gets (may_promote p) (may_capture p.men q.colour ends q.colour) q.colour (end_at q ends i).moves (guard_at q.guards i).kind (guard_at q.guards i).from (end_at q ends i).kind (end_at q ends i).square
+      → Gets q.ending.are_reborn (may_promote p) (may_capture q.ending.are_reborn p.men q.colour ends q.colour) q.colour (end_at q ends i).moves (guard_at q.guards i).kind (guard_at q.guards i).from (end_at q ends i).kind (end_at q ends i).square
   guard_gets i lt = plan.gets (guard_at q.guards i).from _ (of.guards.each i lt)
 
   all_moves : sum_by (λ i. (end_at q ends i).moves) (range_with_len 0 q.count) ≤ ours
@@ -154,11 +155,15 @@ module _ (goal : Goal) (prey captured : ℕ) (p : Position) (q : Quest) (king : 
   can_end few i lt = record {
     gets = (of.guards.chains i lt).gets (may_promote p) _ (end_at q ends i).moves _ _ captures.on (guard_moves i lt) of.usual (guard_gets i lt);
     few = omega (arith, guard_moves i lt, few);
-    be = gets_be (may_promote p) _ q.colour (end_at q ends i).moves _ _ _ _ of.usual (guard_gets i lt);
-    small = gets_small (may_promote p) _ q.colour (end_at q ends i).moves _ _ _ _ (of.guards.small i lt) (guard_gets i lt);
-    returns = λ is. knight_back (may_promote p) _ q.colour (end_at q ends i).moves _ _ _ _ (of.guards.small i lt) is (guard_gets i lt);
-    advances = λ is too. pawn_back (may_promote p) _ q.colour (end_at q ends i).moves _ _ _ _ of.usual is too (guard_gets i lt);
-    stands = λ none. gets_none (may_promote p) _ q.colour (end_at q ends i).moves _ _ _ _ none (guard_gets i lt);
+    be = gets_be q.ending.are_reborn (may_promote p) _ q.colour (end_at q ends i).moves _ _ _ _ of.usual (guard_gets i lt);
+    small = gets_small q.ending.are_reborn (may_promote p) _ q.colour (end_at q ends i).moves _ _ _ _ (of.guards.small i lt) (guard_gets i lt);
+    stands = λ none. gets_none q.ending.are_reborn (may_promote p) _ q.colour (end_at q ends i).moves _ _ _ _ none (guard_gets i lt);
+  }
+
+  stays_away : (i : ℕ) → i < q.count → StaysAway q.ending.are_reborn (guard_at q.guards i) (end_at q ends i)
+  stays_away i lt = record {
+    returns = λ mortal is. knight_back q.ending.are_reborn (may_promote p) _ q.colour (end_at q ends i).moves _ _ _ _ mortal (of.guards.small i lt) is (guard_gets i lt);
+    advances = λ mortal is too. pawn_back q.ending.are_reborn (may_promote p) _ q.colour (end_at q ends i).moves _ _ _ _ mortal of.usual is too (guard_gets i lt);
   }
 
   blocker_moves : (s : ℕ) → s < 64 → is_blocker p.men (other q.colour) s ≡ true → (ends s).moves ≤ theirs
@@ -169,6 +174,22 @@ module _ (goal : Goal) (prey captured : ℕ) (p : Position) (q : Quest) (king : 
   guard_does t g =
       let (i, lt, is) = of.guards.all g.by (board_square p.men q.colour g.by of.size g.ours) g.ours in
       (i, lt, subst (λ s. ((ends s).square ≢ q.king) × (guards q.colour (ends s).kind (ends s).square t ≡ true)) (sym is) (g.off, g.guards))
+
+  -- who defends its square is a guard
+  defender_does : (t : ℕ) → IsDefended q.ending.are_reborn p.men q.colour ends t → (i : ℕ) × (i < q.count) × DoesDefend q ends t i
+  defender_does t d =
+      let (i, lt, is) = of.guards.all d.by (board_square p.men q.colour d.by of.size d.ours) d.ours in (
+        i,
+        lt,
+        record {
+          lives = d.lives;
+          there = subst (λ s. (ends s).square ≡ t) (sym is) d.there;
+          home = d.home;
+          rebirth = subst (λ s. rebirth q.colour (ends s).kind t ≡ Some d.home) (sym is) d.rebirth;
+          off = d.off;
+          guards = subst (λ s. guards q.colour (ends s).kind d.home t ≡ true) (sym is) d.guards;
+        },
+      )
 
   -- who blocks is a blocker
   blocker_does : (t : ℕ) → q.king ≢ t → IsBlocked p.men (other q.colour) ends t
@@ -182,8 +203,11 @@ module _ (goal : Goal) (prey captured : ℕ) (p : Position) (q : Quest) (king : 
 
   held : q.king < 64 → (t : ℕ) → guards White King q.king t ≡ true → IsHeld q p.men ends t
   held low t near = elim (plan.around t (king_steps (other q.colour) q.king t ∙ sym (king_steps White q.king t) ∙ near)) [
-    | inl guarded ↦ inl (guard_does t guarded)
-    | inr blocked ↦ inr (blocker_does t (off_himself White q.king t low near) blocked)
+    | inl guarded ↦ let g = guard_does t guarded in inl (g.0, g.1, inl g.2)
+    | inr other ↦ elim other [
+      | inl defended ↦ let d = defender_does t defended in inl (d.0, d.1, inr d.2)
+      | inr blocked ↦ inr (blocker_does t (off_himself White q.king t low near) blocked)
+    ]
   ]
 
   -- in mate a guard checks
@@ -268,6 +292,7 @@ module _ (goal : Goal) (prey captured : ℕ) (p : Position) (q : Quest) (king : 
   unfolding unpaid squares
   plan_holds places w steps few low first needs cheap = record {
     guards = can_end few;
+    away = stays_away;
     blockers = λ s small blocker.
         let (x, is, colour) = man_of (man_on p.men s) (other q.colour) (and_parts (is_of_colour (man_on p.men s) (other q.colour)) _ blocker).0 in
         of.blocks.gets s x (ends s).moves (ends s).kind (ends s).square small is blocker (blocker_moves s small blocker) _ (plan.gets s x is);
@@ -282,13 +307,13 @@ module _ (goal : Goal) (prey captured : ℕ) (p : Position) (q : Quest) (king : 
   }
 
 -- guards for fewer moves
-guards_less : (prey : ℕ) (men : List (Option Man)) (c : Colour) (m n : ℕ) (gs : List Guard) (count : ℕ) → AreGuards prey men c m gs count → n ≤ m
-    → AreGuards prey men c n gs count
-guards_less prey men c m n gs count h le = record {
+guards_less : (rb : Bool) (prey : ℕ) (men : List (Option Man)) (c : Colour) (m n : ℕ) (gs : List Guard) (count : ℕ) → AreGuards rb prey men c m gs count → n ≤ m
+    → AreGuards rb prey men c n gs count
+guards_less rb prey men c m n gs count h le = record {
   few = h.few;
   each = h.each;
   small = h.small;
-  chains = λ i lt. chain_less prey _ _ m n _ (h.chains i lt) le;
+  chains = λ i lt. chain_less rb prey _ _ m n _ (h.chains i lt) le;
   all = h.all;
   sum = h.sum;
 }
@@ -299,11 +324,11 @@ bit_here i s same small = subst (λ n. (bit_at (1 * 2 ^ n % 2 ^ 64) s == 1) ≡ 
     (word_has (λ t. is_square (Some s) t) (1 * 2 ^ s % 2 ^ 64) s (word_only s small) small ∙ eq-eqb s s refl)
 
 -- the king of a plan gets to his square
-pub king_near : (goal : Goal) (sc : Bool) (p : Position) (c d : Colour) (ours theirs k from : ℕ) (ends : Ends) (chain : List Whereabouts) → d ≡ other c
-    → IsPlan goal sc p c ours theirs k ends → king_square p.men d ≡ Some from → from < 64 → IsUsual (may_promote p)
-    → IsChain (2 ^ 64 - 1) (record { colour = d; kind = King }) from theirs chain → k < 64 → (bit_at (slice_index_or chain theirs nowhere).unpromoted k == 1) ≡ true
+pub king_near : (goal : Goal) (sc rb : Bool) (p : Position) (c d : Colour) (ours theirs k from : ℕ) (ends : Ends) (chain : List Whereabouts) → d ≡ other c
+    → IsPlan goal sc rb p c ours theirs k ends → king_square p.men d ≡ Some from → from < 64 → IsUsual (may_promote p)
+    → IsChain rb (2 ^ 64 - 1) (record { colour = d; kind = King }) from theirs chain → k < 64 → (bit_at (slice_index_or chain theirs nowhere).unpromoted k == 1) ≡ true
 unfolding king_square squares price
-king_near goal sc p c d ours theirs k from ends chain enemy plan stands small usual way low =
+king_near goal sc rb p c d ours theirs k from ends chain enemy plan stands small usual way low =
     let here : is_man (man_on p.men from) d King ≡ true = (find_first (λ s. is_man (man_on p.men s) d King) 0 64 from stands).here in
     let man : man_on p.men from ≡ Some (record { colour = d; kind = King }) = king_of (man_on p.men from) d here in
     let f : ℕ → ℕ = λ s. if is_of_colour (man_on p.men s) (other c) then (ends s).moves else 0 in
@@ -317,7 +342,7 @@ king_near goal sc p c d ours theirs k from ends chain enemy plan stands small us
     let gets = plan.gets from _ man in
     let had : has King (ends from).kind (ends from).square (slice_index_or chain theirs nowhere) ≡ true =
     way.grows (ends from).moves theirs (ends from).kind (ends from).square few (omega arith)
-    (gets_small (may_promote p) _ d (ends from).moves King from _ _ small gets) (way.gets (may_promote p) _ (ends from).moves _ _ (every_on _) few usual gets) in
+    (gets_small rb (may_promote p) _ d (ends from).moves King from _ _ small gets) (way.gets (may_promote p) _ (ends from).moves _ _ (every_on _) few usual gets) in
     subst (λ s. (bit_at (slice_index_or chain theirs nowhere).unpromoted s == 1) ≡ true)
     (plan.king from (subst (λ x. is_man (man_on p.men from) x King ≡ true) enemy here)) had
   where
@@ -330,19 +355,20 @@ usual_promotion p h = record { king = refl; pawn = refl; rider = h }
 
 -- the quest of a position
 pub quest_of : (prey : ℕ) (p : Position) (c d : Colour) (ours m theirs : ℕ) (gs : List Guard) (count : ℕ) (ws : List ℕ) (ending : Ending) (from at : ℕ) (chain : List Whereabouts) → d ≡ other c
-    → length p.men ≡ 64 → theirs < 9 → AreGuards prey p.men c m gs count → ours ≤ m → ((allowed : Kind → Bool) → IsUsual allowed → AreBlocks allowed p.men d theirs ws)
-    → may_promote p Nightrider ≡ false → king_square p.men d ≡ Some from → from < 64 → IsChain (2 ^ 64 - 1) (record { colour = d; kind = King }) from theirs chain
+    → length p.men ≡ 64 → theirs < 9 → AreGuards ending.are_reborn prey p.men c m gs count → ours ≤ m
+    → ((allowed : Kind → Bool) → IsUsual allowed → AreBlocks ending.are_reborn allowed p.men d theirs ws)
+    → may_promote p Nightrider ≡ false → king_square p.men d ≡ Some from → from < 64 → IsChain ending.are_reborn (2 ^ 64 - 1) (record { colour = d; kind = King }) from theirs chain
     → IsQuestOf prey p (record { ending = ending; colour = c; king = at; count = count; guards = gs; blockable = ws }) (record { kind = King; from = from; chain = chain }) ours theirs
 quest_of prey p c d ours m theirs gs count ws ending from at chain enemy size few guards le blocks plain stands small way = record {
   size = size;
   few = few;
-  guards = guards_less prey p.men c m ours gs count guards le;
-  blocks = subst (λ x. AreBlocks (may_promote p) p.men x theirs ws) enemy (blocks (may_promote p) (usual_promotion p plain));
+  guards = guards_less ending.are_reborn prey p.men c m ours gs count guards le;
+  blocks = subst (λ x. AreBlocks ending.are_reborn (may_promote p) p.men x theirs ws) enemy (blocks (may_promote p) (usual_promotion p plain));
   usual = usual_promotion p plain;
   kind = refl;
   stands = subst (λ x. king_square p.men x ≡ Some from) enemy stands;
   small = small;
-  way = subst (λ x. IsChain (2 ^ 64 - 1) (record { colour = x; kind = King }) from theirs chain) enemy way;
+  way = subst (λ x. IsChain ending.are_reborn (2 ^ 64 - 1) (record { colour = x; kind = King }) from theirs chain) enemy way;
 }
 
 pub quest_again : (prey : ℕ) (p : Position) (c d : Colour) (k count : ℕ) (gs : List Guard) (vs ws : List ℕ) (e f : Ending) (king : Guard) (ours theirs : ℕ) → d ≡ c → vs ≡ ws → f ≡ e
@@ -353,11 +379,11 @@ quest_again prey p c d k count gs vs ws e f king ours theirs same blocks ending 
     (subst (λ x. IsQuestOf prey p (record { ending = e; colour = x; king = k; count = count; guards = gs; blockable = vs }) king ours theirs) (sym same)
     (subst (λ x. IsQuestOf prey p (record { ending = e; colour = c; king = k; count = count; guards = gs; blockable = x }) king ours theirs) (sym blocks) of))
 
-pub plan_again : (p : Position) (c d : Colour) (e f : Ending) (ours theirs k : ℕ) (ends : Ends) → d ≡ c → f ≡ e → IsPlan e.goal e.standing_checks p c ours theirs k ends
-    → IsPlan f.goal f.standing_checks p d ours theirs k ends
+pub plan_again : (p : Position) (c d : Colour) (e f : Ending) (ours theirs k : ℕ) (ends : Ends) → d ≡ c → f ≡ e → IsPlan e.goal e.standing_checks e.are_reborn p c ours theirs k ends
+    → IsPlan f.goal f.standing_checks f.are_reborn p d ours theirs k ends
 plan_again p c d e f ours theirs k ends same ending plan =
-    subst (λ (x : Ending). IsPlan x.goal x.standing_checks p d ours theirs k ends) (sym ending)
-    (subst (λ x. IsPlan e.goal e.standing_checks p x ours theirs k ends) (sym same) plan)
+    subst (λ (x : Ending). IsPlan x.goal x.standing_checks x.are_reborn p d ours theirs k ends) (sym ending)
+    (subst (λ x. IsPlan e.goal e.standing_checks e.are_reborn p x ours theirs k ends) (sym same) plan)
 
 -- the squares of an empty bitboard
 pub none_near : (a b k : ℕ) → bit_and a b ≡ 0 → (bit_at a k == 1) ≡ true → (bit_at b k == 1) ≡ true → ⊥

@@ -27,7 +27,7 @@ up_low w k s below small =
     grind (arith, div-add-mod all (2 ^ 64), bit_at_cat_low (all / 2 ^ 64) 64 (all % 2 ^ 64) s small, bit_at_cat_low w k 0 s below, bit_at-zero s)
 
 -- all squares of one bitboard are squares of another
-pub Within : ℕ → ℕ → Type 0
+unfoldable pub Within : ℕ → ℕ → Type 0
 Within a b = (t : ℕ) → (bit_at a t == 1) ≡ true → (bit_at b t == 1) ≡ true
 
 on_either : (a b t : ℕ) → (bit_at (bit_or a b) t == 1) ≡ true → (Q : Type 0) → ((bit_at a t == 1) ≡ true → Q) → ((bit_at b t == 1) ≡ true → Q) → Q

@@ -42,11 +42,11 @@ sum_only a y n (suc k) low high =
           (n + 1) k,
     )
 
--- what one square had goes to another, and one comes on top
-pub sum_moved : (f g : ℕ → ℕ) (a b : ℕ) → a < 64 → b < 64 → a ≢ b → f a ≤ suc (g b) → f b ≡ 0 → ((s : ℕ) → s ≢ a → s ≢ b → f s ≤ g s)
-    → sum_by f squares ≤ suc (sum_by g squares)
+-- what one square had goes to another, and n come on top
+pub sum_moved : (f g : ℕ → ℕ) (a b n : ℕ) → a < 64 → b < 64 → a ≢ b → f a ≤ n + g b → f b ≡ 0 → ((s : ℕ) → s ≢ a → s ≢ b → f s ≤ g s)
+    → sum_by f squares ≤ n + sum_by g squares
 unfolding squares
-sum_moved f g a b sa sb apart here there others =
+sum_moved f g a b n sa sb apart here there others =
     omega (
       arith,
       sum_by-le-sum_by (λ s. f s + only b (g b) s) (λ s. g s + only a (f a) s) (range_with_len 0 64) pointwise,

@@ -1,6 +1,7 @@
 -- What a mate needs, and what it costs in moves (own). In the last position of a help mate each square next
 -- to the king is guarded by an enemy man or holds a man of the king's side, and an enemy man checks. A plan
--- says where each man ends, and in how many moves it gets there; a man that is captured ends where that happens.
+-- says where each man ends, and in how many moves it gets there; a man that is captured ends where that happens,
+-- but in Circe where it is reborn.
 use Rattle.std.specs.Prelude.{◌≡◌, ◌≢◌, ℕ, ◌+◌, ◌≤◌, ◌==◌, Bool, true, false, not, ◌&&◌, ◌||◌, if◌then◌else◌, List, Option, Some, ◌⊎◌}
 use Rattle.std.specs.List.{sum_by}
 use Rattle.chess_core.specs.Squares.{file_of, rank_of, some_square, squares}
@@ -14,6 +15,8 @@ use Rattle.chess_core.specs.declared.man.Kind.{Kind}
 use Rattle.chess_core.specs.declared.man.Kind.TheVariants.{King, Knight, Pawn}
 use Rattle.pop_stipulation.specs.declared.stipulation.Goal.{Goal}
 use Rattle.pop_stipulation.specs.declared.stipulation.Goal.TheVariants.{Mate}
+use Rattle.chess_attacks.specs.RuleSet.{RuleSet, captures_are_reborn, like_men_paralyse}
+use Rattle.chess_rules.specs.Play.{rebirth}
 use Rattle.chess_reach.specs.Reach.{Gets, guards}
 
 -- where a man ends and of which kind, in how many moves, and whether it is captured there
@@ -39,6 +42,17 @@ pub record IsGuarded (men : List (Option Man)) (c : Colour) (ends : Ends) (k t :
   pub off : (ends by).square ≢ k
   pub guards : guards c (ends by).kind (ends by).square t ≡ true
 
+-- a man of colour c ends on t, and, captured there, guards it from another square, where it is reborn
+pub record IsDefended (reborn : Bool) (men : List (Option Man)) (c : Colour) (ends : Ends) (t : ℕ) : Type 0 where
+  pub by : ℕ
+  pub ours : is_of_colour (man_on men by) c ≡ true
+  pub there : (ends by).square ≡ t
+  pub lives : reborn ≡ true
+  pub home : ℕ
+  pub rebirth : rebirth c (ends by).kind t ≡ Some home
+  pub off : home ≢ t
+  pub guards : guards c (ends by).kind home t ≡ true
+
 -- knights and pawns check by a leap: no man can stand between
 abbrev pub checks_by_leap : Kind → Bool
 checks_by_leap Knight = true
@@ -47,8 +61,12 @@ checks_by_leap k = false
 
 -- a knight or pawn that checks has made a move: the king wasn't in check before the last move (FIDE Laws
 -- 3.9.2), which opens lines of riders alone. If `standing_checks` (Madrasi), that move may also free a man.
+-- In Circe it isn't asked either.
 abbrev pub Arrives : Bool → End → Type 0
 Arrives standing_checks e = standing_checks ≡ false → checks_by_leap e.kind ≡ true → e.moves ≢ 0
+
+abbrev pub standing_checks : RuleSet → Bool
+standing_checks rule = like_men_paralyse rule || captures_are_reborn rule
 
 -- a man of colour c checks the king on k from its end
 pub record IsChecked (standing_checks : Bool) (men : List (Option Man)) (c : Colour) (ends : Ends) (k : ℕ) : Type 0 where
@@ -77,23 +95,25 @@ is_prey men c ends t s =
     (is_of_colour (man_on men s) (other c) && not (is_man (man_on men s) (other c) King))
     && ((ends s).taken && captures_to c (ends s).square t)
 
--- a pawn of colour d may capture on t: where it is of colour c, only a man that ends so
-unfoldable pub may_capture : List (Option Man) → Colour → Ends → Colour → ℕ → Bool
-may_capture men c ends d t = not (same_colour d c) || some_square (is_prey men c ends t)
+-- a pawn of colour d may capture on t: where it is of colour c, only a man that ends so, or that is reborn
+unfoldable pub may_capture : Bool → List (Option Man) → Colour → Ends → Colour → ℕ → Bool
+may_capture reborn men c ends d t =
+    reborn || (not (same_colour d c) || some_square (is_prey men c ends t))
 
 -- colour c makes n moves and the other side m; the king of the other side ends on k, not next to the king of
 -- colour c; it can't move there, and for mate is in check
-pub record IsPlan (goal : Goal) (standing_checks : Bool) (p : Position) (c : Colour) (n m k : ℕ) (ends : Ends) : Type 0 where
+pub record IsPlan (goal : Goal) (standing_checks reborn : Bool) (p : Position) (c : Colour) (n m k : ℕ) (ends : Ends) : Type 0 where
   pub gets : (s : ℕ) (x : Man) → man_on p.men s ≡ Some x
-      → Gets (may_promote p) (may_capture p.men c ends x.colour) x.colour (ends s).moves x.kind s
-      (ends s).kind (ends s).square
+      → Gets reborn (may_promote p) (may_capture reborn p.men c ends x.colour) x.colour (ends s).moves
+      x.kind s (ends s).kind (ends s).square
   pub ours : price p.men c ends ≤ n
   pub theirs : price p.men (other c) ends ≤ m
   pub king : (s : ℕ) → is_man (man_on p.men s) (other c) King ≡ true → (ends s).square ≡ k
   pub apart : (s : ℕ) → is_man (man_on p.men s) c King ≡ true
       → guards c King (ends s).square k ≡ false
   pub around : (t : ℕ) → guards (other c) King k t ≡ true
-      → IsGuarded p.men c ends k t ⊎ IsBlocked p.men (other c) ends t
+      → IsGuarded p.men c ends k t ⊎ (IsDefended reborn p.men c ends t
+      ⊎ IsBlocked p.men (other c) ends t)
   pub check : goal ≡ Mate → IsChecked standing_checks p.men c ends k
 
 -- the square from which a colour's king castles (FIDE Laws 3.8.2)

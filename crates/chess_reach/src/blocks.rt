@@ -42,17 +42,17 @@ pub(crate) fn all_blockable(blocks: &Blocks) -> Squares
 
 /// Returns the squares to which the men of a colour get, other than its king, by the number of moves up to
 /// `most`.
-pub(crate) fn blocks_of(board: &Board, colour: Colour, most: usize) -> Blocks
+pub(crate) fn blocks_of(board: &Board, colour: Colour, most: usize, are_reborn: bool) -> Blocks
     requires { most < 9 }
     ensures { (allowed : Kind → Bool) → IsUsual allowed
-        → AreBlocks allowed board.now.men colour most result }
+        → AreBlocks are_reborn allowed board.now.men colour most result }
 {
     let mut blocks = [0u64; MOVES];
     let men = board.side(colour) & !board.squares(colour, Kind::King);
     let mut rest = men;
     while let Some(from) = pop_first(&mut rest) {
         if let Some(man) = board.man_at(from) {
-            let chain = chain_of(man, from, most, Squares::MAX);
+            let chain = chain_of(man, from, most, Squares::MAX, are_reborn);
             add_man(&mut blocks, &chain);
         }
     }

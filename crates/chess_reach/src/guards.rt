@@ -1,12 +1,13 @@
 //! The mating side's men: where each can be, and from where it guards a square.
-ghost use Rattle.std.specs.Prelude.{◌≡◌, ◌≢◌, ◌+◌, ◌<◌, ◌≤◌, ℕ, true, IfSome, MatchOption, slice_index_or};
+ghost use Rattle.chess_rules.specs.Play.{rebirth};
+ghost use Rattle.std.specs.Prelude.{◌≡◌, ◌≢◌, ◌+◌, ◌<◌, ◌≤◌, ℕ, true, IfSome, Some, MatchOption, slice_index_or};
 ghost use Rattle.chess_core.specs.declared.man.Kind.{Kind};
 ghost use Rattle.chess_reach.specs.Reach.{guards};
 ghost use Rattle.chess_reach.specs.ties.Whereabouts.{has};
 ghost use Rattle.chess_reach.specs.ties.Ways.{CanBe, nowhere};
 ghost use Rattle.chess_reach.specs.ties.Guards.{AreGuards};
 
-use crate::ways::{Chain, MOVES, chain_of, without_hops};
+use crate::ways::{Chain, MOVES, at_rest, chain_of, without_hops};
 use crate::whereabouts::Whereabouts;
 use chess_attacks::unblocked::unblocked_reach;
 use chess_attacks::words::pop_first;
@@ -96,6 +97,37 @@ impl Guard {
         }
     }
 
+    // Returns where a man of this colour holds `square` from, other than `king`: from where it guards it, and on
+    // the square itself, if it guards it from where it is reborn.
+    pub(crate) fn holding(
+        &self,
+        colour: Colour,
+        king: Square,
+        square: Square,
+        are_reborn: bool,
+    ) -> Whereabouts
+        ensures guarded { (j : Kind) (s : ℕ) → s < 64 → CanBe self.now.kind j → s ≢ king
+            → guards colour j s square ≡ true → has self.now.kind j s result ≡ true }
+        ensures defended { (j : Kind) (h : ℕ) → CanBe self.now.kind j → are_reborn ≡ true → h ≢ square
+            → rebirth colour j square ≡ Some h → guards colour j h square ≡ true
+            → has self.now.kind j square result ≡ true }
+    {
+        // For the proof: a square's number is below 64.
+        let _small = square.index();
+        let guarding = self.guarding(colour, king, square);
+        if !are_reborn {
+            return guarding;
+        }
+        let kind = self.kind;
+        let homes = at_rest(
+            Man { colour, kind },
+            &Whereabouts::promoted_too(square),
+            true,
+        );
+        let lines = self.guarding(colour, square, square);
+        guarding.joined(&lines.within(&homes).all_to(square))
+    }
+
     // Returns the squares that a man of this colour guards from these, or `seen` if they are many. For speed
     // only.
     #[inline(always)]
@@ -142,10 +174,11 @@ pub(crate) fn list_guards(
     colour: Colour,
     most: usize,
     prey: Squares,
+    are_reborn: bool,
     guards: &mut [Guard; MEN],
 ) -> Option<usize>
     requires { most < 9 }
-    ensures { IfSome result (λ count. AreGuards prey board.now.men colour most guards.new count) }
+    ensures { IfSome result (λ count. AreGuards are_reborn prey board.now.men colour most guards.new count) }
 {
     let mut rest = board.side(colour);
     let mut count = 0;
@@ -167,6 +200,7 @@ pub(crate) fn list_guards(
                 from,
                 most,
                 prey,
+                are_reborn,
             ),
         };
         count += 1;

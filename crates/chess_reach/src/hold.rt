@@ -3,7 +3,7 @@ ghost use Rattle.std.specs.Prelude.{◌≡◌, ◌+◌, ◌<◌, ◌≤◌, ◌=
 ghost use Rattle.std.specs.Int.{bit_at};
 ghost use Rattle.chess_core.specs.declared.man.Man.{Man};
 ghost use Rattle.chess_reach.specs.Plans.{Arrives, End, Ends};
-ghost use Rattle.chess_reach.specs.ties.Guards.{CanEnd};
+ghost use Rattle.chess_reach.specs.ties.Guards.{CanEnd, StaysAway};
 ghost use Rattle.chess_reach.specs.ties.Hold.{DoesCheck, Holds, IsIn};
 ghost use Rattle.chess_reach.specs.ties.Whereabouts.{has};
 
@@ -34,6 +34,8 @@ pub(crate) struct Ending {
     pub(crate) goal: Goal,
     /// Whether a knight or pawn that makes no move may check.
     pub(crate) standing_checks: bool,
+    /// Whether captured men are reborn.
+    pub(crate) are_reborn: bool,
 }
 
 /// What a plan has to hold, and who may hold it.
@@ -105,7 +107,7 @@ fn narrowed_later(
 
 // Returns the place with these squares instead, if the guard gets to one of them in at most `spare` moves more
 // and checks from there. A knight or pawn has to arrive: a knight that stands there leaves and comes back, and a
-// pawn doesn't come back.
+// pawn doesn't come back. In Circe that isn't asked.
 fn checking(
     quest: &Quest,
     guard: &Guard,
@@ -115,12 +117,13 @@ fn checking(
 ) -> Option<Place>
     ensures within { IfSome result (λ p. (place.now.moves ≤ p.moves)
         × (p.moves ≤ place.now.moves + spare)) }
-    ensures kept { (e : End) → CanEnd guard.now e → place.now.moves ≤ e.moves
+    ensures kept { (e : End) → CanEnd guard.now e → StaysAway quest.now.ending.are_reborn guard.now e
+        → place.now.moves ≤ e.moves
         → e.moves ≤ place.now.moves + spare → has guard.now.kind e.kind e.square squares.now ≡ true
         → Arrives quest.now.ending.standing_checks e
         → MatchOption result ⊥ (λ p. IsIn guard.now p e) }
 {
-    if quest.ending.standing_checks {
+    if quest.ending.standing_checks || quest.ending.are_reborn {
         return narrowed(guard, place, squares, spare);
     }
     let away = squares.without(&Whereabouts::at(guard.from));
@@ -237,7 +240,7 @@ pub(crate) fn can_hold(
     for i in 0..quest.count {
         let guard = &quest.guards[i];
         let place = left[i];
-        let guarding = guard.guarding(quest.colour, quest.king, square);
+        let guarding = guard.holding(quest.colour, quest.king, square, quest.ending.are_reborn);
         let kept = narrowed(guard, &place, &place.squares.within(&guarding), spare);
         if let Some(kept) = kept {
             left[i] = kept;

@@ -1,10 +1,9 @@
 //! The squares on which the king of the side to be mated can still end.
-ghost use Rattle.std.specs.Prelude.{◌≡◌, ◌≢◌, ◌≤◌, ◌+◌, ◌-◌, ◌/◌, ◌^◌, true, false, is_some};
-ghost use Rattle.chess_attacks.specs.RuleSet.{captures_are_reborn};
+ghost use Rattle.std.specs.Prelude.{◌≡◌, ◌≢◌, ◌≤◌, ◌+◌, ◌-◌, ◌/◌, ◌^◌, true, is_some};
 ghost use Rattle.chess_core.specs.Position.{king_square};
 ghost use Rattle.chess_core.specs.WellFormed.{IsWellFormed};
 ghost use Rattle.chess_reach.specs.Lines.{HoldsEnds, mover};
-ghost use Rattle.chess_reach.specs.Plans.{king_home, saved_moves};
+ghost use Rattle.chess_reach.specs.Plans.{king_home, saved_moves, standing_checks};
 
 use crate::hold::Ending;
 use crate::planned_squares::planned_squares;
@@ -28,14 +27,15 @@ pub fn mating_squares<R: Rules>(
 {
     let mating = last_mover(board.turn(), half_moves);
     let mated = mating.other();
-    if !lines_have_plans::<R>(board, mated, half_moves) {
+    if !lines_have_plans(board, mated, half_moves) {
         return squares;
     }
     let ours = with_castling(board, mating, last_mover_moves(half_moves));
     let theirs = with_castling(board, mated, half_moves / 2);
     let ending = Ending {
         goal,
-        standing_checks: R::like_men_paralyse(),
+        standing_checks: standing_checks::<R>(),
+        are_reborn: R::captures_are_reborn(),
     };
     planned_squares(board, ending, mating, ours, theirs, squares)
 }
@@ -51,15 +51,21 @@ fn last_mover(turn: Colour, half_moves: usize) -> Colour
     }
 }
 
-// Returns whether each line that reaches the goal has a plan: both sides still move, captured men aren't
-// reborn, and the side to be mated has a king.
-fn lines_have_plans<R: Rules>(board: &Board, mated: Colour, half_moves: usize) -> bool
+// Returns whether a knight or pawn that makes no move may check.
+fn standing_checks<R: Rules>() -> bool
+    ensures { result ≡ standing_checks R.rule }
+{
+    R::like_men_paralyse() || R::captures_are_reborn()
+}
+
+// Returns whether each line that reaches the goal has a plan: both sides still move, and the side to be mated has
+// a king.
+fn lines_have_plans(board: &Board, mated: Colour, half_moves: usize) -> bool
     ensures moves { result ≡ true → half_moves ≢ 0 }
     ensures more { result ≡ true → half_moves ≢ 1 }
-    ensures rule { result ≡ true → captures_are_reborn R.rule ≡ false }
     ensures king { result ≡ true → is_some (king_square board.now.men mated) ≡ true }
 {
-    half_moves > 1 && !R::captures_are_reborn() && board.king_of(mated).is_some()
+    half_moves > 1 && board.king_of(mated).is_some()
 }
 
 // Returns how many of `half_moves` half-moves the side that makes the last one makes.

@@ -91,9 +91,9 @@ fn may_have_plan(quest: &Quest, king: &Guard, ours: usize, theirs: usize, captur
     requires moves { ours < 9 }
     requires captured { captured ≤ theirs }
     ensures { (prey : ℕ) (p : Position) (ends : Ends)
-        → IsPlan quest.now.ending.goal quest.now.ending.standing_checks p quest.now.colour ours theirs
+        → IsPlan quest.now.ending.goal quest.now.ending.standing_checks quest.now.ending.are_reborn p quest.now.colour ours theirs
         quest.now.king ends
-        → Captures prey captured p quest.now.colour ends
+        → Captures quest.now.ending.are_reborn prey captured p quest.now.colour ends
         → IsQuestOf prey p quest.now king.now ours theirs → result ≡ true }
 {
     // For the proof: a square's number is below 64.
@@ -126,12 +126,16 @@ fn captured_from(mating: Colour, men: Squares) -> Squares
     }
 }
 
-// Returns the squares to which pawns of this colour capture men that haven't moved. Without pawns they are all
+// Returns the squares to which pawns of this colour capture men that haven't moved. Without pawns, and in Circe, they are all
 // squares.
-fn prey(board: &Board, mating: Colour) -> Squares
-    ensures { (s t : ℕ) → s < 64 → t < 64 → is_blocker board.now.men (other mating) s ≡ true
+fn prey(board: &Board, mating: Colour, are_reborn: bool) -> Squares
+    ensures reborn { are_reborn ≡ true → result ≡ 2 ^ 64 - 1 }
+    ensures here { (s t : ℕ) → s < 64 → t < 64 → is_blocker board.now.men (other mating) s ≡ true
         → captures_to mating s t ≡ true → (bit_at result t == 1) ≡ true }
 {
+    if are_reborn {
+        return Squares::MAX;
+    }
     if board.squares(mating, Kind::Pawn) == 0 {
         return Squares::MAX;
     }
@@ -140,13 +144,16 @@ fn prey(board: &Board, mating: Colour) -> Squares
     captured_from(mating, men)
 }
 
-// Returns the squares to which pawns of this colour capture men where these get. Without pawns they are all
+// Returns the squares to which pawns of this colour capture men where these get. Without pawns, and in Circe, they are all
 // squares.
-fn lures(board: &Board, mating: Colour, blockable: &Blocks) -> Squares
+fn lures(board: &Board, mating: Colour, are_reborn: bool, blockable: &Blocks) -> Squares
     ensures { (n s t : ℕ) → n < 9 → s < 64 → t < 64
         → (bit_at (slice_index_or blockable.now n 0) s == 1) ≡ true
         → captures_to mating s t ≡ true → (bit_at result t == 1) ≡ true }
 {
+    if are_reborn {
+        return Squares::MAX;
+    }
     if board.squares(mating, Kind::Pawn) == 0 {
         return Squares::MAX;
     }
@@ -168,9 +175,9 @@ fn planned_part(
     requires captured { captured ≤ theirs }
     ensures planned { (prey : ℕ) (p : Position) (k : ℕ) (ends : Ends)
         → IsQuestOf prey p quest.old king.now ours theirs → k < 64
-        → IsPlan quest.old.ending.goal quest.old.ending.standing_checks p quest.old.colour ours theirs
+        → IsPlan quest.old.ending.goal quest.old.ending.standing_checks quest.old.ending.are_reborn p quest.old.colour ours theirs
         k ends
-        → Captures prey captured p quest.old.colour ends → (bit_at near k == 1) ≡ true
+        → Captures quest.old.ending.are_reborn prey captured p quest.old.colour ends → (bit_at near k == 1) ≡ true
         → (bit_at result k == 1) ≡ true }
     ensures colour { quest.new.colour ≡ quest.old.colour }
     ensures blockable { quest.new.blockable ≡ quest.old.blockable }
@@ -208,7 +215,7 @@ pub(crate) fn planned_squares(
 ) -> Squares
     requires { IsWellFormed board.now }
     ensures { (k : ℕ) (ends : Ends) → k < 64
-        → IsPlan ending.goal ending.standing_checks board.now mating ours theirs k ends
+        → IsPlan ending.goal ending.standing_checks ending.are_reborn board.now mating ours theirs k ends
         → (bit_at squares k == 1) ≡ true → (bit_at result k == 1) ≡ true }
 {
     if ours >= MOVES - 1 || theirs >= MOVES || board.may_promote(Kind::Nightrider) {
@@ -222,15 +229,21 @@ pub(crate) fn planned_squares(
     let king = Guard {
         kind,
         from,
-        chain: chain_of(Man { colour, kind }, from, theirs, Squares::MAX),
+        chain: chain_of(
+            Man { colour, kind },
+            from,
+            theirs,
+            Squares::MAX,
+            ending.are_reborn,
+        ),
     };
     let near = squares & king.chain[theirs].unpromoted;
     if near == 0 {
         return 0;
     }
-    let blockable = blocks_of(board, colour, theirs);
-    let prey = prey(board, mating);
-    let lures = lures(board, mating, &blockable);
+    let blockable = blocks_of(board, colour, theirs, ending.are_reborn);
+    let prey = prey(board, mating, ending.are_reborn);
+    let lures = lures(board, mating, ending.are_reborn, &blockable);
     let mut quest = Quest {
         ending,
         colour: mating,
@@ -239,7 +252,14 @@ pub(crate) fn planned_squares(
         guards: [Guard::unused(); MEN],
         blockable,
     };
-    let Some(count) = list_guards(board, mating, ours + 1, prey, &mut quest.guards) else {
+    let Some(count) = list_guards(
+        board,
+        mating,
+        ours + 1,
+        prey,
+        ending.are_reborn,
+        &mut quest.guards,
+    ) else {
         return squares;
     };
     quest.count = count;
@@ -248,7 +268,14 @@ pub(crate) fn planned_squares(
     if !may_lure(theirs, prey, lures, left) {
         return planned;
     }
-    let Some(count) = list_guards(board, mating, ours + 1, lures, &mut quest.guards) else {
+    let Some(count) = list_guards(
+        board,
+        mating,
+        ours + 1,
+        lures,
+        ending.are_reborn,
+        &mut quest.guards,
+    ) else {
         return squares;
     };
     quest.count = count;

@@ -1,17 +1,18 @@
 //! How far a man gets in a number of moves, wherever other men are.
-ghost use Rattle.std.specs.Prelude.{◌≡◌, ◌<◌, ◌≤◌, ◌==◌, ℕ, true, [], false, Bool};
+ghost use Rattle.std.specs.Prelude.{◌≡◌, ◌≢◌, ◌<◌, ◌≤◌, ◌==◌, ℕ, true, [], false, Bool, Some, if◌then◌else◌};
 ghost use Rattle.std.specs.Int.{bit_at};
-ghost use Rattle.chess_core.specs.Squares.{rank_of};
+ghost use Rattle.chess_core.specs.Squares.{file_of, rank_of};
 ghost use Rattle.chess_core.specs.declared.man.Colour.{Colour};
 ghost use Rattle.chess_core.specs.declared.man.Kind.{Kind};
-ghost use Rattle.chess_core.specs.declared.man.Kind.TheVariants.{King, Knight};
+ghost use Rattle.chess_core.specs.declared.man.Kind.TheVariants.{Bishop, Grasshopper, King, Knight, Nightrider, Pawn, Queen, Rook};
 ghost use Rattle.chess_attacks.specs.Reaches.{reaches_as};
 ghost use Rattle.chess_rules.specs.Legal.{last_rank, second_rank};
+ghost use Rattle.chess_rules.specs.Play.{is_light, rebirth};
 ghost use Rattle.chess_reach.specs.Reach.{pawn_goes, without_hops};
 ghost use Rattle.chess_reach.specs.ties.Whereabouts.{has};
-ghost use Rattle.chess_reach.specs.ties.Ways.{IsChain, Leads, TakesOn, steps_to};
+ghost use Rattle.chess_reach.specs.ties.Ways.{IsChain, Leads, Rests, TakesOn, by_side, steps_to};
 
-use crate::whereabouts::Whereabouts;
+use crate::whereabouts::{Whereabouts, if_any};
 use chess_attacks::leaps::{king_leaps, pawn_advances, pawn_leaps};
 use chess_attacks::unblocked::unblocked_reach;
 use chess_attacks::words::{contains, pop_first};
@@ -222,21 +223,176 @@ fn go_on(man: Man, before: &Whereabouts, prey: Squares) -> Whereabouts
     }
 }
 
+// The light squares.
+const LIGHT: Squares = 0x55AA_55AA_55AA_55AA;
+
+// Returns one of two bitboards, by the colour.
+#[inline(always)]
+fn by_side(colour: Colour, white: Squares, black: Squares) -> Squares
+    ensures { result ≡ by_side colour white black }
+{
+    match colour {
+        Colour::White => white,
+        Colour::Black => black,
+    }
+}
+
+// Returns the first homes if some of the squares is light, and the second if some is dark.
+#[inline(always)]
+fn by_shade(squares: Squares, light: Squares, dark: Squares) -> Squares
+    ensures { (s h : ℕ) → s < 64 → (bit_at squares s == 1) ≡ true
+        → (bit_at (if is_light s then light else dark) h == 1) ≡ true
+        → (bit_at result h == 1) ≡ true }
+{
+    if_any(squares & LIGHT, light) | if_any(squares & !LIGHT, dark)
+}
+
+// Returns all squares of the files of these.
+#[inline(always)]
+fn whole_files(squares: Squares) -> Squares
+    ensures { (s t : ℕ) → s < 64 → t < 64 → (bit_at squares s == 1) ≡ true → file_of t ≡ file_of s
+        → (bit_at result t == 1) ≡ true }
+{
+    let two = squares | squares << 8 | squares >> 8;
+    let four = two | two << 16 | two >> 16;
+    four | four << 32 | four >> 32
+}
+
+// Returns the square on which queens are reborn.
+#[inline(always)]
+fn queen_home(colour: Colour) -> Squares
+    ensures { (s h : ℕ) → rebirth colour Queen s ≡ Some h → (bit_at result h == 1) ≡ true }
+{
+    by_side(colour, 0x08, 0x0800_0000_0000_0000)
+}
+
+// Returns the squares on which rooks are reborn that are captured on these.
+#[inline(always)]
+fn rook_homes(colour: Colour, squares: Squares) -> Squares
+    ensures { (s h : ℕ) → s < 64 → (bit_at squares s == 1) ≡ true
+        → rebirth colour Rook s ≡ Some h → (bit_at result h == 1) ≡ true }
+{
+    let light = by_side(colour, 0x80, 0x0100_0000_0000_0000);
+    let dark = by_side(colour, 0x01, 0x8000_0000_0000_0000);
+    by_shade(squares, light, dark)
+}
+
+// Returns the squares on which bishops are reborn that are captured on these.
+#[inline(always)]
+fn bishop_homes(colour: Colour, squares: Squares) -> Squares
+    ensures { (s h : ℕ) → s < 64 → (bit_at squares s == 1) ≡ true
+        → rebirth colour Bishop s ≡ Some h → (bit_at result h == 1) ≡ true }
+{
+    let light = by_side(colour, 0x20, 0x0400_0000_0000_0000);
+    let dark = by_side(colour, 0x04, 0x2000_0000_0000_0000);
+    by_shade(squares, light, dark)
+}
+
+// Returns the squares on which knights are reborn that are captured on these.
+#[inline(always)]
+fn knight_homes(colour: Colour, squares: Squares) -> Squares
+    ensures { (s h : ℕ) → s < 64 → (bit_at squares s == 1) ≡ true
+        → rebirth colour Knight s ≡ Some h → (bit_at result h == 1) ≡ true }
+{
+    let light = by_side(colour, 0x02, 0x4000_0000_0000_0000);
+    let dark = by_side(colour, 0x40, 0x0200_0000_0000_0000);
+    by_shade(squares, light, dark)
+}
+
+// Returns the squares on which pawns are reborn that are captured on these.
+#[inline(always)]
+fn pawn_homes(colour: Colour, squares: Squares) -> Squares
+    ensures { (s h : ℕ) → s < 64 → (bit_at squares s == 1) ≡ true
+        → rebirth colour Pawn s ≡ Some h → (bit_at result h == 1) ≡ true }
+{
+    whole_files(squares) & second_rank(colour)
+}
+
+// Returns the squares on which fairy men are reborn that are captured on these.
+#[inline(always)]
+fn fairy_homes(colour: Colour, squares: Squares) -> Squares
+    ensures grasshoppers { (s h : ℕ) → s < 64 → (bit_at squares s == 1) ≡ true
+        → rebirth colour Grasshopper s ≡ Some h → (bit_at result h == 1) ≡ true }
+    ensures nightriders { (s h : ℕ) → s < 64 → (bit_at squares s == 1) ≡ true
+        → rebirth colour Nightrider s ≡ Some h → (bit_at result h == 1) ≡ true }
+{
+    whole_files(squares) & last_rank(colour)
+}
+
+// Returns the squares on which men of this kind are reborn that are captured on these (Popeye manual, Circe).
+fn homes(colour: Colour, kind: Kind, squares: Squares) -> Squares
+    ensures { (s h : ℕ) → s < 64 → (bit_at squares s == 1) ≡ true
+        → rebirth colour kind s ≡ Some h → (bit_at result h == 1) ≡ true }
+{
+    match kind {
+        Kind::King => 0,
+        Kind::Queen => queen_home(colour),
+        Kind::Rook => rook_homes(colour, squares),
+        Kind::Bishop => bishop_homes(colour, squares),
+        Kind::Knight => knight_homes(colour, squares),
+        Kind::Pawn => pawn_homes(colour, squares),
+        Kind::Grasshopper => fairy_homes(colour, squares),
+        Kind::Nightrider => fairy_homes(colour, squares),
+    }
+}
+
+// Returns the squares on which promoted men other than knights and nightriders are reborn that are captured on
+// these.
+fn promoted_homes(colour: Colour, squares: Squares) -> Squares
+    ensures { (kind : Kind) (s h : ℕ) → kind ≢ Knight → kind ≢ Nightrider → kind ≢ Pawn → s < 64
+        → (bit_at squares s == 1) ≡ true → rebirth colour kind s ≡ Some h
+        → (bit_at result h == 1) ≡ true }
+{
+    let queens = queen_home(colour);
+    let rooks = rook_homes(colour, squares);
+    let bishops = bishop_homes(colour, squares);
+    let grasshoppers = fairy_homes(colour, squares);
+    if_any(squares, queens | rooks | bishops | grasshoppers)
+}
+
+/// Returns where a man can be without another move from where it can be: there, and if men are reborn, on the
+/// squares of its rebirth.
+pub(crate) fn at_rest(man: Man, at: &Whereabouts, are_reborn: bool) -> Whereabouts
+    ensures kept { (j : Kind) (t : ℕ) → t < 64 → has man.kind j t at.now ≡ true
+        → has man.kind j t result ≡ true }
+    ensures reborn { Rests are_reborn man at.now result }
+{
+    if !are_reborn {
+        return *at;
+    }
+    let own = homes(man.colour, man.kind, at.unpromoted);
+    let promoted = promoted_homes(man.colour, at.queen);
+    let knights = knight_homes(man.colour, at.knight);
+    Whereabouts {
+        unpromoted: at.unpromoted | own,
+        queen: at.queen | promoted,
+        knight: at.knight | knights,
+    }
+}
+
 /// Returns where the man can be within each number of moves, up to `most`, if it captures as a pawn on squares
 /// of `prey` alone.
 #[inline(always)]
-pub(crate) fn chain_of(man: Man, from: Square, most: usize, prey: Squares) -> Chain
-    ensures { most < 9 → IsChain prey man from most result }
+pub(crate) fn chain_of(
+    man: Man,
+    from: Square,
+    most: usize,
+    prey: Squares,
+    are_reborn: bool,
+) -> Chain
+    ensures { most < 9 → IsChain are_reborn prey man from most result }
 {
     // For the proof: a square's number is below 64.
     let _small = from.index();
-    let mut now = Whereabouts::at(from);
+    let here = Whereabouts::at(from);
+    let mut now = at_rest(man, &here, are_reborn);
     let mut chain = [now; MOVES];
     for n in 1..MOVES {
         if n > most {
             return chain;
         }
-        now = go_on(man, &now, prey);
+        let next = go_on(man, &now, prey);
+        now = at_rest(man, &next, are_reborn);
         chain[n] = now;
     }
     chain

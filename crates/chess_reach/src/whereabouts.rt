@@ -20,6 +20,18 @@ pub(crate) struct Whereabouts {
     pub(crate) knight: Squares,
 }
 
+/// Returns `homes` if there are squares, otherwise no square.
+#[inline(always)]
+pub(crate) fn if_any(squares: Squares, homes: Squares) -> Squares
+    ensures { (s h : ℕ) → (bit_at squares s == 1) ≡ true → (bit_at homes h == 1) ≡ true
+        → (bit_at result h == 1) ≡ true }
+{
+    if squares == 0 {
+        return 0;
+    }
+    homes
+}
+
 impl Whereabouts {
     // Returns no square.
     #[inline(always)]
@@ -43,6 +55,47 @@ impl Whereabouts {
             unpromoted: 1u64 << square.index(),
             queen: 0,
             knight: 0,
+        }
+    }
+
+    // Returns this square alone, for a man that may be promoted on it.
+    #[tactic(auto, using(crate::proofs::Parts::has_all))]
+    #[inline(always)]
+    pub(crate) fn promoted_too(square: Square) -> Whereabouts
+        ensures { (k j : Kind) → has k j square result ≡ true }
+    {
+        let here = 1u64 << square.index();
+        Whereabouts {
+            unpromoted: here,
+            queen: here,
+            knight: here,
+        }
+    }
+
+    // Returns this square alone, for what the man can be at all.
+    #[inline(always)]
+    pub(crate) fn all_to(&self, square: Square) -> Whereabouts
+        ensures { (k j : Kind) (s : ℕ) → has k j s self.now ≡ true → has k j square result ≡ true }
+    {
+        let here = 1u64 << square.index();
+        Whereabouts {
+            unpromoted: if_any(self.unpromoted, here),
+            queen: if_any(self.queen, here),
+            knight: if_any(self.knight, here),
+        }
+    }
+
+    // Returns the squares of either.
+    #[tactic(auto, using(crate::proofs::Parts::has_left, crate::proofs::Parts::has_right))]
+    #[inline(always)]
+    pub(crate) fn joined(&self, other: &Whereabouts) -> Whereabouts
+        ensures first { (k j : Kind) (t : ℕ) → has k j t self.now ≡ true → has k j t result ≡ true }
+        ensures second { (k j : Kind) (t : ℕ) → has k j t other.now ≡ true → has k j t result ≡ true }
+    {
+        Whereabouts {
+            unpromoted: self.unpromoted | other.unpromoted,
+            queen: self.queen | other.queen,
+            knight: self.knight | other.knight,
         }
     }
 

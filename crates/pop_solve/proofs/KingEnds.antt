@@ -5,7 +5,6 @@ use Rattle.chess_core.specs.Position.{is_man, king_square, man_on, other}
 use Rattle.chess_core.specs.declared.man.Colour.{Colour}
 use Rattle.chess_core.specs.declared.man.Colour.TheVariants.{Black, White}
 use Rattle.chess_core.specs.declared.man.Kind.TheVariants.{King}
-use Rattle.chess_attacks.specs.RuleSet.{captures_are_reborn}
 use Rattle.chess_attacks.proofs.rays.OnSquares.{on_board}
 use Rattle.chess_rules.proofs.legality.Blocking.{king_is, man_there}
 use Rattle.chess_rules.proofs.legality.StayingInCheck.{king_there}
@@ -32,7 +31,7 @@ found p c e well king =
 off-square : (w e : ℕ) (o : Option ℕ) → o ≡ Some e → bit_at w e ≡ 0 → holds_king w o ≡ true → ⊥
 off-square w e o at lacks holds = false≢true (sym (rw (at, lacks) refl) ∙ holds)
 
-module _ (rule : RuleSet) (p : Position) (m : Move) (none_reborn : captures_are_reborn rule ≡ false) (well : IsWellFormed p)
+module _ (rule : RuleSet) (p : Position) (m : Move) (well : IsWellFormed p)
     (legal : is_legal rule p m ≡ true) (k : ℕ) (at : king_square p.men p.turn ≡ Some k) where
   abbrev q : Position
   q = position_after rule p m
@@ -48,10 +47,10 @@ module _ (rule : RuleSet) (p : Position) (m : Move) (none_reborn : captures_are_
   king-end =
       let from = (king_there p.men p.turn k at).1 in
       elim (cases (eqb m.from k)) [
-        | inl apart ↦ rw apart (king_stays_behind rule p m none_reborn well legal k from (grind (arith, nat_tests)))
+        | inl apart ↦ rw apart (king_stays_behind rule p m well legal k from (grind (arith, nat_tests)))
         | inr same ↦
             let e : m.from ≡ k = grind (arith, nat_tests) in
-            rw same (king_goes_along rule p m none_reborn well legal (rw e from))
+            rw same (king_goes_along rule p m well legal (rw e from))
       ]
 
   -- it stays there when the other side moves
@@ -60,7 +59,7 @@ module _ (rule : RuleSet) (p : Position) (m : Move) (none_reborn : captures_are_
   king-stays n lawful =
       let turn : q.turn ≡ other p.turn = turn_after rule p m well legal in
       let mine : other q.turn ≡ p.turn = rw turn (twice p.turn) in
-      let stays = waiting_king_stays rule q n none_reborn well-q lawful end (rw mine king-end) in
+      let stays = waiting_king_stays rule q n well-q lawful end (rw mine king-end) in
       let well-r = after_well_formed rule q n well-q (is_pseudo_legal-from_legal rule q n lawful) in
       rw (turn_after rule q n well-q lawful) (found (position_after rule q n) (other q.turn) end well-r stays)
 
@@ -84,4 +83,4 @@ pub king_off : (rule : RuleSet) (goal : Goal) (p : Position) (m : Move) (w t : �
     → t ≡ 1 → HoldsEnds goal rule (t + 1) p w → HoldsEnds goal rule t (position_after rule p m) 0
 king_off rule goal p m w t well legal off one ends =
     let after : HoldsEnds goal rule 1 (position_after rule p m) w = rw (← one) (ends_after rule goal t w p m legal ends) in
-    rw one (none-ends rule p m off.none_reborn well legal off.king off.at goal w off.off after)
+    rw one (none-ends rule p m well legal off.king off.at goal w off.off after)

@@ -43,9 +43,6 @@ fn ends_off<R: Rules>(squares: Squares, by: Move, board: &Board) -> bool
     requires legal { is_legal R.rule board.now by ≡ true }
     ensures { result ≡ true → IsKingOff R.rule board.now by squares }
 {
-    if R::captures_are_reborn() {
-        return false;
-    }
     let Some(king) = board.king_of(board.turn()) else {
         return false;
     };
@@ -90,7 +87,6 @@ fn may_compute<R: Rules>(left: usize, board: &Board) -> bool {
         board.turn().other()
     };
     left >= FEWEST_COMPUTED
-        && !R::captures_are_reborn()
         && board.side(mating).count_ones() <= MOST_COMPUTED
 }
 

@@ -1,5 +1,5 @@
 -- The men and squares among which a plan is searched (own).
-use Rattle.std.specs.Prelude.{ℕ, ◌≡◌, ◌≢◌, ◌≤◌, ◌<◌, ◌==◌, Bool, true, ◌&&◌, not, if◌then◌else◌, [], List, Option, Some, slice_index_or}
+use Rattle.std.specs.Prelude.{ℕ, ◌≡◌, ◌≢◌, ◌≤◌, ◌<◌, ◌==◌, Bool, false, true, ◌&&◌, not, if◌then◌else◌, [], List, Option, Some, slice_index_or}
 use Rattle.std.specs.Int.{bit_at}
 use Rattle.std.specs.List.{range_with_len, sum_by}
 use Rattle.chess_core.specs.Position.{is_man, is_of_colour, man_on}
@@ -29,17 +29,20 @@ pub record CanEnd (g : Guard) (e : End) : Type 0 where
   pub be : CanBe g.kind e.kind
   pub small : e.square < 64
   pub stands : e.moves ≡ 0 → g.kind ≡ e.kind
-  pub returns : g.kind ≡ Knight → e.square ≡ g.from → e.moves ≢ 1
-  pub advances : g.kind ≡ Pawn → e.kind ≡ Pawn → e.square ≡ g.from → e.moves ≡ 0
+
+-- where nobody is reborn, a knight isn't back on its square after one move, and a pawn never
+pub record StaysAway (rb : Bool) (g : Guard) (e : End) : Type 0 where
+  pub returns : rb ≡ false → g.kind ≡ Knight → e.square ≡ g.from → e.moves ≢ 1
+  pub advances : rb ≡ false → g.kind ≡ Pawn → e.kind ≡ Pawn → e.square ≡ g.from → e.moves ≡ 0
 
 -- the guards are the men of colour c, each with its chain of m moves and captures on the bitboard `prey`
-pub record AreGuards (prey : ℕ) (men : List (Option Man)) (c : Colour) (m : ℕ) (gs : List Guard) (count : ℕ) : Type 0 where
+pub record AreGuards (rb : Bool) (prey : ℕ) (men : List (Option Man)) (c : Colour) (m : ℕ) (gs : List Guard) (count : ℕ) : Type 0 where
   pub few : count ≤ 8
   pub each : (i : ℕ) → i < count
       → man_on men (guard_at gs i).from ≡ Some (record { colour = c; kind = (guard_at gs i).kind })
   pub small : (i : ℕ) → i < count → (guard_at gs i).from < 64
   pub chains : (i : ℕ) → i < count
-      → IsChain prey (record { colour = c; kind = (guard_at gs i).kind }) (guard_at gs i).from m (guard_at gs i).chain
+      → IsChain rb prey (record { colour = c; kind = (guard_at gs i).kind }) (guard_at gs i).from m (guard_at gs i).chain
   pub all : (s : ℕ) → s < 64 → is_of_colour (man_on men s) c ≡ true
       → (i : ℕ) × (i < count) × ((guard_at gs i).from ≡ s)
   pub sum : (f : ℕ → ℕ) → sum_by (λ i. f (guard_at gs i).from) (range_with_len 0 count)
@@ -50,7 +53,7 @@ abbrev pub is_blocker : List (Option Man) → Colour → ℕ → Bool
 is_blocker men c s = is_of_colour (man_on men s) c && not (is_man (man_on men s) c King)
 
 -- the squares of ws to which men of colour c other than the king get, by the number of moves, up to m
-pub record AreBlocks (allowed : Kind → Bool) (men : List (Option Man)) (c : Colour) (m : ℕ) (ws : List ℕ) : Type 0 where
+pub record AreBlocks (rb : Bool) (allowed : Kind → Bool) (men : List (Option Man)) (c : Colour) (m : ℕ) (ws : List ℕ) : Type 0 where
   pub gets : (s : ℕ) (x : Man) (n : ℕ) (j : Kind) (t : ℕ) → s < 64 → man_on men s ≡ Some x
-      → is_blocker men c s ≡ true → n ≤ m → (takes : ℕ → Bool) → Gets allowed takes x.colour n x.kind s j t
+      → is_blocker men c s ≡ true → n ≤ m → (takes : ℕ → Bool) → Gets rb allowed takes x.colour n x.kind s j t
       → (bit_at (slice_index_or ws n 0) t == 1) ≡ true

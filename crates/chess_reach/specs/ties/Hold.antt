@@ -12,7 +12,8 @@ use Rattle.chess_reach.specs.Reach.{guards}
 use Rattle.chess_reach.specs.declared.guards.Guard.{Guard}
 use Rattle.chess_reach.specs.declared.hold.Place.{Place}
 use Rattle.chess_reach.specs.declared.hold.Quest.{Quest}
-use Rattle.chess_reach.specs.ties.Guards.{AreBlocks, AreGuards, CanEnd, guard_at, is_blocker}
+use Rattle.chess_rules.specs.Play.{rebirth}
+use Rattle.chess_reach.specs.ties.Guards.{AreBlocks, AreGuards, CanEnd, StaysAway, guard_at, is_blocker}
 use Rattle.chess_reach.specs.ties.Whereabouts.{has}
 use Rattle.chess_reach.specs.ties.Ways.{IsChain, IsUsual, TakesOn, nowhere}
 
@@ -34,6 +35,19 @@ abbrev pub DoesGuard : Quest → Ends → ℕ → ℕ → Type 0
 DoesGuard q ends t i = ((end_at q ends i).square ≢ q.king)
     × (guards q.colour (end_at q ends i).kind (end_at q ends i).square t ≡ true)
 
+-- the guard with number i ends on t, and, captured there, guards it from where it is reborn
+pub record DoesDefend (q : Quest) (ends : Ends) (t i : ℕ) : Type 0 where
+  pub lives : q.ending.are_reborn ≡ true
+  pub there : (end_at q ends i).square ≡ t
+  pub home : ℕ
+  pub rebirth : rebirth q.colour (end_at q ends i).kind t ≡ Some home
+  pub off : home ≢ t
+  pub guards : guards q.colour (end_at q ends i).kind home t ≡ true
+
+-- the guard with number i holds t
+abbrev pub DoesHold : Quest → Ends → ℕ → ℕ → Type 0
+DoesHold q ends t i = DoesGuard q ends t i ⊎ DoesDefend q ends t i
+
 -- the guard with number i checks from its end
 abbrev pub DoesCheck : Quest → Ends → ℕ → Type 0
 DoesCheck q ends i = DoesGuard q ends q.king i × Arrives q.ending.standing_checks (end_at q ends i)
@@ -41,7 +55,7 @@ DoesCheck q ends i = DoesGuard q ends q.king i × Arrives q.ending.standing_chec
 -- t is guarded or blocked
 abbrev pub IsHeld : Quest → List (Option Man) → Ends → ℕ → Type 0
 IsHeld q men ends t =
-    ((i : ℕ) × (i < q.count) × DoesGuard q ends t i)
+    ((i : ℕ) × (i < q.count) × DoesHold q ends t i)
     ⊎ ((s : ℕ) × (s < 64) × (is_blocker men (other q.colour) s ≡ true) × ((ends s).square ≡ t)
     × ((ends s).taken ≡ false))
 
@@ -62,6 +76,8 @@ unpaid q places ends =
 -- blockers that spend at most `theirs` moves
 pub record Holds (q : Quest) (men : List (Option Man)) (places : List Place) (w ours theirs : ℕ) (ends : Ends) : Type 0 where
   pub guards : (i : ℕ) → i < q.count → CanEnd (guard_at q.guards i) (end_at q ends i)
+  pub away : (i : ℕ) → i < q.count
+      → StaysAway q.ending.are_reborn (guard_at q.guards i) (end_at q ends i)
   pub blockers : (s : ℕ) → s < 64 → is_blocker men (other q.colour) s ≡ true
       → (bit_at (slice_index_or q.blockable (ends s).moves 0) (ends s).square == 1) ≡ true
   pub few : (s : ℕ) → s < 64 → is_blocker men (other q.colour) s ≡ true → (ends s).moves < 9
@@ -76,8 +92,8 @@ pub record IsApart (q : Quest) (ends : Ends) : Type 0 where
       → guards q.colour King (end_at q ends i).square q.king ≡ false
 
 -- guards capture as pawns on the bitboard `prey` alone, and some captured man makes at least n moves
-pub record Captures (prey n : ℕ) (p : Position) (c : Colour) (ends : Ends) : Type 0 where
-  pub on : TakesOn (may_capture p.men c ends c) prey
+pub record Captures (rb : Bool) (prey n : ℕ) (p : Position) (c : Colour) (ends : Ends) : Type 0 where
+  pub on : TakesOn (may_capture rb p.men c ends c) prey
   pub moves : 0 < n → (s : ℕ) × (s < 64) × (is_blocker p.men (other c) s ≡ true)
       × ((ends s).taken ≡ true) × (n ≤ (ends s).moves)
 
@@ -85,10 +101,11 @@ pub record Captures (prey n : ℕ) (p : Position) (c : Colour) (ends : Ends) : T
 pub record IsQuestOf (prey : ℕ) (p : Position) (q : Quest) (king : Guard) (ours theirs : ℕ) : Type 0 where
   pub size : length p.men ≡ 64
   pub few : theirs < 9
-  pub guards : AreGuards prey p.men q.colour ours q.guards q.count
-  pub blocks : AreBlocks (may_promote p) p.men (other q.colour) theirs q.blockable
+  pub guards : AreGuards q.ending.are_reborn prey p.men q.colour ours q.guards q.count
+  pub blocks : AreBlocks q.ending.are_reborn (may_promote p) p.men (other q.colour) theirs q.blockable
   pub usual : IsUsual (may_promote p)
   pub kind : king.kind ≡ King
   pub stands : king_square p.men (other q.colour) ≡ Some king.from
   pub small : king.from < 64
-  pub way : IsChain (2 ^ 64 - 1) (record { colour = other q.colour; kind = King }) king.from theirs king.chain
+  pub way : IsChain q.ending.are_reborn (2 ^ 64 - 1) (record { colour = other q.colour; kind = King })
+      king.from theirs king.chain

@@ -1,5 +1,6 @@
 -- Where a man gets, as the search for plans computes it (own).
 use Rattle.std.specs.Prelude.{ℕ, ◌≡◌, ◌≢◌, ◌≤◌, ◌<◌, ◌==◌, Bool, true, false, ◌||◌, ◌&&◌, List, slice_index_or}
+use Rattle.chess_core.specs.declared.man.Colour.TheVariants.{White, Black}
 use Rattle.std.specs.Int.{bit_at}
 use Rattle.chess_core.specs.Position.{same_kind}
 use Rattle.chess_core.specs.Squares.{is_square, rank_of}
@@ -10,7 +11,7 @@ use Rattle.chess_rules.specs.Legal.{second_rank}
 use Rattle.chess_core.specs.declared.man.Kind.{Kind}
 use Rattle.chess_core.specs.declared.man.Kind.TheVariants.{King, Nightrider, Pawn}
 use Rattle.chess_core.specs.declared.man.Man.{Man}
-use Rattle.chess_reach.specs.Reach.{Gets, goes}
+use Rattle.chess_reach.specs.Reach.{Gets, Starts, goes}
 use Rattle.chess_reach.specs.declared.whereabouts.Whereabouts.{Whereabouts}
 use Rattle.chess_reach.specs.ties.Whereabouts.{has}
 
@@ -22,6 +23,11 @@ nowhere = record { unpromoted = 0; queen = 0; knight = 0 }
 abbrev pub steps_to : Colour → ℕ → ℕ → Bool
 steps_to c s t = is_square (along s (forward c) 1) t
     || (rank_of s == second_rank c && is_square (along s (forward c) 2) t)
+
+-- one of two bitboards, by the colour
+abbrev pub by_side : Colour → ℕ → ℕ → ℕ
+by_side White w b = w
+by_side Black w b = b
 
 -- a man that is now of kind k can be of kind j: a pawn as itself or promoted, but not to nightrider, and
 -- another man as itself
@@ -47,11 +53,16 @@ pub record Leads (prey : ℕ) (x : Man) (b w : Whereabouts) : Type 0 where
       → allowed Pawn ≡ false → goes allowed takes x.colour i q j t ≡ true
       → has x.kind i q b ≡ true → has x.kind j t w ≡ true
 
+-- without a move the man can be from v on w
+pub record Rests (rb : Bool) (x : Man) (v w : Whereabouts) : Type 0 where
+  pub rests : (j : Kind) (r t : ℕ) → r < 64 → CanBe x.kind j → has x.kind j r v ≡ true
+      → Starts rb x.colour j r t → has x.kind j t w ≡ true
+
 -- within n moves, at most m, the man gets from s only to where the n-th of the chain has it; later ones
 -- have it too
-pub record IsChain (prey : ℕ) (x : Man) (s m : ℕ) (chain : List Whereabouts) : Type 0 where
+pub record IsChain (rb : Bool) (prey : ℕ) (x : Man) (s m : ℕ) (chain : List Whereabouts) : Type 0 where
   pub gets : (allowed : Kind → Bool) (takes : ℕ → Bool) (n : ℕ) (j : Kind) (t : ℕ) → TakesOn takes prey
-      → n ≤ m → IsUsual allowed → Gets allowed takes x.colour n x.kind s j t
+      → n ≤ m → IsUsual allowed → Gets rb allowed takes x.colour n x.kind s j t
       → has x.kind j t (slice_index_or chain n nowhere) ≡ true
   pub grows : (n l : ℕ) (j : Kind) (t : ℕ) → n ≤ l → l ≤ m → t < 64
       → has x.kind j t (slice_index_or chain n nowhere) ≡ true

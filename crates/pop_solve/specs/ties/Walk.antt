@@ -14,7 +14,7 @@ use Rattle.chess_rules.specs.Play.{position_after}
 use Rattle.chess_rules.specs.ties.Places.{IsPlaceIn, LegalPlace, moves_after}
 use Rattle.chess_flights.specs.ties.Mates.{is_mating}
 use Rattle.chess_rules.specs.Legal.{is_legal, is_mate}
-use Rattle.chess_attacks.specs.RuleSet.{RuleSet, captures_are_reborn}
+use Rattle.chess_attacks.specs.RuleSet.{RuleSet}
 use Rattle.std.specs.Int.{bit_at}
 use Rattle.pop_battle.specs.Game.{Game}
 pub use Rattle.pop_battle.specs.ties.Values.{attacker_to_move, value}
@@ -155,9 +155,8 @@ pub record AreEndsAfter (rule : RuleSet) (plan : Plan) (t : ℕ) (q : Position) 
     pub ends : HoldsEnds plan.goal rule t q e.squares
     pub same : e.goal ≡ plan.goal
 
--- after a move the mover's king is on none of these squares; no man is reborn
+-- after a move the mover's king is on none of these squares
 pub record IsKingOff (rule : RuleSet) (p : Position) (m : Move) (w : ℕ) : Type 0 where
-  pub none_reborn : captures_are_reborn rule ≡ false
   pub king : ℕ
   pub at : king_square p.men p.turn ≡ Some king
   pub off : bit_at w (if m.from == king then m.to else king) ≡ 0

@@ -8,7 +8,7 @@ pub loop-from-preserved-in-Some-man_at : goal.loop-from-preserved-in-Some-man_at
 loop-from-preserved-in-Some-man_at c =
     taken_on _ _ _ _ _ _ (taken_map _ _ _ _ (λ s h allowed x n j t usual is le takes way. c.add_man.ensures.kept n t (h allowed x n j t usual is le takes way)) c.loop-from.invariant)
     c.pop_first.ensures.taken c.in-Some.is (λ allowed x n j t usual is le takes way. c.add_man.ensures.added x.kind j n t (omega (arith, le, c.requires))
-    (man_gets _ _ c.in-Some-man_at.man _ x (let e : Some x ≡ Some c.in-Some-man_at.man = sym is ∙ sym c.man_at.ensures ∙ c.in-Some-man_at.is in cc)
+    (man_gets _ _ _ c.in-Some-man_at.man _ x (let e : Some x ≡ Some c.in-Some-man_at.man = sym is ∙ sym c.man_at.ensures ∙ c.in-Some-man_at.is in cc)
     (c.chain_of-chain.ensures (omega (arith, c.requires))) allowed n j t usual le takes way))
 
 pub returns : goal.returns

@@ -10,7 +10,7 @@ use Rattle.chess_reach.proofs.blocks.blocks_of.Given as goal
 
 abbrev pub invariant-loop-from : goal.invariant-loop-from
 invariant-loop-from l = HoldTaken l.men l.rest (λ s. (allowed : Kind → Bool) (x : Man) (n : ℕ) (j : Kind) (t : ℕ) → IsUsual allowed
-    → man_on l.board.men s ≡ Some x → n ≤ l.fn.most → (takes : ℕ → Bool) → Gets allowed takes x.colour n x.kind s j t → (bit_at (slice_index_or l.blocks n 0) t == 1) ≡ true)
+    → man_on l.board.men s ≡ Some x → n ≤ l.fn.most → (takes : ℕ → Bool) → Gets l.fn.are_reborn allowed takes x.colour n x.kind s j t → (bit_at (slice_index_or l.blocks n 0) t == 1) ≡ true)
 
 abbrev pub decreases-loop-from : goal.decreases-loop-from
 decreases-loop-from l = l.rest

@@ -35,7 +35,7 @@ loop-from-preserved c =
       size = length-set _ _ _ ∙ old.size;
       each = listed c.loop-from.guards c.loop-from.count g room (λ x. man_on c.args.board.now.men x.from ≡ Some (record { colour = c.args.colour; kind = x.kind })) old.each is;
       small = listed c.loop-from.guards c.loop-from.count g room (λ x. x.from < 64) old.small popped.small;
-      chains = listed c.loop-from.guards c.loop-from.count g room (λ x. IsChain c.args.prey (record { colour = c.args.colour; kind = x.kind }) x.from c.args.most x.chain) old.chains
+      chains = listed c.loop-from.guards c.loop-from.count g room (λ x. IsChain c.args.are_reborn c.args.prey (record { colour = c.args.colour; kind = x.kind }) x.from c.args.most x.chain) old.chains
           (c.chain_of.ensures (search rules));
       all = taken_on _ _ _ _ _ _ (taken_map _ _ _ _ (λ s there. still_listed c.loop-from.guards c.loop-from.count g room s there) old.all) c.pop_first.ensures.taken c.in-Some.is
           (now_listed c.loop-from.guards c.loop-from.count g room);

@@ -16,7 +16,7 @@ invariant-loop-from l = record {
   each : (i : ℕ) → i < l.count → man_on l.board.men (guard_at l.guards i).from ≡ Some (record { colour = l.fn.colour; kind = (guard_at l.guards i).kind });
   small : (i : ℕ) → i < l.count → (guard_at l.guards i).from < 64;
   chains : (i : ℕ) → i < l.count
-      → IsChain l.fn.prey (record { colour = l.fn.colour; kind = (guard_at l.guards i).kind }) (guard_at l.guards i).from l.fn.most (guard_at l.guards i).chain;
+      → IsChain l.fn.are_reborn l.fn.prey (record { colour = l.fn.colour; kind = (guard_at l.guards i).kind }) (guard_at l.guards i).from l.fn.most (guard_at l.guards i).chain;
   all : HoldTaken (side_of l.board.men l.fn.colour) l.rest (λ s. (i : ℕ) × (i < l.count) × ((guard_at l.guards i).from ≡ s));
   inside : (s : ℕ) → (bit_at l.rest s == 1) ≡ true → (bit_at (side_of l.board.men l.fn.colour) s == 1) ≡ true;
   sum : (f : ℕ → ℕ) → sum_by (λ i. f (guard_at l.guards i).from) (range_with_len 0 l.count)

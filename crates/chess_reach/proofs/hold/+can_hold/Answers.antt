@@ -3,7 +3,7 @@ use Rattle.std.proofs.lemmas.Bool.{cases_Bool, false≢true}
 use Rattle.std.proofs.lemmas.List.{length-set}
 use Rattle.std.specs.Int.{bit_at}
 use Rattle.chess_reach.proofs.Holding.{block_paid, block_spare, fewer_held}
-use Rattle.chess_reach.proofs.Trying.{blocker_there, found_at, from_there, in_place, kept_in, narrowed_place, none_next, on_board, set_again, within_moves}
+use Rattle.chess_reach.proofs.Trying.{blocker_there, found_at, held_there, in_place, kept_in, narrowed_place, none_next, on_board, set_again, within_moves}
 use Rattle.chess_reach.specs.ties.Guards.{guard_at, unused}
 use Rattle.chess_reach.specs.ties.Hold.{Holds, end_at}
 use Rattle.chess_reach.specs.ties.Whereabouts.{has}
@@ -21,7 +21,7 @@ returns-in_default-off t c men ends holds =
     let g = slice_index_or q.guards i c.index-quest-i.result in
     let is : guard_at q.guards i ≡ g = found_at q.guards i unused c.index-quest-i.result (search rules) in
     let e = end_at q ends i in
-    absurd (elim (cases_Bool (has g.kind e.kind e.square c.guarding-guarding.result)) [
+    absurd (elim (cases_Bool (has g.kind e.kind e.square c.holding-guarding.result)) [
       | inl on ↦ false≢true (sym c.if-can_hold.false ∙ c.can_hold.ensures men ends
           (fewer_held q men ends _ _ _ _ _ (narrowed_place q men ends left _ _ _ i g is lt h c.in-Some-kept.kept room
           (kept_in q men ends left _ _ _ i g is lt h c.within.result c.in-Some-kept.kept c.in-Some-kept.ensures.kept
@@ -46,7 +46,7 @@ loop-i-preserved t c =
             let before = c.loop-i.invariant.kept men ends holds in
             let h = before.0 in
             let e = end_at q ends i in
-            let none : has g.kind e.kind e.square c.guarding-guarding.result ≡ false = elim (cases_Bool (has g.kind e.kind e.square c.guarding-guarding.result)) [
+            let none : has g.kind e.kind e.square c.holding-guarding.result ≡ false = elim (cases_Bool (has g.kind e.kind e.square c.holding-guarding.result)) [
               | inr off ↦ off
               | inl on ↦ absurd (false≢true (sym w.if-can_hold.false ∙ w.can_hold.ensures men ends
                   (fewer_held q men ends _ _ _ _ _ (narrowed_place q men ends left _ _ _ i g is lt h w.in-Some-kept.kept room
@@ -61,7 +61,7 @@ loop-i-preserved t c =
               subst (λ x. Holds q men x c.args.unheld c.match-kept.spare c.args.theirs ends) (sym (w.left-is ∙ set_again left i w.in-Some-kept.kept w.in-Some-off.off))
                   (subst (λ n. Holds q men (slice_set left i w.in-Some-off.off) c.args.unheld n c.args.theirs ends) (sym w.spare-is) after),
               none_next q ends c.in-Some.square i before.1
-                  (λ does. false≢true (sym none ∙ from_there q men ends left _ _ _ i g is lt h c.in-Some.square c.guarding-guarding.result c.guarding-guarding.ensures does)),
+                  (λ does. false≢true (sym none ∙ held_there q men ends left _ _ _ i g is lt h c.in-Some.square c.holding-guarding.result c.holding-guarding.ensures.guarded c.holding-guarding.ensures.defended does)),
             );
       }
       | in_default-kept w ↦ record {
@@ -75,7 +75,7 @@ loop-i-preserved t c =
               none_next q ends c.in-Some.square i before.1
                   (λ does. within_moves q men ends left _ _ _ i g is lt h c.within.result w.in_default-kept.ensures.kept
                   (c.within.ensures g.kind e.kind e.square (in_place q men ends left _ _ _ i g is lt h)
-                  (from_there q men ends left _ _ _ i g is lt h c.in-Some.square c.guarding-guarding.result c.guarding-guarding.ensures does))),
+                  (held_there q men ends left _ _ _ i g is lt h c.in-Some.square c.holding-guarding.result c.holding-guarding.ensures.guarded c.holding-guarding.ensures.defended does))),
             );
       }
     ]

@@ -1,7 +1,7 @@
 use Rattle.std.proofs.Common.{length, List, Option, ℕ, ◌<◌, ◌≡◌}
 use Rattle.chess_core.specs.declared.man.Man.{Man}
 use Rattle.chess_reach.specs.Plans.{Ends}
-use Rattle.chess_reach.specs.ties.Hold.{DoesGuard, Holds}
+use Rattle.chess_reach.specs.ties.Hold.{DoesHold, Holds}
 use Rattle.chess_reach.proofs.hold.+can_hold.Given as goal
 
 abbrev pub decreases-can_hold : goal.decreases-can_hold
@@ -11,5 +11,5 @@ abbrev pub invariant-loop-i : goal.invariant-loop-i
 invariant-loop-i l = record {
   size : length l.left ≡ 8;
   kept : (men : List (Option Man)) (ends : Ends) → Holds l.quest men l.places l.unheld l.ours l.theirs ends
-      → Holds l.quest men l.left l.unheld l.spare l.theirs ends × ((m : ℕ) → m < l.i → DoesGuard l.quest ends l.square m → ⊥);
+      → Holds l.quest men l.left l.unheld l.spare l.theirs ends × ((m : ℕ) → m < l.i → DoesHold l.quest ends l.square m → ⊥);
 }

@@ -38,10 +38,11 @@ loop-to-preserved c =
       of = λ prey p of. quest_at prey p c.loop-to.quest c.seek.new.self _ _ _ c.in-Some.to c.seek.ensures (old.of prey p of);
       taken = taken_on _ _ _ _ _ _ old.taken c.pop_first.ensures.taken c.in-Some.is (λ prey p ends of plan captures. absurd (false≢true (sym c.if-may_have_plan.false
           ∙ c.may_have_plan.ensures prey p ends
-          (subst (λ k. IsPlan c.seek.new.self.ending.goal c.seek.new.self.ending.standing_checks p c.seek.new.self.colour c.args.ours c.args.theirs k ends) (sym king)
-          (subst (λ (e : Ending). IsPlan e.goal e.standing_checks p c.seek.new.self.colour c.args.ours c.args.theirs c.in-Some.to ends) (sym ending)
-          (subst (λ d. IsPlan c.args.quest.now.ending.goal c.args.quest.now.ending.standing_checks p d c.args.ours c.args.theirs c.in-Some.to ends) (sym colour) plan)))
-          (subst (λ d. Captures prey c.args.captured p d ends) (sym colour) captures)
+          (subst (λ k. IsPlan c.seek.new.self.ending.goal c.seek.new.self.ending.standing_checks c.seek.new.self.ending.are_reborn p c.seek.new.self.colour c.args.ours c.args.theirs k ends) (sym king)
+          (subst (λ (e : Ending). IsPlan e.goal e.standing_checks e.are_reborn p c.seek.new.self.colour c.args.ours c.args.theirs c.in-Some.to ends) (sym ending)
+          (subst (λ d. IsPlan c.args.quest.now.ending.goal c.args.quest.now.ending.standing_checks c.args.quest.now.ending.are_reborn p d c.args.ours c.args.theirs c.in-Some.to ends) (sym colour) plan)))
+          (subst (λ (e : Ending). Captures e.are_reborn prey c.args.captured p c.seek.new.self.colour ends) (sym ending)
+          (subst (λ d. Captures c.args.quest.now.ending.are_reborn prey c.args.captured p d ends) (sym colour) captures))
           (quest_at prey p c.loop-to.quest c.seek.new.self _ _ _ c.in-Some.to c.seek.ensures (old.of prey p of)))));
     }
 

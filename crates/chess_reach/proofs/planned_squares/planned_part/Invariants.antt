@@ -14,7 +14,7 @@ invariant-loop-to l = record {
   blockable : l.quest.blockable ≡ l.fn.quest.blockable;
   of : (prey : ℕ) (p : Position) → IsQuestOf prey p l.fn.quest l.king l.ours l.theirs → IsQuestOf prey p l.quest l.king l.ours l.theirs;
   taken : HoldTaken l.near l.rest (λ s. (prey : ℕ) (p : Position) (ends : Ends) → IsQuestOf prey p l.fn.quest l.king l.ours l.theirs
-      → IsPlan l.fn.quest.ending.goal l.fn.quest.ending.standing_checks p l.fn.quest.colour l.ours l.theirs s ends → Captures prey l.captured p l.fn.quest.colour ends → (bit_at l.planned s == 1) ≡ true);
+      → IsPlan l.fn.quest.ending.goal l.fn.quest.ending.standing_checks l.fn.quest.ending.are_reborn p l.fn.quest.colour l.ours l.theirs s ends → Captures l.fn.quest.ending.are_reborn prey l.captured p l.fn.quest.colour ends → (bit_at l.planned s == 1) ≡ true);
 }
 
 abbrev pub decreases-loop-to : goal.decreases-loop-to
