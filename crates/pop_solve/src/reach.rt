@@ -22,6 +22,9 @@ const FEWEST_COMPUTED: usize = 3;
 /// The most men of the mating side with which it does.
 const MOST_COMPUTED: u32 = 8;
 
+/// The most where captured men are reborn, so that more squares stay in reach.
+const MOST_COMPUTED_REBORN: u32 = 5;
+
 /// Returns what is known of the lines that reach this goal: that they end on some square, if nothing is.
 fn line_ends_known(goal: Goal, known: Option<LineEnds>) -> LineEnds
     ensures goal { result.goal ≡ goal }
@@ -79,15 +82,19 @@ fn squares_after<R: Rules>(
 }
 
 /// Returns whether computing where lines can end may pay after a move, with `left` half-moves left: not without
-/// enough moves, nor in Circe, nor against more than eight men. For speed only.
+/// enough moves, nor against more than eight men, in Circe five. For speed only.
 fn may_compute<R: Rules>(left: usize, board: &Board) -> bool {
     let mating = if left % 2 == 0 {
         board.turn()
     } else {
         board.turn().other()
     };
-    left >= FEWEST_COMPUTED
-        && board.side(mating).count_ones() <= MOST_COMPUTED
+    let most = if R::captures_are_reborn() {
+        MOST_COMPUTED_REBORN
+    } else {
+        MOST_COMPUTED
+    };
+    left >= FEWEST_COMPUTED && board.side(mating).count_ones() <= most
 }
 
 /// Returns what the walk knows of the lines after a legal move, with `left` half-moves left after it: nothing
