@@ -61,7 +61,7 @@ checks_by_leap k = false
 
 -- a knight or pawn that checks has made a move: the king wasn't in check before the last move (FIDE Laws
 -- 3.9.2), which opens lines of riders alone. If `standing_checks` (Madrasi), that move may also free a man.
--- In Circe it isn't asked either.
+-- In Circe any man may check.
 abbrev pub Arrives : Bool → End → Type 0
 Arrives standing_checks e = standing_checks ≡ false → checks_by_leap e.kind ≡ true → e.moves ≢ 0
 

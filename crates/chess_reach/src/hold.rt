@@ -107,7 +107,7 @@ fn narrowed_later(
 
 // Returns the place with these squares instead, if the guard gets to one of them in at most `spare` moves more
 // and checks from there. A knight or pawn has to arrive: a knight that stands there leaves and comes back, and a
-// pawn doesn't come back. In Circe that isn't asked.
+// pawn doesn't come back. In Circe any man may check.
 fn checking(
     quest: &Quest,
     guard: &Guard,
