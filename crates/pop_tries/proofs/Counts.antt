@@ -1,15 +1,19 @@
 -- Refutations counted in parts: forcing replies, and the others.
 use Rattle.chess_rules.proofs.listing_moves.Between.{after_cut}
-use Rattle.chess_rules.specs.ties.Places.{moves_after, moves_between}
+use Rattle.chess_rules.specs.Legal.{is_legal}
+use Rattle.chess_rules.specs.ties.Places.{moves_after, moves_between, place_of}
 use Rattle.pop_battle.proofs.Boards.{after_start}
 use Rattle.std.proofs.lemmas.List.Elements.{filter-append}
-use Rattle.pop_tries.proofs.Words.{cases_lt, eqb, false≢true, inl, inr, length-append, nat_tests, sym, Bool, Some, false, true, List, Move, Position, RuleSet, [], arith, filter, length, legal_moves, not, refl, refutations, ℕ, ◌&&◌, ◌+◌, ◌-◌, ◌<◌, ◌∙◌, ◌∷◌, ◌≡◌, ◌≢◌, ◌≤◌}
+use Rattle.pop_tries.proofs.Words.{IsWellFormed, subst, cases_lt, eqb, false≢true, inl, inr, length-append, nat_tests, sym, Bool, Some, false, true, List, Move, Position, RuleSet, [], arith, filter, length, legal_moves, not, refl, refutations, ℕ, ◌&&◌, ◌+◌, ◌-◌, ◌<◌, ◌∙◌, ◌∷◌, ◌≡◌, ◌≢◌, ◌≤◌}
 use Rattle.std.proofs.Common.{min}
 use Rattle.pop_tries.specs.declared.contest.Contest.{Contest}
 use Rattle.pop_tries.specs.declared.replies.Counted.TheVariants.{All, Forcing, Others}
 use Rattle.pop_tries.specs.ties.Contests.{game_in}
-use Rattle.pop_tries.specs.ties.FirstMoves.{is_forcing, refutes, refutes_among}
+use Rattle.pop_tries.specs.ties.FewPlaces.{IsPlaceOf}
+use Rattle.pop_tries.specs.ties.FirstMoves.{AreRefuting, IsRefutedAt, is_forcing, refutes, refutes_among}
 use Rattle.pop_tries.specs.declared.move_set.MoveSet.{MoveSet}
+use Rattle.pop_tries.specs.declared.refuting.Refuting.{Refuting}
+use Rattle.pop_tries.proofs.FewPlaces.{place_is}
 use Rattle.pop_tries.specs.ties.MoveSets.{HoldAll, may_hold}
 
 -- what passes a test is what also passes another, and what doesn't
@@ -59,6 +63,25 @@ module _ (rule : RuleSet) (p : Position) (test : Move → Bool) where
   ]
 
 module _ (rule : RuleSet) (contest : Contest) (q : Position) where
+  -- a reply that refutes does so at its place
+  pub refuted_at : (place : ℕ) (by : Move) → IsPlaceOf place by → refutes rule contest q by ≡ true → IsRefutedAt rule contest q place
+  refuted_at place by on r m there = subst (λ k. refutes rule contest q k ≡ true) (sym on.move ∙ there.move) r
+
+  -- at no place none refutes
+  pub refuted_nowhere : (place : ℕ) → place ≡ 0 → IsRefutedAt rule contest q place
+  refuted_nowhere place e m there = absurd (omega (arith, e, there.some))
+
+  -- what a count says of the refutations
+  pub known_refuting : (refuting : Refuting) (moves : MoveSet) (last : ℕ) → refuting ≡ record { moves = moves; last = last }
+      → HoldAll rule q (refutes rule contest q) (Some moves) → IsRefutedAt rule contest q last → AreRefuting rule contest q refuting
+  known_refuting refuting moves last e held at = rw e (held, at)
+
+  -- the reply at a place that is known
+  pub refuted_by : (refuting : Refuting) (place : ℕ) (by : Move) → AreRefuting rule contest q refuting → IsWellFormed q → is_legal rule q by ≡ true
+      → place ≡ place_of (Some by) → place ≡ refuting.last → true ≡ refutes rule contest q by
+  refuted_by refuting place by known well legal e same =
+      sym (known.1 by (subst (λ n. IsPlaceOf n by) same (place_is rule q by place well legal e)))
+
   -- two replies refute
   pub two_refute : (a b : ℕ) → eqb a b ≡ false → length (filter (refutes rule contest q) (moves_between rule q (a - 1) a)) ≡ 1
       → length (filter (refutes rule contest q) (moves_between rule q (b - 1) b)) ≡ 1
@@ -103,4 +126,4 @@ module _ (rule : RuleSet) (contest : Contest) (q : Position) where
       by false e = two m c (rw (e, r) refl)
 
 -- for a count in parts
-pub ruleset counting_parts = (counted_at_once, too_many_forced, counted_in_parts, held_in_parts)
+pub ruleset counting_parts = (refuted_nowhere, counted_at_once, too_many_forced, counted_in_parts, held_in_parts)

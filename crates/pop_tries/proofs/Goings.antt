@@ -8,16 +8,16 @@ use Rattle.chess_rules.specs.Play.{undo_of}
 use Rattle.pop_battle.specs.ties.Frames.{Frame}
 use Rattle.pop_tries.specs.Shown.{try_event_of}
 use Rattle.pop_events.specs.declared.try_event.TryEvent.{TryEvent}
+use Rattle.pop_tries.specs.declared.kept_tries.Candidates.{Candidates}
 use Rattle.pop_tries.specs.declared.first_moves.Group.{Group}
-use Rattle.pop_tries.specs.declared.move_set.MoveSet.{MoveSet}
+use Rattle.pop_tries.specs.declared.refuting.Refuting.{Refuting}
 use Rattle.pop_tries.specs.declared.stage.First.{First}
 use Rattle.pop_tries.specs.declared.stage.Firsts.{Firsts}
 use Rattle.pop_tries.specs.declared.stage.Task.{Task}
 use Rattle.pop_tries.specs.declared.stage.TriesStage.{TriesStage}
 use Rattle.pop_tries.specs.declared.stage.TriesStage.TheVariants.{Beginning, Faced, FirstMove}
 use Rattle.pop_tries.specs.ties.Contests.{IsContest}
-use Rattle.pop_tries.specs.ties.FirstMoves.{refutes}
-use Rattle.pop_tries.specs.ties.MoveSets.{HoldAll}
+use Rattle.pop_tries.specs.ties.FirstMoves.{AreRefuting}
 use Rattle.pop_tries.specs.ties.Searching.{Emits, Goes, IsPlaced, IsTask, after_first, HoldCandidates, beginning_of, contest_of, ending_of, first_event, firsts_after, group_left, is_stopped, rank}
 unfoldable use Rattle.pop_tries.specs.ties.Searching.{HoldsAt, left_of}
 use Rattle.pop_tries.proofs.Steps.{group_begins, next_first, still_few, still_limited}
@@ -38,7 +38,7 @@ module _ {A : Type 0} (rule : RuleSet) (task : Task) (old new : TriesStage A) (w
   without_event left less = record { holds = holds; emits = left; falls = λ _. less }
 
 -- a group begins
-pub group_comes : (A : Type 0) (rule : RuleSet) (task : Task) (group : Group) (before candidates : Option MoveSet) (place : ℕ) → place ≡ 0
+pub group_comes : (A : Type 0) (rule : RuleSet) (task : Task) (group : Group) (before candidates : Candidates) (place : ℕ) → place ≡ 0
     → (was items : List Frame) → left_of rule task {A = A} (Beginning group before) was
     ≡ beginning_of group ∷ left_of rule task {A = A} (FirstMove (record { group = group; place = place; count = 0; candidates = candidates })) items
 unfolding left_of
@@ -58,7 +58,7 @@ group_ended rule task firsts new was items board event h e s l = record {
 
 -- a first move begins
 module _ {A : Type 0} (rule : RuleSet) (task : Task) (fit : IsContest (contest_of task)) (s : IsTask task) (firsts : Firsts A)
-    (placed : IsPlaced rule task firsts) (next : ℕ) (candidates : Option MoveSet) (m : Move) (undo : Undo) (refuting : MoveSet)
+    (placed : IsPlaced rule task firsts) (next : ℕ) (candidates : Candidates) (m : Move) (undo : Undo) (refuting : Refuting)
     (found : firsts_after rule task firsts.group firsts.place ≡ m ∷ firsts_after rule task firsts.group next)
     (open_yet : is_stopped task.problem firsts.group firsts.count ≡ false) where
   abbrev first : First A
@@ -69,7 +69,7 @@ module _ {A : Type 0} (rule : RuleSet) (task : Task) (fit : IsContest (contest_o
   first_comes was items = next_first rule task firsts.group firsts.place next firsts.count m found placed.limited open_yet undo None refuting
 
   pub first_holds : HoldCandidates rule task firsts.group candidates next → is_legal rule (play_start task.problem) m ≡ true → undo ≡ undo_of rule (play_start task.problem) m
-      → HoldAll rule (after_first rule task m) (refutes rule (contest_of task) (after_first rule task m)) (Some refuting)
+      → AreRefuting rule (contest_of task) (after_first rule task m) refuting
       → (items : List Frame) (board : Position) → items ≡ [] → board ≡ after_first rule task m → HoldsAt rule task (Faced first) items board
   unfolding HoldsAt
   first_holds noted legal back held items board none at = (

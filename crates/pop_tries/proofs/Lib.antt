@@ -1,9 +1,9 @@
 pub mod Words
 pub mod Contests
 pub mod Loops
-pub mod Counts
 pub mod MoveSets
 pub mod FewPlaces
+pub mod Counts
 pub mod Candidates
 pub mod ThreatLengths
 pub mod Walks

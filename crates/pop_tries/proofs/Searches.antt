@@ -11,7 +11,8 @@ use Rattle.pop_tries.specs.Shown.{try_event_of}
 use Rattle.pop_events.specs.declared.try_event.TryEvent.{TryEvent}
 use Rattle.pop_tries.specs.declared.stage.Task.{Task}
 use Rattle.pop_tries.specs.declared.stage.TriesStage.{TriesStage}
-use Rattle.pop_tries.specs.ties.Searching.{Emits, IsOf, first_stage, is_over, stage_by}
+use Rattle.pop_tries.proofs.Candidates.{none_are_kept}
+use Rattle.pop_tries.specs.ties.Searching.{Emits, IsOf, contest_of, first_stage, is_over, stage_by}
 unfoldable use Rattle.pop_tries.specs.ties.Searching.{HoldsAt, left_of}
 
 -- a battle has a move
@@ -47,7 +48,7 @@ module _ {A : Type 0} (rule : RuleSet) (problem : Posed) (battle : Battle) (most
           (record { fought = fought; some = some_move _ _ _ fought s.range }, record { board_at = refl; none = refl })
       by (Some b) false i e =
           let fought : battle_of problem.stipulation.form ≡ Some battle = rw i e in
-          (record { fought = fought; some = some_move _ _ _ fought s.range }, record { board_at = refl; none = refl }, tt, λ m c t. inl refl)
+          (record { fought = fought; some = some_move _ _ _ fought s.range }, record { board_at = refl; none = refl }, tt, (λ m c t. inl refl, none_are_kept rule (contest_of task) most (play_start problem)))
 
 module _ (rule : RuleSet) (problem : Posed) where
   -- the event returned, and the events then still to come

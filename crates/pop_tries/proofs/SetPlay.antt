@@ -25,6 +25,7 @@ use Rattle.pop_tries.proofs.Words.{IsWellFormed}
 use Rattle.pop_stipulation.specs.Stipulations.{is_help}
 use Rattle.pop_tries.specs.declared.stage.Task.{Task}
 use Rattle.pop_tries.specs.declared.first_moves.Group.TheVariants.{Keys}
+use Rattle.pop_tries.specs.ties.Candidates.{candidates_of}
 use Rattle.pop_tries.specs.declared.stage.TriesStage.TheVariants.{Beginning, Impossible, SetPlay, Within}
 unfoldable use Rattle.pop_tries.specs.ties.Searching.{left_of}
 use Rattle.std.specs.Prelude.{reverse}
@@ -102,7 +103,7 @@ module _ (A : Type 0) (rule : RuleSet) (task : Task) where
 
   -- set play ends
   pub left_ends : (old : Stage) (was items : List Frame) → set_play_left rule task.problem old (reverse was) ≡ []
-      → left_of rule task {A = A} (Within old) was ≡ left_of rule task {A = A} (Beginning Keys None) items
+      → left_of rule task {A = A} (Within old) was ≡ left_of rule task {A = A} (Beginning Keys (candidates_of None)) items
   unfolding left_of
   left_ends old was items e = rw e refl
 

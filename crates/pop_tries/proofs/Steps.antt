@@ -12,9 +12,10 @@ unfoldable use Rattle.chess_rules.specs.ties.Places.{moves_after}
 use Rattle.pop_tries.specs.declared.first_moves.Group.{Group}
 use Rattle.pop_tries.specs.declared.first_moves.Group.TheVariants.{Keys, Tries}
 use Rattle.pop_tries.specs.declared.stage.Firsts.{Firsts}
-use Rattle.pop_tries.specs.declared.move_set.MoveSet.{MoveSet}
+use Rattle.pop_tries.specs.declared.refuting.Refuting.{Refuting}
 use Rattle.pop_tries.specs.declared.stage.Task.{Task}
 use Rattle.pop_tries.specs.declared.threats.Threat.{Threat}
+use Rattle.pop_tries.specs.ties.Candidates.{candidates_of}
 use Rattle.pop_tries.specs.ties.Searching.{IsInLimit, below_and_after, after_first, beginning_of, contest_of, ending_of, events_of_first, first_event, firsts_after, firsts_left, group_left, is_stopped, shown_after, whole_group, within_limit}
 use Rattle.chess_rules.specs.Legal.{is_legal, triples}
 use Rattle.pop_tries.specs.Events.{key, key_moves, try_moves}
@@ -59,7 +60,7 @@ module _ (rule : RuleSet) (task : Task) where
 
   -- a group begins
   pub group_begins : (group : Group) → whole_group rule task group
-      ≡ beginning_of group ∷ group_left rule task {A = Unit {0}} (record { group = group; place = 0; count = 0; candidates = None })
+      ≡ beginning_of group ∷ group_left rule task {A = Unit {0}} (record { group = group; place = 0; count = 0; candidates = candidates_of None })
   group_begins Keys =
       let all : task.problem.max_solutions - 0 ≡ task.problem.max_solutions = omega arith in
       let shown : List Move = take task.problem.max_solutions (key_moves task.battle rule task.problem) in
@@ -80,7 +81,7 @@ module _ (rule : RuleSet) (task : Task) where
 
   -- a group that the limit stops ends
   pub stopped_ends : (group : Group) (place count : ℕ) → is_stopped task.problem group count ≡ true
-      → group_left rule task {A = Unit {0}} (record { group = group; place = place; count = count; candidates = None }) ≡ ending_of rule task group count
+      → group_left rule task {A = Unit {0}} (record { group = group; place = place; count = count; candidates = candidates_of None }) ≡ ending_of rule task group count
   stopped_ends Keys place count e =
       let none : task.problem.max_solutions - count ≡ 0 = grind (arith, nat_tests) in
       let same : count + 0 ≡ count = omega arith in
@@ -89,7 +90,7 @@ module _ (rule : RuleSet) (task : Task) where
 
   -- a group without further first moves ends
   pub emptied_ends : (group : Group) (place count : ℕ) → firsts_after rule task group place ≡ []
-      → group_left rule task {A = Unit {0}} (record { group = group; place = place; count = count; candidates = None }) ≡ ending_of rule task group count
+      → group_left rule task {A = Unit {0}} (record { group = group; place = place; count = count; candidates = candidates_of None }) ≡ ending_of rule task group count
   emptied_ends group place count e =
       let same : count + 0 ≡ count = omega arith in
       rw (e, no_more group count, same) refl
@@ -104,13 +105,13 @@ module _ (rule : RuleSet) (task : Task) where
   module _ (group : Group) (place next count : ℕ) (m : Move) (found : firsts_after rule task group place ≡ m ∷ firsts_after rule task group next)
       (few : IsInLimit task.problem group count) (open_yet : is_stopped task.problem group count ≡ false) where
     abbrev before : Firsts (Unit {0})
-    before = record { group = group; place = place; count = count; candidates = None }
+    before = record { group = group; place = place; count = count; candidates = candidates_of None }
 
     abbrev then : Firsts (Unit {0})
-    then = record { group = group; place = next; count = count + 1; candidates = None }
+    then = record { group = group; place = next; count = count + 1; candidates = candidates_of None }
 
     -- the next first move of a group
-    pub next_first : (undo : Undo) (threat : Option Threat) (refuting : MoveSet) → group_left rule task before
+    pub next_first : (undo : Undo) (threat : Option Threat) (refuting : Refuting) → group_left rule task before
         ≡ first_event group m ∷ below_and_after rule task (record { firsts = then; by = m; undo = undo; threat = threat; refuting = refuting }) (shown_after rule task m)
     next_first undo threat refuting =
         let left : firsts_left rule task before ≡ m ∷ firsts_left rule task then = rw found (limited group count m _ few open_yet) in

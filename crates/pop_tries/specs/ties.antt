@@ -1,4 +1,5 @@
 pub mod MoveSets
+pub mod Candidates
 pub mod FewPlaces
 pub mod Contests
 pub mod FirstMoves

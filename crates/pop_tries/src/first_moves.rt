@@ -2,15 +2,18 @@
 ghost use Rattle.std.specs.Prelude.{◌≡◌, ◌≤◌, MatchOption, Some, true};
 ghost use Rattle.arrayvec.specs.ArrayVec.{array_vec_len};
 ghost use Rattle.chess_rules.specs.Legal.{is_legal};
+ghost use Rattle.chess_rules.specs.ties.Places.{place_of};
 ghost use Rattle.chess_core.specs.declared.man.Move.{Move};
 ghost use Rattle.pop_tries.specs.ties.Contests.{AreThreats, IsReady, Keeps};
 ghost use Rattle.pop_tries.specs.declared.first_moves.Group.TheVariants.{Keys, Tries};
-ghost use Rattle.pop_tries.specs.ties.FirstMoves.{belongs, is_shown, is_try_after, refutes, AreCandidates, IsAsked, IsNext, IsPlayed};
+ghost use Rattle.pop_tries.specs.ties.FirstMoves.{belongs, is_shown, is_try_after, refutes, AreCandidates, AreKept, AreRefuting, AreTries, IsAsked, IsKnownTry, IsNext, IsPlayed};
 ghost use Rattle.pop_tries.specs.ties.MoveSets.{may_be, HoldAll, HoldBefore};
 ghost use Rattle.pop_tries.specs.ties.Searching.{contest_of};
 
 use crate::contest::Contest;
+use crate::kept_tries::Candidates;
 use crate::move_set::{MoveSet, may_be, noted};
+use crate::refuting::Refuting;
 use crate::replies::{
     are_two_refutations, count_refutations, is_key, is_key_unrefuted, is_refutation, is_try,
 };
@@ -34,12 +37,13 @@ pub enum Group {
 }
 
 /// Returns whether the first move `by`, which led to the board's position, is a key. If it isn't, notes it
-/// among `candidates` unless it is no try.
+/// among `candidates` unless it is no try. Sets `refuting` to the refutations of a try, or to `None`.
 #[tactic(auto, using(crate::proofs::Candidates::classing))]
 fn is_key_or_noted<R: Rules, const N: usize>(
     task: &Task,
     by: &Move,
     candidates: &mut Option<MoveSet>,
+    refuting: &mut Option<Refuting>,
     board: &mut Board,
     frames: &mut ArrayVec<Frame<R>, N>,
     search_state: &mut SearchState<R>,
@@ -50,76 +54,122 @@ fn is_key_or_noted<R: Rules, const N: usize>(
     ensures noted { belongs R.rule (contest_of task.now) (Tries task.now.most) board.old ≡ true
         → may_be candidates.new by.now ≡ true }
     ensures kept { (m : Move) → may_be candidates.old m ≡ true → may_be candidates.new m ≡ true }
+    ensures refuting { IsKnownTry R.rule (contest_of task.now) task.now.most board.old refuting.new }
     ensures rest { Keeps board.old board.new frames.old.items frames.new.items }
 {
     let contest = task.contest();
+    *refuting = None;
     if task.most == 0 {
         return is_key::<R, N>(contest, board, frames, search_state);
     }
     if are_two_refutations::<R, N>(contest, task.most, board, frames, search_state) {
         return false;
     }
-    let count = count_refutations::<R, N>(contest, task.most, board, frames, search_state).count;
-    if count == 0 && is_key_unrefuted::<R>(contest, board) {
-        return true;
-    }
-    if count <= task.most {
+    let tally = count_refutations::<R, N>(contest, task.most, board, frames, search_state);
+    if tally.count == 0 {
+        if is_key_unrefuted::<R>(contest, board) {
+            return true;
+        }
         *candidates = noted(*candidates, by);
+        return false;
+    }
+    if tally.count <= task.most {
+        *candidates = noted(*candidates, by);
+        *refuting = Some(tally.known());
     }
     false
 }
 
 /// Plays the next key after `place`, and moves `place` to it. Notes the first moves before it that may be
-/// tries among `candidates`. Returns the key, what takes it back, and its refutations: none; after the last
+/// tries among `candidates`, which keep some. Returns the key, what takes it back, and its refutations: none; after the last
 /// one `None`, with the board unchanged.
-#[tactic(auto, using(crate::proofs::Candidates::key_held, crate::proofs::Loops::filtering, chess_rules::proofs::listing_moves::Calls::playing))]
+#[tactic(auto, using(crate::proofs::Candidates::key_refuting, crate::proofs::Loops::filtering, chess_rules::proofs::listing_moves::Calls::playing))]
 fn play_next_key<R: Rules, const N: usize>(
     task: &Task,
     place: &mut Moves<R>,
-    candidates: &mut Option<MoveSet>,
+    candidates: &mut Candidates,
     board: &mut Board,
     frames: &mut ArrayVec<Frame<R>, N>,
     search_state: &mut SearchState<R>,
-) -> Option<(Move, Undo, MoveSet)>
+) -> Option<(Move, Undo, Refuting)>
     requires ready { IsReady (contest_of task.now) board.old (array_vec_len frames.old) N }
     requires few { task.now.most ≤ MOST_REFUTATIONS }
     requires noted { HoldBefore R.rule board.old (is_try_after R.rule (contest_of task.now)
-        task.now.most board.old) candidates.old place.old }
+        task.now.most board.old) candidates.old.set place.old }
+    requires kept { AreKept R.rule (contest_of task.now) task.now.most board.old candidates.old.kept }
     ensures frames { frames.new.items ≡ frames.old.items }
     ensures next { IsPlayed R.rule (contest_of task.now) Keys board.old board.new place.old
         place.new result }
     ensures noted { MatchOption result (HoldAll R.rule board.old (is_try_after R.rule
-        (contest_of task.now) task.now.most board.old) candidates.new)
+        (contest_of task.now) task.now.most board.old) candidates.new.set)
         (λ _. HoldBefore R.rule board.old (is_try_after R.rule (contest_of task.now)
-        task.now.most board.old) candidates.new place.new) }
+        task.now.most board.old) candidates.new.set place.new) }
+    ensures kept { AreKept R.rule (contest_of task.now) task.now.most board.old candidates.new.kept }
 {
     let mut known = None;
     while let Some(by) = next_move::<R>(&mut known, place, board) {
         let undo = play::<R>(board, by);
-        if is_key_or_noted::<R, N>(task, &by, candidates, board, frames, search_state) {
-            return Some((by, undo, MoveSet::none()));
+        let mut refuting = None;
+        if is_key_or_noted::<R, N>(
+            task,
+            &by,
+            &mut candidates.set,
+            &mut refuting,
+            board,
+            frames,
+            search_state,
+        ) {
+            return Some((by, undo, Refuting::none()));
         }
         unplay::<R>(board, by, undo);
+        candidates.keep(place.number(), refuting);
     }
     None
 }
 
+/// Returns whether the first move that led to the board's position is a try with at most `most` refutations.
+/// `kept` is its refutations if it is known as a try. Sets `refuting` to the refutations of a try.
+fn is_try_as_kept<R: Rules, const N: usize>(
+    contest: Contest,
+    most: u32,
+    kept: Option<Refuting>,
+    refuting: &mut Refuting,
+    board: &mut Board,
+    frames: &mut ArrayVec<Frame<R>, N>,
+    search_state: &mut SearchState<R>,
+) -> bool
+    requires ready { IsReady contest board.old (array_vec_len frames.old) N }
+    requires few { most ≤ MOST_REFUTATIONS }
+    requires kept { IsKnownTry R.rule contest most board.old kept }
+    ensures tried { result ≡ belongs R.rule contest (Tries most) board.old }
+    ensures refuting { result ≡ true → AreRefuting R.rule contest board.old refuting.new }
+    ensures rest { Keeps board.old board.new frames.old.items frames.new.items }
+{
+    if let Some(set) = kept {
+        *refuting = set;
+        return true;
+    }
+    is_try::<R, N>(contest, most, refuting, board, frames, search_state)
+}
+
 /// Plays the next try after `place` with at most `task.most` refutations, and moves `place` to it. Tests only
-/// the `candidates`. Returns the try, what takes it back, and a set that holds its refutations; after the last
+/// the `candidates` that aren't kept at `index`. Returns the try, what takes it back, and a set that holds its refutations; after the last
 /// one `None`, with the board unchanged.
 #[tactic(auto, using(crate::proofs::Loops::filtering, chess_rules::proofs::listing_moves::Calls::playing))]
 fn play_next_try<R: Rules, const N: usize>(
     task: &Task,
     place: &mut Moves<R>,
-    candidates: Option<MoveSet>,
+    candidates: &Candidates,
+    index: u32,
     board: &mut Board,
     frames: &mut ArrayVec<Frame<R>, N>,
     search_state: &mut SearchState<R>,
-) -> Option<(Move, Undo, MoveSet)>
+) -> Option<(Move, Undo, Refuting)>
     requires ready { IsReady (contest_of task.now) board.old (array_vec_len frames.old) N }
     requires few { task.now.most ≤ MOST_REFUTATIONS }
     requires held { HoldAll R.rule board.old (is_try_after R.rule (contest_of task.now)
-        task.now.most board.old) candidates }
+        task.now.most board.old) candidates.now.set }
+    requires kept { AreKept R.rule (contest_of task.now) task.now.most board.old candidates.now.kept }
     ensures frames { frames.new.items ≡ frames.old.items }
     ensures next { IsPlayed R.rule (contest_of task.now) (Tries task.now.most) board.old board.new
         place.old place.new result }
@@ -127,12 +177,14 @@ fn play_next_try<R: Rules, const N: usize>(
     let contest = task.contest();
     let mut known = None;
     while let Some(by) = next_move::<R>(&mut known, place, board) {
-        if may_be(candidates, &by) {
+        if may_be(candidates.set, &by) {
             let undo = play::<R>(board, by);
-            let mut refuting = MoveSet::none();
-            if is_try::<R, N>(
+            let kept = candidates.kept_at(index as usize, place.number());
+            let mut refuting = Refuting::none();
+            if is_try_as_kept::<R, N>(
                 contest,
                 task.most,
+                kept,
                 &mut refuting,
                 board,
                 frames,
@@ -155,7 +207,7 @@ pub fn play_next<R: Rules, const N: usize>(
     board: &mut Board,
     frames: &mut ArrayVec<Frame<R>, N>,
     search_state: &mut SearchState<R>,
-) -> Option<(Move, Undo, MoveSet)>
+) -> Option<(Move, Undo, Refuting)>
     requires ready { IsReady (contest_of task.now) board.old (array_vec_len frames.old) N }
     requires few { task.now.most ≤ MOST_REFUTATIONS }
     requires asked { IsAsked firsts.old.group task.now.most }
@@ -164,14 +216,14 @@ pub fn play_next<R: Rules, const N: usize>(
     ensures frames { frames.new.items ≡ frames.old.items }
     ensures next { IsPlayed R.rule (contest_of task.now) firsts.old.group board.old board.new
         firsts.old.place firsts.new.place result }
-    ensures noted { MatchOption result (HoldAll R.rule board.old (is_try_after R.rule
-        (contest_of task.now) task.now.most board.old) firsts.new.candidates)
+    ensures noted { MatchOption result (AreTries R.rule (contest_of task.now) task.now.most board.old
+        firsts.new.candidates)
         (λ _. AreCandidates R.rule (contest_of task.now) firsts.old.group task.now.most
         board.old firsts.new.candidates firsts.new.place) }
     ensures group { firsts.new.group ≡ firsts.old.group }
     ensures count { firsts.new.count ≡ firsts.old.count }
 {
-    let candidates = firsts.candidates;
+    let index = firsts.count;
     match firsts.group {
         Group::Keys => play_next_key::<R, N>(
             task,
@@ -184,7 +236,8 @@ pub fn play_next<R: Rules, const N: usize>(
         Group::Tries { .. } => play_next_try::<R, N>(
             task,
             &mut firsts.place,
-            candidates,
+            &firsts.candidates,
+            index,
             board,
             frames,
             search_state,
@@ -192,25 +245,34 @@ pub fn play_next<R: Rules, const N: usize>(
     }
 }
 
-/// Returns whether the legal reply `by` to the first move that led to the board's position is shown: a
+/// Returns whether the legal reply `by` at `place` to the first move that led to the board's position is shown: a
 /// defence that doesn't refute. It reads nothing of `first` but what is known of threats and refutations.
 fn is_shown<R: Rules, const N: usize>(
     contest: Contest,
     first: &First<R>,
     by: Move,
+    place: u16,
     board: &mut Board,
     frames: &mut ArrayVec<Frame<R>, N>,
     search_state: &mut SearchState<R>,
 ) -> bool
     requires ready { IsReady contest board.old (array_vec_len frames.old) N }
     requires threat { AreThreats R.rule contest board.old first.now.threat }
-    requires refuting { HoldAll R.rule board.old (refutes R.rule contest board.old)
-        (Some first.now.refuting) }
+    requires refuting { AreRefuting R.rule contest board.old first.now.refuting }
     requires legal { is_legal R.rule board.old by ≡ true }
+    requires place { place ≡ place_of (Some by) }
     ensures shown { result ≡ is_shown R.rule contest board.old by }
     ensures rest { Keeps board.old board.new frames.old.items frames.new.items }
 {
-    if is_refutation::<R, N>(contest, first.refuting, by, board, frames, search_state) {
+    if is_refutation::<R, N>(
+        contest,
+        first.refuting,
+        by,
+        place,
+        board,
+        frames,
+        search_state,
+    ) {
         return false;
     }
     is_defence::<R, N>(contest, first.threat, by, board, frames, search_state)
@@ -230,15 +292,22 @@ pub fn next_reply<R: Rules, const N: usize>(
 ) -> Option<Move>
     requires ready { IsReady contest board.old (array_vec_len frames.old) N }
     requires threat { AreThreats R.rule contest board.old first.now.threat }
-    requires refuting { HoldAll R.rule board.old (refutes R.rule contest board.old)
-        (Some first.now.refuting) }
+    requires refuting { AreRefuting R.rule contest board.old first.now.refuting }
     ensures rest { Keeps board.old board.new frames.old.items frames.new.items }
     ensures next { IsNext R.rule board.old (is_shown R.rule contest board.old)
         place.old place.new result }
 {
     let mut known = None;
     while let Some(by) = next_move::<R>(&mut known, place, board) {
-        if is_shown::<R, N>(contest, first, by, board, frames, search_state) {
+        if is_shown::<R, N>(
+            contest,
+            first,
+            by,
+            place.number(),
+            board,
+            frames,
+            search_state,
+        ) {
             return Some(by);
         }
     }
@@ -250,21 +319,29 @@ pub fn next_reply<R: Rules, const N: usize>(
 #[tactic(auto, using(crate::proofs::Loops::filtering))]
 pub fn next_refutation<R: Rules, const N: usize>(
     contest: Contest,
-    refuting: MoveSet,
+    refuting: Refuting,
     place: &mut Moves<R>,
     board: &mut Board,
     frames: &mut ArrayVec<Frame<R>, N>,
     search_state: &mut SearchState<R>,
 ) -> Option<Move>
     requires ready { IsReady contest board.old (array_vec_len frames.old) N }
-    requires held { HoldAll R.rule board.old (refutes R.rule contest board.old) (Some refuting) }
+    requires refuting { AreRefuting R.rule contest board.old refuting }
     ensures rest { Keeps board.old board.new frames.old.items frames.new.items }
     ensures next { IsNext R.rule board.old (refutes R.rule contest board.old)
         place.old place.new result }
 {
     let mut known = None;
     while let Some(by) = next_move::<R>(&mut known, place, board) {
-        if is_refutation::<R, N>(contest, refuting, by, board, frames, search_state) {
+        if is_refutation::<R, N>(
+            contest,
+            refuting,
+            by,
+            place.number(),
+            board,
+            frames,
+            search_state,
+        ) {
             return Some(by);
         }
     }

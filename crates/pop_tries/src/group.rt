@@ -6,11 +6,14 @@ ghost use Rattle.pop_solve.specs.Events.{play_start};
 ghost use Rattle.pop_tries.specs.Shown.{try_event_of};
 ghost use Rattle.pop_tries.specs.declared.first_moves.Group.TheVariants.{Keys, Tries};
 ghost use Rattle.pop_tries.specs.declared.stage.TriesStage.TheVariants.{Beginning, Faced, FirstMove};
+ghost use Rattle.pop_tries.specs.ties.Candidates.{candidates_of, none_kept};
 ghost use Rattle.pop_tries.specs.ties.Contests.{IsContest};
 ghost use Rattle.pop_tries.specs.ties.Searching.{contest_of, ending_of, event_of_first, first_event as bare_first, is_stopped, left_of, Emits, Goes, HoldsAt, HoldTries, IsBare, IsTask, MayStep};
 
 use crate::first_moves::{Group, play_next};
+use crate::kept_tries::Candidates;
 use crate::move_set::MoveSet;
+use crate::refuting::Refuting;
 use crate::shown::shown;
 use crate::stage::{First, Firsts, Step, Task, TriesStage};
 use arrayvec::ArrayVec;
@@ -23,20 +26,21 @@ use pop_events::{Shown, TryEvent};
 
 /// Returns the stage before the keys.
 pub(crate) fn beginning_of_keys<R: Rules>() -> TriesStage<R>
-    ensures { result ≡ Beginning Keys None }
+    ensures { result ≡ Beginning Keys (candidates_of None) }
 {
     TriesStage::Beginning {
         group: Group::Keys,
-        candidates: None,
+        candidates: Candidates::of(None),
     }
 }
 
 /// Returns the first moves that may be tries before the first move of a group.
-fn first_candidates(group: Group, candidates: Option<MoveSet>) -> Option<MoveSet>
+fn first_candidates(group: Group, candidates: Candidates) -> Candidates
+    ensures keys { group ≡ Keys → result.kept ≡ none_kept }
     ensures tries { (most : ℕ) → group ≡ Tries most → result ≡ candidates }
 {
     match group {
-        Group::Keys => Some(MoveSet::none()),
+        Group::Keys => Candidates::of(Some(MoveSet::none())),
         Group::Tries { .. } => candidates,
     }
 }
@@ -46,7 +50,7 @@ fn first_candidates(group: Group, candidates: Option<MoveSet>) -> Option<MoveSet
 pub(crate) fn begin_group<R: Rules, const N: usize>(
     task: &Task,
     group: Group,
-    candidates: Option<MoveSet>,
+    candidates: Candidates,
     board: &Board,
     frames: &ArrayVec<Frame<R>, N>,
 ) -> Step<R>
@@ -94,12 +98,7 @@ fn first_event(group: Group, shown: Shown) -> TryEvent
 
 /// Ends a group with its total. After the keys the tries follow, which are among `candidates`.
 #[tactic(auto, unfolding(crate::specs::ties::Searching::HoldsAt, crate::specs::ties::Searching::left_of, crate::specs::ties::Searching::rank))]
-fn end_group<R: Rules>(
-    task: &Task,
-    group: Group,
-    count: u32,
-    candidates: Option<MoveSet>,
-) -> Step<R>
+fn end_group<R: Rules>(task: &Task, group: Group, count: u32, candidates: Candidates) -> Step<R>
     requires task { IsTask task.now }
     requires contest { IsContest (contest_of task.now) }
     requires candidates { HoldTries R.rule task.now candidates }
@@ -144,7 +143,7 @@ pub(crate) fn find_first<R: Rules, const N: usize>(
 {
     let group = firsts.group;
     if is_stopped(task, group, firsts.count) {
-        return end_group(task, group, firsts.count, None);
+        return end_group(task, group, firsts.count, Candidates::of(None));
     }
     let mut next = firsts;
     let found = play_next::<R, N>(task, &mut next, board, frames, search_state);
@@ -162,7 +161,7 @@ fn begin_first<R: Rules>(
     firsts: Firsts<R>,
     by: Move,
     undo: Undo,
-    refuting: MoveSet,
+    refuting: Refuting,
     board: &mut Board,
 ) -> Step<R>
     requires came { CameBy R.rule by undo board.old (play_start task.now.problem) }

@@ -1,7 +1,7 @@
 //! Sets of moves, by their origins and arrivals.
 ghost use Rattle.std.specs.Prelude.{◌≡◌, false, true};
 ghost use Rattle.chess_core.specs.declared.man.Move.{Move};
-ghost use Rattle.pop_tries.specs.ties.MoveSets.{may_be, may_hold};
+ghost use Rattle.pop_tries.specs.ties.MoveSets.{may_be, may_hold, no_moves};
 
 use chess_core::man::Move;
 use chess_core::square::Squares;
@@ -17,7 +17,8 @@ pub struct MoveSet {
 impl MoveSet {
     /// Returns the set without any move.
     pub fn none() -> MoveSet
-        ensures { (m : Move) → may_hold result m ≡ false }
+        ensures none { (m : Move) → may_hold result m ≡ false }
+        ensures empty { result ≡ no_moves }
     {
         MoveSet {
             origins: 0,

@@ -3,17 +3,18 @@ ghost use Rattle.std.specs.Prelude.{◌≡◌, ◌+◌, ◌-◌, ◌≤◌, filt
 ghost use Rattle.arrayvec.specs.ArrayVec.{array_vec_len};
 ghost use Rattle.chess_core.specs.WellFormed.{IsWellFormed};
 ghost use Rattle.chess_rules.specs.Legal.{is_legal, moves};
-ghost use Rattle.chess_rules.specs.ties.Places.{moves_between};
+ghost use Rattle.chess_rules.specs.ties.Places.{moves_between, place_of};
 ghost use Rattle.pop_solve.specs.Tree.{is_in_set_play, keeps_win};
 ghost use Rattle.pop_tries.specs.Events.{chess_passing};
 ghost use Rattle.pop_tries.specs.Tries.{is_try, refutations};
 ghost use Rattle.pop_tries.specs.ties.Contests.{IsReady, Keeps, game_in};
 ghost use Rattle.chess_core.specs.declared.man.Move.{Move};
 ghost use Rattle.pop_tries.specs.ties.MoveSets.{may_hold, HoldAll};
-ghost use Rattle.pop_tries.specs.ties.FirstMoves.{gives_check, is_counted, is_forcing, is_heavy, is_refuted_by_stalemate, refutes, refutes_among};
+ghost use Rattle.pop_tries.specs.ties.FirstMoves.{AreRefuting, IsRefutedAt, gives_check, is_counted, is_forcing, is_heavy, is_refuted_by_stalemate, refutes, refutes_among};
 
 use crate::contest::Contest;
 use crate::move_set::MoveSet;
+use crate::refuting::Refuting;
 use crate::stage::MOST_REFUTATIONS;
 use arrayvec::ArrayVec;
 use chess_core::board::Board;
@@ -82,24 +83,29 @@ pub fn refutes<R: Rules, const N: usize>(
     refuted
 }
 
-/// Returns whether the legal reply `by` refutes the first move that led to the board's position; `refuting`
-/// holds the replies that do.
-#[tactic(auto, using(crate::proofs::MoveSets::not_held))]
+/// Returns whether the legal reply `by` at `place` refutes the first move that led to the board's position;
+/// `refuting` is what is known of the replies that do.
+#[tactic(auto, using(crate::proofs::Counts::refuted_by, crate::proofs::MoveSets::not_held))]
 pub fn is_refutation<R: Rules, const N: usize>(
     contest: Contest,
-    refuting: MoveSet,
+    refuting: Refuting,
     by: Move,
+    place: u16,
     board: &mut Board,
     frames: &mut ArrayVec<Frame<R>, N>,
     search_state: &mut SearchState<R>,
 ) -> bool
     requires ready { IsReady contest board.old (array_vec_len frames.old) N }
-    requires held { HoldAll R.rule board.old (refutes R.rule contest board.old) (Some refuting) }
+    requires refuting { AreRefuting R.rule contest board.old refuting }
     requires legal { is_legal R.rule board.old by ≡ true }
+    requires place { place ≡ place_of (Some by) }
     ensures refutes { result ≡ refutes R.rule contest board.old by }
     ensures rest { Keeps board.old board.new frames.old.items frames.new.items }
 {
-    if !refuting.may_hold(&by) {
+    if place == refuting.last {
+        return true;
+    }
+    if !refuting.moves.may_hold(&by) {
         return false;
     }
     refutes::<R, N>(contest, by, board, frames, search_state)
@@ -140,6 +146,20 @@ pub struct Tally {
     pub most: u32,
     /// Holds the refutations that were counted.
     pub refuting: MoveSet,
+    /// The place of the one that was counted last; 0 if there is none.
+    pub last: u16,
+}
+
+impl Tally {
+    /// Returns what is known of the refutations.
+    pub fn known(self) -> Refuting
+        ensures { result ≡ record { moves = self.refuting; last = self.last } }
+    {
+        Refuting {
+            moves: self.refuting,
+            last: self.last,
+        }
+    }
 }
 
 /// Returns whether the legal move `by` gives check.
@@ -231,12 +251,14 @@ fn count_among<R: Rules, const N: usize>(
 ) -> Tally
     requires ready { IsReady contest board.old (array_vec_len frames.old) N }
     requires few { (tally.count ≤ tally.most) × (tally.most ≤ MOST_REFUTATIONS) }
+    requires last { IsRefutedAt R.rule contest board.old tally.last }
     ensures count { result.count ≡ min (tally.count + length (filter (refutes_among R.rule contest
         counted board.old) (moves R.rule board.old))) (tally.most + 1) }
     ensures most { result.most ≡ tally.most }
     ensures kept { (m : Move) → may_hold tally.refuting m ≡ true → may_hold result.refuting m ≡ true }
     ensures held { result.count ≤ tally.most → HoldAll R.rule board.old (refutes_among R.rule contest
         counted board.old) (Some result.refuting) }
+    ensures last { IsRefutedAt R.rule contest board.old result.last }
     ensures rest { Keeps board.old board.new frames.old.items frames.new.items }
 {
     let mut known = None;
@@ -244,16 +266,19 @@ fn count_among<R: Rules, const N: usize>(
     let left = half_moves_of_replies(contest);
     let mut count = tally.count;
     let mut refuting = tally.refuting;
+    let mut last = tally.last;
     while let Some(by) = next_move::<R>(&mut known, &mut place, board) {
         if refutes_among::<R, N>(contest, counted, by, board, frames, search_state) {
             count += 1;
             refuting = refuting.with(&by);
+            last = place.number();
             search_state.killers.put(left, place);
             if count > tally.most {
                 return Tally {
                     count,
                     most: tally.most,
                     refuting,
+                    last,
                 };
             }
         }
@@ -262,6 +287,7 @@ fn count_among<R: Rules, const N: usize>(
         count,
         most: tally.most,
         refuting,
+        last,
     }
 }
 
@@ -281,12 +307,14 @@ pub fn count_refutations<R: Rules, const N: usize>(
         contest.stipulation.n board.old)) (most + 1) }
     ensures held { result.count ≤ most → HoldAll R.rule board.old (refutes R.rule contest board.old)
         (Some result.refuting) }
+    ensures last { IsRefutedAt R.rule contest board.old result.last }
     ensures rest { Keeps board.old board.new frames.old.items frames.new.items }
 {
     let none = Tally {
         count: 0,
         most,
         refuting: MoveSet::none(),
+        last: 0,
     };
     if contest.stipulation.half_moves() < 5 {
         return count_among::<R, N>(contest, Counted::All, none, board, frames, search_state);
@@ -364,12 +392,12 @@ fn is_refuted_by_stalemate<R: Rules>(contest: Contest, board: &mut Board) -> boo
 
 /// Returns whether the first move that led to the board's position is a try with at most `most` refutations.
 /// A refuted move is no key, so the number of refutations decides, or stalemate where no reply refutes. Sets
-/// `refuting` to a set that holds the refutations of a try.
-#[tactic(auto, using(crate::proofs::Contests::trying))]
+/// `refuting` to the refutations of a try.
+#[tactic(auto, using(crate::proofs::Contests::trying, crate::proofs::Counts::known_refuting))]
 pub fn is_try<R: Rules, const N: usize>(
     contest: Contest,
     most: u32,
-    refuting: &mut MoveSet,
+    refuting: &mut Refuting,
     board: &mut Board,
     frames: &mut ArrayVec<Frame<R>, N>,
     search_state: &mut SearchState<R>,
@@ -378,15 +406,14 @@ pub fn is_try<R: Rules, const N: usize>(
     requires few { most ≤ MOST_REFUTATIONS }
     ensures tried { result ≡ is_try contest.battle (game_in R.rule contest) contest.stipulation.n
         (chess_passing R.rule) most board.old }
-    ensures held { result ≡ true → HoldAll R.rule board.old (refutes R.rule contest board.old)
-        (Some refuting.new) }
+    ensures refuting { result ≡ true → AreRefuting R.rule contest board.old refuting.new }
     ensures rest { Keeps board.old board.new frames.old.items frames.new.items }
 {
     if most == 0 {
         return false;
     }
     let tally = count_refutations::<R, N>(contest, most, board, frames, search_state);
-    *refuting = tally.refuting;
+    *refuting = tally.known();
     if tally.count == 0 {
         return is_refuted_by_stalemate::<R>(contest, board);
     }

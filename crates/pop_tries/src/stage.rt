@@ -7,7 +7,8 @@ ghost use Rattle.pop_tries.specs.ties.Searching.{contest_of, walk_below};
 use crate::below::{Base, WalkBelow};
 use crate::contest::Contest;
 use crate::first_moves::Group;
-use crate::move_set::MoveSet;
+use crate::kept_tries::Candidates;
+use crate::refuting::Refuting;
 use crate::threats::Threat;
 use chess_core::man::Move;
 use chess_core::square::Square;
@@ -71,9 +72,8 @@ pub struct Firsts<R: Rules> {
     pub place: Moves<R>,
     /// How many first moves of the group have been shown.
     pub count: u32,
-    /// Holds the first moves that may be tries, among the keys those up to the place. `None` if nothing is
-    /// known.
-    pub candidates: Option<MoveSet>,
+    /// The first moves that may be tries, among the keys those up to the place.
+    pub candidates: Candidates,
 }
 
 impl<R: Rules> Firsts<R> {
@@ -99,8 +99,8 @@ pub struct First<R: Rules> {
     /// The length of White's threats: the least number of half-moves within which they win. `None` if White
     /// threatens nothing, or before stage `Faced` has looked for threats.
     pub threat: Option<Threat>,
-    /// Holds the replies that refute.
-    pub refuting: MoveSet,
+    /// What is known of the replies that refute.
+    pub refuting: Refuting,
 }
 
 /// A reply that has been played.
@@ -129,7 +129,7 @@ pub enum TriesStage<R: Rules> {
     Beginning {
         group: Group,
         /// The first moves that may be tries, as in `Firsts`.
-        candidates: Option<MoveSet>,
+        candidates: Candidates,
     },
     /// The next first move of a group.
     FirstMove {

@@ -1,5 +1,5 @@
 -- The groups of first moves that a search shows, and the replies shown below one (own).
-use Rattle.std.specs.Prelude.{◌≡◌, ◌&&◌, ℕ, Bool, not, true, false, List, [], ◌∷◌, filter, ◌||◌, Option, None, Some, MatchOption}
+use Rattle.std.specs.Prelude.{◌≡◌, ◌&&◌, ◌<◌, ℕ, Bool, not, true, false, List, [], ◌∷◌, filter, ◌||◌, Option, None, Some, IfSome, MatchOption}
 use Rattle.chess_core.specs.Position.{Position, man_on, same_kind}
 use Rattle.chess_core.specs.declared.man.Kind.TheVariants.{Queen, Rook}
 use Rattle.chess_core.specs.declared.man.Man.{Man}
@@ -17,13 +17,17 @@ use Rattle.pop_stipulation.specs.declared.stipulation.Goal.{Goal}
 use Rattle.pop_stipulation.specs.declared.stipulation.Goal.TheVariants.{Mate, Stalemate}
 use Rattle.pop_tries.specs.Events.{chess_passing}
 use Rattle.pop_tries.specs.Tries.{is_defence, is_try}
+use Rattle.pop_tries.specs.declared.kept_tries.Candidates.{Candidates}
+use Rattle.pop_tries.specs.declared.kept_tries.KeptTry.{KeptTry}
 use Rattle.pop_tries.specs.declared.contest.Contest.{Contest}
 use Rattle.pop_tries.specs.declared.first_moves.Group.{Group}
 use Rattle.pop_tries.specs.declared.first_moves.Group.TheVariants.{Keys, Tries}
-use Rattle.pop_tries.specs.declared.move_set.MoveSet.{MoveSet}
+use Rattle.pop_tries.specs.declared.refuting.Refuting.{Refuting}
 use Rattle.pop_tries.specs.declared.replies.Counted.{Counted}
 use Rattle.pop_tries.specs.declared.replies.Counted.TheVariants.{All, Forcing, Others}
+use Rattle.pop_tries.specs.ties.Candidates.{try_at}
 use Rattle.pop_tries.specs.ties.Contests.{game_in}
+use Rattle.pop_tries.specs.ties.FewPlaces.{IsPlaceOf}
 use Rattle.pop_tries.specs.ties.MoveSets.{HoldAll, HoldBefore}
 
 -- the first move that leads to q belongs to the group
@@ -48,14 +52,6 @@ is_refuted_by_stalemate Selfmate goal rule q = false
 abbrev pub is_try_after : RuleSet → Contest → ℕ → Position → Move → Bool
 is_try_after rule contest most p m = belongs rule contest (Tries most) (position_after rule p m)
 
--- what is known of the moves of p that may be tries, at a place among the first moves of a group: keys come
--- first, and with them it becomes known, for the moves up to the place
-abbrev pub AreCandidates : RuleSet → Contest → Group → ℕ → Position → Option MoveSet → ℕ → Type 0
-AreCandidates rule contest Keys most p set place =
-    HoldBefore rule p (is_try_after rule contest most p) set place
-AreCandidates rule contest (Tries some) most p set place =
-    HoldAll rule p (is_try_after rule contest most p) set
-
 -- the tries of a group have at most `most` refutations
 abbrev pub IsAsked : Group → ℕ → Type 0
 IsAsked Keys most = Unit {0}
@@ -74,9 +70,46 @@ abbrev pub refutes : RuleSet → Contest → Position → Move → Bool
 refutes rule contest q d = not (is_in_set_play contest.battle (game_in rule contest)
     contest.stipulation.n (position_after rule q d))
 
+-- the reply at a place, if there is one, refutes the first move that leads to q
+abbrev pub IsRefutedAt : RuleSet → Contest → Position → ℕ → Type 0
+IsRefutedAt rule contest q place = (m : Move) → IsPlaceOf place m → refutes rule contest q m ≡ true
+
+-- what is known of the refutations of the first move that leads to q
+abbrev pub AreRefuting : RuleSet → Contest → Position → Refuting → Type 0
+AreRefuting rule contest q refuting = HoldAll rule q (refutes rule contest q) (Some refuting.moves)
+    × IsRefutedAt rule contest q refuting.last
+
+-- the first move that leads to q is a try with these refutations, if they are known
+abbrev pub IsKnownTry : RuleSet → Contest → ℕ → Position → Option Refuting → Type 0
+IsKnownTry rule contest most q known = IfSome known
+    (λ refuting. (belongs rule contest (Tries most) q ≡ true) × AreRefuting rule contest q refuting)
+
+-- the move of p at the place of a try that is kept is one, with these refutations
+abbrev pub IsKept : RuleSet → Contest → ℕ → Position → KeptTry → Type 0
+IsKept rule contest most p kept = (m : Move) → IsPlaceOf kept.place m
+    → IsKnownTry rule contest most (position_after rule p m) (Some kept.refuting)
+
+abbrev pub AreKept : RuleSet → Contest → ℕ → Position → List KeptTry → Type 0
+AreKept rule contest most p kept = (i : ℕ) → i < 16 → IsKept rule contest most p (try_at kept i)
+
+-- all tries of p are among the candidates
+abbrev pub AreTries : RuleSet → Contest → ℕ → Position → Candidates → Type 0
+AreTries rule contest most p candidates =
+    HoldAll rule p (is_try_after rule contest most p) candidates.set
+    × AreKept rule contest most p candidates.kept
+
+-- what is known of the moves of p that may be tries, at a place among the first moves of a group: keys come
+-- first, and with them it becomes known, for the moves up to the place
+abbrev pub AreCandidates : RuleSet → Contest → Group → ℕ → Position → Candidates → ℕ → Type 0
+AreCandidates rule contest Keys most p candidates place =
+    HoldBefore rule p (is_try_after rule contest most p) candidates.set place
+    × AreKept rule contest most p candidates.kept
+AreCandidates rule contest (Tries some) most p candidates place =
+    AreTries rule contest most p candidates
+
 -- the next first move of a group after a place among the moves of p was found and played: `next` is its place
 abbrev pub IsPlayed : RuleSet → Contest → Group → (p board : Position) → (place next : ℕ)
-    → Option (Move × Undo × MoveSet) → Type 0
+    → Option (Move × Undo × Refuting) → Type 0
 IsPlayed rule contest group p board place next found = MatchOption found
     ((firsts_after rule contest group p place ≡ []) × (board ≡ p))
     (λ f. (firsts_after rule contest group p place
@@ -84,8 +117,7 @@ IsPlayed rule contest group p board place next found = MatchOption found
     × (board ≡ position_after rule p f.0)
     × (f.1 ≡ undo_of rule p f.0)
     × (is_legal rule p f.0 ≡ true)
-    × HoldAll rule (position_after rule p f.0) (refutes rule contest (position_after rule p f.0))
-    (Some f.2))
+    × AreRefuting rule contest (position_after rule p f.0) f.2)
 
 -- the move d of q gives check
 abbrev pub gives_check : RuleSet → Position → Move → Bool

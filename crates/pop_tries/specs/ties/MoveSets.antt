@@ -8,6 +8,15 @@ use Rattle.chess_attacks.specs.RuleSet.{RuleSet}
 use Rattle.chess_rules.specs.Legal.{moves}
 use Rattle.chess_rules.specs.ties.Places.{moves_after}
 use Rattle.pop_tries.specs.declared.move_set.MoveSet.{MoveSet}
+use Rattle.pop_tries.specs.declared.refuting.Refuting.{Refuting}
+
+-- the set without any move
+abbrev pub no_moves : MoveSet
+no_moves = record { origins = 0; arrivals = 0 }
+
+-- no reply may refute, and none is known to
+abbrev pub nothing_refuting : Refuting
+nothing_refuting = record { moves = no_moves; last = 0 }
 
 -- the set may hold the move: it has its origin and its arrival
 abbrev pub may_hold : MoveSet → Move → Bool

@@ -24,9 +24,9 @@ use Rattle.pop_tries.specs.Tries.{Below, below_reply, refutation, reply, shown_r
 use Rattle.pop_tries.specs.Events.{BareTryEvent, attempt, below, events_of_tries, key, key_total, keys, no_tries, play_events, set_event, shown_below, tries, try_total}
 use Rattle.pop_tries.specs.Shown.{try_event_of}
 use Rattle.pop_tries.specs.ties.Contests.{AreThreats, IsContest}
-use Rattle.pop_tries.specs.ties.FirstMoves.{firsts_after as firsts_of, is_shown, is_try_after, refutes, AreCandidates, IsAsked}
-use Rattle.pop_tries.specs.ties.MoveSets.{HoldAll}
-use Rattle.pop_tries.specs.declared.move_set.MoveSet.{MoveSet}
+use Rattle.pop_tries.specs.ties.Candidates.{candidates_of}
+use Rattle.pop_tries.specs.ties.FirstMoves.{firsts_after as firsts_of, is_shown, refutes, AreCandidates, AreRefuting, AreTries, IsAsked}
+use Rattle.pop_tries.specs.declared.kept_tries.Candidates.{Candidates}
 use Rattle.pop_tries.specs.ties.Starts.{base_position, shown_line}
 use Rattle.pop_tries.specs.declared.below.Base.{Base}
 use Rattle.pop_tries.specs.declared.below.WalkBelow.{WalkBelow}
@@ -78,7 +78,7 @@ IsInLimit problem (Tries most) count = Unit {0}
 -- the first stage of a problem's search
 abbrev pub stage_by : {A : Type 0} → Option Battle → Bool → TriesStage A
 stage_by None set_play = NoTries
-stage_by (Some battle) set_play = if set_play then SetPlay else Beginning Keys None
+stage_by (Some battle) set_play = if set_play then SetPlay else Beginning Keys (candidates_of None)
 
 abbrev pub first_stage : {A : Type 0} → Posed → TriesStage A
 first_stage problem = stage_by (battle_of problem.stipulation.form) problem.set_play
@@ -242,14 +242,14 @@ module _ (rule : RuleSet) (task : Task) where
   left_of Over items = []
 
   -- what is known of the first moves that may be tries
-  abbrev pub HoldCandidates : Group → Option MoveSet → ℕ → Type 0
+  abbrev pub HoldCandidates : Group → Candidates → ℕ → Type 0
   HoldCandidates group candidates place = AreCandidates rule (contest_of task) group task.most
       (play_start task.problem) candidates place
 
   -- all first moves that are tries are among the candidates
-  abbrev pub HoldTries : Option MoveSet → Type 0
-  HoldTries candidates = HoldAll rule (play_start task.problem)
-      (is_try_after rule (contest_of task) task.most (play_start task.problem)) candidates
+  abbrev pub HoldTries : Candidates → Type 0
+  HoldTries candidates =
+      AreTries rule (contest_of task) task.most (play_start task.problem) candidates
 
   -- a place among the first moves of a group: counts fit
   pub record IsPlaced {A : Type 0} (firsts : Firsts A) : Type 0 where
@@ -262,8 +262,7 @@ module _ (rule : RuleSet) (task : Task) where
   pub record IsFirst {A : Type 0} (first : First A) : Type 0 where
     pub came : CameBy rule first.by first.undo (after_first first.by) (play_start task.problem)
     pub sound : IsWellFormed (after_first first.by)
-    pub refuted : HoldAll rule (after_first first.by)
-        (refutes rule (contest_of task) (after_first first.by)) (Some first.refuting)
+    pub refuted : AreRefuting rule (contest_of task) (after_first first.by) first.refuting
     pub placed : IsPlaced first.firsts
 
   -- the board has the position after a first move, whose threats have been looked for

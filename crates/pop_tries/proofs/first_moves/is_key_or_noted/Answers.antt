@@ -1,29 +1,34 @@
 use Rattle.pop_tries.proofs.Words.{sym, ◌∙◌}
 use Rattle.pop_tries.specs.ties.Searching.{contest_of}
-use Rattle.pop_tries.proofs.Candidates.{refuted_no_key, unrefuted_key}
+use Rattle.pop_tries.proofs.Counts.{known_refuting}
+use Rattle.pop_tries.proofs.Candidates.{counted_try, refuted_no_key, unrefuted_key}
 use Rattle.pop_tries.proofs.first_moves.is_key_or_noted.Goals as goal
-use Rattle.pop_tries.proofs.first_moves.is_key_or_noted.Goals.{else-count-eq0-via-then-count-eq0+else-is_key_unrefuted, else-count-eq0-via-else-count-eq0}
 
-pub returns-then-count-task-clause-key : goal.returns-then-count-task-clause-key
-returns-then-count-task-clause-key g c =
+pub returns-then-tally-eq0-clause-key : goal.returns-then-tally-eq0-clause-key
+returns-then-tally-eq0-clause-key g c =
     let rule = g.R.Rules.rule in
     let contest = contest_of c.args.task.now in
-    let counted = rw (c.contest-contest.ensures, c.are_two_refutations.ensures.rest.board) at c.count_refutations-count.ensures.count in
-    elim c.else-count-eq0.branch [
-      | else-count-eq0-via-then-count-eq0+else-is_key_unrefuted w ↦ sym w.if-is_key_unrefuted.false
-          ∙ unrefuted_key rule contest c.args.board.now _ _ _ counted w.if-count-eq0.true
-          (rw (c.contest-contest.ensures, c.count_refutations-count.ensures.rest.board, c.are_two_refutations.ensures.rest.board) at w.is_key_unrefuted.ensures.key)
-      | else-count-eq0-via-else-count-eq0 w ↦ refuted_no_key rule contest c.args.board.now _ _ counted w.if-count-eq0.false
-    ]
+    let counted = rw (c.contest-contest.ensures, c.are_two_refutations.ensures.rest.board) at c.count_refutations-tally.ensures.count in
+    sym c.if-is_key_unrefuted.false
+    ∙ unrefuted_key rule contest c.args.board.now _ _ _ counted c.if-tally-eq0.true
+    (rw (c.contest-contest.ensures, c.count_refutations-tally.ensures.rest.board, c.are_two_refutations.ensures.rest.board) at c.is_key_unrefuted.ensures.key)
 
-pub returns-else-count-task-clause-key : goal.returns-else-count-task-clause-key
-returns-else-count-task-clause-key g c =
+pub returns-then-tally-task-clause-key : goal.returns-then-tally-task-clause-key
+returns-then-tally-task-clause-key g c =
+    let counted = rw (c.contest-contest.ensures, c.are_two_refutations.ensures.rest.board) at c.count_refutations-tally.ensures.count in
+    refuted_no_key g.R.Rules.rule (contest_of c.args.task.now) c.args.board.now _ _ counted c.if-tally-eq0.false
+
+pub returns-else-tally-task-clause-key : goal.returns-else-tally-task-clause-key
+returns-else-tally-task-clause-key g c =
+    let counted = rw (c.contest-contest.ensures, c.are_two_refutations.ensures.rest.board) at c.count_refutations-tally.ensures.count in
+    refuted_no_key g.R.Rules.rule (contest_of c.args.task.now) c.args.board.now _ _ counted c.if-tally-eq0.false
+
+pub returns-then-tally-task-clause-refuting : goal.returns-then-tally-task-clause-refuting
+returns-then-tally-task-clause-refuting g c =
     let rule = g.R.Rules.rule in
     let contest = contest_of c.args.task.now in
-    let counted = rw (c.contest-contest.ensures, c.are_two_refutations.ensures.rest.board) at c.count_refutations-count.ensures.count in
-    elim c.else-count-eq0.branch [
-      | else-count-eq0-via-then-count-eq0+else-is_key_unrefuted w ↦ sym w.if-is_key_unrefuted.false
-          ∙ unrefuted_key rule contest c.args.board.now _ _ _ counted w.if-count-eq0.true
-          (rw (c.contest-contest.ensures, c.count_refutations-count.ensures.rest.board, c.are_two_refutations.ensures.rest.board) at w.is_key_unrefuted.ensures.key)
-      | else-count-eq0-via-else-count-eq0 w ↦ refuted_no_key rule contest c.args.board.now _ _ counted w.if-count-eq0.false
-    ]
+    let rest = c.are_two_refutations.ensures.rest.board in
+    let counted = rw (c.contest-contest.ensures, rest) at c.count_refutations-tally.ensures.count in (
+      counted_try rule contest c.args.board.now c.args.task.now.most _ counted c.if-tally-eq0.false c.if-tally-task.true,
+      known_refuting rule contest c.args.board.now _ _ _ c.known.ensures ((rw (c.contest-contest.ensures, rest) at c.count_refutations-tally.ensures.held) c.if-tally-task.true) (rw (c.contest-contest.ensures, rest) at c.count_refutations-tally.ensures.last),
+    )

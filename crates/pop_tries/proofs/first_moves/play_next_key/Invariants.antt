@@ -1,6 +1,6 @@
 use Rattle.pop_tries.proofs.Words.{length, position_after}
 use Rattle.pop_tries.specs.declared.first_moves.Group.TheVariants.{Keys}
-use Rattle.pop_tries.specs.ties.FirstMoves.{belongs, is_try_after}
+use Rattle.pop_tries.specs.ties.FirstMoves.{AreKept, belongs, is_try_after}
 use Rattle.pop_tries.specs.ties.MoveSets.{HoldBefore}
 use Rattle.pop_tries.specs.ties.Searching.{contest_of}
 use Rattle.chess_rules.specs.ties.Places.{moves_after}
@@ -11,7 +11,8 @@ use Rattle.pop_tries.proofs.first_moves.play_next_key.Given as goal
 abbrev pub invariant-loop-by : goal.invariant-loop-by
 invariant-loop-by g l = NoneSoFar g.R.Rules.rule l.fn.board (λ m. belongs g.R.Rules.rule (contest_of l.task) Keys (position_after g.R.Rules.rule l.fn.board m))
     l.fn.place l.place l.board l.fn.frames.items l.frames.items l.known
-    × HoldBefore g.R.Rules.rule l.fn.board (is_try_after g.R.Rules.rule (contest_of l.task) l.task.most l.fn.board) l.candidates l.place
+    × HoldBefore g.R.Rules.rule l.fn.board (is_try_after g.R.Rules.rule (contest_of l.task) l.task.most l.fn.board) l.candidates.set l.place
+    × AreKept g.R.Rules.rule (contest_of l.task) l.task.most l.fn.board l.candidates.kept
 
 abbrev pub decreases-loop-by : goal.decreases-loop-by
 decreases-loop-by g l = length (moves_after g.R.Rules.rule l.fn.board l.place)

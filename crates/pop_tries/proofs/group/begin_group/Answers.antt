@@ -24,7 +24,7 @@ returns g c =
       record {
         asked = h.2;
         noted = notes rule (contest_of task) task.most (play_start task.problem) group c.args.candidates candidates c.start.result c.start.ensures h.3
-            c.first_candidates.ensures.tries;
+            c.first_candidates.ensures.keys c.first_candidates.ensures.tries;
         counted = rw c.start.ensures (steps.none_counted rule task group);
         limited = steps.at_first task.problem group;
       },

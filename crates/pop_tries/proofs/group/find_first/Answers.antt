@@ -14,6 +14,12 @@ returns-then-is_stopped g c =
     c.end_group.ensures.event
     (steps.stopped_ends g.R.Rules.rule c.args.task.now firsts.group firsts.place firsts.count (sym c.is_stopped.ensures ∙ c.if-is_stopped.true))
 
+pub end_group-requires-in_default-clause-candidates : goal.end_group-requires-in_default-clause-candidates
+unfolding HoldsAt
+end_group-requires-in_default-clause-candidates g c =
+    let h = c.requires.holds in
+    rw h.1.board_at at c.in_default.ensures.noted
+
 pub returns-in_default : goal.returns-in_default
 unfolding HoldsAt
 returns-in_default g c =

@@ -2,7 +2,7 @@ use Rattle.pop_tries.specs.ties.MoveSets.{HoldBefore, may_hold}
 use Rattle.pop_tries.proofs.Words.{filter, legal_moves, length, Move, Some, true, ◌+◌, ◌≡◌, ◌≤◌}
 use Rattle.std.specs.Prelude.{IfSome}
 use Rattle.chess_rules.specs.ties.Places.{IsPlaceIn, moves_after}
-use Rattle.pop_tries.specs.ties.FirstMoves.{refutes_among}
+use Rattle.pop_tries.specs.ties.FirstMoves.{IsRefutedAt, refutes_among}
 use Rattle.pop_tries.proofs.replies.count_among.Given as goal
 
 -- the refutations so far, and those among the moves that follow, are all that are counted; those so far are held
@@ -13,6 +13,7 @@ invariant-loop-by g l = (l.board ≡ l.fn.board) × (l.frames.items ≡ l.fn.fra
     ≡ l.fn.tally.count + length (filter (refutes_among g.R.Rules.rule l.fn.contest l.fn.counted l.fn.board) (legal_moves g.R.Rules.rule l.fn.board)))
     × ((m : Move) → may_hold l.fn.tally.refuting m ≡ true → may_hold l.refuting m ≡ true)
     × HoldBefore g.R.Rules.rule l.fn.board (refutes_among g.R.Rules.rule l.fn.contest l.fn.counted l.fn.board) (Some l.refuting) l.place
+    × IsRefutedAt g.R.Rules.rule l.fn.contest l.fn.board l.last
 
 abbrev pub decreases-loop-by : goal.decreases-loop-by
 decreases-loop-by g l = length (moves_after g.R.Rules.rule l.fn.board l.place)
