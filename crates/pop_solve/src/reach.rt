@@ -9,7 +9,7 @@ ghost use Rattle.pop_solve.specs.ties.Walk.{AreEndsAfter, IsKingOff, IsWellForme
 
 use crate::plan::Plan;
 use arrayvec::ArrayVec;
-use chess_core::{Board, Move, Squares};
+use chess_core::{Board, Kind, Move, Squares};
 use chess_reach::mating_squares;
 use chess_rules::{Rules, play, unplay};
 use pop_battle::frame::{Frame, LineEnds};
@@ -82,7 +82,7 @@ fn squares_after<R: Rules>(
 }
 
 /// Returns whether computing where lines can end may pay after a move, with `left` half-moves left: not without
-/// enough moves, nor against more than eight men, in Circe five. For speed only.
+/// enough moves, nor against more than eight men, in Circe five, nor in diagrams with fairy men. For speed only.
 fn may_compute<R: Rules>(left: usize, board: &Board) -> bool {
     let mating = if left % 2 == 0 {
         board.turn()
@@ -94,7 +94,12 @@ fn may_compute<R: Rules>(left: usize, board: &Board) -> bool {
     } else {
         MOST_COMPUTED
     };
-    left >= FEWEST_COMPUTED && board.side(mating).count_ones() <= most
+    left >= FEWEST_COMPUTED && board.side(mating).count_ones() <= most && !has_fairy_men(board)
+}
+
+/// Returns whether the diagram had grasshoppers or nightriders, so that pawns may promote to them.
+fn has_fairy_men(board: &Board) -> bool {
+    board.may_promote(Kind::Grasshopper) || board.may_promote(Kind::Nightrider)
 }
 
 /// Returns what the walk knows of the lines after a legal move, with `left` half-moves left after it: nothing
