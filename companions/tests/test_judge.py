@@ -351,6 +351,25 @@ class Judging(unittest.TestCase):
             outcome.output.decode().splitlines()[0], "problem 1: sound: h#1, A pair a)"
         )
 
+    def test_a_sheet_that_cant_be_written_is_refused_first(self) -> None:
+        """The collection itself, a link to it, a folder: nothing is solved, and nothing changes."""
+        before, link = self.text.read_bytes(), self.room / "link.html"
+        link.symlink_to(self.text)
+        folder = self.room / "folder"
+        folder.mkdir()
+        fails = self.script("fails", "kill -9 $$\n")
+        files = self.files()
+        for sheet, status, said in (
+            (str(self.text), 2, "is named twice"),
+            (str(link), 2, "is named twice"),
+            (str(folder), 3, "Is a directory"),
+            (f"{self.room}/new/", 3, "Is a directory"),
+        ):
+            outcome = self.judged("-o", sheet, pops=fails)
+            self.assertEqual((outcome.status, outcome.output), (status, b""))
+            self.assertIn(said, outcome.error)
+        self.assertEqual((self.text.read_bytes(), self.files()), (before, files))
+
     def test_texts_that_are_no_input(self) -> None:
         self.text.write_bytes(b"problem 1\n")
         outcome = self.judged()

@@ -1,12 +1,15 @@
 """Judges a collection: solves it, looks for short solutions, and writes one sheet of verdicts."""
 
 import argparse
+import errno
+import os
 import sys
 from pathlib import Path
 from typing import NoReturn, Optional
 
 from pops_companions import command
-from pops_companions.command import CommandError, Status
+from pops_companions.command import STANDARD_INPUT, CommandError, Status
+from pops_companions.commands.many import refuse_shared
 from pops_companions.input.given import given_problems
 from pops_companions.input.given_source import refuse_other_text
 from pops_companions.many.program import LOOKED_FOR, MissingError, find
@@ -110,8 +113,21 @@ def folder_of(settings: Settings) -> Path:
     return Path(settings.output + ".work")
 
 
+def refuse_sheet(collection: str, sheet: str) -> None:
+    """Refuses a sheet that is the collection or can't be written, before anything is solved."""
+    refuse_shared([collection] if collection != STANDARD_INPUT else [], [sheet])
+    if sheet.endswith("/") or os.path.isdir(sheet):
+        reason = os.strerror(errno.EISDIR)
+    elif os.path.exists(sheet) and not os.access(sheet, os.W_OK):
+        reason = os.strerror(errno.EACCES)
+    else:
+        return
+    raise CommandError(Status.DEVICE, f"cannot write {sheet}: {reason}")
+
+
 def judge(settings: Settings) -> Status:
     """Runs what is needed, writes the sheet and prints the verdicts."""
+    refuse_sheet(settings.collection, settings.output)
     text = read_collection(settings.collection)
     given = given_problems(text)
     name = "standard input" if settings.collection == "-" else settings.collection
