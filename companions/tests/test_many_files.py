@@ -163,6 +163,24 @@ class Several(SixProblems):
         self.assertEqual(self.each(*words, "--resume"), (0, b"", ""))
         self.assertEqual(self.report.read_bytes(), self.wanted)
 
+    def test_a_journal_that_is_removed_or_replaced_meanwhile(self) -> None:
+        """What stands in its place then is another's, and stays."""
+        journal = Path(f"{self.report}.journal")
+        pops = self.room / "pops"
+        for then, left in (("", None), (f"echo another > '{journal}'", b"another\n")):
+            pops.write_text(f"#!/bin/sh\nrm -f '{journal}'\n{then}\nexec '{support.pops()}' \"$@\"\n")
+            pops.chmod(0o755)
+            outcome = self.many(str(pops), "--jobs", "1")
+            self.assertEqual((outcome.status, outcome.error), (0, ""))
+            self.assertEqual(self.report.read_bytes(), self.wanted)
+            self.assertEqual(journal.read_bytes() if journal.exists() else None, left)
+            journal.unlink(missing_ok=True)
+            self.report.unlink()
+        pops.write_text(f"#!/bin/sh\nrm -f '{journal}'\nkill -9 $$\n")
+        outcome = self.many(str(pops))
+        self.assertEqual(outcome.status, 6)
+        self.assertIn("was removed while it was in use", outcome.error)
+
     def test_a_pipe_as_the_report(self) -> None:
         words = [sys.executable, str(support.COMPANIONS / "pops-many"), "--pops", support.pops()]
         words += ["-o", "/dev/stdout", "--journal", str(self.journal), str(self.input)]

@@ -312,8 +312,9 @@ class Solving:
             return worst
         if kept_in:
             self._say_unfinished(joined, kept_in)
+        what_is_kept = self._what_is_kept(journal, complete)
         journal.close(kept=True)
-        raise error(Status.UNFINISHED, self._what_is_kept(journal, complete))
+        raise error(Status.UNFINISHED, what_is_kept)
 
     def _say_unfinished(self, joined: Joined, kept_in: Sequence[str]) -> None:
         """Says how many problems are unfinished, and in which files their solutions are."""
@@ -328,6 +329,8 @@ class Solving:
     def _what_is_kept(self, journal: Journal, complete: bool) -> str:
         """Returns how much is done, and how to go on."""
         more = ", and more --seconds or none" if complete else ""
+        if not journal.is_there:
+            return f"{journal.path} was removed while it was in use: nothing is kept"
         return (
             f"{journal.finished} of {len(self._tasks)} problems are done and kept in"
             f" {journal.path}: go on with --resume --journal {journal.path}{more}"

@@ -97,6 +97,9 @@ class Journal:
             fcntl.flock(self._file, fcntl.LOCK_EX | fcntl.LOCK_NB)
         except BlockingIOError:
             raise JournalError(f"{self.path} is in use by another run") from None
+        if not self.is_there:
+            # (it ended just now, and removed its journal)
+            raise JournalError(f"{self.path} was removed by another run: try again")
         start = self._file.read(len(self._head) + 1)
         self._file.seek(0)
         if self._head.startswith(start):
@@ -237,8 +240,16 @@ class Journal:
     def statuses(self) -> list[int]:
         return [kept.status for kept in self.kept.values()]
 
+    @property
+    def is_there(self) -> bool:
+        """Returns whether the journal still has its name: not where somebody removed or replaced it."""
+        try:
+            return os.path.samestat(os.lstat(self.path), os.fstat(self._file.fileno()))
+        except FileNotFoundError:
+            return False
+
     def close(self, kept: bool) -> None:
         """Ends the journal; that of a run that is complete isn't kept."""
-        if not kept:
+        if not kept and self.is_there:
             os.unlink(self.path)
         self._file.close()
