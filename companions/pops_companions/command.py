@@ -7,6 +7,7 @@ import io
 import os
 import re
 import signal
+import stat
 import sys
 import threading
 from collections.abc import Callable, Iterator, Sequence
@@ -23,6 +24,8 @@ _SIGNALS = (signal.SIGINT, signal.SIGTERM, signal.SIGHUP)
 _LONGEST_NUMBER = 18
 # Characters that a terminal obeys, but for line end, tab, and the return to the begin of a line.
 _OBEYED = re.compile("[\x00-\x08\x0b\x0c\x0e-\x1f\x7f-\x9f]")
+# The files that this run has read, by device and number.
+_READ: set[tuple[int, int]] = set()
 # What Python says where the system lets it start no thread.
 _NO_THREAD = "can't start new thread"
 # An option whose value is `--`.
@@ -94,6 +97,7 @@ def run(name: str, command: Callable[[list[str]], int]) -> NoReturn:
 
 def _ended(name: str, command: Callable[[list[str]], int]) -> int:
     """Returns how a command ends. Whatever it leaves uncaught is said in one line."""
+    _READ.clear()
     try:
         _buffer_output()
         status = _status_of(command)
@@ -332,7 +336,19 @@ def opened(file: Optional[str]) -> Iterator[BinaryIO]:
     except OSError as error:
         raise CommandError(Status.DEVICE, f"cannot open {file}: {error.strerror}") from None
     with source:
+        status = os.fstat(source.fileno())
+        _READ.add((status.st_dev, status.st_ino))
         yield source
+
+
+def _refuse_read(file: str) -> None:
+    """Refuses to write over a file that was read."""
+    try:
+        status = os.stat(file)
+    except OSError:
+        return
+    if stat.S_ISREG(status.st_mode) and (status.st_dev, status.st_ino) in _READ:
+        raise CommandError(Status.USAGE, f"{file} is named twice")
 
 
 @contextmanager
@@ -342,17 +358,20 @@ def written(
     """Opens the file that a companion writes, or standard output where no file is named.
 
     A file gets its name once all of it is written: a run that fails leaves the old file as it
-    was. Devices and pipes are written directly.
+    was. Devices and pipes are written directly. A file that is read isn't written over.
     """
     if file is None:
         yield sys.stdout.buffer
         sys.stdout.buffer.flush()
         return
+    _refuse_read(file)
     begun = False
     try:
         with files.written_whole(file, links=links) as target:
             begun = True
             yield target
+            # (further files may have been read meanwhile)
+            _refuse_read(file)
     except OSError as error:
         if begun:
             raise

@@ -43,6 +43,20 @@ MISSING = (
     ("pops2json", "@"),
     ("pops2json", "--tries", "@"),
 )
+# Command lines whose file @ would be written over.
+OVERWRITING = (
+    ("fen2pop", "-s", "#1", "--file", "@positions", "-o", "@positions"),
+    ("pops-compare", "@report", "@report", "-o", "@report"),
+    ("pops-explain", "@input", "-o", "@input"),
+    ("pops-export", "--to", "yaml", "@input", "-o", "@input"),
+    ("pops-import", "@input", "-o", "@input"),
+    ("pops-judge", "@input", "-o", "@input"),
+    ("pops-many", "@input", "-o", "@input"),
+    ("pops-page", "--input", "@input", "@report", "-o", "@input"),
+    ("pops-sheet", "--report", "@report", "@input", "-o", "@input"),
+    ("pops-test", "@report", "-o", "@report"),
+    ("pops2json", "@report", "-o", "@report"),
+)
 POSITIONS = b"6k1/8/6K1/8/8/8/8/R7 w - -\n" * 2_000
 
 
@@ -114,6 +128,19 @@ class Streams(unittest.TestCase):
                     said = f"{companion}: cannot open {missing}: No such file or directory"
                     self.assertEqual((outcome.status, outcome.output), (3, b""))
                     self.assertIn(outcome.error, (f"{said}\n", f"{said}: --add makes a collection\n"))
+
+    def test_what_is_read_is_not_written_over(self) -> None:
+        kept = {"input": PROBLEM, "report": REPORT, "positions": POSITIONS[:80]}
+        for companion, *words in OVERWRITING:
+            with self.subTest(companion), tempfile.TemporaryDirectory() as room:
+                for file, text in kept.items():
+                    Path(room, file).write_bytes(text)
+                outcome = run_here.companion(companion, *(it.replace("@", f"{room}/") for it in words))
+                self.assertIn(outcome.status, (2, 3))
+                self.assertEqual(outcome.output, b"")
+                self.assertIn("is named twice", outcome.error)
+                for file, text in kept.items():
+                    self.assertEqual(Path(room, file).read_bytes(), text)
 
     def test_all_companions_are_tried_on_missing_files(self) -> None:
         commands = {it.name for it in support.COMPANIONS.iterdir() if os.access(it, os.X_OK) and it.is_file()}
