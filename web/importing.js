@@ -7,7 +7,7 @@ import { wordsOf } from './text.js';
 import { language, say } from './words.js';
 
 const TRIES_OPTIONS = ['Try', 'Defence', 'Threat'];
-const OF_YAML = /^[^\S\n\r]*algebraic[^\S\n\r]*:/m;
+const OF_YAML = /^[^\S\n\r]*(?:- +)?algebraic[^\S\n\r]*:/m;
 
 /** @param {string} word */
 const optionOf = word => (companions.unread(word) ?? companions.unread(companions.foreign(word)?.english ?? ''))?.name;

@@ -158,10 +158,26 @@ class YamlReader {
   list(indent) {
     const items = [];
     for (let next = this.line; next && next.indent === indent && next.text.startsWith('-'); next = this.line) {
-      this.at++;
-      items.push(this.value(next.text.slice(1).trim(), indent));
+      const text = next.text.slice(1).trim();
+      if (KEY.test(text)) items.push(this.mappingAfterSign(next, text));
+      else {
+        this.at++;
+        items.push(this.value(text, indent));
+      }
     }
     return items;
+  }
+
+  /**
+   * Returns a mapping that begins on the line of its sign `-`, and goes on below its first key.
+   * @param {YamlLine} line
+   * @param {string} text
+   * @returns {any}
+   */
+  mappingAfterSign(line, text) {
+    const indent = line.indent + line.text.length - text.length;
+    this.lines[this.at] = { ...line, indent, text };
+    return this.mapping(indent);
   }
 
   /** @param {number} indent @returns {any} */
@@ -191,7 +207,9 @@ export function documents(text) {
 /** @param {string} document */
 function nodeOf(document) {
   const reader = new YamlReader(yamlLines(document));
-  const found = reader.line ? reader.mapping(reader.line.indent) : py.dict();
+  const first = reader.line;
+  const read = first?.text.startsWith('- ') ? 'list' : 'mapping';
+  const found = first ? reader[read](first.indent) : py.dict();
   if (reader.line) throw new YamlError(reader.line.text);
   return found;
 }

@@ -219,6 +219,8 @@ WANTED = "BeginProblem\nPieces White Kg6 Ra1 Black Kh8\nStipulation h#1.5 2.1..\
 YAML = ("---\nauthors:\n  - Composer, Anna\n  - \"Solver, \\\"Bert\\\"\"\nsource: Die Schwalbe\nalgebraic:\n  white: [Kg3, Qc4,\n    Rb3, Pa2]\n  black: [Kh1, Pa7]\n"
         "stipulation: \"h#2\"\noptions:\n  - SetPlay\nconditions: [Circe]\ntwins:\n  b: Move a2 a3\n  c: \"Continued Remove a7\"\ncomments:\n  - >\n    A note of\n    two lines.\n"
         "---\nalgebraic:\n  white:\n    - Kg6\n    - Ra1\n  black: [Kg8]\nstipulation: '#1'\n")
+YAML_LISTS = ("---\n- algebraic: {white: [Kg6, Ra1], black: [Kh8]}\n  stipulation: h#1\n  reprints:\n    -   source: Elsewhere\n        date: 1980\n"
+              "    - source: \"A: B\"\n  comments:\n  - http://a\n  - see: here\n- algebraic:\n    white: [Kg6, Ra1]\n    black: [Kg8]\n  stipulation: '#1'\n")
 PLAYED = posed("White Kg6 Ra1 Black Kh8", "Stipulation #2", "Option Variation").replace("Pieces", "Title A try\nPieces", 1)
 BENCH: list[Use] = [
     ("a FEN pasted while a solution is stepped through", TWO, TWO_MATES,
@@ -292,7 +294,7 @@ BENCH: list[Use] = [
     ("a text that was tested alone", EMPTY, "problem 1\n#1\nsound\n\n", [("element('tree').textContent.includes('sound')", False), ("sayDone(say('status0'), 5)", "no faults in the text; 5 ms")]),
 ]
 SHIFT = "BeginProblem\nPieces White Kg6 Rb1 Black Kg8\nStipulation h#1\nTwin Shift b1 a1\nEndProblem\n"
-IMPORTS: list[tuple[str, str]] = [("twins", PAIR), ("a shift", SHIFT), ("German", GERMAN), ("French", FRENCH), ("a zero position", ZERO), ("a wanted number", WANTED), ("YAML", YAML), ("duplex", PAIR.replace("Try", "Duplex"))]
+IMPORTS: list[tuple[str, str]] = [("twins", PAIR), ("a shift", SHIFT), ("German", GERMAN), ("French", FRENCH), ("a zero position", ZERO), ("a wanted number", WANTED), ("YAML", YAML), ("YAML, lists of mappings", YAML_LISTS), ("duplex", PAIR.replace("Try", "Duplex"))]
 REFUSED: list[tuple[str, str, str]] = [
     ("an unknown man", PAIR.replace("Ra1", "Ra1 LEb1"), "pops knows no white LE, on b1"), ("quodlibet", PAIR.replace("Try", "Quodlibet"), "pops knows no option Quodlibet"),
     ("a condition", PAIR.replace("Option Try", "Condition Koeko"), "pops knows no condition Koeko"), ("no man to move", PAIR.replace("Move a1", "Move a3"), "there is no man on a3 to move"),

@@ -97,6 +97,9 @@ test('yaml: documents, their keys and lists', () => {
   assert.deepEqual([...found], ['a', 'e', 'h']);
   assert.deepEqual([found.get('a'), found.get('e'), found.get('h').length], [['b', 'c: d'], 'f\ng', 1]);
   assert.throws(() => documents('a: *b\n')[0].node(), /\*b/);
+  const [{ node: listed }] = documents('- a:\n  -   b: c\n      d: e\n  - f: |\n      g\n  - h:i\n');
+  const [first, second, third] = listed()[0].get('a');
+  assert.deepEqual([[...first], first.get('d'), second.get('f'), third], [['b', 'd'], 'e', 'g', 'h:i']);
 });
 
 test('twins: groups, remarks and changes', () => {
