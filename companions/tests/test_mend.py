@@ -1,5 +1,6 @@
 """pops-explain --all and --fix: what is mended is what the explanation says, and no fault comes of it."""
 
+import codecs
 import io
 import sys
 import tempfile
@@ -262,6 +263,8 @@ class Notices(unittest.TestCase):
             with self.subTest(lines):
                 (notice,) = notices(text_of(*lines))
                 self.assertIn("pops-import", notice.text)
+        (notice,) = notices(codecs.BOM_UTF8 + text_of(PIECES, "Stipulation #1", "Twin Move a1 b1"))
+        self.assertEqual(notice.line, 4)
         self.assertEqual(list(notices(text_of(PIECES, "Stipulation 2#"))), [])
 
     def test_a_collection_is_for_pops_import(self) -> None:

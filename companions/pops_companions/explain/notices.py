@@ -1,6 +1,7 @@
 """What is no fault of a text, and may not be meant: nightriders, names in Latin-1, text that is lost,
 an input of Popeye."""
 
+import codecs
 from collections.abc import Iterator
 from typing import NamedTuple, Optional
 
@@ -34,7 +35,7 @@ def notices(text: bytes) -> Iterator[Notice]:
     """Yields the notices of a text, problem by problem."""
     for piece in cut(text):
         yield from _of_problem(text, piece)
-    yield from _of_popeye(text)
+    yield from _of_popeye(text.removeprefix(codecs.BOM_UTF8))
     rest = rest_of(text)
     if rest is not None:
         yield Notice(rest.line, None, rest.text)
