@@ -53,7 +53,7 @@ OVERWRITING = (
     ("pops-judge", "@input", "-o", "@input"),
     ("pops-many", "@input", "-o", "@input"),
     ("pops-page", "--input", "@input", "@report", "-o", "@input"),
-    ("pops-sheet", "--report", "@report", "@input", "-o", "@input"),
+    ("pops-sheet", "@input", "-o", "@input"),
     ("pops-test", "@report", "-o", "@report"),
     ("pops2json", "@report", "-o", "@report"),
 )
