@@ -97,8 +97,27 @@ impl Guard {
         }
     }
 
+    // Returns `square` itself, if a man of this colour that is captured there guards it from where it is reborn.
+    fn defending(&self, colour: Colour, square: Square) -> Whereabouts
+        ensures { (j : Kind) (h : ℕ) → CanBe self.now.kind j → h ≢ square
+            → rebirth colour j square ≡ Some h → guards colour j h square ≡ true
+            → has self.now.kind j square result ≡ true }
+    {
+        // For the proof: a square's number is below 64.
+        let _small = square.index();
+        let kind = self.kind;
+        let homes = at_rest(
+            Man { colour, kind },
+            &Whereabouts::promoted_too(square),
+            true,
+        );
+        let lines = self.guarding(colour, square, square);
+        lines.within(&homes).all_to(square)
+    }
+
     // Returns where a man of this colour holds `square` from, other than `king`: from where it guards it, and on
     // the square itself, if it guards it from where it is reborn.
+    #[inline(always)]
     pub(crate) fn holding(
         &self,
         colour: Colour,
@@ -112,20 +131,11 @@ impl Guard {
             → rebirth colour j square ≡ Some h → guards colour j h square ≡ true
             → has self.now.kind j square result ≡ true }
     {
-        // For the proof: a square's number is below 64.
-        let _small = square.index();
         let guarding = self.guarding(colour, king, square);
         if !are_reborn {
             return guarding;
         }
-        let kind = self.kind;
-        let homes = at_rest(
-            Man { colour, kind },
-            &Whereabouts::promoted_too(square),
-            true,
-        );
-        let lines = self.guarding(colour, square, square);
-        guarding.joined(&lines.within(&homes).all_to(square))
+        guarding.joined(&self.defending(colour, square))
     }
 
     // Returns the squares that a man of this colour guards from these, or `seen` if they are many. For speed

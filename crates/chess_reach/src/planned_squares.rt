@@ -91,8 +91,8 @@ fn may_have_plan(quest: &Quest, king: &Guard, ours: usize, theirs: usize, captur
     requires moves { ours < 9 }
     requires captured { captured ≤ theirs }
     ensures { (prey : ℕ) (p : Position) (ends : Ends)
-        → IsPlan quest.now.ending.goal quest.now.ending.standing_checks quest.now.ending.are_reborn p quest.now.colour ours theirs
-        quest.now.king ends
+        → IsPlan quest.now.ending.goal quest.now.ending.standing_checks
+        quest.now.ending.are_reborn p quest.now.colour ours theirs quest.now.king ends
         → Captures quest.now.ending.are_reborn prey captured p quest.now.colour ends
         → IsQuestOf prey p quest.now king.now ours theirs → result ≡ true }
 {
@@ -126,8 +126,8 @@ fn captured_from(mating: Colour, men: Squares) -> Squares
     }
 }
 
-// Returns the squares to which pawns of this colour capture men that haven't moved. Without pawns, and in Circe, they are all
-// squares.
+// Returns the squares to which pawns of this colour capture men that haven't moved. Without pawns, and in
+// Circe, these are all squares.
 fn prey(board: &Board, mating: Colour, are_reborn: bool) -> Squares
     ensures reborn { are_reborn ≡ true → result ≡ 2 ^ 64 - 1 }
     ensures here { (s t : ℕ) → s < 64 → t < 64 → is_blocker board.now.men (other mating) s ≡ true
@@ -144,8 +144,8 @@ fn prey(board: &Board, mating: Colour, are_reborn: bool) -> Squares
     captured_from(mating, men)
 }
 
-// Returns the squares to which pawns of this colour capture men where these get. Without pawns, and in Circe, they are all
-// squares.
+// Returns the squares to which pawns of this colour capture men where these get. Without pawns, and in
+// Circe, these are all squares.
 fn lures(board: &Board, mating: Colour, are_reborn: bool, blockable: &Blocks) -> Squares
     ensures { (n s t : ℕ) → n < 9 → s < 64 → t < 64
         → (bit_at (slice_index_or blockable.now n 0) s == 1) ≡ true
@@ -175,10 +175,10 @@ fn planned_part(
     requires captured { captured ≤ theirs }
     ensures planned { (prey : ℕ) (p : Position) (k : ℕ) (ends : Ends)
         → IsQuestOf prey p quest.old king.now ours theirs → k < 64
-        → IsPlan quest.old.ending.goal quest.old.ending.standing_checks quest.old.ending.are_reborn p quest.old.colour ours theirs
-        k ends
-        → Captures quest.old.ending.are_reborn prey captured p quest.old.colour ends → (bit_at near k == 1) ≡ true
-        → (bit_at result k == 1) ≡ true }
+        → IsPlan quest.old.ending.goal quest.old.ending.standing_checks
+        quest.old.ending.are_reborn p quest.old.colour ours theirs k ends
+        → Captures quest.old.ending.are_reborn prey captured p quest.old.colour ends
+        → (bit_at near k == 1) ≡ true → (bit_at result k == 1) ≡ true }
     ensures colour { quest.new.colour ≡ quest.old.colour }
     ensures blockable { quest.new.blockable ≡ quest.old.blockable }
     ensures ending { quest.new.ending ≡ quest.old.ending }

@@ -350,16 +350,11 @@ fn promoted_homes(colour: Colour, squares: Squares) -> Squares
     if_any(squares, queens | rooks | bishops | grasshoppers)
 }
 
-/// Returns where a man can be without another move from where it can be: there, and if men are reborn, on the
-/// squares of its rebirth.
-pub(crate) fn at_rest(man: Man, at: &Whereabouts, are_reborn: bool) -> Whereabouts
-    ensures kept { (j : Kind) (t : ℕ) → t < 64 → has man.kind j t at.now ≡ true
-        → has man.kind j t result ≡ true }
-    ensures reborn { Rests are_reborn man at.now result }
+// Returns the squares, and those on which the man is reborn that is captured on them.
+fn with_homes(man: Man, at: Whereabouts) -> Whereabouts
+    ensures kept { (j : Kind) (t : ℕ) → has man.kind j t at ≡ true → has man.kind j t result ≡ true }
+    ensures reborn { (are_reborn : Bool) → Rests are_reborn man at result }
 {
-    if !are_reborn {
-        return *at;
-    }
     let own = homes(man.colour, man.kind, at.unpromoted);
     let promoted = promoted_homes(man.colour, at.queen);
     let knights = knight_homes(man.colour, at.knight);
@@ -368,6 +363,20 @@ pub(crate) fn at_rest(man: Man, at: &Whereabouts, are_reborn: bool) -> Whereabou
         queen: at.queen | promoted,
         knight: at.knight | knights,
     }
+}
+
+/// Returns where a man can be without another move from where it can be: there, and if men are reborn, on the
+/// squares of its rebirth.
+#[inline(always)]
+pub(crate) fn at_rest(man: Man, at: &Whereabouts, are_reborn: bool) -> Whereabouts
+    ensures kept { (j : Kind) (t : ℕ) → t < 64 → has man.kind j t at.now ≡ true
+        → has man.kind j t result ≡ true }
+    ensures reborn { Rests are_reborn man at.now result }
+{
+    if !are_reborn {
+        return *at;
+    }
+    with_homes(man, *at)
 }
 
 /// Returns where the man can be within each number of moves, up to `most`, if it captures as a pawn on squares

@@ -23,7 +23,7 @@ const FEWEST_COMPUTED: usize = 3;
 const MOST_COMPUTED: u32 = 8;
 
 /// The most where captured men are reborn, so that more squares stay in reach.
-const MOST_COMPUTED_REBORN: u32 = 5;
+const MOST_COMPUTED_REBORN: u32 = 3;
 
 /// Returns what is known of the lines that reach this goal: that they end on some square, if nothing is.
 fn line_ends_known(goal: Goal, known: Option<LineEnds>) -> LineEnds
@@ -82,7 +82,7 @@ fn squares_after<R: Rules>(
 }
 
 /// Returns whether computing where lines can end may pay after a move, with `left` half-moves left: not without
-/// enough moves, nor against more than eight men, in Circe five, nor in diagrams with fairy men. For speed only.
+/// enough moves, nor against more than eight men, in Circe three, nor in diagrams with fairy men. For speed only.
 fn may_compute<R: Rules>(left: usize, board: &Board) -> bool {
     let mating = if left % 2 == 0 {
         board.turn()

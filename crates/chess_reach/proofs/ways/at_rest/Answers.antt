@@ -1,5 +1,4 @@
 use Rattle.std.proofs.Common.{subst, true, ◌≡◌}
-use Rattle.chess_reach.proofs.Resting.{rest_kept, rest_reborn}
 use Rattle.chess_reach.proofs.Returning.{starts_there}
 use Rattle.chess_reach.specs.ties.Whereabouts.{has}
 use Rattle.chess_reach.proofs.ways.at_rest.Goals as goal
@@ -14,9 +13,7 @@ returns-then-not-are_reborn-clause-reborn c = record {
 }
 
 pub returns-clause-kept : goal.returns-clause-kept
-returns-clause-kept c j t small had = rest_kept c.args.are_reborn c.args.man c.args.at.now c.homes-own.result c.promoted_homes-promoted.result c.knight_homes-knights.result j t had
+returns-clause-kept c j t small had = c.with_homes.ensures.kept j t had
 
 pub returns-clause-reborn : goal.returns-clause-reborn
-returns-clause-reborn c =
-    rest_reborn c.args.are_reborn c.args.man c.args.at.now c.homes-own.result c.promoted_homes-promoted.result c.knight_homes-knights.result c.homes-own.ensures
-    c.promoted_homes-promoted.ensures c.knight_homes-knights.ensures
+returns-clause-reborn c = c.with_homes.ensures.reborn c.args.are_reborn
