@@ -36,7 +36,7 @@ _pops_options() {
       own='--add --near --play --report --author --title --source --date --keyword --stipulation --condition --fragment
         --men --count --most --output --encoding'
       ;;
-    pops-explain) own='--output --all --fix --json --pops' ;;
+    pops-explain) own='--output --all --fix --force --json --pops' ;;
   esac
   # shellcheck disable=SC2086
   echo --help --version $own

@@ -3,6 +3,7 @@
 import argparse
 import io
 import json
+import os
 import sys
 from collections.abc import Iterator
 from pathlib import Path
@@ -35,6 +36,7 @@ class Settings(argparse.Namespace):
     output: Optional[str]
     all: bool
     fix: bool
+    force: bool
     json: bool
     pops: Optional[str]
 
@@ -66,6 +68,7 @@ def arguments(words: list[str]) -> Settings:
         help="write NAME.fixed.pop next to INPUT NAME.pop, with what the explanations say to write;"
         " check it: the causes are guesses",
     )
+    add("--force", action="store_true", help="with --fix: overwrite another NAME.fixed.pop")
     add(
         "--json",
         action="store_true",
@@ -78,18 +81,14 @@ def arguments(words: list[str]) -> Settings:
         parser.error("INPUT and REPORT can't both be standard input")
     if settings.fix and settings.input == STANDARD_INPUT:
         parser.error("--fix needs an INPUT: the corrected text stands next to it")
+    if settings.force and not settings.fix:
+        parser.error("--force goes with --fix")
     return settings
 
 
 def name_of(file: str) -> str:
     """Returns a file as messages name it."""
     return "standard input" if file == STANDARD_INPUT else file
-
-
-def read(file: str) -> bytes:
-    """Returns all bytes of a file, or of standard input."""
-    with command.opened(file) as source:
-        return source.read()
 
 
 def checked(text: bytes, named: Optional[str]) -> bytes:
@@ -149,15 +148,26 @@ def write_json(name: str, text: bytes, report: bytes, target: BinaryIO, every: b
     return status
 
 
-def fix(file: str, text: bytes) -> str:
+def is_written(place: Path, text: bytes) -> bool:
+    """Returns whether a file has this text already. CommandError where it is another one."""
+    if not os.path.lexists(place):
+        return False
+    if place.is_file() and not place.is_symlink() and command.read_all(str(place)) == text:
+        return True
+    message = f"{place} is there, with another text: move it away, or --force overwrites it"
+    raise CommandError(Status.USAGE, message)
+
+
+def fix(file: str, text: bytes, force: bool) -> str:
     """Writes the corrected text next to its file; returns what there is to say of it."""
     made = mend(text)
     if not made.mended:
         return f"{NAME}: {file}: nothing could be corrected\n" if made.left else ""
     path = Path(file)
     place = path.with_name(f"{path.stem}.fixed{path.suffix}")
-    with command.written(str(place), Links.REPLACED) as target:
-        target.write(made.text)
+    if force or not is_written(place, made.text):
+        with command.written(str(place), Links.REPLACED) as target:
+            target.write(made.text)
     left = f", {made.left} left" if made.left else ""
     return f"{NAME}: {place}: {made.mended} corrected{left}\n"
 
@@ -165,11 +175,11 @@ def fix(file: str, text: bytes) -> str:
 def main(words: list[str]) -> Status:
     settings = arguments(words)
     name = name_of(settings.input)
-    text = read(settings.input)
+    text = command.read_all(settings.input)
     if settings.report is None:
         report = checked(text, settings.pops)
     else:
-        report = read(settings.report)
+        report = command.read_all(settings.report)
     try:
         with command.written(settings.output) as target:
             if settings.json:
@@ -180,7 +190,7 @@ def main(words: list[str]) -> Status:
         source = "what pops said" if settings.report is None else name_of(settings.report)
         raise CommandError(Status.FAULTY, f"{source} is no report of {name}: {error}") from None
     if settings.fix:
-        sys.stderr.write(fix(settings.input, text))
+        sys.stderr.write(fix(settings.input, text, settings.force))
     return status
 
 
