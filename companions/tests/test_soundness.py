@@ -458,6 +458,15 @@ class Collection(unittest.TestCase):
             cells, [("'=1+1", "'@SUM(A1)", "#1"), ("'-2", "'+3", "'=1"), ("a=b", "", "#1")]
         )
 
+    def test_csv_quotes_what_a_reader_takes_for_more_cells(self) -> None:
+        titles = ("\uff1d1", "\uff0b1", "\uff0d1", "\uff201", "a;=1", "b,=1", '"=1', "a =1")
+        items = (f"problem {it}\ntitle: {title}\n#1\nsound\n\n" for it, title in enumerate(titles, 1))
+        text = "".join(items).encode()
+        said = run_here.companion("pops-test", "--csv", text=text).output.decode()
+        cells = [line.partition(",")[2].split(",,#1,")[0] for line in said.split("\n")[1:-1]]
+        self.assertEqual(cells[:4], [f"'{title}" for title in titles[:4]])
+        self.assertEqual(cells[4:], ['"a;=1"', '"b,=1"', '"""=1"', "a =1"])
+
     def test_csv(self) -> None:
         rows = list(csv.DictReader(io.StringIO(self.judged("--csv").output.decode())))
         self.assertEqual([row["verdict"] for row in rows], [verdict for verdict, _ in self.WANTED])

@@ -1,7 +1,6 @@
 """Judgements as text and as CSV."""
 
-import csv
-import io
+import re
 from collections import Counter
 from collections.abc import Iterable, Iterator
 from typing import Optional
@@ -15,7 +14,9 @@ from pops_companions.show.titles import printable
 # How many moves of a finding are shown without --all.
 MOST_LINES = 10
 # What a text begins with that a spreadsheet computes.
-_OF_FORMULAS = ("=", "+", "-", "@", "\t", "\r")
+_OF_FORMULAS = ("=", "+", "-", "@", "\uff1d", "\uff0b", "\uff0d", "\uff20", "\t", "\r", "\n")
+# What parts cells for some reader: the semicolon where the comma is in numbers.
+_PARTING = re.compile('[,;\t\r\n"]')
 
 COLUMNS = (
     "number",
@@ -77,15 +78,16 @@ def _findings(judgement: Judgement, indent: str, most: Optional[int]) -> Iterato
 
 
 def csv_line(values: "tuple[object, ...]") -> str:
-    target = io.StringIO()
-    csv.writer(target, lineterminator="\n").writerow(map(_as_text, values))
-    return target.getvalue()
+    """Returns a row of CSV with its line end."""
+    return ",".join(map(_cell, values)) + "\n"
 
 
-def _as_text(value: object) -> object:
-    """Returns a value for a cell; a text that a spreadsheet would compute has an apostrophe in front."""
-    is_formula = isinstance(value, str) and value.startswith(_OF_FORMULAS)
-    return f"'{value}" if is_formula else value
+def _cell(value: object) -> str:
+    """Returns a cell; a text that a spreadsheet would compute has an apostrophe in front."""
+    text = "" if value is None else str(value)
+    if isinstance(value, str) and text.startswith(_OF_FORMULAS):
+        text = f"'{text}"
+    return '"{}"'.format(text.replace('"', '""')) if _PARTING.search(text) else text
 
 
 def as_csv(judgement: Judgement, encoding: str) -> str:
