@@ -11,6 +11,7 @@ import unittest
 from pathlib import Path
 from unittest import mock
 
+from pops_companions.commands.many import name_of_run
 from pops_companions.many import sessions
 from pops_companions.many.progress import Progress
 from tests import support
@@ -138,7 +139,7 @@ class Journals(SixProblems):
 
     def test_what_a_killed_run_left_behind_is_swept(self) -> None:
         self.many(self.stand_in("kill -9 $$"))
-        run = self.journal.read_bytes().split()[3].decode()
+        run = name_of_run(str(self.journal), self.journal.read_bytes().split()[3]).decode()
         left = self.room / f"six.report.{run[:12]}"
         others = self.room / "six.report.original"
         for path in (left, others):

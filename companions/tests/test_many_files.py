@@ -5,6 +5,8 @@ import sys
 import unittest
 from pathlib import Path
 
+from pops_companions.commands.many import name_of_run
+from pops_companions.many.targets import Target
 from tests import support
 from tests.six_problems import SIX, SixProblems
 
@@ -56,6 +58,19 @@ class Several(SixProblems):
         rows = table.read_text().splitlines()
         self.assertEqual(len(rows), 7)
         self.assertTrue(all(row.endswith("/a\\tb\\\\c\\nd") for row in rows[1:]))
+
+    def test_runs_with_other_journals_write_one_report(self) -> None:
+        """Both are whole, and the later one stays: none writes in the other's unfinished file."""
+        names = [name_of_run(str(self.room / it), b"0" * 64) for it in ("one", "two", "./one")]
+        self.assertEqual((names[0] == names[1], names[0] == names[2]), (False, True))
+        first, second = (Target(str(self.report), name) for name in names[:2])
+        with first.opened() as one:
+            one.write(b"one")
+            second.try_out()
+            with second.opened() as two:
+                two.write(b"tw")
+            self.assertEqual(self.report.read_bytes(), b"tw")
+        self.assertEqual(self.report.read_bytes(), b"one")
 
     def test_a_run_that_stops_leaves_no_table(self) -> None:
         table = self.room / "table"

@@ -1,5 +1,6 @@
 """Solves many problems on all processors, and on other machines, as one run of pops would."""
 
+import hashlib
 import os
 import sys
 from collections.abc import Sequence
@@ -38,11 +39,10 @@ def read_source(name: Optional[str], progress: Progress) -> Source:
     """
     try:
         if name is None:
-            with command.opened(None) as given:
-                source = Source(None, given.read())
+            source = Source(None, command.read_all(None))
         else:
             with open(name, "rb") as file:
-                source = Source(name, file.read())
+                source = Source(name, b"".join(command.limited(file, name)))
     except OSError as error:
         if name is None:
             raise
@@ -93,36 +93,37 @@ def reports_of(
     return list(reports.values())
 
 
-def path_of_journal(settings: Settings) -> Optional[str]:
-    """Returns the journal that is named, else the one beside the report."""
-    if settings.journal is None and settings.output is not None:
+def path_of_journal(settings: Settings) -> str:
+    """Returns the journal that is named, else one beside the report, else a new one that is temporary."""
+    if settings.journal is not None:
+        return settings.journal
+    if settings.output is not None:
         return settings.output.rstrip("/") + ".journal"
-    return settings.journal
+    folder = os.environ.get("TMPDIR", "")
+    if not os.access(folder, os.W_OK | os.X_OK):
+        folder = "/tmp"
+    return os.path.join(os.path.abspath(folder), f"{NAME}-{os.urandom(6).hex()}.journal")
 
 
-def open_journal(
-    path: Optional[str], settings: Settings, run: bytes
-) -> Journal:
+def open_journal(path: str, settings: Settings, run: bytes) -> Journal:
     """Returns the run's journal; that of a run that stopped isn't overwritten."""
     try:
-        named = _new_journal() if path is None else path
-        return Journal(named, run, settings.resume, settings.seconds)
+        if settings.journal is None and settings.output is None:
+            # (only its owner reads it)
+            new = os.O_CREAT | os.O_EXCL | os.O_NOFOLLOW | os.O_CLOEXEC
+            os.close(os.open(path, new, 0o600))
+        return Journal(path, run, settings.resume, settings.seconds)
     except JournalError as error:
         raise CommandError(Status.USAGE, str(error)) from None
     except OSError as error:
         what = "open" if settings.resume else "write"
-        where = error.filename if path is None else path
-        raise CommandError(Status.DEVICE, f"cannot {what} {where}: {error.strerror}") from None
+        raise CommandError(Status.DEVICE, f"cannot {what} {path}: {error.strerror}") from None
 
 
-def _new_journal() -> str:
-    """Makes an empty file among the temporary ones, which only its owner reads; returns its path."""
-    folder = os.environ.get("TMPDIR", "")
-    if not os.access(folder, os.W_OK | os.X_OK):
-        folder = "/tmp"
-    path = os.path.join(os.path.abspath(folder), f"{NAME}-{os.urandom(6).hex()}.journal")
-    os.close(os.open(path, os.O_CREAT | os.O_EXCL | os.O_NOFOLLOW | os.O_CLOEXEC, 0o600))
-    return path
+def name_of_run(journal: str, fingerprint: bytes) -> bytes:
+    """Returns what the names of unfinished files end in: other runs, with other journals, have others."""
+    name = os.fsencode(os.path.realpath(journal)) + b"\0" + fingerprint
+    return hashlib.sha256(name).hexdigest().encode("ascii")
 
 
 class StoppedError(CommandError):
@@ -249,10 +250,11 @@ class Solving:
     def solve(self, output: BinaryIO) -> int:
         """Runs what is left to run; returns the exit status of the runs of pops."""
         settings = self._settings
-        index = Target(settings.index, self._name) if settings.index else None
-        files = Files(reports_of(settings, self._tasks, self._name), index)
         journal_path = path_of_journal(settings)
-        beside = [journal_path, *[journal_path + UNFINISHED] * settings.split] if journal_path else []
+        name = name_of_run(journal_path, self._name)
+        index = Target(settings.index, name) if settings.index else None
+        files = Files(reports_of(settings, self._tasks, name), index)
+        beside = [journal_path, *[journal_path + UNFINISHED] * settings.split]
         refuse_shared(settings.files, [file.path for file in files.targets] + beside)
         elsewhere = elsewhere_of(settings, self._options, self._programs, self._progress)
         try:
@@ -264,7 +266,7 @@ class Solving:
     def _solve(
         self,
         files: Files,
-        journal_path: Optional[str],
+        journal_path: str,
         output: BinaryIO,
         elsewhere: Optional[Elsewhere],
     ) -> int:
@@ -277,7 +279,8 @@ class Solving:
             raise
         reports = files.reports
         if settings.split:
-            second = Target(journal.path + UNFINISHED, self._name, Links.REPLACED)
+            name = name_of_run(journal_path, self._name)
+            second = Target(journal.path + UNFINISHED, name, Links.REPLACED)
             reports = [it._replace(unfinished=it.unfinished or second) for it in reports]
         return self._go(journal, Joined(journal, reports, output), files.table, elsewhere)
 

@@ -12,8 +12,8 @@ from pops_companions.files import Links
 class Target:
     """A file to be written by a run.
 
-    Until it is whole it has a name that is made of its own one and the run's fingerprint: so the
-    same run finds what it left where it was killed. Devices and pipes are written as they
+    Until it is whole it has a name that is made of its own one and the run's: so the same run finds
+    what it left where it was killed. Devices and pipes are written as they
     are.
     """
 
