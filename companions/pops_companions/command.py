@@ -33,6 +33,9 @@ _BARE = re.compile("(?:--[a-z-]+=|-[a-z])--")
 # Longer waits are no waits: without a limit a run takes as long as it likes.
 MOST_SECONDS = 2_000_000
 MOST_JOBS = 1000
+# The most bytes of a text that is read as a whole.
+MOST_BYTES = 1 << 28
+_PIECE = 1 << 20
 # The name of standard input on a command line.
 STANDARD_INPUT = "-"
 
@@ -339,6 +342,24 @@ def opened(file: Optional[str]) -> Iterator[BinaryIO]:
         status = os.fstat(source.fileno())
         _READ.add((status.st_dev, status.st_ino))
         yield source
+
+
+def read_all(file: Optional[str]) -> bytes:
+    """Returns all bytes of a file, or of standard input. CommandError where it has no end."""
+    with opened(file) as source:
+        return b"".join(limited(source, file))
+
+
+def limited(source: BinaryIO, file: Optional[str]) -> Iterator[bytes]:
+    """Yields a text in pieces. CommandError after the most that companions read as a whole."""
+    left = MOST_BYTES
+    while piece := source.read(_PIECE):
+        left -= len(piece)
+        if left < 0:
+            name = "standard input" if file in (None, STANDARD_INPUT) else file
+            message = f"{name} has more than {MOST_BYTES >> 20} MiB: cut it into several"
+            raise CommandError(Status.DEVICE, message)
+        yield piece
 
 
 def _refuse_read(file: str) -> None:

@@ -55,8 +55,7 @@ def arguments(words: list[str]) -> Settings:
 
 def read(file: Optional[str], encoding: str) -> str:
     """Returns a text; lines that aren't in the encoding are read as Latin-1, and reported."""
-    with command.opened(file) as source:
-        data = source.read()
+    data = command.read_all(file)
     other = other_lines(file or "standard input", data, encoding)
     if other:
         print(f"{NAME}: {other}", file=sys.stderr)

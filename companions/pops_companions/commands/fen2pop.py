@@ -1,6 +1,7 @@
 """Turns positions in FEN or EPD, and games in PGN that begin with a position, into input of pops."""
 
 import argparse
+import io
 import os
 import re
 import sys
@@ -74,20 +75,19 @@ def of_file(file: Optional[str]) -> Iterator[Given]:
     tags: dict[str, str] = {}
     begun = 0
     is_pgn = False
-    with command.opened(file) as source:
-        for number, line in enumerate(source, start=1):
-            text = line.decode("utf-8", "surrogateescape").lstrip("\ufeff").strip()
-            tag = _TAG.fullmatch(text)
-            if tag is not None:
-                is_pgn = True
-                begun = begun or number
-                tags[tag[1]] = re.sub(r"\\(.)", r"\1", tag[2])
-                continue
-            if tags:
-                yield _of_game(name, begun, tags)
-                tags, begun = {}, 0
-            if text and not is_pgn and not text.startswith("#"):
-                yield Given(f"{name}, line {number}", text)
+    for number, line in enumerate(io.BytesIO(command.read_all(file)), start=1):
+        text = line.decode("utf-8", "surrogateescape").lstrip("\ufeff").strip()
+        tag = _TAG.fullmatch(text)
+        if tag is not None:
+            is_pgn = True
+            begun = begun or number
+            tags[tag[1]] = re.sub(r"\\(.)", r"\1", tag[2])
+            continue
+        if tags:
+            yield _of_game(name, begun, tags)
+            tags, begun = {}, 0
+        if text and not is_pgn and not text.startswith("#"):
+            yield Given(f"{name}, line {number}", text)
     if tags:
         yield _of_game(name, begun, tags)
 

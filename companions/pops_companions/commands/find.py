@@ -168,11 +168,6 @@ def dates_of(
     return parts[1], parts[2] or parts[1]
 
 
-def read(file: str) -> bytes:
-    with command.opened(file) as source:
-        return source.read()
-
-
 def kept_name(file: str) -> str:
     """Returns the name of a file as a collection keeps it, which is text."""
     return os.fsencode(file).decode("utf-8", "backslashreplace")
@@ -180,7 +175,7 @@ def kept_name(file: str) -> str:
 
 def entries_in(file: str, encoding: str) -> tuple[list[Entry], bool]:
     """Returns the problems of a file, and whether all of them could be taken."""
-    data = read(file)
+    data = command.read_all(file)
     other = other_lines(file, data, encoding)
     if other:
         print(f"{NAME}: {other}", file=sys.stderr)
@@ -199,7 +194,7 @@ def add(collection: Collection, files: list[str], settings: Settings) -> Status:
     items = {}
     if settings.report is not None:
         try:
-            items = items_of(read(settings.report))
+            items = items_of(command.read_all(settings.report))
         except EntriesError as error:
             raise CommandError(Status.DEVICE, f"{settings.report}: {error}") from None
     for file in files:

@@ -110,8 +110,7 @@ class Import:
     def read(self, file: Optional[str], encoding: str) -> None:
         """Converts the problems of a file, or of standard input, and reports what is left out."""
         name = file or "standard input"
-        with command.opened(file) as source:
-            data = source.read()
+        data = command.read_all(file)
         self._rows, self._texts = [], {}
         try:
             text = decoded(data, encoding)

@@ -102,8 +102,7 @@ def runs_of(settings: Settings) -> Runs:
 
 def read_collection(name: str) -> bytes:
     """Returns the text of a collection. CommandError where it doesn't begin as an input of pops."""
-    with command.opened(name) as source:
-        text = source.read()
+    text = command.read_all(name)
     refuse_other_text(name, text)
     return text
 

@@ -152,8 +152,7 @@ def _joined(tries: TriesItem, phases: Iterable[Phase]) -> TriesItem:
 
 def drafts_of(file: Optional[str]) -> list[Draft]:
     """Returns the problems of a file. CommandError where it holds none."""
-    with command.opened(file) as source:
-        text = text_of(source.read(), "utf-8")
+    text = text_of(command.read_all(file), "utf-8")
     try:
         return read_drafts(text)
     except Unreadable as error:

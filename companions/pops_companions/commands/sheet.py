@@ -167,7 +167,7 @@ class Texts:
 
     def __init__(self, settings: Settings):
         self._settings = settings
-        self.input = _read(settings.input)
+        self.input = command.read_all(settings.input)
         refuse_other_text(settings.input, self.input)
         self._solving = Solving(NAME, self.input, settings.jobs, settings.seconds or None)
 
@@ -177,7 +177,7 @@ class Texts:
         try:
             if named is None:
                 return self._solving.items(self._pops())
-            return list(read_unfinished_report(io.BytesIO(_read(named))))
+            return list(read_unfinished_report(io.BytesIO(command.read_all(named))))
         except ReportError as error:
             self._refuse(named or "the output of pops", "no report of pops", error)
 
@@ -187,7 +187,7 @@ class Texts:
         try:
             if named is None:
                 return self._solved_tries(items)
-            found = list(read_tries(io.BytesIO(_read(named))))
+            found = list(read_tries(io.BytesIO(command.read_all(named))))
         except ReportError as error:
             self._refuse(named or "the output of pops-tries", "no text of pops-tries", error)
         return {item.number: item for item in found if isinstance(item, TriesItem)}
@@ -237,11 +237,6 @@ def with_missing(items: list[AnyItem], given: list[GivenProblem]) -> list[AnyIte
 def is_battle(item: AnyItem) -> bool:
     """Returns whether an item can have tries."""
     return isinstance(item, SoundItem) and item.stipulation.play is not Play.HELP
-
-
-def _read(name: str) -> bytes:
-    with command.opened(name) as source:
-        return source.read()
 
 
 def refuse_other_texts(

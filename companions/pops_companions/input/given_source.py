@@ -13,8 +13,7 @@ from pops_companions.report.source import is_input
 def read_given(companion: str, file: Optional[str]) -> list[GivenProblem]:
     """Returns the problems of an input; what follows its EndProblem is reported on standard error.
     """
-    with command.opened(file) as source:
-        text = source.read()
+    text = command.read_all(file)
     warn_of_rest(companion, file or "standard input", text)
     return given_problems(text)
 

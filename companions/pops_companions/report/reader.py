@@ -37,6 +37,8 @@ class Allowed(Enum):
 # Why a problem is unfinished if the report ends in it.
 CUT = "the report ends here"
 _LONGEST_SHOWN = 60
+# No line of a report is as long; so a text without line ends isn't read to its end, if it has one.
+_LONGEST_LINE = 1 << 20
 # So that the memory for known lines is bounded.
 _MOST_KNOWN = 100_000
 _PIECE = 1 << 16
@@ -74,6 +76,8 @@ class LineReader:
     def _whole_lines(self, data: bytes) -> list[bytes]:
         """Returns the lines that end with these bytes."""
         *whole, self._begun = (self._begun + data).split(b"\n")
+        if len(self._begun) > _LONGEST_LINE:
+            raise ReportError(self._line + len(whole) + 1, "this line is too long")
         return whole
 
     def close(self, reason: str = CUT) -> Iterator[events.Event]:

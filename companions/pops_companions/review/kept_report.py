@@ -1,6 +1,5 @@
 """A report of which only the heads are kept in memory; its problems are read again one by one."""
 
-import shutil
 import tempfile
 from collections.abc import Callable, Iterator
 from contextlib import ExitStack, contextmanager
@@ -72,7 +71,7 @@ def kept_report(
         source = stack.enter_context(command.opened(file))
         if not source.seekable():
             copy = cast(BinaryIO, stack.enter_context(tempfile.TemporaryFile()))
-            shutil.copyfileobj(source, copy)
+            copy.writelines(command.limited(source, file))
             source = copy
         size = source.seek(0, 2)
         source.seek(0)
