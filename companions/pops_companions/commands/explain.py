@@ -41,6 +41,16 @@ class Settings(argparse.Namespace):
     pops: Optional[str]
 
 
+def refuse_wrong(parser: argparse.ArgumentParser, settings: Settings) -> None:
+    """Refuses words that don't go together."""
+    if settings.input == settings.report == STANDARD_INPUT:
+        parser.error("INPUT and REPORT can't both be standard input")
+    if settings.fix and settings.input == STANDARD_INPUT:
+        parser.error("--fix needs an INPUT: the corrected text stands next to it")
+    if settings.force and not settings.fix:
+        parser.error("--force goes with --fix")
+
+
 def arguments(words: list[str]) -> Settings:
     parser = command.parser(
         NAME,
@@ -77,12 +87,7 @@ def arguments(words: list[str]) -> Settings:
     )
     add("--pops", metavar="PROGRAM", help=LOOKED_FOR)
     settings = parser.parse_args(words, Settings())
-    if settings.input == settings.report == STANDARD_INPUT:
-        parser.error("INPUT and REPORT can't both be standard input")
-    if settings.fix and settings.input == STANDARD_INPUT:
-        parser.error("--fix needs an INPUT: the corrected text stands next to it")
-    if settings.force and not settings.fix:
-        parser.error("--force goes with --fix")
+    refuse_wrong(parser, settings)
     return settings
 
 
