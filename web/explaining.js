@@ -1,7 +1,7 @@
 // @ts-check
 // Explains and mends the faults of a text, as pops-explain does: by its own code, translated (web/from_python.py), which counts bytes.
 import { companions } from './out/companions.js';
-import { lineAt, lineOf, problemsOf, remembered } from './text.js';
+import { lineAt, lineOf, problemsOf, remembered, wordsOf } from './text.js';
 
 const LONGEST_LINE = 160;
 const ROOM_BEFORE = 60;
@@ -126,9 +126,24 @@ function piecesOf(text, { from, to }, marks) {
   return pieces.filter(piece => piece.text);
 }
 
+/** @param {string} word */
+export const optionOf = word => (companions.unread(word) ?? companions.unread(companions.foreign(word)?.english ?? ''))?.name;
+
+/**
+ * Returns the most refutations of a try by the options of a text, `Try` and `Defence N`; 0 if none says so.
+ * @param {string} text
+ */
+function refutationsIn(text) {
+  const words = wordsOf(text);
+  return words.reduce((most, { word }, at) => {
+    const name = optionOf(word);
+    return Math.max(most, name === 'Try' ? 1 : name === 'Defence' ? Number(/^[0-9]+$/.exec(words[at + 1]?.word ?? '') ?? 0) : 0);
+  }, 0);
+}
+
 /**
  * Mends the faults of a problem, as many as can be; null if the first one can't. `line` is the first line that changes, or the number of
- * lines that are left; `asksForTries` says whether a word that was left out asks for tries or threats.
+ * lines that are left; `asksForTries` says whether a word that was left out asks for tries or threats, `refutations` is the most of a try.
  * @param {string} text
  * @param {number} number
  */
@@ -149,5 +164,5 @@ export function mendedProblem(text, number) {
   let same = from - start;
   while (same < made.length && made[same] === alone[same]) same++;
   const whole = text.slice(0, from) + made.slice(from - start) + text.slice(to);
-  return { text: whole, asksForTries, line: lineOf(whole, same + start) };
+  return { text: whole, asksForTries, refutations: asksForTries ? refutationsIn(alone) : 0, line: lineOf(whole, same + start) };
 }

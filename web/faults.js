@@ -41,7 +41,7 @@ export const ownAdvice = advice => advice
  * Draws the button that corrects a problem, with the first line that it changes; null if nothing can be corrected.
  * @param {string} text
  * @param {number} number
- * @param {(made: { text: string, asksForTries: boolean }) => void} take receives the corrected text
+ * @param {(made: Corrected) => void} take receives the corrected text
  */
 function mendingBox(text, number, take) {
   const made = mendedProblem(text, number);
@@ -61,7 +61,7 @@ function mendingBox(text, number, take) {
  * @param {{ number: number, fault: { line: number, number: number, text: string } }} item
  * @param {string} general what the manual says
  * @param {(line: number) => void} goToLine
- * @param {(made: { text: string, asksForTries: boolean }) => void} take receives the corrected text
+ * @param {(made: Corrected) => void} take receives the corrected text
  */
 export function faultBox(text, item, general, goToLine, take) {
   const { fault } = item;

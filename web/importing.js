@@ -1,6 +1,6 @@
 // @ts-check
 // Turns texts of other programs into problems of pops, as pops-import does: inputs of Popeye, collections in YAML.
-import { explanationOf, faultsOf } from './explaining.js';
+import { explanationOf, faultsOf, optionOf } from './explaining.js';
 import { sayFaultKind, sayReason } from './names.js';
 import { companions } from './out/companions.js';
 import { wordsOf } from './text.js';
@@ -8,9 +8,6 @@ import { language, say } from './words.js';
 
 const TRIES_OPTIONS = ['Try', 'Defence', 'Threat'];
 const OF_YAML = /^[^\S\n\r]*(?:- +)?algebraic[^\S\n\r]*:/m;
-
-/** @param {string} word */
-const optionOf = word => (companions.unread(word) ?? companions.unread(companions.foreign(word)?.english ?? ''))?.name;
 
 /**
  * Returns whether a text that begins as ours has words that only Popeye reads, or is in another language.
@@ -59,15 +56,16 @@ function draftsOf(text) {
 }
 
 /**
- * Returns the problems of a text of another program, why some were left out, and whether an option asks for tries or threats; null for any
- * other text. The result's text is null if no problem can be posed.
+ * Returns the problems of a text of another program, why some were left out, whether an option asks for tries or threats, and the most
+ * refutations of a try, 0 if no option says; null for any other text. The result's text is null if no problem can be posed.
  * @param {string} given
- * @returns {{ text: string | null, lost: string[], asksForTries: boolean } | null}
+ * @returns {{ text: string | null, lost: string[], asksForTries: boolean, refutations: number } | null}
  */
 export function imported(given) {
   const text = given.replace(/^\ufeff/, '');
   const drafts = draftsOf(text);
   if (!drafts) return null;
   const words = new Set(wordsOf(text).map(it => it.word));
-  return { ...posedText(drafts), asksForTries: [...words].some(word => TRIES_OPTIONS.includes(optionOf(word))) };
+  const refutations = drafts.reduce((/** @type {number} */ most, /** @type {any} */ { options }) => Math.max(most, options.refutations), 0);
+  return { ...posedText(drafts), asksForTries: refutations > 0 || [...words].some(word => TRIES_OPTIONS.includes(optionOf(word))), refutations };
 }

@@ -160,20 +160,20 @@ test('importing: comments and keys', () => {
 const withOptions = options => `BeginProblem\nPieces White Kd6 Qh8 Rc7 Black Ke1 Pa6\nStipulation #2\n${options}EndProblem\n`;
 
 test('mending: options of Popeye that change nothing here, with their numbers and alone', () => {
-  for (const [given, wanted, asksForTries] of [
-    ['Option Try\n', '', true], ['Option Variation Try\n', 'Option Variation\n', true], ['Option Threat 2 Variation\n', 'Option Variation\n', true],
-    ['Option Intelligent\nRemark a\n', 'Remark a\n', false], ['Option MoveNumbers SetPlay\n', 'Option SetPlay\n', false],
-    ['Option Variation StartMoveNumber 3 Defence 1 Threat Intelligent\n', 'Option Variation\n', true],
-    ['Option Drohung\n', '', true],
+  for (const [given, wanted, asksForTries, most] of [
+    ['Option Try\n', '', true, 1], ['Option Variation Try\n', 'Option Variation\n', true, 1], ['Option Threat 2 Variation\n', 'Option Variation\n', true, 0],
+    ['Option Intelligent\nRemark a\n', 'Remark a\n', false, 0], ['Option MoveNumbers SetPlay\n', 'Option SetPlay\n', false, 0],
+    ['Option Variation StartMoveNumber 3 Defence 4 Threat Intelligent\n', 'Option Variation\n', true, 4],
+    ['Option Drohung\n', '', true, 0], ['Option Verteidigung 3 Variation Try\n', 'Option Variation\n', true, 3],
   ]) {
-    const { text, asksForTries: asks, line } = mendedProblem(withOptions(given), 1);
-    assert.deepEqual([text, asks, line], [withOptions(wanted), asksForTries, 4]);
+    const { text, asksForTries: asks, refutations, line } = mendedProblem(withOptions(given), 1);
+    assert.deepEqual([text, asks, refutations, line], [withOptions(wanted), asksForTries, most, 4]);
   }
 });
 
 test('mending: a byte order mark, letters of another language, a mistyped word; each in its own problem', () => {
   const good = withOptions('Option Variation\n');
-  assert.deepEqual(mendedProblem(`\ufeff${good}`, 1), { text: good, asksForTries: false, line: 1 });
+  assert.deepEqual(mendedProblem(`\ufeff${good}`, 1), { text: good, asksForTries: false, refutations: 0, line: 1 });
   assert.equal(mendedProblem(good.replace('Rc7', 'Tc7'), 1).text, good);
   assert.equal(mendedProblem(good.replace('Stipulation', 'Stipulatoin'), 1).text, good);
   const two = text => good.replace('End', 'Next') + text.slice(text.indexOf('Pieces'));

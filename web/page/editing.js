@@ -148,13 +148,14 @@ export function takeFen(text) {
 }
 
 /**
- * Switches tries and threats on if a text that asked for them has problems of direct mates or selfmates. Returns whether it did.
- * @param {string} text
- * @param {boolean} asksForTries
+ * Switches tries and threats on if a text that asked for them has problems of direct mates or selfmates, with the number of refutations that
+ * it named. Returns whether it did.
+ * @param {Corrected} made
  */
-function askForTries(text, asksForTries) {
+function askForTries({ text, asksForTries, refutations }) {
   const isAsked = asksForTries && /stipulation\s+s?[#=]/i.test(text);
   if (isAsked) {
+    if (refutations) element('refutations').value = String(refutations);
     element('tries').checked = true;
     element('tries').dispatchEvent(new Event('change'));
   }
@@ -163,16 +164,16 @@ function askForTries(text, asksForTries) {
 
 /**
  * Takes a text in which faults were corrected; switches tries on if a word that was left out asked for them.
- * @param {{ text: string, asksForTries: boolean }} made
+ * @param {Corrected} made
  */
-export function takeCorrected({ text, asksForTries }) {
+export function takeCorrected(made) {
   endTyping();
   if (!state.isSolved()) {
     note(say('correctLater'));
     return;
   }
-  setText(text);
-  note(say(askForTries(text, asksForTries) ? 'correctedTries' : 'corrected'));
+  setText(made.text);
+  note(say(askForTries(made) ? 'correctedTries' : 'corrected'));
 }
 
 /**
@@ -190,7 +191,7 @@ export function takeText(given) {
   setText(made?.text ?? text);
   element('text').setSelectionRange(0, 0);
   if (!made) return;
-  const isAsked = askForTries(made.text ?? '', made.asksForTries);
+  const isAsked = askForTries({ ...made, text: made.text ?? '' });
   note([say(made.text ? 'imported' : 'importedNone'), ...(isAsked ? [say('triesOn')] : []), ...made.lost].join('. '));
 }
 

@@ -11,7 +11,7 @@ const MARKED_FAULTS = 100;
 const LINE_PIXELS = 20;
 const LONGEST_CONVERTED = 100000;
 /** What takes a corrected text, and what converts the text. */
-const corrected = { take: (/** @type {{ text: string, asksForTries: boolean }} */ _) => {}, convert: () => {} };
+const corrected = { take: (/** @type {Corrected} */ _) => {}, convert: () => {} };
 
 /** @type {(item: Item) => item is FaultyItem} */
 const hasFault = /** @type {any} */ ((/** @type {Item} */ item) => item.fault !== null);
@@ -69,7 +69,7 @@ function goToLine(line) {
 
 /**
  * Sets what takes a corrected text, and what converts the text.
- * @param {(made: { text: string, asksForTries: boolean }) => void} take
+ * @param {(made: Corrected) => void} take
  * @param {() => void} convert
  */
 export function whenCorrected(take, convert) {
