@@ -2,7 +2,7 @@
 // Problems and reports in other forms, as the companions write them, by their code: JSON, pages of diagrams, drawings, YAML, LaTeX, short notation.
 import { faultsOf } from './explaining.js';
 import { faultyItem, knownItem, knownMen, knownTries } from './items.js';
-import { sayAsked, sayFault, sayTotal } from './names.js';
+import { sayAsked, sayFault, sayReason, sayTotal } from './names.js';
 import { companions } from './out/companions.js';
 import { ranksOf } from './position.js';
 import { py } from './python.js';
@@ -75,14 +75,17 @@ export function shortText(item, men) {
 }
 
 /**
- * Writes the problems of a text in YAML, with the solutions of these items, twins as one problem; with the reasons why some are left out.
+ * Writes the problems of a text in YAML, with the solutions of these items, twins as one problem; with the reasons, in the page's language,
+ * why some are left out.
  * @param {string} text
  * @param {Item[]} items
  */
 export function yamlOf(text, items) {
   const reading = companions.readProblems(text);
   const solved = py.dict(items.map(it => [it.number, knownItem(it)]));
-  return { text: [...companions.yamlOf(companions.joined(reading.problems), solved)].join(''), lost: reading.left_out };
+  const lost = reading.left_out.map((/** @type {{ name: string, reasons: string[] }} */ { name, reasons }) => say('lostProblem',
+    { number: name, reason: reasons.map(sayReason).join('; ') }));
+  return { text: [...companions.yamlOf(companions.joined(reading.problems), solved)].join(''), lost };
 }
 
 /**

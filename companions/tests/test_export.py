@@ -190,6 +190,33 @@ solution: |2
         back = run_here.companion("pops-import", text=text.encode())
         self.assertEqual(exported("yaml", text=back.output), text)
 
+    def test_keys_of_several_reprints_stay_together(self) -> None:
+        """A list of which some have keys comes back as that list."""
+        yaml = b"""---
+reprints:
+  - {name: Problem, date: 1978, more: [{page: 1}, {page: 2, line: 3}]}
+  - {name: Feenschach, issue: 12}
+  - "Z 1990"
+  - [A, B]
+algebraic: {white: [Kg6, Ra1], black: [Kh8]}
+stipulation: "h#1"
+"""
+        given = run_here.companion("pops-import", text=yaml)
+        text = exported("yaml", text=given.output)
+        (document,) = documents(text)
+        node = document.node()
+        assert isinstance(node, dict)
+        wanted = [
+            {"name": "Problem", "date": "1978", "more": [{"page": "1"}, {"page": "2", "line": "3"}]},
+            {"name": "Feenschach", "issue": "12"},
+            "Z 1990",
+            ["A", "B"],
+        ]
+        self.assertEqual(node["reprints"], wanted)
+        self.assertNotIn("comments", node)
+        back = run_here.companion("pops-import", text=text.encode())
+        self.assertEqual(exported("yaml", text=back.output), text)
+
     def test_awards_dates_and_origins(self) -> None:
         problem = "Pieces White Kg6 Ra1 Black Kh8\nStipulation h#1\n"
         for texts, wanted in (

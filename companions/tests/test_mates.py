@@ -106,6 +106,10 @@ class Programs(unittest.TestCase):
         self.assertEqual((added.status, added.error), (0, ""))
         for asked, wanted in (
             (("--keyword", "ideal"), ["1"]),
+            # Problem 1 has only ideal mates, which are model mates and pure.
+            (("--keyword", "Model"), ["1"]),
+            (("--keyword", "pure mates"), ["1", "2"]),
+            (("--keyword", "echo"), []),
             (("--keyword", "mates"), ["1", "2"]),
             (("--keyword", "letztform"), ["1"]),
             (("--source", "schwalbe"), ["1"]),

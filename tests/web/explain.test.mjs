@@ -142,7 +142,7 @@ test('importing: long lines of blanks, comments and line ends, and long chains o
 test('importing: flows of many lines, levels and parts', () => {
   const head = "algebraic:\n  white: [Kg6, Ra1]\n  black: [Kg8]\nstipulation: '#1'\n";
   const remarks = text => imported(head + text).text.match(/^Remark .*$/gm);
-  assert.deepEqual(remarks('x: [a, [b,\n  c], {d: e,\n f: g}]\n'), ['x: a', 'x: b', 'x: c', 'x.d: e', 'x.f: g'].map(it => `Remark ${it}`));
+  assert.deepEqual(remarks('x: [a, [b,\n  c], {d: e,\n f: g}]\n'), ['x.1: a', 'x.2: b', 'x.2: c', 'x.3.d: e', 'x.3.f: g'].map(it => `Remark ${it}`));
   assert.match(imported(`${head}x: ${'['.repeat(20000)}${']'.repeat(20000)}\n`).lost.join(), /more than 40 levels/);
   assert.match(imported(`${head}x: [a\n`).lost.join(), /the text ends too early/);
   assert.equal(remarks(`x: [${'a, '.repeat(3000)}b]\n`).length, 3001);

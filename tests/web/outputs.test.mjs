@@ -11,6 +11,7 @@ const { men_shapes } = await import('../../web/shapes.js');
 const { menOfRanks } = await import('../../web/position.js');
 const { itemsOf } = await import('../../web/report.js');
 const { blockAt, menOf } = await import('../../web/text.js');
+const { speak } = await import('../../web/words.js');
 
 /** Returns the men of a text, as `White Ke1 Black Ke8`. */
 const menIn = men => menOf(blockAt(`BeginProblem Pieces ${men} EndProblem`, 0)).men;
@@ -105,7 +106,26 @@ test('outputs: twins are one problem in LaTeX and YAML, and what cannot be posed
   assert.match(yamlOf(text, []).text, /^title: "A pair"\n[^]*\ntwins:\n  b: "Move a1 b2"\n$/m);
   const { text: left, lost } = yamlOf(text.replace('Rb2', 'Ra9'), []);
   assert.deepEqual([left.split('---').length, lost.length], [2, 1]);
-  assert.match(lost[0], /problem 2: left out/);
+  assert.deepEqual(lost, ['Problem 2 was left out: Ra9 isn\'t known here']);
+});
+
+test('outputs: why a problem is left out of YAML, in the language of the page', () => {
+  const text = 'BeginProblem\nPieces White Kg6 Ra1 Black Kh8\nStipulation r#1\nEndProblem\n';
+  speak('de');
+  assert.deepEqual(yamlOf(text, []).lost, ['Problem 1 wurde ausgelassen: pops kennt die Forderung r#1 nicht']);
+  const read = more => imported(`algebraic:\n  white: [Kg6, Ra1]\n  black: [Kg8]\nstipulation: '#1'\n${more}\n`).lost.join();
+  assert.match(read('x: [a'), /ausgelassen: das ist nicht als YAML lesbar: der Text endet zu früh$/);
+  assert.match(read(`x: ${'['.repeat(50)}${']'.repeat(50)}`), /lesbar: es sind mehr als 40 Ebenen$/);
+  assert.match(read(`twins:\n  ${'b'.repeat(50)}: Move a1 b1`), /hat mehr als 40 Zeichen$/);
+  speak('fr');
+  assert.deepEqual(yamlOf(text, []).lost, ['Le problème 1 a été omis : pops ne connaît pas l’énoncé r#1']);
+  speak('en');
+});
+
+test('outputs: three authors are three', () => {
+  const text = 'BeginProblem\nAuthor A. Ax & B. Bx & C. Cx\nPieces White Kg6 Ra1 Black Kg8\nStipulation #1\nEndProblem\n';
+  assert.match(yamlOf(text, []).text, /^authors:\n {2}- "A. Ax"\n {2}- "B. Bx"\n {2}- "C. Cx"\n/m);
+  assert.match(latexOf(text, []), /\\author\{\{A\. Ax\}, \{\}; \{B\. Bx\}, \{\}; \{C\. Cx\}, \{\}\}/);
 });
 
 test('outputs: a drawing has the shapes of its men alone', () => {

@@ -93,8 +93,8 @@ def main(words: list[str]) -> Status:
     except Unreadable as error:
         message = f"{name}, line {error.message.line}: {error}"
         raise CommandError(Status.FAULTY, message) from None
-    for text in reading.left_out:
-        print(f"{NAME}: {name}, {text}", file=sys.stderr)
+    for one in reading.left_out:
+        print(f"{NAME}: {name}, {one.text}", file=sys.stderr)
     apart = settings.apart
     problems = list(map(Exported, reading.problems) if apart else joined(reading.problems))
     items = items_of(settings)

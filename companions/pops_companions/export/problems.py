@@ -1,7 +1,7 @@
 """The problems of a text in any of the forms that pops-import reads, and twins joined again."""
 
 import re
-from collections.abc import Iterable, Iterator
+from collections.abc import Iterable, Iterator, Sequence
 from dataclasses import dataclass, field, replace
 from typing import NamedTuple, Optional
 
@@ -93,12 +93,24 @@ class Exported:
         return [*self.problem.lines(), *(f"Twin {twin.changes}" for twin in self.twins)]
 
 
+class LeftOut(NamedTuple):
+    """A problem that pops can't read: its line, its number with the label of a twin, and why."""
+
+    line: int
+    name: str
+    reasons: Sequence[str]
+
+    @property
+    def text(self) -> str:
+        return f"line {self.line}, problem {self.name}: left out: {'; '.join(self.reasons)}"
+
+
 @dataclass
 class Reading:
-    """The problems of a text, and what had to be left out, in words with their lines."""
+    """The problems of a text, and those that had to be left out."""
 
     problems: list[Problem] = field(default_factory=list)
-    left_out: list[str] = field(default_factory=list)
+    left_out: list[LeftOut] = field(default_factory=list)
 
 
 def read_problems(text: str) -> Reading:
@@ -109,9 +121,9 @@ def read_problems(text: str) -> Reading:
         for one in posed(draft):
             number = len(reading.problems) + len(reading.left_out) + 1
             if one.faults:
-                label = f"problem {draft.number} {one.label}".rstrip()
-                why = "; ".join(fault.text for fault in one.faults)
-                reading.left_out.append(f"line {one.faults[0].line}, {label}: left out: {why}")
+                name = f"{draft.number} {one.label}".rstrip()
+                reasons = [fault.text for fault in one.faults]
+                reading.left_out.append(LeftOut(one.faults[0].line, name, reasons))
             else:
                 reading.problems.append(Problem.of_lines(number, one.lines))
     return reading

@@ -79,12 +79,25 @@ def _field(key: str, value: Value, indent: str = "") -> Iterator[str]:
     """Yields a key with what is below it."""
     if isinstance(value, dict):
         yield f"{indent}{key}:"
+        if list(value) == [str(number) for number in range(1, len(value) + 1)]:
+            yield from (f"{indent}  {line}" for line in _members(value))
+            return
         for name, below in value.items():
             yield from _field(name, below, f"{indent}  ")
     elif len(value) == 1 and key.lower() not in _LISTS:
         yield f"{indent}{key}: {_scalar(value[0])}"
     elif value:
         yield from (f"{indent}{line}" for line in _list(key, value))
+
+
+def _members(value: "dict[str, Value]") -> Iterator[str]:
+    """Yields the members of a list, of which some have keys."""
+    for member in value.values():
+        if isinstance(member, dict):
+            lines = [line for name, below in member.items() for line in _field(name, below)]
+            yield from (f"{'  ' if place else '- '}{line}" for place, line in enumerate(lines))
+        else:
+            yield f"- {_scalar(member[0]) if len(member) == 1 else json.dumps(member)}"
 
 
 def _scalar(text: str) -> str:

@@ -38,6 +38,8 @@ CREATE INDEX problems_by_source ON problems (source);
 CREATE INDEX problems_by_play ON problems (play) WHERE play IS NOT NULL;
 """
 _KEYWORDS = "ALTER TABLE problems ADD COLUMN keywords TEXT NOT NULL DEFAULT ''"
+# An ideal mate is a model mate, and a model mate is pure.
+_NARROWER = (("model mates", ("ideal mate",)), ("pure mates", ("ideal mate", "model mate")))
 # A board, as `board_of` makes it.
 _BOARD = re.compile(rf"[{EMPTY}{LETTERS}]{{64}}")
 _COLUMNS = ", ".join(one.name for one in fields(Entry))
@@ -309,11 +311,15 @@ def _conditions(wanted: Wanted) -> tuple[list[str], list[str]]:
         ("author", wanted.author),
         ("title", wanted.title),
         ("origin", wanted.source),
-        ("keywords", wanted.keyword),
     ):
         if text:
             conditions.append(f"{column} LIKE ? ESCAPE '\\'")
             values.append(f"%{_escaped(text)}%")
+    if wanted.keyword:
+        keywords = _with_narrower(wanted.keyword)
+        alike = ["keywords LIKE ? ESCAPE '\\'"] * len(keywords)
+        conditions.append(f"({' OR '.join(alike)})")
+        values += [f"%{_escaped(text)}%" for text in keywords]
     for column, text in (("stipulation", wanted.stipulation), ("condition", wanted.condition)):
         if text:
             conditions.append(f"{column} = ? COLLATE NOCASE")
@@ -323,6 +329,12 @@ def _conditions(wanted: Wanted) -> tuple[list[str], list[str]]:
             conditions.append(f"substr(board, {place}, 1) = ?")
             values.append(wanted.men[square].letter)
     return conditions, values
+
+
+def _with_narrower(keyword: str) -> list[str]:
+    """Returns a keyword, and the kinds of mates that are of the kind that it names."""
+    narrower = {kind for name, kinds in _NARROWER if keyword.lower() in name for kind in kinds}
+    return [keyword, *sorted(narrower)]
 
 
 def _is_within(date: str, dates: tuple[str, str]) -> bool:

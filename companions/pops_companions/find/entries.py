@@ -84,7 +84,8 @@ def entries_of(source: str, data: bytes, encoding: str) -> tuple[list[Entry], li
         reading = read_problems(text)
     except Unreadable as error:
         raise EntriesError(f"line {error.message.line}: {error}") from None
-    return [_of_problem(source, problem) for problem in reading.problems], reading.left_out
+    left_out = [one.text for one in reading.left_out]
+    return [_of_problem(source, problem) for problem in reading.problems], left_out
 
 
 def _of_problem(source: str, problem: Problem) -> Entry:

@@ -194,8 +194,10 @@ def _named_texts(name: str, node: Node) -> Iterator[tuple[str, Scalar]]:
         for key, value in node.items():
             yield from _named_texts(_shortened(f"{name}.{key}"), value)
     elif isinstance(node, list):
-        for one in node:
-            yield from _named_texts(name, one)
+        # (where some have keys, numbers say which keys belong together)
+        has_keys = len(node) > 1 and any(isinstance(one, dict) for one in node)
+        for number, one in enumerate(node, start=1):
+            yield from _named_texts(_shortened(f"{name}.{number}") if has_keys else name, one)
     elif node is not None:
         yield name, node
 
