@@ -113,7 +113,7 @@ class Judging(unittest.TestCase):
         """Two rooks mate on the eighth rank."""
         self.text.write_bytes(ONE + TWO.replace(b"Ra1", b"Ra1b1"))
         for words, said in (((), (True, False, True)), (("--all",), (True, True, False))):
-            with mock.patch("pops_companions.review.sheet._MOST_SOLUTIONS", 1):
+            with mock.patch("pops_companions.sheet.solution.MOST_SOLUTIONS", 1):
                 self.judged(*words)
             shown = "\n".join(self.articles()[1].words)
             texts = ("1.Kg8 Ra8#", "1.Kg8 Rb8#", ".. and 1 more (--all shows them)")

@@ -684,6 +684,19 @@ class Command(Case):
         self.assertIn("\n2. Long\n", told)
         self.assertIn("nicht zu Ende gelöst: 1 s\n", told)
 
+    def test_a_help_mate_with_many_solutions(self) -> None:
+        """Two rooks mate on the eighth rank, and a sheet has room for one."""
+        text = b"BeginProblem\nPieces White Kg6 Ra1b1 Black Kh8\nStipulation h#1\nEndProblem\n"
+        note = {"en": "not shown: 1 more", "fr": "non montrées : 1 de plus"}
+        for code, said in note.items():
+            for form in ("text", "latex", "html"):
+                with mock.patch("pops_companions.sheet.solution.MOST_SOLUTIONS", 1):
+                    words = ("--to", form, "--language", code)
+                    told = html.unescape(self.made(text, *words).output.decode())
+                self.assertIn("a8", told)
+                self.assertNotIn("b8", told)
+                self.assertIn(said, told)
+
     def test_progress(self) -> None:
         """On a terminal it shows how far it is, and with tries a second time."""
         with mock.patch("pops_companions.many.progress.Progress._tell") as told:

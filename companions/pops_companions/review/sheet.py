@@ -12,7 +12,7 @@ from pops_companions.review.judgement_page import STYLE, finding_text
 from pops_companions.review.judgement_text import Tally, name_of
 from pops_companions.review.judging import Judgement
 from pops_companions.sheet.languages import LANGUAGES, marked_as
-from pops_companions.sheet.solution import Solution
+from pops_companions.sheet.solution import Solution, shortened
 from pops_companions.show import diagram
 from pops_companions.show.titles import printable, shown
 
@@ -42,8 +42,6 @@ _COLUMNS: Mapping[str, Callable[[Judgement], str]] = {
 }
 # More lines are folded.
 _LINES_SHOWN = 12
-# The most solutions of a phase on the sheet, without --all.
-_MOST_SOLUTIONS = 1000
 
 
 class Evidence(NamedTuple):
@@ -159,7 +157,7 @@ def solutions_of(judgement: Judgement, evidence: Evidence) -> list[str]:
         return []
     left_out = 0
     if evidence.most is not None:
-        item, left_out = _shortened(item)
+        item, left_out = shortened(item)
     solution = Solution(board.men, item.condition, _ENGLISH)
     blocks = solution.blocks(item, evidence.tries.get(number))
     lines: list[str] = []
@@ -169,19 +167,6 @@ def solutions_of(judgement: Judgement, evidence: Evidence) -> list[str]:
         for line in block.lines:
             lines.append(indent + "  " * line.level + line.text.translate(_MARKS))
     return [*lines, *([f".. and {left_out} more (--all shows them)"] if left_out else [])]
-
-
-def _shortened(item: SoundItem) -> tuple[SoundItem, int]:
-    """Returns a problem with at most `_MOST_SOLUTIONS` in a phase, and how many are left out.
-
-    A cooked help mate may have a million.
-    """
-    phases = item.phases or ()
-    left_out = sum(max(len(it.solutions) - _MOST_SOLUTIONS, 0) for it in phases)
-    if not left_out:
-        return item, 0
-    shown = tuple(replace(it, solutions=it.solutions[:_MOST_SOLUTIONS]) for it in phases)
-    return replace(item, phases=shown), left_out
 
 
 def _folded(summary: str, lines: Sequence[str]) -> str:

@@ -14,7 +14,7 @@ from pops_companions.report.items import AnyItem, Board, FaultyItem, SoundItem
 from pops_companions.report.tries import TriesItem
 from pops_companions.sheet.languages import Language
 from pops_companions.sheet.sheet_words import WORDS, SheetWords
-from pops_companions.sheet.solution import Block, Solution, TriesShown
+from pops_companions.sheet.solution import Block, Solution, TriesShown, shortened
 from pops_companions.sheet.twin_changes import Placed, change_of
 from pops_companions.show.authors import Person, persons
 from pops_companions.show.diagram import numbers_of_men
@@ -146,15 +146,17 @@ class Sheet:
             fault = words.faults[FaultKind(item.fault.number)]
             return Part(heading, (), words.line.format(item.fault.line, fault))
         board = self.boards.get(item.number)
-        note = ""
+        notes = []
         if item.unfinished == NOT_IN_REPORT:
-            note = words.not_in_report
+            notes.append(words.not_in_report)
         elif item.unfinished is not None:
-            note = words.unfinished.format(item.unfinished)
+            notes.append(words.unfinished.format(item.unfinished))
         if not isinstance(item, SoundItem) or board is None:
-            return Part(heading, (), note=note)
+            return Part(heading, (), note="; ".join(notes))
+        item, left_out = shortened(item)
+        notes += [words.left_out.format(left_out)] * bool(left_out)
         solution = Solution(board.men, item.condition, self.language, self.shown)
-        return Part(heading, tuple(solution.blocks(item, self.tries.get(item.number))), note=note)
+        return Part(heading, tuple(solution.blocks(item, self.tries.get(item.number))), note="; ".join(notes))
 
 
 def _asked(group: Group) -> str:

@@ -18,6 +18,7 @@ class SheetWords(NamedTuple):
     line: str
     unfinished: str
     not_in_report: str
+    left_out: str
     solutions: str
     reversed: str
     rotated: str

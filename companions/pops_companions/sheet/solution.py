@@ -1,7 +1,7 @@
 """The solution of a problem in blocks: set play, tries, keys."""
 
 from collections.abc import Iterator, Sequence
-from dataclasses import dataclass
+from dataclasses import dataclass, replace
 from enum import Enum
 from typing import Optional
 
@@ -16,6 +16,20 @@ from pops_companions.sheet.boards import after
 from pops_companions.sheet.languages import MARKS, Language
 from pops_companions.sheet.short import short
 from pops_companions.sheet.variations import Line, Variations
+
+
+# How many solutions of a phase a sheet shows: a cooked help mate may have a million.
+MOST_SOLUTIONS = 1000
+
+
+def shortened(item: SoundItem) -> tuple[SoundItem, int]:
+    """Returns a problem with at most `MOST_SOLUTIONS` in a phase, and how many are left out."""
+    phases = item.phases or ()
+    left_out = sum(max(len(it.solutions) - MOST_SOLUTIONS, 0) for it in phases)
+    if not left_out:
+        return item, 0
+    kept = tuple(replace(it, solutions=it.solutions[:MOST_SOLUTIONS]) for it in phases)
+    return replace(item, phases=kept), left_out
 
 
 @dataclass(frozen=True)
