@@ -407,6 +407,25 @@ class Texts(unittest.TestCase):
 
 
 @support.needs_module("yaml")
+class Options(unittest.TestCase):
+    def test_variation_stays_and_try_asks_for_none(self) -> None:
+        """In all battle play, in inputs of Popeye and in YAML."""
+        men = "White Kg6 Ra1 Black Kh8"
+        for asked in ("#2", "#3", "s#2"):
+            for given, wanted in (
+                ("Try Variation", ["Variation"]),
+                ("Defence 2 Var", ["Variation"]),
+                ("Try", []),
+            ):
+                text = f"Pieces {men}\nStipulation {asked}\nOption {given}"
+                popeye = f"BeginProblem\n{text}\nEndProblem\n"
+                yaml = "algebraic: {white: [Kg6, Ra1], black: [Kh8]}\n"
+                yaml += f"stipulation: '{asked}'\noptions: [{given}]\n"
+                for text in (popeye, yaml):
+                    made = imported_text(text.encode()).output.decode()
+                    self.assertEqual(re.findall("^Option (.+)$", made, re.M), wanted)
+
+
 class Yaml(unittest.TestCase):
     """The part of YAML that is read, by the definitions of YAML 1.2."""
 
