@@ -156,7 +156,8 @@ class Sheet:
         item, left_out = shortened(item)
         notes += [words.left_out.format(left_out)] * bool(left_out)
         solution = Solution(board.men, item.condition, self.language, self.shown)
-        return Part(heading, tuple(solution.blocks(item, self.tries.get(item.number))), note="; ".join(notes))
+        blocks = tuple(solution.blocks(item, self.tries.get(item.number)))
+        return Part(heading, blocks, note="; ".join(notes))
 
 
 def _asked(group: Group) -> str:
