@@ -32,7 +32,7 @@ class _Words(NamedTuple):
 
 
 class Pieces:
-    """The problems of an input by their numbers; each is made when it is asked for.
+    """The problems of an input by their numbers; each made on demand.
 
     An empty input has one, a faulty one.
     """

@@ -141,7 +141,7 @@ class Input(NamedTuple):
 
 
 class Tasks(Sequence[Task]):
-    """Some tasks of the inputs, by their places among all; each is made when it is asked for."""
+    """Some tasks of the inputs, by their places among all; each made on demand."""
 
     def __init__(self, inputs: Sequence[Input], firsts: Sequence[int], places: Sequence[int]):
         """`firsts` are the places of the inputs' first tasks."""
