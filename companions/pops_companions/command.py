@@ -33,6 +33,8 @@ _BARE = re.compile("(?:--[a-z-]+=|-[a-z])--")
 # Longer waits are no waits: without a limit a run takes as long as it likes.
 MOST_SECONDS = 2_000_000
 MOST_JOBS = 1000
+# Python's encodings of names in a network, not of texts.
+_OF_NAMES = ("punycode", "idna")
 # The most bytes of a text that is read as a whole.
 MOST_BYTES = 1 << 28
 _PIECE = 1 << 20
@@ -301,6 +303,8 @@ def _is_of_lines(encoding: str) -> bool:
 def is_of_text(encoding: str) -> bool:
     """Returns whether an encoding is one of whole texts, as UTF-16 is too."""
     try:
+        if codecs.lookup(encoding).name in _OF_NAMES:
+            return False
         return "a\n".encode(encoding).decode(encoding) == "a\n"
     except (LookupError, ValueError, TypeError, OSError):
         return False

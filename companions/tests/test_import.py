@@ -649,7 +649,10 @@ class NewUser(unittest.TestCase):
             (3, "pops-import: cannot open nowhere.inp: No such file or directory\n"),
         )
         self.assertEqual(support.companion("pops-import", "--twins").status, 2)
-        self.assertEqual(support.companion("pops-import", "--encoding", "runes").status, 2)
+        for encoding in ("runes", "punycode", "idna", "rot13"):
+            with self.subTest(encoding):
+                outcome = support.companion("pops-import", "--encoding", encoding)
+                self.assertEqual(outcome.status, 2)
         self.assertEqual(support.companion("pops-import", "--help").status, 0)
         version = support.companion("pops-import", "--version").output.decode()
         self.assertEqual(version.split()[0], "pops-import")

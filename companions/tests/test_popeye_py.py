@@ -106,6 +106,10 @@ class Command(unittest.TestCase):
         self.assertEqual(outcome.status, 1)
         self.assertIn(b"\nPartial solution Time = ", outcome.output)
 
+    def test_time_that_no_clock_holds(self) -> None:
+        outcome = solved(f"{MORPHY}EndProblem\n", "-maxtime", "9" * 17)
+        self.assertEqual((outcome.status, outcome.error), (0, ""))
+
     def test_what_pops_cannot_pose(self) -> None:
         outcome = solved(f"{MORPHY}Condition Koeko\nEndProblem\n")
         self.assertEqual((outcome.status, outcome.output), (1, b""))

@@ -101,8 +101,10 @@ class Solver:
 
     def _run(self, engine: Engine, text: str, begun: float) -> Result:
         seconds = self._settings.maxtime
-        left = None if seconds is None else max(begun + seconds - time.monotonic(), 0.001)
-        return engine.solve(text, Limits(seconds=left)).result
+        if seconds is None:
+            return engine.solve(text, Limits(seconds=None)).result
+        left = begun + min(seconds, command.MOST_SECONDS) - time.monotonic()
+        return engine.solve(text, Limits(seconds=max(left, 0.001))).result
 
 
 def _shown_by(options: Options) -> popeye_layout.Shown:
