@@ -1,5 +1,5 @@
 -- Definitions of chess, and lemmas on squares and tests, that most proofs use.
-pub use Rattle.chess_rules.proofs.Chess.{DescribesMen, Bishop, Black, CanCastle, Colour, Grasshopper, NonePass, IsWellFormed, Kind, King, Knight, Man, Move, Nightrider, Pawn, Position, Queen, Rook, RuleSet, Step, White, all_at, any_range_cases, any_range_false, is_promoting, arriving_man, corner, diagonal_steps, differs, find_first, first_of_and, halfway, is_advance, captures_are_reborn, is_arrival_free, is_castling, is_diagonal, is_man, is_nil, is_of_colour, is_square, is_vacant_at, is_vacant, king_after, knight_steps, last_rank, man_on, man_on-with_other, man_on-with_same, man_on-without_other, man_on-without_same, man_on_at, may_expose_at, men_on, occupied_squares, other, pawn_capture_steps, put_at, queen_steps, rank_of, reaches_of, same_colour, same_colour-true, same_kind, same_kind-true, second_of_and, some_square_false, some_square_true, squares_between, squares_both, squares_either, squares_not, step_of, straight_steps, with_man, without_man, all_triples, like_men_paralyse, forward, gait_of, is_legal-idle, is_promotion_right, same_colour-refl, second_rank}
+pub use Rattle.chess_rules.proofs.Chess.{DescribesMen, Bishop, Black, CanCastle, Colour, Grasshopper, NoneMeet, IsWellFormed, Kind, King, Knight, Man, Move, Nightrider, Pawn, Position, Queen, Rook, RuleSet, Step, White, all_at, any_range_cases, any_range_false, is_promoting, arriving_man, corner, diagonal_steps, differs, find_first, first_of_and, halfway, is_advance, captures_are_reborn, is_arrival_free, is_castling, is_diagonal, is_man, is_nil, is_of_colour, is_square, is_vacant_at, is_vacant, king_after, knight_steps, last_rank, man_on, man_on-with_other, man_on-with_same, man_on-without_other, man_on-without_same, man_on_at, may_expose_at, men_on, occupied_squares, other, pawn_capture_steps, put_at, queen_steps, rank_of, reaches_of, same_colour, same_colour-true, same_kind, same_kind-true, second_of_and, some_square_false, some_square_true, squares_between, squares_both, squares_either, squares_not, step_of, straight_steps, with_man, without_man, all_triples, like_men_paralyse, forward, gait_of, is_legal-idle, is_promotion_right, same_colour-refl, second_rank}
 unfoldable pub use Rattle.chess_rules.proofs.Chess.{position_after_by, along, capture_square, can_castle, hops, in_check, is_ahead, is_attacked, is_clear, is_legal, is_mate, is_on_some, is_paralysed, is_pseudo_legal, is_reached, king_square, leaps, may_castle, may_expose, may_arrive, may_be_hurdle, moved_men, moves, position_after, reaches, reaches_as, reborn_square, rides, side_of, some_square, squares, squares_of, is_attacker, triple_at, word, has_unmoved}
 pub use Rattle.chess_attacks.specs.declared.lines.Direction.{Direction}
 pub use Rattle.chess_attacks.specs.declared.lines.Direction.TheVariants.{East, North, NorthEast, NorthWest, South, SouthEast, SouthWest, West}

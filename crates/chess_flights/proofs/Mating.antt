@@ -1,5 +1,5 @@
 -- The moves that mate, by number.
-use Rattle.chess_flights.proofs.Chess.{NonePass, Move, Position, RuleSet, [], all_triples, and_left, and_right, arith, cases_Bool, false, first_of_and, in_check, is_legal, is_legal-idle, is_mate, is_mating, is_pseudo_legal, is_pseudo_legal-from_legal, maker, mates, mates_after, moves_after-end, moves_after-here, moves_after-start, not-true, other, position_after, position_after_by, refl, rules, second_of_and, sym, triple_at, true, ℕ, ◌+◌, ◌<◌, ◌∙◌, ◌∷◌, ◌≡◌, ◌≤◌, Bool, IsWellFormed, List, list_all, moves, moves_are_the_legal_moves}
+use Rattle.chess_flights.proofs.Chess.{NoneMeet, Move, Position, RuleSet, [], all_triples, and_left, and_right, arith, cases_Bool, false, first_of_and, in_check, is_legal, is_legal-idle, is_mate, is_mating, is_pseudo_legal, is_pseudo_legal-from_legal, maker, mates, mates_after, moves_after-end, moves_after-here, moves_after-start, not-true, other, position_after, position_after_by, refl, rules, second_of_and, sym, triple_at, true, ℕ, ◌+◌, ◌<◌, ◌∙◌, ◌∷◌, ◌≡◌, ◌≤◌, Bool, IsWellFormed, List, list_all, moves, moves_are_the_legal_moves}
 use Rattle.chess_rules.proofs.listing_moves.Filtering.{wanted-none}
 use Rattle.chess_rules.proofs.listing_moves.Members.{in_cases, none_in_nil}
 use Rattle.std.specs.List.{Contains}
@@ -25,7 +25,7 @@ unfolding mates_after
 mates_after-end rule p n ge = search (rules, moves_after-end)
 
 -- over a range without mates
-pub mates_after-none : (rule : RuleSet) (p : Position) (a b : ℕ) → (b < all_triples → a ≤ b) → b ≤ all_triples → NonePass (mates rule p) a b
+pub mates_after-none : (rule : RuleSet) (p : Position) (a b : ℕ) → (b < all_triples → a ≤ b) → b ≤ all_triples → NoneMeet (mates rule p) a b
     → mates_after rule p a ≡ mates_after rule p b
 unfolding mates_after mates
 mates_after-none rule p a b low high h = wanted-none rule p (is_mating rule p) a b low high h

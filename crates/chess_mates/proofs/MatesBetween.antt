@@ -1,5 +1,5 @@
 -- The mates between two cursors, and the walk that finds them.
-use Rattle.chess_mates.proofs.Chess.{NonePass, IsNextMate, Position, RuleSet, [], all_triples, append_cancel_right, arith, cases_lt, filter, filter-append, first_of_and, is_mating, mates, mates_after, mates_between, min, moves_after, moves_after-here, moves_between, place_of_triple, second_of_and, triple_at, true, ℕ, ◌++◌, ◌+◌, ◌<◌, ◌∷◌, ◌≡◌, ◌≤◌}
+use Rattle.chess_mates.proofs.Chess.{NoneMeet, IsNextMate, Position, RuleSet, [], all_triples, append_cancel_right, arith, cases_lt, filter, filter-append, first_of_and, is_mating, mates, mates_after, mates_between, min, moves_after, moves_after-here, moves_between, place_of_triple, second_of_and, triple_at, true, ℕ, ◌++◌, ◌+◌, ◌<◌, ◌∷◌, ◌≡◌, ◌≤◌}
 use Rattle.chess_rules.proofs.listing_moves.Between.{after_cut, between-none, between-past}
 use Rattle.chess_flights.proofs.Mating.{mates_after-end, mates_after-none, mates_numbered}
 
@@ -17,14 +17,14 @@ unfolding mates_after mates_between
 cut_mates rule p a b le = grind (arith, after_cut rule p a b le, filter-append (is_mating rule p) (moves_between rule p a b) (moves_after rule p b))
 
 -- up to the first move that mates
-pub until-mate : (rule : RuleSet) (p : Position) (a n e : ℕ) → a ≤ n → n < e → n < all_triples → NonePass (mates rule p) a n → mates rule p (triple_at n) ≡ true
+pub until-mate : (rule : RuleSet) (p : Position) (a n e : ℕ) → a ≤ n → n < e → n < all_triples → NoneMeet (mates rule p) a n → mates rule p (triple_at n) ≡ true
     → mates_between rule p a e ≡ triple_at n ∷ mates_between rule p (n + 1) e
 until-mate rule p a n e low before fits none h =
     append_cancel_right (mates_between rule p a e) (triple_at n ∷ mates_between rule p (n + 1) e) (mates_after rule p e)
     (grind (arith, cut_mates, mates_numbered, mates_after-none))
 
 -- no mate lies before an end that the walk reaches
-pub until-mateless : (rule : RuleSet) (p : Position) (a n e : ℕ) → a < n → n ≤ all_triples → n ≤ e → (n < all_triples → e ≤ n) → NonePass (mates rule p) a n
+pub until-mateless : (rule : RuleSet) (p : Position) (a n e : ℕ) → a < n → n ≤ all_triples → n ≤ e → (n < all_triples → e ≤ n) → NoneMeet (mates rule p) a n
     → mates_between rule p a e ≡ []
 until-mateless rule p a n e lt fits before all none =
     append_cancel_right (mates_between rule p a e) [] (mates_after rule p e)

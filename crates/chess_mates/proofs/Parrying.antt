@@ -29,7 +29,7 @@ off_unshut : (men : List (Option Man)) (e : Colour) (j : Kind) (ds : List Step) 
 unfolding is_blocking is_on_some
 off_unshut men e j ds k a off = false_from_ne_true _ (λ h. false≢true (sym off ∙ goes_on men k a ds (and_parts _ _ h).0))
 
--- where fewer men stand, fewer squares pass a test on them
+-- where fewer men stand, fewer squares meet a test on them
 some_before : (f g : ℕ → Bool) → ((q : ℕ) → f q ≡ true → g q ≡ true) → some_square f ≡ true → some_square g ≡ true
 unfolding some_square squares
 some_before f g each h =

@@ -13,7 +13,7 @@ use chess_attacks::unblocked::unblocked_reach;
 use chess_attacks::words::contains;
 use chess_core::{Board, Man, Move, Square, Squares};
 use chess_rules::{
-    LegalCursor, LegalityMasks, MoveFilter, Moves, TRIPLES, TargetCache, move_at, next_passing,
+    LegalCursor, LegalityMasks, MoveTest, Moves, TRIPLES, TargetCache, move_at, next_found,
 };
 
 // Returns the squares from which the man on `from`, if there is one, would attack the enemy king on the
@@ -81,15 +81,15 @@ struct Aimed {
     known: LegalityMasks,
 }
 
-impl MoveFilter for Aimed {
+impl MoveTest for Aimed {
     ghost use Rattle.chess_mates.specs.ties.Aims.{aims_at_king};
     ghost use Rattle.chess_rules.specs.ties.Counting.{IsKnownIn};
-    ghost use Rattle.chess_rules.specs.ties.Idle.{is_unfiltered-idle};
-    ghost use Rattle.chess_rules.specs.ties.Filtering.{is_unfiltered};
+    ghost use Rattle.chess_rules.specs.ties.Idle.{is_legal_and-idle};
+    ghost use Rattle.chess_rules.specs.ties.Filtering.{is_legal_and};
 
-    ghost test = { λ rule p. is_unfiltered rule p (aims_at_king p) };
+    ghost test = { λ rule p. is_legal_and rule p (aims_at_king p) };
 
-    ghost found = { λ rule p. is_unfiltered rule p (aims_at_king p) };
+    ghost found = { λ rule p. is_legal_and rule p (aims_at_king p) };
 
     ghost fits = { λ s rule p. IsKnownIn rule p s.known };
 
@@ -111,7 +111,7 @@ impl MoveFilter for Aimed {
         self.known.is_found::<R>(board, m) && aims_at_king(board, &m)
     }
 
-    ghost idle = { λ rule p m h. is_unfiltered-idle rule p (aims_at_king p) m h };
+    ghost idle = { λ rule p m h. is_legal_and-idle rule p (aims_at_king p) m h };
 }
 
 /// Returns the next legal move after the cursor for which `aims_at_king` holds, and moves the cursor to
@@ -139,7 +139,7 @@ pub fn next_aimed<R: Rules>(moves: &mut LegalCursor<R>, board: &mut Board) -> Op
         squares: 0,
     };
     let start = moves.place().number();
-    let number = next_passing::<R, Aimed>(board, &aimed, &mut kept, start, TRIPLES);
+    let number = next_found::<R, Aimed>(board, &aimed, &mut kept, start, TRIPLES);
     if number < TRIPLES {
         moves.go_to(Moves::at(number + 1));
         return Some(move_at(number));

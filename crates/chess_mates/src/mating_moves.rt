@@ -11,7 +11,7 @@ ghost use Rattle.chess_core.specs.declared.man.Move.{Move};
 ghost use Rattle.std.specs.Int.{bit_at};
 ghost use Rattle.chess_mates.specs.ties.MatingPlaces.{AreMateClues, IsMatingPlaceIn, IsNextMate, mates_between};
 ghost use Rattle.chess_flights.specs.ties.Mates.{mates, mates_after};
-ghost use Rattle.chess_rules.specs.ties.Places.{NonePass, all_triples, place_of, cursor_onto, triple_at};
+ghost use Rattle.chess_rules.specs.ties.Places.{NoneMeet, all_triples, place_of, cursor_onto, triple_at};
 ghost use Rattle.chess_rules.specs.Play.{position_after};
 ghost use Rattle.chess_rules.specs.ties.Targets.{AreCandidates, IsTargetCacheOf, AreOrigins, IsAimed};
 
@@ -23,8 +23,8 @@ use crate::standing_flights::{StandingFlights, standing_flights};
 use chess_attacks::{Rules, in_check};
 use chess_core::{Board, Colour, Move, Square, Squares};
 use chess_rules::{
-    MoveFilter, Moves, TRIPLES, TargetCache, arrivals, has_legal_move, is_pseudo_legal, move_at,
-    next_passing, others_have_move, play, unplay,
+    MoveTest, Moves, TRIPLES, TargetCache, arrivals, has_legal_move, is_pseudo_legal, move_at,
+    next_found, others_have_move, play, unplay,
 };
 use std::marker::{Model, PhantomData};
 
@@ -193,15 +193,15 @@ pub(crate) fn next_mating<R: Rules>(
     requires end { end ≤ all_triples }
     ensures low { result < end → start ≤ result }
     ensures high { result ≤ end }
-    ensures none { NonePass (mates R.rule board.old) start result }
+    ensures none { NoneMeet (mates R.rule board.old) start result }
     ensures mates { result < end → mates R.rule board.old (triple_at result) ≡ true }
     ensures kept { IsTargetCacheOf R.rule board.old (mates R.rule board.old) kept.new }
     ensures board { board.new ≡ board.old }
 {
-    next_passing::<R, MateClues>(board, clues, kept, start, end)
+    next_found::<R, MateClues>(board, clues, kept, start, end)
 }
 
-impl MoveFilter for MateClues {
+impl MoveTest for MateClues {
     ghost use Rattle.chess_mates.specs.ties.MatingPlaces.{AreMateClues};
     ghost use Rattle.chess_flights.specs.ties.Mates.{mates};
     ghost use Rattle.chess_mates.specs.ties.Idle.{mates-idle};

@@ -96,9 +96,9 @@ reached_left x s a b h = record { inside = λ men t small r. on_left a b t (h.in
 pub reached_right : (x : Man) (s a b : ℕ) → AreReached x s b → AreReached x s (bit_or a b)
 reached_right x s a b h = record { inside = λ men t small r. on_right a b t (h.inside men t small r) }
 
-some_passes : {X Q : Type 0} (test : X → Bool) (xs : List X) → ((x : X) → test x ≡ true → Q) → list_any test xs ≡ true → Q
-some_passes test [] give h = absurd (false≢true h)
-some_passes test (x ∷ xs) give h = grind (arith, or_cases (test x) (list_any test xs) h, give x, some_passes test xs give)
+some_meets : {X Q : Type 0} (test : X → Bool) (xs : List X) → ((x : X) → test x ≡ true → Q) → list_any test xs ≡ true → Q
+some_meets test [] give h = absurd (false≢true h)
+some_meets test (x ∷ xs) give h = grind (arith, or_cases (test x) (list_any test xs) h, give x, some_meets test xs give)
 
 stays_on_board : (s : ℕ) (d : Step) (k t : ℕ) → is_square (along s d k) t ≡ true → t < 64
 stays_on_board s d k t h = (along-is s d k t h).small
@@ -106,13 +106,13 @@ stays_on_board s d k t h = (along-is s d k t h).small
 goes_on_board : (g : Gait) (men : List (Option Man)) (s t : ℕ) (d : Step) → goes_by g men s t d ≡ true → t < 64
 unfolding leaps rides hops
 goes_on_board Leaper men s t d h = stays_on_board s d 1 t h
-goes_on_board Rider men s t d h = search (rules, some_passes, stays_on_board)
-goes_on_board Hopper men s t d h = search (rules, some_passes, stays_on_board)
+goes_on_board Rider men s t d h = search (rules, some_meets, stays_on_board)
+goes_on_board Hopper men s t d h = search (rules, some_meets, stays_on_board)
 
 -- what a man guards is on the board
 pub guards_small : (c : Colour) (k : Kind) (s t : ℕ) → guards c k s t ≡ true → t < 64
 unfolding guards reaches_as
-guards_small c k s t h = some_passes (goes_by (gait_of (without_hops k)) [] s t) (kind_steps c (without_hops k)) (λ d. goes_on_board (gait_of (without_hops k)) [] s t d) h
+guards_small c k s t h = some_meets (goes_by (gait_of (without_hops k)) [] s t) (kind_steps c (without_hops k)) (λ d. goes_on_board (gait_of (without_hops k)) [] s t d) h
 
 pawn_small : (takes : ℕ → Bool) (c : Colour) (s t : ℕ) → pawn_goes takes c s t ≡ true → t < 64
 unfolding pawn_goes

@@ -98,8 +98,8 @@ ahead White s from to advances file rank = and_from _ _ (eq-eqb _ _ (sym file)) 
 ahead Black s from to advances file rank = and_from _ _ (eq-eqb _ _ (sym file)) (eq-eqb _ _ (sym rank ∙ advances))
 
 -- one of two, and not the first
-passed_over : (a b : Bool) → a ≡ false → (a || b) ≡ true → b ≡ true
-passed_over a b off h = grind arith
+other_holds : (a b : Bool) → a ≡ false → (a || b) ≡ true → b ≡ true
+other_holds a b off h = grind arith
 
 module _ (rule : RuleSet) (p : Position) (x : Man) (m : Move) (well : IsWellFormed p) (may : is_pseudo_legal rule p m ≡ true)
     (here : man_on p.men m.from ≡ Some x)
@@ -151,7 +151,7 @@ module _ (rule : RuleSet) (p : Position) (x : Man) (m : Move) (well : IsWellForm
       let parts = and_parts (reaches p.men m.from m.to) _ capture in
       elim (cases_Bool (is_some (man_on p.men m.to))) [
         | inl some ↦ captured_there (man_on p.men m.to) refl some
-        | inr empty ↦ captured_passing (capture_square p x m) refl pawn empty (passed_over (is_some (man_on p.men m.to)) (is_square p.crossed m.to) empty parts.1) parts.0
+        | inr empty ↦ captured_passing (capture_square p x m) refl pawn empty (other_holds (is_some (man_on p.men m.to)) (is_square p.crossed m.to) empty parts.1) parts.0
       ]
 
   -- where a pawn may capture what it captures

@@ -82,10 +82,10 @@ paid men c ends s = if is_of_colour (man_on men s) c then (ends s).moves else 0
 differs_from_other : (c : Colour) → same_colour (other c) c ≡ false
 differs_from_other c = grind arith
 
--- some square passes a test
-pub passing : (test : ℕ → Bool) → some_square test ≡ true → (s : ℕ) × (s < 64) × (test s ≡ true)
+-- some square meets a test
+pub meeting : (test : ℕ → Bool) → some_square test ≡ true → (s : ℕ) × (s < 64) × (test s ≡ true)
 unfolding some_square squares
-passing test h = elim (any_range_cases test 0 64) [
+meeting test h = elim (any_range_cases test 0 64) [
   | inl w ↦ (w.0, omega (arith, w.2), w.3)
   | inr none ↦ absurd (false≢true (sym (any_range_false test 0 64 none) ∙ h))
 ]
@@ -221,7 +221,7 @@ module _ (rb : Bool) (p q : Position) (x y : Man) (a b : ℕ) (e h : Option ℕ)
       prey_back c d t may = elim (or_cases (not (same_colour d c)) (some_square (is_prey q.men c ends t)) may) [
         | inl theirs ↦ or_left _ _ theirs
         | inr some ↦
-            let w = passing _ some in
+            let w = meeting _ some in
             let parts = and_parts _ _ w.2 in
             let man = and_parts _ _ parts.0 in
             let r = came_from (other c) w.0 man.0 in

@@ -6,7 +6,7 @@ use Rattle.chess_rules.proofs.Chess.{like_men_paralyse, second_fails}
 use Rattle.chess_rules.specs.Play.{rebirth}
 use Rattle.chess_reach.proofs.EmptyBoard.{king_guards}
 use Rattle.chess_reach.proofs.Gone.{guards_from, is_gone}
-use Rattle.chess_reach.proofs.OneMove.{passing, stays, stood_before}
+use Rattle.chess_reach.proofs.OneMove.{meeting, stays, stood_before}
 use Rattle.chess_reach.proofs.Sums.{sum_of_zeros}
 use Rattle.chess_reach.specs.Lines.{reaches_goal}
 use Rattle.chess_rules.proofs.legality.Blocking.{king_is, man_there, other_twice}
@@ -22,7 +22,7 @@ attacker : (rule : RuleSet) (men : List (Option Man)) (t : ℕ) (c : Colour) →
     → (s : ℕ) × (y : Man) × (man_on men s ≡ Some y) × (same_colour y.colour c ≡ true) × (guards c y.kind s t ≡ true)
 unfolding is_attacked is_attacker
 attacker rule men t c h =
-    let w = passing _ h in
+    let w = meeting _ h in
     let reach = and_parts _ _ w.2 in
     let y = side_there (man_on men w.0) c (and_parts _ _ reach.0).0 in (
       w.0,

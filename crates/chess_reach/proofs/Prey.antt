@@ -11,7 +11,7 @@ use Rattle.chess_reach.proofs.Holding.{one_within}
 use Rattle.chess_attacks.proofs.Tests.{any_range_cases}
 use Rattle.chess_reach.proofs.Getting.{every_on, gets_small}
 use Rattle.chess_reach.proofs.Returning.{starts_there}
-use Rattle.chess_reach.proofs.OneMove.{passing}
+use Rattle.chess_reach.proofs.OneMove.{meeting}
 use Rattle.chess_reach.proofs.Planning.{man_of}
 use Rattle.chess_reach.proofs.Shifts.{bit_down, bit_up}
 use Rattle.chess_reach.specs.ties.Guards.{AreBlocks, is_blocker}
@@ -126,7 +126,7 @@ module _ (goal : Goal) (sc rb : Bool) (p : Position) (c : Colour) (ours theirs k
   captured t mortal may =
       let prey_there = or_second rb _ mortal may in
       let some = second (same_colour c c) (some_square (is_prey p.men c ends t)) (same_colour-refl c) prey_there in
-      let s = passing _ some in
+      let s = meeting _ some in
       let parts = and_parts (is_blocker p.men (other c) s.0) _ s.2 in
       let taken = and_parts (ends s.0).taken _ parts.1 in
       record { by = s.0; small = s.1; blocker = parts.0; taken = taken.0; to = taken.1 }

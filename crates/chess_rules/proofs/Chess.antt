@@ -26,16 +26,16 @@ unfoldable pub use Rattle.chess_rules.specs.Play.{position_after_by, capture_squ
 pub use Rattle.chess_attacks.specs.RuleSet.{captures_are_reborn, circe}
 pub use Rattle.chess_rules.specs.declared.legality.blockers.RiderLines.TheVariants.{Diagonal, Straight}
 pub use Rattle.chess_rules.specs.ties.Evasions.{AreEvasions, AreEvasionsFrom, has_fairy_lines_of, is_evasion, IsNoEvasion, may_be_paralysed, may_paralyse_new_kind}
-pub use Rattle.chess_rules.specs.ties.Idle.{is_legal-idle, is_unfiltered-idle}
-pub use Rattle.chess_rules.specs.ties.Places.{NonePass, HasNoMoveFrom, NamesMove, IsPlaceIn, all_triples, per_arrival, per_origin, promotion_at}
+pub use Rattle.chess_rules.specs.ties.Idle.{is_legal-idle, is_legal_and-idle}
+pub use Rattle.chess_rules.specs.ties.Places.{NoneMeet, HasNoMoveFrom, NamesMove, IsPlaceIn, all_triples, per_arrival, per_origin, promotion_at}
 unfoldable pub use Rattle.chess_rules.specs.ties.Places.{first_after, moves_after, moves_between, place_of, triple_at}
 pub use Rattle.chess_rules.specs.ties.Playing.{CanCastle, CanMove}
 pub use Rattle.chess_rules.specs.ties.Blockers.{has_fairy_lines, is_fairy, AreRides, is_checker_at, is_on_fairy_line_at, is_line_rider, may_expose_at, rider_along, steps_along}
 unfoldable pub use Rattle.chess_rules.specs.ties.Blockers.{has_fairy, is_rider_beyond, is_checker, is_on_fairy_line, is_plain, is_blocking, may_expose, may_be_hurdle, cannot_expose}
-pub use Rattle.chess_rules.specs.ties.Filtering.{AreFiltered, IsFiltered, SomeFails, is_of_others, is_unfiltered}
+pub use Rattle.chess_rules.specs.ties.Filtering.{AreKeptSquares, IsFirstKept, SomeFails, is_of_others, is_legal_and}
 pub use Rattle.chess_rules.specs.ties.Exposure.{DescribesMenAfter, AreOthers, is_arriving_as, is_simple, king_after, own_after}
 pub use Rattle.chess_attacks.specs.ties.Occupancy.{DescribesMen, occupancy_after}
-pub use Rattle.chess_rules.specs.ties.Targets.{AreCandidates, IsTargetCacheOf, AreOrigins, IsAimed, is_promoting, is_arrival_of, passes_to, pawn_steps_to}
+pub use Rattle.chess_rules.specs.ties.Targets.{AreCandidates, IsTargetCacheOf, AreOrigins, IsAimed, is_promoting, is_arrival_of, meets_on, pawn_steps_to}
 unfoldable pub use Rattle.chess_rules.specs.ties.Targets.{is_arrival, may_arrive, steps_to}
 pub use Rattle.chess_rules.specs.ties.Undoing.{CanReturn, leaving_man, return_square}
 unfoldable pub use Rattle.chess_rules.specs.ties.Undoing.{before_by, returned_men, uncastled_men}

@@ -106,18 +106,18 @@ fn unlike_of_moves<R: Rules>(board: &mut Board, choices: &[Choice]) -> Option<Qu
         return Some(Question::MateCursor);
     }
     let third = choices.len() / 3;
-    for (passed, last) in &[
+    for (skipped, last) in &[
         (0, third),
         (third, choices.len() - third),
         (choices.len() - third, choices.len() + 1),
     ] {
-        if !gives_until::<R>(board, choices, *passed, *last) {
+        if !gives_until::<R>(board, choices, *skipped, *last) {
             return Some(Question::MovesUntil);
         }
-        if !gives_mates::<R>(board, choices, *passed) {
+        if !gives_mates::<R>(board, choices, *skipped) {
             return Some(Question::NextMate);
         }
-        if !gives_mates_until::<R>(board, choices, *passed, *last) {
+        if !gives_mates_until::<R>(board, choices, *skipped, *last) {
             return Some(Question::MatesUntil);
         }
     }
@@ -170,36 +170,36 @@ fn place_after<R: Rules>(board: &mut Board, count: usize) -> Moves<R>
 {
     let mut place = Moves::<R>::start();
     for _move in 0..count {
-        let _passed = place.next(board);
+        let _skipped = place.next(board);
     }
     place
 }
 
-// Returns whether the cursor after the first `passed` legal moves returns the others up to number
+// Returns whether the cursor after the first `skipped` legal moves returns the others up to number
 // `last`.
-fn gives_until<R: Rules>(board: &mut Board, choices: &[Choice], passed: usize, last: usize) -> bool
+fn gives_until<R: Rules>(board: &mut Board, choices: &[Choice], skipped: usize, last: usize) -> bool
     requires { IsWellFormed board.old }
     ensures { board.new ≡ board.old }
 {
     let end = place_after::<R>(board, last);
     let mut place = LegalCursor::<R>::of(board);
-    place.go_to(place_after::<R>(board, passed));
+    place.go_to(place_after::<R>(board, skipped));
     for (number, choice) in choices.iter().enumerate() {
-        if number >= passed && number < last && place.next_until(end, board) != Some(choice.by) {
+        if number >= skipped && number < last && place.next_until(end, board) != Some(choice.by) {
             return false;
         }
     }
     place.next_until(end, board).is_none()
 }
 
-// Returns whether the cursor after the first `passed` legal moves returns the mates among the others.
-fn gives_mates<R: Rules>(board: &mut Board, choices: &[Choice], passed: usize) -> bool
+// Returns whether the cursor after the first `skipped` legal moves returns the mates among the others.
+fn gives_mates<R: Rules>(board: &mut Board, choices: &[Choice], skipped: usize) -> bool
     requires { IsWellFormed board.old }
     ensures { board.new ≡ board.old }
 {
-    let mut place = place_after::<R>(board, passed);
+    let mut place = place_after::<R>(board, skipped);
     for (number, choice) in choices.iter().enumerate() {
-        if number >= passed
+        if number >= skipped
             && choice.mates
             && next_mate::<R>(&mut place, board) != Some(choice.by)
         {
@@ -209,12 +209,12 @@ fn gives_mates<R: Rules>(board: &mut Board, choices: &[Choice], passed: usize) -
     next_mate::<R>(&mut place, board).is_none()
 }
 
-// Returns whether the cursor after the first `passed` legal moves returns the mates among the others up
+// Returns whether the cursor after the first `skipped` legal moves returns the mates among the others up
 // to number `last`.
 fn gives_mates_until<R: Rules>(
     board: &mut Board,
     choices: &[Choice],
-    passed: usize,
+    skipped: usize,
     last: usize,
 ) -> bool
     requires { IsWellFormed board.old }
@@ -222,9 +222,9 @@ fn gives_mates_until<R: Rules>(
 {
     let end = place_after::<R>(board, last);
     let mut place = MateCursor::<R>::of(board);
-    place.go_to(place_after::<R>(board, passed));
+    place.go_to(place_after::<R>(board, skipped));
     for (number, choice) in choices.iter().enumerate() {
-        let between = number >= passed && number < last;
+        let between = number >= skipped && number < last;
         if between && choice.mates && place.next_until(end, board) != Some(choice.by) {
             return false;
         }

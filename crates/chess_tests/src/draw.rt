@@ -49,7 +49,7 @@ impl Draw {
                 .wrapping_mul(0x9e37_79b9_7f4a_7c15)
                 .wrapping_add(0x2545_f491_4f6c_dd1d),
         };
-        for _passed in 0..4u8 {
+        for _skipped in 0..4u8 {
             let _early = draw.number();
         }
         draw

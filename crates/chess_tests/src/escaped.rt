@@ -1,4 +1,4 @@
-//! Positions before a defence. If `KeptFlights` takes a move of a man, the man must have a move after
+//! Positions before a defence. If `KeptFlights` removes a move of a man, the man must have a move after
 //! which no reply mates, by the plain rules.
 ghost use Rattle.std.specs.Prelude.{◌≡◌};
 ghost use Rattle.chess_core.specs.Diagrams.{position_of};
@@ -17,17 +17,17 @@ use chess_threats::threats::Threats;
 // What the filter reports of the men in the positions of a family.
 #[derive(Clone, Copy)]
 pub(crate) struct Defended {
-    // The number of the first position in which the filter takes a move of a man that has no safe move.
+    // The number of the first position in which the filter removes a move of a man that has no safe move.
     pub(crate) wrong: Option<u64>,
-    // The number of men with a safe move of which the filter takes a move.
-    pub(crate) taken: u32,
+    // The number of men with a safe move of which the filter removes a move.
+    pub(crate) removed: u32,
 }
 
 // Tests each man of the side to move in `count` positions of the family under the rule.
 pub(crate) fn kept_flights(rule: Rule, family: Family, count: u64) -> Defended {
     let mut defended = Defended {
         wrong: None,
-        taken: 0,
+        removed: 0,
     };
     for number in 0..count {
         let diagram = family.diagram(&mut Draw::of(number));
@@ -35,7 +35,7 @@ pub(crate) fn kept_flights(rule: Rule, family: Family, count: u64) -> Defended {
             for from in 0..64u8 {
                 match said_by(rule, &diagram, Square::numbered(from)) {
                     Said::Nothing => {}
-                    Said::Right => defended.taken = defended.taken.saturating_add(1),
+                    Said::Right => defended.removed = defended.removed.saturating_add(1),
                     Said::Wrong => defended.wrong = Some(number),
                 }
             }
@@ -75,7 +75,7 @@ fn said_of<R: Rules>(rule: Rule, diagram: &Diagram, from: Square) -> Said
     };
     let mut flights = KeptFlights::of::<R>(&board, king);
     let known = LegalCursor::<R>::of(&board);
-    if !known.has_filtered(&mut flights, &mut board, only(Some(from))) {
+    if !known.has_removed(&mut flights, &mut board, only(Some(from))) {
         return Said::Nothing;
     }
     if has_safe_move(rule, &plain, from) {

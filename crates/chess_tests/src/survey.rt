@@ -134,7 +134,7 @@ fn play_drawn<R: Rules>(board: &mut Board, draw: &mut Draw) -> bool
     ensures { IsWellFormed board.new }
 {
     let mut place = Moves::<R>::start();
-    for _passed in 0..draw.below(40) {
+    for _skipped in 0..draw.below(40) {
         let _move = place.next(board);
     }
     let mut next = place.next(board);

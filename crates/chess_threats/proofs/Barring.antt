@@ -7,7 +7,7 @@ use Rattle.chess_flights.proofs.Standing.{nobody_strikes, not_mine, not_mine_ene
 use Rattle.chess_rules.proofs.making_moves.Plays.{length-without_at}
 use Rattle.chess_flights.proofs.QuietFilter.{beyond}
 
--- for `unbarred_steps`: a step that is passed over comes to an empty square that is reached
+-- for `unbarred_steps`: a step that is skipped comes to an empty square that is reached
 pub barred_is : (rule : RuleSet) (v : KingAttack) (w r t : ℕ) → like_men_paralyse rule ≡ false → r < 2 ^ 64
     → ((t : ℕ) → t < 64 → (bit_at r t == 1) ≡ true → IsAttackedOver v.hurdles v.men t) → t < 64 → (bit_at w t == 1) ≡ true
     → (bit_at (bit_and w (bit_or v.hurdles (bit_not w64 r))) t == 1) ≡ false → IsBarred rule v t

@@ -16,7 +16,7 @@ grasshopper_on a q z i hop = rw (hopper_is z.kind hop) at i.on
 pub none_sprung : (a : Attackers) (t : ℕ) → a.grasshoppers ≡ 0 → AreSpringboards a t 0
 none_sprung a t none = record { sprung = λ men q z i hop reach. absurd (none_at a.grasshoppers q none (grasshopper_on a q z i hop)) }
 
--- a direction that passes a test, and with it a list that has it
+-- a direction that meets a test, and with it a list that has it
 pub some_direction : (p : Step → Bool) (xs : List Direction) → list_any p (map step_of xs) ≡ true
     → (x : Direction) × ((p (step_of x) ≡ true) × ((f : Step → Bool) → f (step_of x) ≡ true → list_any f (map step_of xs) ≡ true))
 some_direction p [] h = absurd (false≢true h)

@@ -11,11 +11,11 @@ use crate::steps::{exact_steps, flightless_steps};
 use chess_attacks::Rules;
 use chess_attacks::leaps::king_leaps;
 use chess_core::{Board, Square, Squares};
-use chess_rules::FilteredMoves;
+use chess_rules::SquareFilter;
 use std::marker::Model;
 
-/// The flights of the king of the side to move, as a filter: it takes moves after which the king keeps a
-/// flight whatever is played, so that no reply mates. It leaves castling, and in Circe every move.
+/// The flights of the king of the side to move, as a filter: it removes moves after which the king has a
+/// flight whatever is played, so that no reply mates. It keeps castling, and in Circe every move.
 #[derive(Drop)]
 pub struct KeptFlights {
     king_attack: KingAttack,
@@ -55,8 +55,8 @@ impl KeptFlights {
         }
     }
 
-    /// Returns whether the filter may take moves of men other than the king.
-    pub fn takes_others(&self) -> bool {
+    /// Returns whether the filter may remove moves of men other than the king.
+    pub fn removes_others(&self) -> bool {
         self.needed != !0
     }
 
@@ -81,7 +81,7 @@ impl KeptFlights {
     }
 }
 
-impl FilteredMoves for KeptFlights {
+impl SquareFilter for KeptFlights {
     ghost use Rattle.chess_flights.specs.ties.Mates.{allows_mate};
     ghost use Rattle.chess_threats.specs.ties.Threats.{AreThreatsOf};
 
@@ -89,7 +89,7 @@ impl FilteredMoves for KeptFlights {
 
     ghost fits = { λ t rule p. AreThreatsOf rule p t };
 
-    fn filter_moves<R: Rules>(&mut self, board: &Board, from: Square, squares: Squares) -> Squares {
+    fn kept_squares<R: Rules>(&mut self, board: &Board, from: Square, squares: Squares) -> Squares {
         self.unkept_squares::<R>(board, from, squares)
     }
 

@@ -32,7 +32,7 @@ use chess_flights::flights::{
 };
 use chess_flights::free_steps::{free_steps, none_hops, unsimple_squares};
 use chess_flights::guards::{leapt_squares, rider_reach};
-use chess_rules::{FilteredMoves, capture_square, is_simple};
+use chess_rules::{SquareFilter, capture_square, is_simple};
 
 // Returns the occupancy after the enemy king, lifted from `king`, is put on `to`; the king isn't among
 // the standing men.
@@ -166,8 +166,8 @@ fn king_steps<R: Rules>(board: &Board, king: Square, squares: Squares) -> Option
     exact_steps::<R>(&king_attack, squares)
 }
 
-/// Steps of the enemy king that give no check, for all moves of one position. As a filter it takes moves
-/// after which a quiet step remains, so that not every reply mates.
+/// Steps of the enemy king that give no check, for all moves of one position. As a filter it removes
+/// moves after which a quiet step remains, so that not every reply mates.
 #[derive(Clone, Copy)]
 pub struct QuietSteps {
     // The squares to which the enemy king could step if it were to move; other steps aren't looked for.
@@ -243,7 +243,7 @@ impl QuietSteps {
     }
 }
 
-impl FilteredMoves for QuietSteps {
+impl SquareFilter for QuietSteps {
     ghost use Rattle.std.specs.Prelude.{⊤};
     ghost use Rattle.chess_flights.specs.ties.QuietSteps.{must_reply_with_mate};
 
@@ -251,7 +251,7 @@ impl FilteredMoves for QuietSteps {
 
     ghost fits = { λ steps rule p. ⊤ };
 
-    fn filter_moves<R: Rules>(&mut self, board: &Board, from: Square, squares: Squares) -> Squares {
+    fn kept_squares<R: Rules>(&mut self, board: &Board, from: Square, squares: Squares) -> Squares {
         squares & self.loud_squares::<R>(board, from)
     }
 

@@ -25,7 +25,7 @@ use chess_attacks::words::only;
 use chess_core::square::LAST_RANKS;
 use chess_core::{Board, Colour, Kind, Man, Move, Square, Squares};
 use chess_flights::pawn_approaches::capturers_before;
-use chess_rules::FilteredMoves;
+use chess_rules::SquareFilter;
 use std::marker::Model;
 
 // Returns all squares more than a step from `from`, if an enemy pawn could capture on the square ahead
@@ -280,7 +280,7 @@ impl Threats {
     }
 }
 
-impl FilteredMoves for Threats {
+impl SquareFilter for Threats {
     ghost use Rattle.chess_flights.specs.ties.Mates.{allows_mate};
     ghost use Rattle.chess_threats.specs.ties.Threats.{AreThreatsOf};
 
@@ -288,7 +288,7 @@ impl FilteredMoves for Threats {
 
     ghost fits = { λ t rule p. AreThreatsOf rule p t };
 
-    fn filter_moves<R: Rules>(&mut self, board: &Board, from: Square, squares: Squares) -> Squares {
+    fn kept_squares<R: Rules>(&mut self, board: &Board, from: Square, squares: Squares) -> Squares {
         if self.keep_flights::<R>(from, squares) {
             return 0;
         }

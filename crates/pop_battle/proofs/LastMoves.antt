@@ -1,5 +1,5 @@
 -- The last half-moves, for mate, tried without frames: their value, and how many positions count.
-use Rattle.pop_battle.proofs.Words.{AreTaken, Battle, Bool, Direct, HasCounted, IfSome, Killer, LegalPlace, List, Mate, Move, None, Option, Order, Passes, Position, RuleSet, Selfmate, Some, [], arith, can_move, chess, cond, eqb, false, filter, is_goal_reached, is_legal, is_mating, is_some, joined_value, length, list_all, list_any, mates_after, min, moves, moves_ahead, moves_after, must_reply_with_mate, nat_tests, not, position_after, refl, rules, attacker_to_move, smallest_below, smallest_tree, true, value, walk_count, ℕ, ◌&&◌, ◌++◌, ◌+◌, ◌-◌, ◌<◌, ◌^◌, ◌∷◌, ◌≡◌, ◌≤◌, suc, sym, walk_among, ◌∙◌, Aim}
+use Rattle.pop_battle.proofs.Words.{AreRemoved, Battle, Bool, Direct, HasCounted, IfSome, Killer, LegalPlace, List, Mate, Move, None, Option, Order, SkipsMoves, Position, RuleSet, Selfmate, Some, [], arith, can_move, chess, cond, eqb, false, filter, is_goal_reached, is_legal, is_mating, is_some, joined_value, length, list_all, list_any, mates_after, min, moves, moves_ahead, moves_after, must_reply_with_mate, nat_tests, not, position_after, refl, rules, attacker_to_move, smallest_below, smallest_tree, true, value, walk_count, ℕ, ◌&&◌, ◌++◌, ◌+◌, ◌-◌, ◌<◌, ◌^◌, ◌∷◌, ◌≡◌, ◌≤◌, suc, sym, walk_among, ◌∙◌, Aim}
 use Rattle.pop_battle.proofs.Boards.{after_start, each_one, unreached, walk_count-some}
 use Rattle.pop_battle.proofs.SmallestTrees.{tree-one, trees-end, trees-next, trees-start}
 use Rattle.pop_battle.proofs.Tests.{any-start, fewest-start, first, rest-start, walk-next, walk_count-start}
@@ -64,30 +64,30 @@ module _ {battle : Battle} {rule : RuleSet} {t : ℕ} {p : Position} {v : Bool} 
     goes_on e = grind (arith, trees-next battle (chess Mate rule) t p m later, walk-next rule (aim_of battle) t p ahead later m here)
 
 module _ {rule : RuleSet} {p : Position} {v : Bool} {before least most : ℕ} where
-  taken_on : (over ahead : List Move) (counted count : ℕ) → AreTried Selfmate rule 1 p (over ++ ahead) v before least most counted
-      → AreTaken (must_reply_with_mate rule p) counted count over → AreTried Selfmate rule 1 p ahead v before least most count
-  taken_on [] ahead counted count a taken =
+  removed_on : (over ahead : List Move) (counted count : ℕ) → AreTried Selfmate rule 1 p (over ++ ahead) v before least most counted
+      → AreRemoved (must_reply_with_mate rule p) counted count over → AreTried Selfmate rule 1 p ahead v before least most count
+  removed_on [] ahead counted count a taken =
       let counts = taken.counts in
       record { joined = a.joined; fits = omega (arith, a.fits, counts); tried = omega (arith, a.tried, counts) }
-  taken_on (m ∷ over) ahead counted count a taken =
+  removed_on (m ∷ over) ahead counted count a taken =
       let quiet : must_reply_with_mate rule p m ≡ false = grind (arith, taken.none) in
-      taken_on over ahead (min (counted + 1) (2 ^ 64 - 1)) count
+      removed_on over ahead (min (counted + 1) (2 ^ 64 - 1)) count
       (goes_on refl _ a (one_more _ _ _ _ _ (omega arith) (omega arith)) (one_quiet rule (position_after rule p m) quiet))
       (record { none = grind (arith, taken.none); counts = omega (arith, taken.counts) })
 
-  -- moves that are passed over don't decide: the others are still to be tried
-  pub passes_on : {place counted count : ℕ} {ahead : List Move} → Passes rule p place ahead (AreTaken (must_reply_with_mate rule p) counted count)
+  -- moves that are skipped don't decide: the others are still to be tried
+  pub skipped_on : {place counted count : ℕ} {ahead : List Move} → SkipsMoves rule p place ahead (AreRemoved (must_reply_with_mate rule p) counted count)
       → AreTried Selfmate rule 1 p (moves_after rule p place) v before least most counted → AreTried Selfmate rule 1 p ahead v before least most count
-  passes_on n a = taken_on n.over _ _ _ (rw (n.passed, n.here) at a) n.fits
+  skipped_on n a = removed_on n.over _ _ _ (rw (n.skipped, n.here) at a) n.fits
 
--- nothing is counted only where nothing was before, and no move is passed over
-untaken : (over : List Move) (counted count : ℕ) → count ≡ min (counted + length over) (2 ^ 64 - 1) → count ≡ 0 → (counted ≡ 0) × (over ≡ [])
-untaken [] counted count e zero = (omega (arith, e, zero), refl)
-untaken (m ∷ over) counted count e zero = absurd (omega (arith, e, zero))
+-- nothing is counted only where nothing was before, and no move is skipped
+unskipped : (over : List Move) (counted count : ℕ) → count ≡ min (counted + length over) (2 ^ 64 - 1) → count ≡ 0 → (counted ≡ 0) × (over ≡ [])
+unskipped [] counted count e zero = (omega (arith, e, zero), refl)
+unskipped (m ∷ over) counted count e zero = absurd (omega (arith, e, zero))
 
-pub none_taken : {rule : RuleSet} {p : Position} {test : Move → Bool} {place counted count : ℕ} → Passes rule p place [] (AreTaken test counted count)
+pub none_skipped : {rule : RuleSet} {p : Position} {test : Move → Bool} {place counted count : ℕ} → SkipsMoves rule p place [] (AreRemoved test counted count)
     → count ≡ 0 → (counted ≡ 0) × (moves_after rule p place ≡ [])
-none_taken n zero = grind (arith, untaken n.over _ _ n.fits.counts zero, n.passed, n.here)
+none_skipped n zero = grind (arith, unskipped n.over _ _ n.fits.counts zero, n.skipped, n.here)
 
 module _ (battle : Battle) (rule : RuleSet) (p : Position) where
   -- without a move the goal decides, and nothing is counted

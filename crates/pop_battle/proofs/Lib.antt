@@ -6,4 +6,4 @@ pub mod SmallestTrees
 pub mod Orders
 pub mod Tests
 pub mod LastMoves
-pub mod Passing
+pub mod Skipping

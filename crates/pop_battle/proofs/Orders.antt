@@ -37,21 +37,21 @@ ruleset places = (cases_lt, cases_Bool, moves_after-end, moves_after-here, moves
 
 -- the moves at one place
 module _ (rule : RuleSet) (p : Position) (k : ℕ) where
-  -- a triple that stands elsewhere is passed
-  pass : (a : ℕ) → (a + 1 ≡ k → ⊥) → filter (is_at k) (moves_after rule p a) ≡ filter (is_at k) (moves_after rule p (a + 1))
-  pass a other = search (rules, places)
+  -- a triple that is elsewhere is skipped
+  skip : (a : ℕ) → (a + 1 ≡ k → ⊥) → filter (is_at k) (moves_after rule p a) ≡ filter (is_at k) (moves_after rule p (a + 1))
+  skip a other = search (rules, places)
 
-  pass_all : (n a b : ℕ) → b ≡ a + n → ((i : ℕ) → a ≤ i → i < b → i + 1 ≡ k → ⊥)
+  skip_all : (n a b : ℕ) → b ≡ a + n → ((i : ℕ) → a ≤ i → i < b → i + 1 ≡ k → ⊥)
       → filter (is_at k) (moves_after rule p a) ≡ filter (is_at k) (moves_after rule p b)
-  pass_all zero a b e off = grind arith
-  pass_all (suc n) a b e off =
-      pass a (off a (omega arith) (omega (arith, e))) ∙ pass_all n (a + 1) b (omega (arith, e)) (λ i lo hi. off i (omega (arith, lo)) hi)
+  skip_all zero a b e off = grind arith
+  skip_all (suc n) a b e off =
+      skip a (off a (omega arith) (omega (arith, e))) ∙ skip_all n (a + 1) b (omega (arith, e)) (λ i lo hi. off i (omega (arith, lo)) hi)
 
   here_alone : filter (is_at k) (moves_after rule p (k - 1)) ≡ moves_between rule p (k - 1) k
-  here_alone = search (rules, places, between-past, between-here, between-skip, between-none, pass_all all_triples k (k + all_triples), moves_after-end)
+  here_alone = search (rules, places, between-past, between-here, between-skip, between-none, skip_all all_triples k (k + all_triples), moves_after-end)
 
   one_place : moves_between rule p (k - 1) k ≡ filter (is_at k) (legal_moves rule p)
-  one_place = search (rules, ← after_start, pass_all (k - 1) 0 (k - 1), here_alone)
+  one_place = search (rules, ← after_start, skip_all (k - 1) 0 (k - 1), here_alone)
 
 module _ (rule : RuleSet) (p : Position) (order : Order) where
   -- the cursor before a stage

@@ -5,8 +5,8 @@ use Rattle.pop_battle.specs.declared.frame.MoveStage.{MoveStage}
 use Rattle.pop_battle.proofs.SmallestTrees.{trees-next, trees-end, trees-start}
 
 -- the frame of a test, moved on
-abbrev pub passed : Frame → ℕ → MoveStage → Option LegalPlace → Frame
-passed f place s known = record f { place = place; move_stage = s; known = known }
+abbrev pub advanced : Frame → ℕ → MoveStage → Option LegalPlace → Frame
+advanced f place s known = record f { place = place; move_stage = s; known = known }
 
 -- the moves of a frame that is opened are all its position's moves, in another order
 module _ (rule : RuleSet) (q : Position) (o : Order) where
@@ -14,7 +14,7 @@ module _ (rule : RuleSet) (q : Position) (o : Order) where
   abbrev pub first : List Move
   first = moves_ahead rule q o Killer (o.killer - 1)
 
-  -- some of them pass a test exactly where some legal move does
+  -- some of them meet a test exactly where some legal move does
   pub any-start : (test : Move → Bool) → list_any test first ≡ list_any test (legal_moves rule q)
   any-start test = same_start rule q o (λ m c. test m || c) (list_any test) (λ m ms. refl) (λ m n c. grind arith)
 
@@ -97,18 +97,18 @@ module _ (rule : RuleSet) (aim : Aim) where
     P = position rule p (f ∷ below)
 
     -- the value of the position after the move decides with the moves still untried
-    delivered_value-next : delivered_value rule aim p below (rest f.left P (untried_moves rule P f)) ≡ delivered_value rule aim p (passed f next s kn ∷ below)
+    delivered_value-next : delivered_value rule aim p below (rest f.left P (untried_moves rule P f)) ≡ delivered_value rule aim p (advanced f next s kn ∷ below)
         (value aim.battle (chess aim.goal rule) t (position_after rule P m))
     unfolding delivered_value position joined_value
     delivered_value-next = search rules
 
     try-next : fewest f.left P (untried_moves rule P f) + to_try_with rule aim p below (rest f.left P (untried_moves rule P f))
         ≤ smallest_tree aim.battle (chess aim.goal rule) t (position_after rule P m)
-        + to_try_with rule aim p (passed f next s kn ∷ below) (value aim.battle (chess aim.goal rule) t (position_after rule P m))
+        + to_try_with rule aim p (advanced f next s kn ∷ below) (value aim.battle (chess aim.goal rule) t (position_after rule P m))
     unfolding to_try_with position joined_value
     try-next = search (rules, trees-next)
 
-    work-is_decided : test_work rule p (passed f next s kn ∷ below) < test_work rule p (f ∷ below)
+    work-is_decided : test_work rule p (advanced f next s kn ∷ below) < test_work rule p (f ∷ below)
     unfolding test_work position
     work-is_decided = rw (left, steps-next t P (untried_moves rule P f) (moves_ahead rule P f.order s next) m e) (omega arith)
 
@@ -169,18 +169,18 @@ module _ (rule : RuleSet) (aim : Aim) (floor : ℕ) (top : Frame) (old new : Lis
     Descends is = MatchOption is ((0 < top.left - 1)
         × (value aim.battle (chess aim.goal rule) (top.left - 1) (position_after rule board m) ≡ joined_value aim.battle (chess aim.goal rule) (top.left - 1)
         (position_after rule board m) (legal_moves rule (position_after rule board m))) × (after ≡ position_after rule board m)
-        × IsOpenedOn rule (position_after rule board m) (new ++ passed top place s kn ∷ []) last m (undo_of rule board m) (top.left - 1))
+        × IsOpenedOn rule (position_after rule board m) (new ++ advanced top place s kn ∷ []) last m (undo_of rule board m) (top.left - 1))
         (λ v. (v ≡ value aim.battle (chess aim.goal rule) (top.left - 1) (position_after rule board m)) × (after ≡ board)
-        × (last ≡ new ++ passed top place s kn ∷ []))
+        × (last ≡ new ++ advanced top place s kn ∷ []))
 
     left_is : top.left ≡ suc (top.left - 1)
     left_is = omega (arith, some)
 
     opened_last : (d : Descends None)
-        → tests floor last ≡ tested_frame d.3.order m (undo_of rule board m) (top.left - 1) d.3.known ∷ (passed top place s kn ∷ tests floor new)
+        → tests floor last ≡ tested_frame d.3.order m (undo_of rule board m) (top.left - 1) d.3.known ∷ (advanced top place s kn ∷ tests floor new)
     opened_last d = grind (arith, tests-push, length-append)
 
-    decided_last : (v : Bool) → Descends (Some v) → tests floor last ≡ passed top place s kn ∷ tests floor new
+    decided_last : (v : Bool) → Descends (Some v) → tests floor last ≡ advanced top place s kn ∷ tests floor new
     decided_last v d = grind (arith, tests-push, length-append)
 
     module _ (p : Position) (r : IsTesting rule p (tests floor old) board) where

@@ -22,7 +22,7 @@ unfoldable pub use Rattle.chess_rules.specs.Play.{undo_of}
 pub use Rattle.chess_attacks.specs.RuleSet.{RuleSet}
 pub use Rattle.chess_rules.specs.ties.Places.{IsPlaceIn, LegalPlace, all_triples, place_of, triple_at}
 unfoldable pub use Rattle.chess_rules.specs.ties.Places.{moves_after, moves_between}
-pub use Rattle.chess_rules.specs.ties.Filtering.{IsFiltered}
+pub use Rattle.chess_rules.specs.ties.Filtering.{IsFirstKept}
 pub use Rattle.chess_mates.specs.ties.MatingPlaces.{MatingPlace, mates_between}
 pub use Rattle.chess_flights.specs.ties.Mates.{is_mating}
 pub use Rattle.chess_flights.specs.ties.QuietSteps.{must_reply_with_mate}
@@ -42,7 +42,7 @@ unfoldable pub use Rattle.pop_battle.specs.ties.Frames.{AreKnown, IsDescending, 
 pub use Rattle.pop_battle.specs.ties.Marks.{is_for_mate}
 pub use Rattle.pop_battle.specs.ties.Values.{attacker_to_move}
 unfoldable pub use Rattle.pop_battle.specs.ties.Values.{joined_value, value}
-pub use Rattle.pop_battle.specs.ties.Passing.{AreTaken, IsNextLeft, Passes}
+pub use Rattle.pop_battle.specs.ties.Skipping.{AreRemoved, IsNextKept, SkipsMoves}
 pub use Rattle.chess_rules.specs.Play.{position_after}
 unfoldable pub use Rattle.pop_events.specs.Shown.{mark_of, shown_of}
 pub use Rattle.pop_battle.specs.declared.aim.Aim.{Aim}

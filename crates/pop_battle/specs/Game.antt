@@ -14,11 +14,11 @@ module _ {P M : Type 0} where
   abbrev pub can_move : Game P M → P → Bool
   can_move game p = not (length (game.moves p) == 0)
 
-  -- some legal move leads to a position that passes the test
+  -- some legal move leads to a position that meets the test
   abbrev pub some_move : Game P M → (P → Bool) → P → Bool
   some_move game test p = list_any (λ m. test (game.after p m)) (game.moves p)
 
-  -- every legal move leads to a position that passes the test
+  -- every legal move leads to a position that meets the test
   abbrev pub every_move : Game P M → (P → Bool) → P → Bool
   every_move game test p = list_all (λ m. test (game.after p m)) (game.moves p)
 

@@ -2,5 +2,5 @@ pub mod Calls
 pub mod Counts
 pub mod Frames
 pub mod Marks
-pub mod Passing
+pub mod Skipping
 pub mod Values

@@ -152,8 +152,8 @@ fn keeps_flight<R: Rules>(board: &mut Board, king: Square) -> bool
     let known = LegalCursor::<R>::of(board);
     let kings = board.squares(board.turn(), Kind::King);
     let men = board.side(board.turn()) & !kings;
-    flights.takes_others() && known.has_filtered(&mut flights, board, men)
-        || known.has_filtered(&mut flights, board, kings)
+    flights.removes_others() && known.has_removed(&mut flights, board, men)
+        || known.has_removed(&mut flights, board, kings)
 }
 
 // The most attackers and the most defenders with which kept flights are computed before any defence is

@@ -10,7 +10,7 @@ ghost use Rattle.pop_battle.specs.Chess.{chess};
 ghost use Rattle.pop_stipulation.specs.declared.stipulation.Battle.TheVariants.{Selfmate};
 ghost use Rattle.pop_battle.specs.ties.Calls.{EvaluatesMate};
 ghost use Rattle.pop_battle.specs.ties.Counts.{HasCounted, smallest_below};
-ghost use Rattle.pop_battle.specs.ties.Passing.{IsNextLeft};
+ghost use Rattle.pop_battle.specs.ties.Skipping.{IsNextKept};
 ghost use Rattle.pop_battle.specs.ties.Values.{joined_value, value};
 
 use crate::chess::is_reached_without_move;
@@ -48,7 +48,7 @@ fn forces_mate<R: Rules>(
 
 /// Returns the next legal move after the cursor, and skips moves after which the filter finds a quiet step
 /// of Black's king. Adds the number of skipped moves to `counted`.
-#[tactic(auto, using(crate::proofs::Passing::filtered, crate::proofs::Passing::none_passed))]
+#[tactic(auto, using(crate::proofs::Skipping::with_filter, crate::proofs::Skipping::without_filter))]
 fn next_unquiet<R: Rules>(
     steps: &mut QuietSteps,
     moves: &mut LegalCursor<R>,
@@ -59,7 +59,7 @@ fn next_unquiet<R: Rules>(
     requires known { IsPlaceIn R.rule board.old moves.old }
     ensures unchanged { board.new ≡ board.old }
     ensures within { IsPlaceIn R.rule board.old moves.new }
-    ensures next { IsNextLeft R.rule board.old (must_reply_with_mate R.rule board.old)
+    ensures next { IsNextKept R.rule board.old (must_reply_with_mate R.rule board.old)
         moves.old.place moves.new.place counted.old counted.new result }
 {
     // For the proof: the count is below 2^64.
@@ -67,9 +67,9 @@ fn next_unquiet<R: Rules>(
     if !steps.are_known(board) {
         return moves.next(board);
     }
-    let filtered = moves.next_filtered(steps, board);
-    *counted = counted.saturating_add(u64::from(filtered.passed));
-    filtered.found
+    let kept = moves.next_kept(steps, board);
+    *counted = counted.saturating_add(u64::from(kept.skipped));
+    kept.found
 }
 
 /// Returns whether some move after the cursor forces mate. Counts each move up to the first that does.

@@ -34,9 +34,9 @@ module _ (rule : RuleSet) (posed : Posed) (phase : Phase) (all xs : List (List M
   -- the next part's text is printed
   pub parts_go_on : (following : List (List Move)) → following ≡ drop number xs → Appends mid now (text_if rule posed phase (slice_get xs (number - 1)))
       → IsPrinting (part_text rule posed phase) all (take (left - 1) following) before now
-  parts_go_on following passed written =
+  parts_go_on following skipped written =
       let next = next_part xs number left counted some there in
-      rw passed (printing_goes_on (part_text rule posed phase) all _ next.0 before mid now (rw next.2 at p) (rw next.1 at written))
+      rw skipped (printing_goes_on (part_text rule posed phase) all _ next.0 before mid now (rw next.2 at p) (rw next.1 at written))
 
   -- where the sink fails within it, a beginning of all was printed
   pub parts_break_off : Begins mid now (text_if rule posed phase (slice_get xs (number - 1)))
@@ -45,7 +45,7 @@ module _ (rule : RuleSet) (posed : Posed) (phase : Phase) (all xs : List (List M
       let next = next_part xs number left counted some there in
       printing_breaks_off (part_text rule posed phase) all _ next.0 before mid now (rw next.2 at p) (rw next.1 at begun)
 
--- fewer parts come after the parts that were passed
+-- fewer parts come after the parts that were skipped
 pub parts_after : (xs following : List (List Move)) (number left : ℕ) → following ≡ drop number xs → 0 < left → number + left ≤ length xs + 1
     → 1 + (left - 1) ≤ length following + 1
-parts_after xs following number left passed some there = omega (arith, ap length passed, length-drop number xs, some, there)
+parts_after xs following number left skipped some there = omega (arith, ap length skipped, length-drop number xs, some, there)

@@ -10,7 +10,7 @@ use Rattle.pop_parts.specs.declared.request.Outcome.TheVariants.{OutputFailed}
 
 -- These items were read so far: none has the requested number, and they report a failed device exactly if
 -- `failed`.
-pub record Passed (wanted : ℕ) (now : ReaderState) (number : ℕ) (failed : Bool) (had left : Option (List ℕ)) : Type 0 where
+pub record Skipped (wanted : ℕ) (now : ReaderState) (number : ℕ) (failed : Bool) (had left : Option (List ℕ)) : Type 0 where
   pub items : List Entry
   pub reads : Reads initial_state now had left items
   pub number_is : number ≡ 1 + length items
@@ -19,9 +19,9 @@ pub record Passed (wanted : ℕ) (now : ReaderState) (number : ℕ) (failed : Bo
   pub reached : Reached now had left
   pub few : closings reached.tokens ≤ length items
 
--- before the first item none was passed
-pub passed_start : (wanted : ℕ) (had : Option (List ℕ)) → Passed wanted initial_state 1 false had had
-passed_start wanted had = record {
+-- before the first item none was skipped
+pub skipped_start : (wanted : ℕ) (had : Option (List ℕ)) → Skipped wanted initial_state 1 false had had
+skipped_start wanted had = record {
   items = [];
   reads = record { bytes = []; taken = grind arith; follows = λ rest may. may; begin = λ rest may. refl; amount = refl };
   number_is = refl;
@@ -32,10 +32,10 @@ passed_start wanted had = record {
 }
 
 -- one more item, which isn't the one
-pub passed_step : (wanted : ℕ) (old new : ReaderState) (number : ℕ) (failed : Bool) (had mid left : Option (List ℕ)) (item : Item) (entry : Entry)
-    → Passed wanted old number failed had mid → NextItem old new mid left item → UsesItem old new mid left item → entry_in item ≡ Some entry
-    → number ≢ wanted → Passed wanted new (number + 1) (failed || is_failure (entry_in item)) had left
-passed_step wanted old new number failed had mid left item entry p q u is another = rw is (record {
+pub skipped_step : (wanted : ℕ) (old new : ReaderState) (number : ℕ) (failed : Bool) (had mid left : Option (List ℕ)) (item : Item) (entry : Entry)
+    → Skipped wanted old number failed had mid → NextItem old new mid left item → UsesItem old new mid left item → entry_in item ≡ Some entry
+    → number ≢ wanted → Skipped wanted new (number + 1) (failed || is_failure (entry_in item)) had left
+skipped_step wanted old new number failed had mid left item entry p q u is another = rw is (record {
   items = p.items ++ entry ∷ [];
   reads = reads_then initial_state old new had mid left p.items (entry ∷ []) p.reads (item_read old new mid left item entry q is);
   number_is = ap (λ n. n + 1) p.number_is ∙ omega (arith, length-append p.items (entry ∷ []));
@@ -61,7 +61,7 @@ found_there items entry more wanted is = grind (arith, get_seam items entry more
 -- the input has no item of this number
 pub item_missing : (request : PartRequest) (old new : ReaderState) (number : ℕ) (failed : Bool) (had mid left before : Option (List ℕ)) (item : Item)
     (answer : Outcome)
-    (n m v w : ℕ) → Passed request.item old number failed had mid → NextItem old new mid left item → entry_in item ≡ None → IsEndSeen new.at.end left
+    (n m v w : ℕ) → Skipped request.item old number failed had mid → NextItem old new mid left item → entry_in item ≡ None → IsEndSeen new.at.end left
     → answer ≡ outcome_at request failed None → m ≡ failures_after Open new.at.end n → w ≡ v
     → IfSome had (λ r. Shows request (input_met (has_grown n m) r left) before before (has_grown v w) answer)
 item_missing request old new number failed None mid left before item answer n m v w p q is seen reported reads writes = tt
@@ -77,7 +77,7 @@ any_failure request b c (Sound posed) = refl
 any_failure request b c (Faulty fault) = refl
 
 module _ (request : PartRequest) (old new : ReaderState) (number : ℕ) (failed : Bool) (mid left : Option (List ℕ)) (r : List ℕ) (item : Item) (entry : Entry)
-    (p : Passed request.item old number failed (Some r) mid) (q : NextItem old new mid left item) (is : entry_in item ≡ Some entry)
+    (p : Skipped request.item old number failed (Some r) mid) (q : NextItem old new mid left item) (is : entry_in item ≡ Some entry)
     (seen : IsEndSeen new.at.end left) (one : number ≡ request.item) where
   -- the item stands in the input at its number
   entry_met : entry_numbered (entries_in (input_met (is_broken new.at.end) r left)) request.item ≡ Some entry
@@ -89,7 +89,7 @@ module _ (request : PartRequest) (old new : ReaderState) (number : ℕ) (failed 
 -- the item was found, and its text written
 pub item_shown : (request : PartRequest) (old new : ReaderState) (number : ℕ) (failed : Bool) (had mid left before now : Option (List ℕ)) (item : Item)
     (entry : Entry)
-    (answer : Outcome) (n m v w : ℕ) → Passed request.item old number failed had mid → NextItem old new mid left item → entry_in item ≡ Some entry
+    (answer : Outcome) (n m v w : ℕ) → Skipped request.item old number failed had mid → NextItem old new mid left item → entry_in item ≡ Some entry
     → IsEndSeen new.at.end left → number ≡ request.item → Appends before now (text_at request (entry_in item))
     → answer ≡ outcome_at request false (entry_in item) → m ≡ failures_after Open new.at.end n → w ≡ v
     → IfSome had (λ r. Shows request (input_met (has_grown n m) r left) before now (has_grown v w) answer)
@@ -104,7 +104,7 @@ item_shown request old new number failed (Some r) mid left before now item entry
 -- the sink cuts its text off
 pub item_cut : (request : PartRequest) (old new : ReaderState) (number : ℕ) (failed : Bool) (had mid left before now : Option (List ℕ)) (item : Item)
     (entry : Entry)
-    (n m v w : ℕ) → Passed request.item old number failed had mid → NextItem old new mid left item → entry_in item ≡ Some entry
+    (n m v w : ℕ) → Skipped request.item old number failed had mid → NextItem old new mid left item → entry_in item ≡ Some entry
     → IsEndSeen new.at.end left → number ≡ request.item → Begins before now (text_at request (entry_in item))
     → m ≡ failures_after Open new.at.end n → w ≡ v + 1
     → IfSome had (λ r. Shows request (input_met (has_grown n m) r left) before now (has_grown v w) OutputFailed)
@@ -117,7 +117,7 @@ item_cut request old new number failed (Some r) mid left before now item entry n
 
 -- where the wanted item is missing, up to the input's end
 pub missing_reads : (wanted : ℕ) (old new : ReaderState) (number : ℕ) (failed : Bool) (had mid left : Option (List ℕ)) (item : Item) (n m : ℕ)
-    → Passed wanted old number failed had mid → NextItem old new mid left item → UsesItem old new mid left item → entry_in item ≡ None
+    → Skipped wanted old number failed had mid → NextItem old new mid left item → UsesItem old new mid left item → entry_in item ≡ None
     → IsEndSeen new.at.end left → length new.at.window ≤ 4096 → m ≡ failures_after Open new.at.end n
     → IfSome had (λ r. ReadsItems wanted (input_met (has_grown n m) r left) (taken_of r left))
 missing_reads wanted old new number failed had mid left item n m p q u is =
@@ -127,7 +127,7 @@ missing_reads wanted old new number failed had mid left item n m p q u is =
 
 -- where it was found, up to its end
 pub found_reads : (wanted : ℕ) (old new : ReaderState) (number : ℕ) (failed : Bool) (had mid left : Option (List ℕ)) (item : Item) (entry : Entry) (n m : ℕ)
-    → Passed wanted old number failed had mid → NextItem old new mid left item → UsesItem old new mid left item → entry_in item ≡ Some entry → number ≡ wanted
+    → Skipped wanted old number failed had mid → NextItem old new mid left item → UsesItem old new mid left item → entry_in item ≡ Some entry → number ≡ wanted
     → IsEndSeen new.at.end left → length new.at.window ≤ 4096 → m ≡ failures_after Open new.at.end n
     → IfSome had (λ r. ReadsItems wanted (input_met (has_grown n m) r left) (taken_of r left))
 found_reads wanted old new number failed had mid left item entry n m p q u is one =

@@ -121,10 +121,10 @@ module _ (rule : RuleSet) (problem : Posed) (phase : Phase) (n : ℕ) (frames : 
       rw stays (begun-none opened come (λ help. search rules))
 
   -- the move is not followed
-  begun-passed : (opened : ℕ) → is_followed plan.battle game root left q ≡ false → Begun false old board opened
+  begun-off : (opened : ℕ) → is_followed plan.battle game root left q ≡ false → Begun false old board opened
   unfolding shown_paths
-  begun-passed opened passed = begun-none opened (rw passed refl) (λ help.
-      absurd (false≢true (sym passed ∙ follows-help plan game root left q (no-battle problem.stipulation.form help))))
+  begun-off opened off = begun-none opened (rw off refl) (λ help.
+      absurd (false≢true (sym off ∙ follows-help plan game root left q (no-battle problem.stipulation.form help))))
 
   -- the move is followed
   abbrev entered : List Frame
@@ -182,9 +182,9 @@ module _ (rule : RuleSet) (problem : Posed) (phase : Phase) (n : ℕ) (frames : 
       → (is_followed plan.battle game low left q ≡ true → (given ≡ is_emitted plan.battle game left q) × (after ≡ q)
       × (last ≡ frames ++ opened_frame m (undo_of rule board m) (walk_length plan.battle plan.variation game left q) ∷ []))
       → CountsMove rule plan low left q opened opened2 → low ≡ root → Begun given (reverse last) after opened2
-  begun-by opened opened2 low given last after z passes enters counts lowest =
+  begun-by opened opened2 low given last after z unfollowed enters counts lowest =
       elim (cases (is_followed plan.battle game low left q)) [
-        | inl passed ↦ let x = passes passed in rw (x.0, x.1, ap reverse x.2) (begun-passed opened2 (rw lowest at passed))
+        | inl off ↦ let x = unfollowed off in rw (x.0, x.1, ap reverse x.2) (begun-off opened2 (rw lowest at off))
         | inr followed ↦
             let x = enters followed in
             rw (x.1, popped _ _ _ x.2) (begun-entered opened2 given x.0 (rw lowest at followed) (rw (z, lowest) at counts))

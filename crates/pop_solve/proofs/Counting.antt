@@ -32,7 +32,7 @@ pub counts_then-both : (full : Bool) (a b c : Untried) (x y z : ℕ) → Counts 
 counts_then-both true a b c x y z first second = counts_then-if true true a b c x y z first second
 counts_then-both false a b c x y z first second = counts_then-if false false a b c x y z first second
 
--- what some steps of a walk count that passes over nothing that has to be tried
+-- what some steps of a walk count that skips nothing that has to be tried
 abbrev pub CountsAll : RuleSet → Plan → ℕ → Position → (old new : List Frame) → (before after : ℕ) → Type 0
 CountsAll rule plan h p old new before after = Counts (untried rule plan h p old) (untried rule plan h p new) before after
 

@@ -59,28 +59,28 @@ module _ (rule : RuleSet) (problem : Posed) where
   nothing_is_opened_at_first prunes frames opened once o = omega (arith, o.most (search rules))
 
 module _ (rule : RuleSet) (plan : Plan) (p : Position) (place before after : ℕ) (rest : List Move) where
-  -- with one half-move left no mate after the cursor is passed over
-  pub no_mate_is_passed_over : GoesTo rule plan 1 p place rest before after
+  -- with one half-move left no mate after the cursor is skipped
+  pub no_mate_is_skipped : GoesTo rule plan 1 p place rest before after
       → filter (is_mating rule p) (moves_after rule p place) ≡ filter (is_mating rule p) rest
-  no_mate_is_passed_over t = grind (arith, filter-append)
+  no_mate_is_skipped t = grind (arith, filter-append)
 
   -- with two no move that some reply mates
-  pub no_move_before_a_mate_is_passed_over : GoesTo rule plan 2 p place rest before after
+  pub no_move_before_a_mate_is_skipped : GoesTo rule plan 2 p place rest before after
       → filter (allows_mate rule p) (moves_after rule p place) ≡ filter (allows_mate rule p) rest
-  no_move_before_a_mate_is_passed_over t = grind (arith, filter-append)
+  no_move_before_a_mate_is_skipped t = grind (arith, filter-append)
 
   -- with two half-moves left, the moves that are skipped are counted, each once
-  pub moves_passed_over_count_once : before < 2 ^ 64 → GoesTo rule plan 2 p place rest before after
+  pub skipped_moves_count_once : before < 2 ^ 64 → GoesTo rule plan 2 p place rest before after
       → after ≡ min (before + (length (moves_after rule p place) - length rest)) (2 ^ 64 - 1)
-  moves_passed_over_count_once range t = grind (arith, length-append t.over)
+  skipped_moves_count_once range t = grind (arith, length-append t.over)
 
-  -- with more none is passed over, nor before the last half-move of battle play, nor in play for stalemate
-  pub none_is_passed_over : (left : ℕ) → (2 < left) ⊎ (((left ≡ 2) × (is_none plan.battle ≡ false)) ⊎ (plan.goal ≡ Stalemate))
+  -- with more none is skipped, nor before the last half-move of battle play, nor in play for stalemate
+  pub none_is_skipped : (left : ℕ) → (2 < left) ⊎ (((left ≡ 2) × (is_none plan.battle ≡ false)) ⊎ (plan.goal ≡ Stalemate))
       → GoesTo rule plan left p place rest before after → moves_after rule p place ≡ rest
-  none_is_passed_over left early t = grind arith
+  none_is_skipped left early t = grind arith
 
 -- with one half-move left, the next move, if it mates, is the next solution
 pub first_mate_is_next : (rule : RuleSet) (plan : Plan) (p : Position) (place before after : ℕ) (m n : Move) (more rest : List Move)
     → moves_after rule p place ≡ m ∷ more → is_mating rule p m ≡ true → is_mating rule p n ≡ true → GoesTo rule plan 1 p place (n ∷ rest) before after → n ≡ m
 first_mate_is_next rule plan p place before after m n more rest here mates too t =
-    grind (arith, no_mate_is_passed_over rule plan p place before after (n ∷ rest) t)
+    grind (arith, no_mate_is_skipped rule plan p place before after (n ∷ rest) t)

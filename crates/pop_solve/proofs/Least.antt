@@ -2,7 +2,7 @@
 use Rattle.pop_solve.proofs.Words.{Bool, Game, Selfmate, arith, cond, false, least_length_from, least_moves, position_or_len, range_with_len, refl, rules, self_wins, suc, wins, zero, ℕ, ◌*◌, ◌+◌, ◌≡◌, Direct}
 use Rattle.pop_solve.proofs.Battles.{value-wins, value-self_wins}
 
--- the first number from a on that passes, or the n-th after a
+-- the first number from a on that meets the test, or the n-th after a
 first_number : (ℕ → Bool) → ℕ → ℕ → ℕ
 first_number test zero a = a
 first_number test (suc n) a = cond (test a) a (first_number test n (a + 1))

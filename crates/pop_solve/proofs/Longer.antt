@@ -44,16 +44,16 @@ pub climbs : (f : ℕ → Bool) → ((k : ℕ) → f k ≡ true → f (suc k) �
 climbs f up k zero le h = let s : k ≡ 0 = omega (arith, le) in rw s at h
 climbs f up k (suc n) le h = search (rules, cases_lt k (suc n), up n, climbs f up k n)
 
--- the first number that passes a test, looked for below n
+-- the first number that meets a test, looked for below n
 module _ (test : ℕ → Bool) (n : ℕ) where
-  -- the first number that passes is at most their count
+  -- the first number that meets the test is at most their count
   pub first_at_most : position_or_len test (range_with_len 0 n) ≤ n
   first_at_most = search (rules, length-range_with_len, prefix_len-le-length)
 
-  -- no lower number passes
+  -- no lower number meets the test
   pub first_is_first : (k : ℕ) → k < position_or_len test (range_with_len 0 n) → test k ≡ false
   first_is_first k less = search (rules, get_or-range_with_len, length-range_with_len, fails_before_first test (range_with_len 0 n) k 0, first_at_most)
 
-  -- the first number that passes does pass, if the count does
-  pub first_passes : test n ≡ true → test (position_or_len test (range_with_len 0 n)) ≡ true
-  first_passes h = search (rules, cases_lt, get_or-range_with_len, length-range_with_len, passes_at_first test (range_with_len 0 n) 0, first_at_most)
+  -- the first number that is found meets the test, if the count does
+  pub first_meets : test n ≡ true → test (position_or_len test (range_with_len 0 n)) ≡ true
+  first_meets h = search (rules, cases_lt, get_or-range_with_len, length-range_with_len, passes_at_first test (range_with_len 0 n) 0, first_at_most)

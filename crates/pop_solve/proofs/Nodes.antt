@@ -3,12 +3,12 @@ use Rattle.pop_solve.proofs.Words.{AllPairs, AllPairs-filter, Battle, Bool, Cont
 use Rattle.std.proofs.Math.Seq.{take-nil}
 use Rattle.pop_solve.proofs.theorems.Lists.{HasBeginnings, StandsBefore}
 
--- some element passes a test
+-- some element meets a test
 pub any_from_element : {X : Type 0} (test : X → Bool) (xs : List X) (x : X) → Contains xs x → test x ≡ true → list_any test xs ≡ true
 any_from_element test [] x c t = absurd (none_in_nil x c)
 any_from_element test (y ∷ xs) x c t = search (rules, in_cases, any_from_element test xs x)
 
--- where some element passes, one that does
+-- where some element meets the test, one that does
 pub element_from_any : {X : Type 0} (test : X → Bool) (xs : List X) → list_any test xs ≡ true → (x : X) × (Contains xs x × (test x ≡ true))
 element_from_any test [] h = absurd (false≢true h)
 element_from_any test (y ∷ xs) h = search (rules, or_cases, first_in, later_in, element_from_any test xs)
@@ -187,9 +187,9 @@ module _ {M : Type 0} (f : M → List (List M)) (g : Bool) (ms : List M) (m : M)
   deeper_unless x path =
       grind (arith, in_unless g (flat_map (λ m. node m (f m)) ms) (m ∷ (x ∷ path)), from_nodes f ms m (x ∷ path), path_in_nodes f ms m (x ∷ path))
 
--- nodes of the moves that pass a test
+-- nodes of the moves that meet a test
 module _ {M : Type 0} (f : M → List (List M)) (test : M → Bool) (ms : List M) (m : M) where
-  -- a path of one move, among nodes that pass a test
+  -- a path of one move, among nodes that meet a test
   pub roots_are : Contains (flat_map (λ m. node m (f m)) (filter test ms)) (m ∷ []) ↔ (Contains ms m × (test m ≡ true))
   roots_are = (λ c. from_filter test ms m (from_nodes f (filter test ms) m [] c).0, λ w. root_in_nodes f (filter test ms) m (in_filter test ms m w.0 w.1))
 

@@ -4,7 +4,7 @@ use Rattle.pop_battle.specs.ties.Frames.{learned, moved}
 use Rattle.pop_battle.proofs.Tests.{came_from}
 use Rattle.pop_solve.proofs.GoingOn.{ended-reached, walk_length-most, ways}
 use Rattle.pop_solve.proofs.Counting.{counts-if, counts_then-both}
-use Rattle.pop_solve.proofs.TopFrame.{come-enter, come-leave, come-pass, counts-close, counts-enter, counts-leave, counts-pass, counts-skip, turns-enter, turns-pass, walk-skip}
+use Rattle.pop_solve.proofs.TopFrame.{come-enter, come-leave, come-unfollowed, counts-close, counts-enter, counts-leave, counts-unfollowed, counts-skip, turns-enter, turns-unfollowed, walk-skip}
 unfoldable use Rattle.pop_solve.specs.ties.Walk.{AreEnds}
 use Rattle.pop_solve.specs.ties.Walk.{ending}
 use Rattle.chess_reach.specs.Lines.{HoldsEnds}
@@ -59,18 +59,18 @@ module _ (full : Bool) (rule : RuleSet) (plan : Plan) (h : ℕ) (p : Position) (
     unfolding IsRoomy
     fuel = omega (arith, r.roomy.0, left)
 
-    -- the top frame's next move is skipped
-    pub steps-pass : (after : Position) (opened opened2 : ℕ)
+    -- the top frame's next move isn't followed
+    pub steps-unfollowed : (after : Position) (opened opened2 : ℕ)
         → is_followed plan.battle (chess plan.goal rule) (eqb (length below) 0) t (position_after rule board m) ≡ false → after ≡ board
         → CountsMove rule plan (eqb (length below) 0) t (position_after rule board m) opened opened2
         → Taken full rule plan h p (f ∷ below) (moved f next ∷ below) after opened opened2 false
-    steps-pass after opened opened2 b at x =
+    steps-unfollowed after opened opened2 b at x =
         let walking = walking-moved rule h p f next below board after r at in
-        let come = come-pass rule plan h p f below next m _ t fuel left here in
-        let falls = turns-pass rule plan h p f below next m _ t fuel left here in (
+        let come = come-unfollowed rule plan h p f below next m _ t fuel left here in
+        let falls = turns-unfollowed rule plan h p f below next m _ t fuel left here in (
           search (rules, walking, come, falls, after_here),
           counts-if full _ _ _ _
-              (counts-pass rule plan h p f below next m _ t fuel left here opened opened2 (rw after_here at b) (rw after_here at x)),
+              (counts-unfollowed rule plan h p f below next m _ t fuel left here opened opened2 (rw after_here at b) (rw after_here at x)),
         )
 
     -- the goal is out of reach after the top frame's next move
@@ -80,7 +80,7 @@ module _ (full : Bool) (rule : RuleSet) (plan : Plan) (h : ℕ) (p : Position) (
     steps-leave after opened part help none at =
         let walking = walking-moved rule h p f next below board after r at in
         let come = come-leave rule plan h p f below next m _ t fuel left here help (rw after_here at none) in
-        let falls = turns-pass rule plan h p f below next m _ t fuel left here in (
+        let falls = turns-unfollowed rule plan h p f below next m _ t fuel left here in (
           search (rules, walking, come, falls),
           rw part (counts-leave rule plan h p f below next m _ t fuel left here opened help),
         )
@@ -110,7 +110,7 @@ module _ (full : Bool) (rule : RuleSet) (plan : Plan) (h : ℕ) (p : Position) (
               (counts-enter rule plan h p f below next m _ t fuel left here u opened opened2 (rw after_here at b) (rw after_here at x))),
         )
 
--- what follows moves that are passed over follows from before them
+-- what follows moves that are skipped follows from before them
 pub steps-skip : (full : Bool) (rule : RuleSet) (plan : Plan) (h : ℕ) (p : Position) (f : Frame) (below : List Frame) (rest : List Move) (before between : ℕ)
     (g : GoesTo rule plan f.left (position rule p (f ∷ below)) f.place rest before between) (new : List Frame) (board : Position) (after : ℕ) (given : Bool)
     → Taken full rule plan h p (moved f g.mid ∷ below) new board between after given → Taken full rule plan h p (f ∷ below) new board before after given
@@ -118,7 +118,7 @@ steps-skip full rule plan h p f below rest before between g new board after give
     let counts = counts-skip rule plan h p f below rest before between g in
     (walk-skip rule plan h p f below rest before between g new board given s.0, counts_then-both full _ _ _ _ _ _ (counts-if full _ _ _ _ counts) s.1)
 
--- a frame is closed once moves that have no paths have been passed over
+-- a frame is closed once moves that have no paths have been skipped
 pub skips-close : (full : Bool) (rule : RuleSet) (plan : Plan) (h : ℕ) (p : Position) (f : Frame) (below : List Frame) (board : Position)
     → IsWalking rule h p (f ∷ below) board → (after : Position) (before count : ℕ)
     → ((f.left ≡ 0) × (count ≡ before)) ⊎ GoesTo rule plan f.left (position rule p (f ∷ below)) f.place [] before count → (length below ≡ 0 → after ≡ board)

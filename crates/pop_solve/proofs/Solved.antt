@@ -57,7 +57,7 @@ module _ {P M : Type 0} (game : Game P M) (plan : Plan) where
   shown_paths-full root (suc k) (suc t) p [] = search rules
   shown_paths-full root (suc k) (suc t) p (m ∷ ms) = search (rules, list_all-append, all-over, shown_paths-full root (suc k) (suc t) p ms)
 
-  -- the root in battle play: its moves that pass the test, each with the nodes below it
+  -- the root in battle play: its moves that meet the test, each with the nodes below it
   root-cut : (battle : Battle) (fought : plan.battle ≡ Some battle) (h n : ℕ) (p : P) (ms : List M) (other : M → Bool) (G : M → List (List M))
       → ((m : M) → value battle game h (game.after p m) ≡ other m)
       → ((m : M) → value battle game h (game.after p m) ≡ true → beneath game plan battle fought h h (game.after p m) ≡ G m)

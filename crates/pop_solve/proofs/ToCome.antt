@@ -4,10 +4,10 @@ use Rattle.pop_battle.proofs.Boards.{after_start}
 use Rattle.pop_solve.proofs.GoingOn.{cases, ways, walk_length-help, follows-help}
 
 -- where the first move counts nothing if it fails a test, all that fail it at the head of a list count nothing
-pub passed-over : {A : Type 0} (f : List Move → A) (test : Move → Bool) → ((m : Move) (ms : List Move) → test m ≡ false → f (m ∷ ms) ≡ f ms)
+pub skipped-over : {A : Type 0} (f : List Move → A) (test : Move → Bool) → ((m : Move) (ms : List Move) → test m ≡ false → f (m ∷ ms) ≡ f ms)
     → (over ms : List Move) → filter test over ≡ [] → f (over ++ ms) ≡ f ms
-passed-over f test skip [] ms none = refl
-passed-over f test skip (m ∷ over) ms none = search (rules, cases (test m), skip m (over ++ ms), passed-over f test skip over ms)
+skipped-over f test skip [] ms none = refl
+skipped-over f test skip (m ∷ over) ms none = search (rules, cases (test m), skip m (over ++ ms), skipped-over f test skip over ms)
 
 -- a path, where it is given
 abbrev pub given_path : Bool → List Move → List (List Move)
@@ -56,7 +56,7 @@ module _ (rule : RuleSet) (plan : Plan) where
     mateless : (P : Position) (fuel : ℕ) → mates_after rule P 0 ≡ [] → shown_paths plan (chess plan.goal rule) false fuel 1 P (legal_moves rule P) ≡ []
     unfolding mates_after shown_paths
     mateless P fuel none =
-        rw (← append-nil (legal_moves rule P)) (passed-over (shown_paths plan (chess plan.goal rule) false fuel 1 P) (is_mating rule P)
+        rw (← append-nil (legal_moves rule P)) (skipped-over (shown_paths plan (chess plan.goal rule) false fuel 1 P) (is_mating rule P)
         (skipped P false fuel (rw help refl) for) (legal_moves rule P) [] (rw (← after_start rule P) none) ∙ search rules)
 
     pub is_decided : (P : Position) (low : Bool) (fuel : ℕ) (m : Move) (ms : List Move) → allows_mate rule P m ≡ false

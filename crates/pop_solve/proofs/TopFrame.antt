@@ -4,7 +4,7 @@ use Rattle.pop_battle.proofs.Boards.{after_start, each_one}
 use Rattle.pop_battle.specs.ties.Frames.{moved}
 use Rattle.pop_solve.proofs.Counting.{CountsAll, counts-by, counts-help, fewest-skipped, last-open, open-close, walk_count-start}
 use Rattle.pop_solve.proofs.GoingOn.{follows-help, no_zero, walk_length-help, walk_length-keys}
-use Rattle.pop_solve.proofs.ToCome.{given_path, is_decided, passed-over, skipped, steps-start, turn, work_after-next}
+use Rattle.pop_solve.proofs.ToCome.{given_path, is_decided, skipped-over, skipped, steps-start, turn, work_after-next}
 use Rattle.pop_solve.proofs.OutOfReach.{first-none}
 use Rattle.pop_solve.specs.ties.Counts.{Counts, CountsMove, are_whites, fewest_for, fewest_left, fewest_walked, is_walked_once_by, least_if, untried}
 use Rattle.chess_reach.specs.Lines.{HoldsEnds}
@@ -44,11 +44,11 @@ module _ (rule : RuleSet) (plan : Plan) (h : ℕ) (p : Position) (f : Frame) (be
     abbrev root : Bool
     root = eqb (length below) 0
 
-    -- a move that is not followed is passed over
-    pub come-pass : is_followed plan.battle (chess plan.goal rule) root t q ≡ false
+    -- a move that isn't followed has no path
+    pub come-unfollowed : is_followed plan.battle (chess plan.goal rule) root t q ≡ false
         → to_come rule plan h p (f ∷ below) ≡ to_come rule plan h p (moved f next ∷ below)
     unfolding to_come position path shown_paths
-    come-pass b = search rules
+    come-unfollowed b = search rules
 
     -- a move that is followed: its path, where that is given, and what stands below it
     pub come-enter : (undo : Undo) → is_followed plan.battle (chess plan.goal rule) root t q ≡ true
@@ -66,10 +66,10 @@ module _ (rule : RuleSet) (plan : Plan) (h : ℕ) (p : Position) (f : Frame) (be
     unfolding to_come position path
     come-leave help none = rw (fuel, left, e, first-none rule plan help root (suc k) t P m (moves_after rule P next) none) refl
 
-    -- passing a move over takes a turn
-    pub turns-pass : walk_work rule h p (moved f next ∷ below) < walk_work rule h p (f ∷ below)
+    -- a move that isn't followed takes a turn
+    pub turns-unfollowed : walk_work rule h p (moved f next ∷ below) < walk_work rule h p (f ∷ below)
     unfolding walk_work position
-    turns-pass = rw (fuel, work_after-next rule k P f.place next m e) (omega arith)
+    turns-unfollowed = rw (fuel, work_after-next rule k P f.place next m e) (omega arith)
 
     -- following a move takes a turn
     pub turns-enter : (undo : Undo) (tried : ℕ) → walk_work rule h p (opened_frame m undo tried ∷ (moved f next ∷ below)) < walk_work rule h p (f ∷ below)
@@ -77,11 +77,11 @@ module _ (rule : RuleSet) (plan : Plan) (h : ℕ) (p : Position) (f : Frame) (be
     turns-enter undo tried = search (rules, work_after-next rule k P f.place next m e, steps-start rule k q)
 
     -- a move that is not followed has only its test
-    tries-pass : is_followed plan.battle (chess plan.goal rule) root t q ≡ false
+    tries-unfollowed : is_followed plan.battle (chess plan.goal rule) root t q ≡ false
         → fewest_left rule plan h p (f ∷ below) ≡ fewest_for plan.battle plan.variation (chess plan.goal rule) root t q + fewest_left rule plan h p
         (moved f next ∷ below)
     unfolding fewest_left position fewest_walked
-    tries-pass b = simp (fuel, left, e, sum_by-cons, b) (omega arith)
+    tries-unfollowed b = simp (fuel, left, e, sum_by-cons, b) (omega arith)
 
     -- a move that is followed adds what is tried below it
     tries-enter : (undo : Undo) → is_followed plan.battle (chess plan.goal rule) root t q ≡ true → fewest_left rule plan h p (f ∷ below)
@@ -100,11 +100,11 @@ module _ (rule : RuleSet) (plan : Plan) (h : ℕ) (p : Position) (f : Frame) (be
         rw (left, e) (omega (arith, sum_by-cons counts m (moves_after rule P next)))
 
     -- what a move that is not followed counts
-    pub counts-pass : (before after : ℕ) → is_followed plan.battle (chess plan.goal rule) root t q ≡ false → CountsMove rule plan root t q before after
+    pub counts-unfollowed : (before after : ℕ) → is_followed plan.battle (chess plan.goal rule) root t q ≡ false → CountsMove rule plan root t q before after
         → CountsAll rule plan h p (f ∷ below) (moved f next ∷ below) before after
     unfolding are_whites
-    counts-pass before after b x =
-        let tries = tries-pass b in
+    counts-unfollowed before after b x =
+        let tries = tries-unfollowed b in
         let opens = open-next in
         counts-by rule plan h p (f ∷ below) (moved f next ∷ below) before after (omega (arith, x.tries))
         (λ help. absurd (false≢true (sym b ∙ follows-help plan (chess plan.goal rule) root t q help))) (λ battle fought. omega (arith, x.tries, tries))
@@ -142,7 +142,7 @@ module _ (rule : RuleSet) (plan : Plan) (h : ℕ) (p : Position) (f : Frame) (be
         → is_mating rule P m ≡ false → F 1 (m ∷ ms) ≡ F 1 ms) → (plan.battle ≡ None → plan.goal ≡ Mate → (m : Move) (ms : List Move)
         → allows_mate rule P m ≡ false → F 2 (m ∷ ms) ≡ F 2 ms) → F f.left (moves_after rule P f.place) ≡ F f.left (moves_after rule P g.mid)
     unfolding position
-    same-later F skip decide = grind (arith, g.fits, g.passed, passed-over (F 1) (is_mating rule P), passed-over (F 2) (allows_mate rule P))
+    same-later F skip decide = grind (arith, g.fits, g.skipped, skipped-over (F 1) (is_mating rule P), skipped-over (F 2) (allows_mate rule P))
 
     come-skip : to_come rule plan h p (f ∷ below) ≡ to_come rule plan h p later
     unfolding to_come position path
@@ -164,7 +164,7 @@ module _ (rule : RuleSet) (plan : Plan) (h : ℕ) (p : Position) (f : Frame) (be
     each : (k : ℕ) → k ≡ 2 → walk_after rule k P f.place ≡ length g.over + walk_after rule k P g.mid
     unfolding walk_after
     each k e =
-        rw (e, each_one (legal_moves rule) (position_after rule) P, each_one (legal_moves rule) (position_after rule) P) (simp (g.passed, length-append))
+        rw (e, each_one (legal_moves rule) (position_after rule) P, each_one (legal_moves rule) (position_after rule) P) (simp (g.skipped, length-append))
 
     tries-skip : (battle : Battle) → plan.battle ≡ Some battle → fewest_left rule plan h p (f ∷ below) ≡ fewest_left rule plan h p later
     unfolding fewest_left position

@@ -16,13 +16,13 @@ module _ {A B : Type 0} where
   pub flat-same : (F G : A → List B) (xs : List A) → ((x : A) → F x ≡ G x) → flat_map F xs ≡ flat_map G xs
   flat-same F G xs e = ap (λ f. flat_map f xs) (λ i x. e x i)
 
-  -- where all pass the test
+  -- where all meet the test
   flat-all : (test : A → Bool) (F G : A → List B) (xs : List A) → list_all test xs ≡ true → ((x : A) → test x ≡ true → F x ≡ G x)
       → flat_map F xs ≡ flat_map G xs
   flat-all test F G [] t e = refl
   flat-all test F G (x ∷ xs) t e = search (rules, flat-all test F G xs, e)
 
-  -- by those that pass it
+  -- by those that meet it
   pub flat-filter : (test other : A → Bool) (F G : A → List B) (xs : List A) → ((x : A) → test x ≡ other x) → ((x : A) → test x ≡ true → F x ≡ G x)
       → flat_map (λ x. cond (test x) (F x) []) xs ≡ flat_map G (filter other xs)
   flat-filter test other F G [] s e = search rules

@@ -8,7 +8,7 @@ use Rattle.pop_solve.specs.ties.Walk.{AreEndsAfter, KeepsEnds, MovesOn, ending}
 use Rattle.pop_solve.proofs.GoingOn.{cases, follows-help, walk_length-help}
 unfoldable use Rattle.pop_solve.specs.ties.Walk.{AreEnds}
 use Rattle.pop_battle.specs.declared.frame.LineEnds.{LineEnds}
-use Rattle.pop_solve.proofs.Outcomes.{CameFrom-deep, walking-close, Taken, walking-learned, steps-ended, steps-learned, skips-close, steps-leave, steps-pass, steps-enter, steps-skip, walking-moved}
+use Rattle.pop_solve.proofs.Outcomes.{CameFrom-deep, walking-close, Taken, walking-learned, steps-ended, steps-learned, skips-close, steps-leave, steps-unfollowed, steps-enter, steps-skip, walking-moved}
 use Rattle.pop_solve.specs.ties.Counts.{CountsMove}
 
 -- a push, and the frames before a frame was taken off, seen from the top
@@ -99,7 +99,7 @@ module _ (rule : RuleSet) (plan : Plan) (h : ℕ) (top : Frame) (old new : List 
         × (last ≡ mid ++ opened_frame m (undo_of rule now m) (walk_length plan.battle plan.variation (chess plan.goal rule) following arrived) ∷ []))
         → CountsMove rule plan root following arrived between opened2
         → (p : Position) → IsWalking rule h p (reverse old) board → Taken full rule plan h p (reverse old) (reverse last) after opened opened2 given
-    enter_steps full root given after last opened2 flag passes enters counts p r =
+    enter_steps full root given after last opened2 flag unfollowed enters counts p r =
         let left : top.left ≡ suc following = omega (arith, some.0) in
         let f = learned top known in
         let r2 = walking-learned rule h p top known (reverse new) now (walking_top p board now r at) (rw at within) in
@@ -109,10 +109,10 @@ module _ (rule : RuleSet) (plan : Plan) (h : ℕ) (top : Frame) (old new : List 
         let r3 = walking-moved rule h p f g.mid (reverse new) now now r2 refl in
         let here : moves_after rule now g.mid ≡ m ∷ moves_after rule now place = rw r2.board_at g.here in
         elim (cases (is_followed plan.battle (chess plan.goal rule) root following arrived)) [
-          | inl passed ↦
-              let x = passes passed in
-              let s = steps-pass full rule plan h p (moved f g.mid) (reverse new) now r3 place m following left here after between opened2
-              (rw flag2 passed) x.1 (rw flag2 counts) in
+          | inl off ↦
+              let x = unfollowed off in
+              let s = steps-unfollowed full rule plan h p (moved f g.mid) (reverse new) now r3 place m following left here after between opened2
+              (rw flag2 off) x.1 (rw flag2 counts) in
               rw (popped old new top taken, x.2, mid_is, x.0) (steps-learned full rule plan h p top known (reverse new) _ after opened opened2 false
               (steps-skip full rule plan h p f (reverse new) _ opened between g _ after opened2 false s))
           | inr entered ↦

@@ -7,7 +7,7 @@ ghost use Rattle.chess_rules.specs.Play.{position_after, undo_of};
 ghost use Rattle.chess_rules.specs.ties.Places.{IsPlaceIn, moves_after};
 ghost use Rattle.pop_battle.specs.ties.Calls.{Evaluates, Restores};
 ghost use Rattle.pop_battle.specs.ties.Frames.{CameFrom, CameFromAt, Frame as Level, opened_frame};
-ghost use Rattle.pop_battle.specs.ties.Passing.{IsNextMatable};
+ghost use Rattle.pop_battle.specs.ties.Skipping.{IsNextMatable};
 ghost use Rattle.pop_solve.specs.ties.Counts.{CountsMove, CountsWalk, tries_all};
 ghost use Rattle.pop_solve.specs.ties.Walk.{Battle, IsWellFormed, Mate, Position, attacker_to_move, chess, is_for_mate, value, MovesOn, fewest_half_moves, least_length_from, shown_length, is_followed, is_emitted, walk_length, IsMatedAtLast, IsNextOf, IsWalking, seeks_last, Steps};
 
@@ -234,7 +234,7 @@ pub(crate) fn enter<R: Rules, const N: usize>(
     requires room { array_vec_len frames.old + left < N }
     requires legal { is_legal R.rule board.old by ≡ true }
     requires mated { IsMatedAtLast R.rule plan left (position_after R.rule board.old by) }
-    ensures passes { is_followed plan.battle (chess plan.goal R.rule)
+    ensures unfollowed { is_followed plan.battle (chess plan.goal R.rule)
         (array_vec_len frames.old == 1) left
         (position_after R.rule board.old by) ≡ false
         → (result ≡ false) × (board.new ≡ board.old) × (frames.new.items ≡ frames.old.items) }
@@ -282,7 +282,7 @@ pub(crate) fn enter<R: Rules, const N: usize>(
 /// Returns whether the search may skip moves to which no reply mates: in help play for mate with two
 /// half-moves left.
 #[tactic(auto, using(pop_battle::proofs::Boards::for_mate))]
-fn may_pass_over(plan: Plan, left: usize) -> bool
+fn may_skip(plan: Plan, left: usize) -> bool
     ensures { result ≡ true → (plan.battle ≡ None) × (plan.goal ≡ Mate) × (left ≡ 2) }
 {
     left == 2 && plan.battle.is_none() && is_for_mate(plan.goal)
@@ -291,7 +291,7 @@ fn may_pass_over(plan: Plan, left: usize) -> bool
 /// Returns the next legal move after `place`, and skips moves for which the threats rule out that a reply
 /// mates. Adds the number of skipped moves to `opened`: each counts as the position that it would have
 /// reached.
-#[tactic(auto, using(pop_battle::proofs::Passing::filtered))]
+#[tactic(auto, using(pop_battle::proofs::Skipping::with_filter))]
 fn next_risky<R: Rules>(
     threats: &mut Threats,
     known: &mut Option<LegalCursor<R>>,
@@ -314,15 +314,15 @@ fn next_risky<R: Rules>(
         return None;
     };
     moves.go_to(*place);
-    let filtered = moves.next_filtered(threats, board);
-    *opened = opened.saturating_add(u64::from(filtered.passed));
+    let kept = moves.next_kept(threats, board);
+    *opened = opened.saturating_add(u64::from(kept.skipped));
     *place = moves.place();
-    filtered.found
+    kept.found
 }
 
 /// Returns the next legal move after `place` to which a reply may mate; without threats, the next legal
 /// move.
-#[tactic(auto, using(pop_battle::proofs::Passing::none_passed))]
+#[tactic(auto, using(pop_battle::proofs::Skipping::without_filter))]
 fn next_matable<R: Rules>(
     known: &mut Option<LegalCursor<R>>,
     place: &mut Moves<R>,
@@ -377,7 +377,7 @@ fn next_of<R: Rules>(
     if ends_with_mate(plan, left) {
         return next_mate::<R>(place, board);
     }
-    if may_pass_over(plan, left) {
+    if may_skip(plan, left) {
         return next_matable::<R>(known, place, board, search_state);
     }
     next_move::<R>(known, place, board)

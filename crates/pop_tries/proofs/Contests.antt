@@ -118,9 +118,9 @@ pub passed_well_formed : (q : Position) → IsWellFormed q → IsWellFormed (set
 unfolding is_en_passant_square_right
 passed_well_formed q well = search rules
 
-none_pass : (ms : List Move) → is_nil ms ≡ true → (test : Move → Bool) → filter test ms ≡ []
-none_pass [] e test = refl
-none_pass (m ∷ ms) e test = absurd (false≢true e)
+none_meet : (ms : List Move) → is_nil ms ≡ true → (test : Move → Bool) → filter test ms ≡ []
+none_meet [] e test = refl
+none_meet (m ∷ ms) e test = absurd (false≢true e)
 
 -- a list of moves without any, and one with some
 nil_without_reply : (ms : List Move) → not (eqb (length ms) 0) ≡ false → is_nil ms ≡ true
@@ -177,7 +177,7 @@ module _ (battle : Battle) (goal : Goal) (rule : RuleSet) (n : ℕ) (q : Positio
     where
       by : (b : Bool) → is_goal_reached goal rule q ≡ b → refutations battle (chess goal rule) n q ≡ []
       by false unmet = key_has_no_refutation battle (chess goal rule) n q unmet key
-      by true met = none_pass (legal_moves rule q) (no_moves_at_goal goal rule q met) _
+      by true met = none_meet (legal_moves rule q) (no_moves_at_goal goal rule q met) _
 
   -- a refuted move is no key
   pub refuted_is_no_key : 1 ≤ length (refutations battle (chess goal rule) n q) → keeps_win battle (chess goal rule) n q ≡ false
@@ -256,7 +256,7 @@ pub stalemate_refutes : (rule : RuleSet) (n most : ℕ) (q : Position) → is_st
     → is_try Direct (chess Mate rule) n (chess_passing rule) most q ≡ true
 stalemate_refutes rule n most q h allowed =
     try_by_stalemate rule n most q allowed Direct Mate
-    (ap length (none_pass (legal_moves rule q) (no_moves_at_goal Stalemate rule q h) _)) ∙ h
+    (ap length (none_meet (legal_moves rule q) (no_moves_at_goal Stalemate rule q h) _)) ∙ h
 
 -- the value after a move that begins a win
 pub kept_by_value : (battle : Battle) (game : Game Position Move) (length : ℕ) (q : Position) → attacker_to_move battle length ≡ true → 1 ≤ length

@@ -16,7 +16,7 @@ use Rattle.pop_tries.specs.declared.refuting.Refuting.{Refuting}
 use Rattle.pop_tries.proofs.FewPlaces.{place_is}
 use Rattle.pop_tries.specs.ties.MoveSets.{HoldAll, may_hold}
 
--- what passes a test is what also passes another, and what doesn't
+-- what meets a test is what also meets another, and what doesn't
 parts : (c r : Move → Bool) (ms : List Move)
     → length (filter (λ d. c d && r d) ms) + length (filter (λ d. not (c d) && r d) ms) ≡ length (filter r ms)
 parts c r [] = refl
@@ -28,19 +28,19 @@ unequal a b differ same = grind (arith, nat_tests)
 
 -- the triples up to two places that differ
 module _ (rule : RuleSet) (p : Position) (test : Move → Bool) where
-  abbrev passing : ℕ → ℕ → ℕ
-  passing a b = length (filter test (moves_between rule p a b))
+  abbrev meeting : ℕ → ℕ → ℕ
+  meeting a b = length (filter test (moves_between rule p a b))
 
-  abbrev passing_after : ℕ → ℕ
-  passing_after a = length (filter test (moves_after rule p a))
+  abbrev meeting_after : ℕ → ℕ
+  meeting_after a = length (filter test (moves_after rule p a))
 
-  cut_after : (a b : ℕ) → a ≤ b → passing_after a ≡ passing a b + passing_after b
+  cut_after : (a b : ℕ) → a ≤ b → meeting_after a ≡ meeting a b + meeting_after b
   cut_after a b le = rw (after_cut rule p a b le, filter-append test (moves_between rule p a b) (moves_after rule p b))
       (length-append (filter test (moves_between rule p a b)) (filter test (moves_after rule p b)))
 
-  two_in_order : (a b : ℕ) → a < b → passing (a - 1) a ≡ 1 → passing (b - 1) b ≡ 1 → 2 ≤ length (filter test (legal_moves rule p))
+  two_in_order : (a b : ℕ) → a < b → meeting (a - 1) a ≡ 1 → meeting (b - 1) b ≡ 1 → 2 ≤ length (filter test (legal_moves rule p))
   two_in_order a b lt one two =
-      let whole : passing_after 0 ≡ length (filter test (legal_moves rule p)) = rw (after_start rule p) refl in
+      let whole : meeting_after 0 ≡ length (filter test (legal_moves rule p)) = rw (after_start rule p) refl in
       omega (
         arith,
         whole,
@@ -52,9 +52,9 @@ module _ (rule : RuleSet) (p : Position) (test : Move → Bool) where
         cut_after (b - 1) b (omega arith),
       )
 
-  -- with moves at two places that pass, two moves at least pass
-  pub two_pass : (a b : ℕ) → a ≢ b → passing (a - 1) a ≡ 1 → passing (b - 1) b ≡ 1 → 2 ≤ length (filter test (legal_moves rule p))
-  two_pass a b differ one two = elim (cases_lt a b) [
+  -- with moves at two places that meet the test, at least two moves meet it
+  pub two_meet : (a b : ℕ) → a ≢ b → meeting (a - 1) a ≡ 1 → meeting (b - 1) b ≡ 1 → 2 ≤ length (filter test (legal_moves rule p))
+  two_meet a b differ one two = elim (cases_lt a b) [
     | inl before ↦ two_in_order a b before one two
     | inr after ↦ elim (cases_lt b a) [
       | inl later ↦ two_in_order b a later two one
@@ -86,7 +86,7 @@ module _ (rule : RuleSet) (contest : Contest) (q : Position) where
   pub two_refute : (a b : ℕ) → eqb a b ≡ false → length (filter (refutes rule contest q) (moves_between rule q (a - 1) a)) ≡ 1
       → length (filter (refutes rule contest q) (moves_between rule q (b - 1) b)) ≡ 1
       → 2 ≤ length (refutations contest.battle (game_in rule contest) contest.stipulation.n q)
-  two_refute a b differ one two = two_pass rule q (refutes rule contest q) a b (unequal a b differ) one two
+  two_refute a b differ one two = two_meet rule q (refutes rule contest q) a b (unequal a b differ) one two
 
   abbrev all : ℕ
   all = length (refutations contest.battle (game_in rule contest) contest.stipulation.n q)

@@ -15,10 +15,10 @@ use Rattle.chess_rules.specs.ties.Places.{moves_after, place_of, triple_at}
 use Rattle.std.specs.Prelude.{Some}
 use Rattle.pop_battle.proofs.Boards.{after_start}
 use Rattle.pop_tries.proofs.Contests.{placed}
-use Rattle.pop_tries.proofs.Loops.{first_passes}
+use Rattle.pop_tries.proofs.Loops.{first_meets}
 use Rattle.pop_tries.specs.declared.few_places.FewPlaces.{FewPlaces}
 use Rattle.pop_tries.specs.declared.few_places.FewPlaces.TheVariants.{Empty, One, Two, Many}
-use Rattle.pop_tries.specs.ties.FewPlaces.{all_pass, are_few, AreAt, ArePlaces, IsPlaceOf}
+use Rattle.pop_tries.specs.ties.FewPlaces.{all_meet, are_few, AreAt, ArePlaces, IsPlaceOf}
 
 -- the places of some moves are places of moves
 pub places_of : (few : FewPlaces) (all rest : List Move) → AreAt few all rest → ArePlaces few
@@ -35,15 +35,15 @@ one_of_two_fails : (a b : Bool) → not (a && b) ≡ (not a || (not b || false))
 one_of_two_fails true b = one_fails b
 one_of_two_fails false b = refl
 
--- not all few moves pass, exactly if some fails
+-- not all few moves meet the test, exactly if some fails
 pub some_fails : (test : Move → Bool) (few : FewPlaces) (all : List Move) → AreAt few all [] → are_few few ≡ true
-    → not (all_pass test few) ≡ list_any (λ t. not (test t)) all
+    → not (all_meet test few) ≡ list_any (λ t. not (test t)) all
 some_fails test Empty all a known = rw a refl
 some_fails test (One place) all a known = rw (a.1.move, a.2) (one_fails (test a.0))
 some_fails test (Two first second) all a known = rw (a.2.move, a.3.move, a.4) (one_of_two_fails (test a.0) (test a.1))
 some_fails test Many all a known = absurd (false≢true known)
 
--- the place of a legal move that a cursor has just passed
+-- the place of a legal move right before a cursor
 pub place_is : (rule : RuleSet) (p : Position) (m : Move) (place : ℕ) → IsWellFormed p → is_legal rule p m ≡ true → place ≡ place_of (Some m) → IsPlaceOf place m
 place_is rule p m place well legal e = let on = placed rule p m place well legal e in record { some = on.0; most = on.1; move = on.2 }
 
@@ -55,17 +55,17 @@ module _ (rule : RuleSet) (p : Position) (test : Move → Bool) where
   pub none_noted : (place : ℕ) → place ≡ 0 → AreAt Empty all (filter test (moves_after rule p place))
   none_noted place e = rw (e, after_start rule p) refl
 
-  -- the next move passes, and is noted
+  -- the next move meets the test, and is noted
   pub noted_on : (few new : FewPlaces) (place next number : ℕ) (m : Move) → moves_after rule p place ≡ m ∷ moves_after rule p next → test m ≡ true
       → ((k : Move) (ms rest : List Move) → IsPlaceOf number k → AreAt few ms (k ∷ rest) → AreAt new ms rest) → IsPlaceOf number m
       → AreAt few all (filter test (moves_after rule p place)) → AreAt new all (filter test (moves_after rule p next))
-  noted_on few new place next number m e passes put on held =
-      put m all _ on (subst (λ ms. AreAt few all ms) (first_passes test m (moves_after rule p place) (moves_after rule p next) e passes) held)
+  noted_on few new place next number m e meets put on held =
+      put m all _ on (subst (λ ms. AreAt few all ms) (first_meets test m (moves_after rule p place) (moves_after rule p next) e meets) held)
 
   -- the next move fails
-  pub passed_on : (few : FewPlaces) (place next : ℕ) (m : Move) → moves_after rule p place ≡ m ∷ moves_after rule p next → test m ≡ false
+  pub skipped_on : (few : FewPlaces) (place next : ℕ) (m : Move) → moves_after rule p place ≡ m ∷ moves_after rule p next → test m ≡ false
       → AreAt few all (filter test (moves_after rule p place)) → AreAt few all (filter test (moves_after rule p next))
-  passed_on few place next m e fails held = subst (λ ms. AreAt few all ms) (rw (e, fails) refl) held
+  skipped_on few place next m e fails held = subst (λ ms. AreAt few all ms) (rw (e, fails) refl) held
 
   -- after the last move all are noted
   pub noted_at_end : (few : FewPlaces) (place : ℕ) → moves_after rule p place ≡ [] → AreAt few all (filter test (moves_after rule p place)) → AreAt few all []

@@ -46,9 +46,9 @@ pub replies_follow : {A : Type 0} (rule : RuleSet) (task : Task) (first : First 
 replies_follow rule task first p before board was items walked back none =
     record { first_is = walked.first_is; threat = walked.threat; bare = record { board_at = back; none = none } }
 
--- the first of the moves that pass a test passes it
-pub head_passes : (test : Move → Bool) (ms : List Move) (m : Move) (rest : List Move) → filter test ms ≡ m ∷ rest → test m ≡ true
-head_passes test ms m rest e = (from_filter test ms m (rw e (first_in m rest))).1
+-- the first of the moves that meet a test meets it
+pub head_meets : (test : Move → Bool) (ms : List Move) (m : Move) (rest : List Move) → filter test ms ≡ m ∷ rest → test m ≡ true
+head_meets test ms m rest e = (from_filter test ms m (rw e (first_in m rest))).1
 
 -- White threatens, if there is a length of the threats
 module _ (rule : RuleSet) (contest : Contest) (q : Position) where

@@ -40,7 +40,7 @@ module _ (rule : RuleSet) (p : Position) (test : Move → Bool) where
   pub held_at_start : (set : Option MoveSet) (place : ℕ) → place ≡ 0 → HoldBefore rule p test set place
   held_at_start set place e m c t = inr (rw (e, after_start rule p) c)
 
-  -- the next move is put in if it passes
+  -- the next move is put in if it meets the test
   pub held_on : (old new : Option MoveSet) (place next : ℕ) (m : Move) → moves_after rule p place ≡ m ∷ moves_after rule p next
       → HoldBefore rule p test old place → (test m ≡ true → may_be new m ≡ true) → ((k : Move) → may_be old k ≡ true → may_be new k ≡ true)
       → HoldBefore rule p test new next

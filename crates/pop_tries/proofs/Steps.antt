@@ -123,13 +123,13 @@ module _ (rule : RuleSet) (task : Task) where
         → count + 1 + length (firsts_after rule task group next) ≤ all_triples
     still_few old = omega (arith, old, ap length found)
 
-  -- the limit isn't passed
+  -- the limit isn't exceeded
   pub still_limited : (group : Group) (count : ℕ) → IsInLimit task.problem group count → is_stopped task.problem group count ≡ false
       → IsInLimit task.problem group (count + 1)
   still_limited Keys count few e = grind (arith, nat_tests)
   still_limited (Tries most) count few e = tt
 
--- at first the limit isn't passed
+-- at first the limit isn't exceeded
 pub at_first : (problem : Posed) (group : Group) → IsInLimit problem group 0
 at_first problem Keys = omega arith
 at_first problem (Tries most) = tt

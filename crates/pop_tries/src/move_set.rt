@@ -45,12 +45,12 @@ impl MoveSet {
         }
     }
 
-    /// Returns the set with the move put into it if `passes`.
-    pub fn with_if(self, passes: bool, by: &Move) -> MoveSet
-        ensures put { passes ≡ true → may_hold result by.now ≡ true }
+    /// Returns the set with the move put into it if `meets`.
+    pub fn with_if(self, meets: bool, by: &Move) -> MoveSet
+        ensures put { meets ≡ true → may_hold result by.now ≡ true }
         ensures kept { (m : Move) → may_hold self m ≡ true → may_hold result m ≡ true }
     {
-        if passes {
+        if meets {
             return self.with(by);
         }
         self

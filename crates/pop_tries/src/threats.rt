@@ -13,7 +13,7 @@ ghost use Rattle.pop_solve.specs.Tree.{keeps_win, wins_in};
 ghost use Rattle.pop_tries.specs.Events.{chess_passing};
 ghost use Rattle.pop_tries.specs.Tries.{has_threat, is_defence, works};
 ghost use Rattle.pop_tries.specs.ties.Contests.{wins_within, AreThreats, IsLength, IsReady, IsThreat, HoldsThreats, Keeps, game_in, moves_of};
-ghost use Rattle.pop_tries.specs.ties.FewPlaces.{all_pass, are_few, AreAt, ArePlaces};
+ghost use Rattle.pop_tries.specs.ties.FewPlaces.{all_meet, are_few, AreAt, ArePlaces};
 ghost use Rattle.chess_rules.specs.ties.Places.{all_triples, triple_at};
 
 use crate::contest::Contest;
@@ -328,7 +328,7 @@ fn all_work<R: Rules, const N: usize>(
     requires places { ArePlaces threat.places }
     requires well_formed { IsWellFormed board.old }
     requires room { array_vec_len frames.old + threat.length ≤ N }
-    ensures works { result ≡ all_pass (works contest.battle (game_in R.rule contest)
+    ensures works { result ≡ all_meet (works contest.battle (game_in R.rule contest)
         contest.stipulation.n (chess_passing R.rule) (moves_of threat.length) board.old)
         threat.places }
     ensures rest { Keeps board.old board.new frames.old.items frames.new.items }

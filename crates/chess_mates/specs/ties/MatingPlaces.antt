@@ -5,7 +5,7 @@ use Rattle.chess_core.specs.declared.man.Move.{Move}
 use Rattle.chess_attacks.specs.RuleSet.{RuleSet}
 use Rattle.chess_rules.specs.ties.Places.{moves_after, moves_between}
 use Rattle.chess_rules.specs.ties.Targets.{IsTargetCacheOf}
-use Rattle.chess_rules.specs.declared.listing_moves.move_filter.TargetCache.{TargetCache}
+use Rattle.chess_rules.specs.declared.listing_moves.move_test.TargetCache.{TargetCache}
 use Rattle.chess_mates.specs.declared.mating_moves.MateClues.{MateClues}
 use Rattle.chess_mates.specs.ties.CheckSquares.{AreCheckSquares}
 use Rattle.chess_mates.specs.ties.StandingFlights.{AreStandingFlights}
@@ -18,7 +18,7 @@ mates_between rule p place end = filter (is_mating rule p) (moves_between rule p
 -- between the cursors old and new are the moves `over`, none of which mates, and then m, which mates
 pub record IsNextMate (rule : RuleSet) (p : Position) (old new : ℕ) (m : Move) : Type 0 where
   pub over : List Move
-  pub passed : moves_after rule p old ≡ over ++ moves_after rule p (new - 1)
+  pub skipped : moves_after rule p old ≡ over ++ moves_after rule p (new - 1)
   pub none : filter (is_mating rule p) over ≡ []
   pub here : moves_after rule p (new - 1) ≡ m ∷ moves_after rule p new
   pub mates : is_mating rule p m ≡ true

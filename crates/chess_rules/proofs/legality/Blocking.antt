@@ -282,7 +282,7 @@ pub record CannotExpose (rule : RuleSet) (p : Position) (x : Man) (c : Colour) (
   pub aside : may_be_hurdle p.men c m.to ≡ false
   pub plain : IsPlain rule p x m
 
--- a move that passes has them
+-- a move that meets the test has them
 pub cannot_expose_parts : (rule : RuleSet) (p : Position) (x : Man) (c : Colour) (m : Move) → man_on p.men m.from ≡ Some x → cannot_expose rule p c m ≡ true
     → CannotExpose rule p x c m
 unfolding cannot_expose is_plain capture_square

@@ -1,6 +1,6 @@
 -- The legal moves between two cursors.
 use Rattle.std.proofs.Math.Seq.{take-add}
-use Rattle.chess_rules.proofs.Chess.{NonePass, List, Move, Position, RuleSet, [], all_triples, ap, arith, drop, drop-drop, false, filter-append, is_legal, moves, moves_after, moves_between, refl, rules, sym, take, take-append-drop, triple_at, triples, true, ℕ, ◌++◌, ◌+◌, ◌-◌, ◌<◌, ◌∙◌, ◌∷◌, ◌≡◌, ◌≤◌}
+use Rattle.chess_rules.proofs.Chess.{NoneMeet, List, Move, Position, RuleSet, [], all_triples, ap, arith, drop, drop-drop, false, filter-append, is_legal, moves, moves_after, moves_between, refl, rules, sym, take, take-append-drop, triple_at, triples, true, ℕ, ◌++◌, ◌+◌, ◌-◌, ◌<◌, ◌∙◌, ◌∷◌, ◌≡◌, ◌≤◌}
 use Rattle.chess_rules.proofs.listing_moves.Places.{drop_triples, drop_triples_past, moves_after-start, over, place_of_triple}
 
 take-none : (n : ℕ) → take {A = Move} n [] ≡ []
@@ -29,18 +29,18 @@ unfolding moves_between
 between-skip rule p a b lt h = search (rules, between-none, drop_triples)
 
 -- over a range without moves
-pub between-none-is_legal : (rule : RuleSet) (p : Position) (a b e : ℕ) → (b < all_triples → a ≤ b) → b ≤ all_triples → NonePass (is_legal rule p) a b
+pub between-none-is_legal : (rule : RuleSet) (p : Position) (a b e : ℕ) → (b < all_triples → a ≤ b) → b ≤ all_triples → NoneMeet (is_legal rule p) a b
     → moves_between rule p a e ≡ moves_between rule p b e
 between-none-is_legal rule p a b e =
     over (λ n. moves_between rule p n e) (is_legal rule p) (λ n lt h. between-skip rule p n e lt h) [] (λ n ge. between-past rule p n e ge) a b
 
 -- up to the first legal one, and where none is left before the end
-pub until-is_legal : (rule : RuleSet) (p : Position) (a n e : ℕ) → a ≤ n → n < e → n < all_triples → NonePass (is_legal rule p) a n
+pub until-is_legal : (rule : RuleSet) (p : Position) (a n e : ℕ) → a ≤ n → n < e → n < all_triples → NoneMeet (is_legal rule p) a n
     → is_legal rule p (triple_at n) ≡ true → moves_between rule p a e ≡ triple_at n ∷ moves_between rule p (n + 1) e
 until-is_legal rule p a n e low before fits none h = between-none-is_legal rule p a n e (λ _. low) (omega arith) none ∙ between-here rule p n e fits before h
 
 -- where the walk gets to the end without one, no move lies before it
-pub until-end : (rule : RuleSet) (p : Position) (a n e : ℕ) → n ≤ all_triples → n ≤ e → (n < all_triples → e ≤ n) → NonePass (is_legal rule p) a n
+pub until-end : (rule : RuleSet) (p : Position) (a n e : ℕ) → n ≤ all_triples → n ≤ e → (n < all_triples → e ≤ n) → NoneMeet (is_legal rule p) a n
     → moves_between rule p a e ≡ []
 until-end rule p a n e fits before all none = search (rules, between-none, between-none-is_legal, between-past)
 

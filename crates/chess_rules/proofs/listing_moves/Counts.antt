@@ -2,7 +2,7 @@
 use Rattle.std.proofs.lemmas.List.Sums.{count_by-le-length, length-filter}
 use Rattle.std.specs.Int.Count.{ones_step}
 use Rattle.std.specs.Prelude.{count_ones}
-use Rattle.chess_rules.proofs.Chess.{AreCandidates, AreLegal, Bool, NonePass, HasNoMoveFrom, Move, None, Pawn, Position, RuleSet, all_triples, ap, arith, bit_at, bit_at-lt, cases_Bool, cases_eq, cases_lt, differs, false, from_bool, inl, inr, is_legal, is_legal-idle, is_man, length, length-append, length-take, man_on, moves_between, ones-le, passes_to, per_arrival, per_origin, pow_mono, promotion_at, refl, rules, shr-shr, shr_below, suc, sym, triple_at, true, zero, ℕ, ◌%◌, ◌&&◌, ◌*◌, ◌+◌, ◌-◌, ◌/◌, ◌<◌, ◌==◌, ◌^◌, ◌∙◌, ◌≡◌, ◌≤◌}
+use Rattle.chess_rules.proofs.Chess.{AreCandidates, AreLegal, Bool, NoneMeet, HasNoMoveFrom, Move, None, Pawn, Position, RuleSet, all_triples, ap, arith, bit_at, bit_at-lt, cases_Bool, cases_eq, cases_lt, differs, false, from_bool, inl, inr, is_legal, is_legal-idle, is_man, length, length-append, length-take, man_on, moves_between, ones-le, meets_on, per_arrival, per_origin, pow_mono, promotion_at, refl, rules, shr-shr, shr_below, suc, sym, triple_at, true, zero, ℕ, ◌%◌, ◌&&◌, ◌*◌, ◌+◌, ◌-◌, ◌/◌, ◌<◌, ◌==◌, ◌^◌, ◌∙◌, ◌≡◌, ◌≤◌}
 use Rattle.chess_rules.proofs.listing_moves.Between.{between-here, between-none, between-none-is_legal, between-past, between-skip, between_cut}
 use Rattle.chess_rules.proofs.listing_moves.Targeting.{arrival_from, named_by, no_promotion_here, some_named}
 use Rattle.chess_rules.proofs.listing_moves.Walks.{IsWalked, none-from, none-plain, none-to, triple_of, walk_before}
@@ -23,7 +23,7 @@ none_from w t fits past =
     let le : 2 ^ 64 ≤ 2 ^ t = pow_mono past in
     grind (arith, le, ones-le 0 (w / 2 ^ t), shr_below w 0 t)
 
--- during the walk, the legal moves from all origins passed so far have been counted
+-- during the walk, the legal moves from all origins before the rest have been counted
 pub record IsCounted (rule : RuleSet) (p : Position) (start rest count : ℕ) : Type 0 where
   pub reached : ℕ
   pub low : start ≤ reached
@@ -58,7 +58,7 @@ module _ (rule : RuleSet) (p : Position) where
   none_left a e le = ap length (between-none rule p a e le)
 
   -- over a range without moves the count stays
-  count_over : (a b e : ℕ) → a ≤ b → b ≤ all_triples → NonePass (is_legal rule p) a b → between a e ≡ between b e
+  count_over : (a b e : ℕ) → a ≤ b → b ≤ all_triples → NoneMeet (is_legal rule p) a b → between a e ≡ between b e
   count_over a b e lo hi none = ap length (between-none-is_legal rule p a b e (λ less. lo) hi none)
 
   -- where no move was taken yet
@@ -81,7 +81,7 @@ module _ (rule : RuleSet) (p : Position) where
     pub counted_to : (a : ℕ) → z ≤ a → between start (n + a) ≡ count + between (per_origin * s + z) (per_origin * s + a)
     counted_to a more =
         let before = walk_before (is_legal rule p) h.reached rest s n h.walked next.first (omega (arith, next.small)) (omega (arith, first)) in
-        let free : NonePass (is_legal rule p) h.reached (n + z) = record { fails = λ k lo hi. grind (arith, same, cases_lt k n, before.fails k) } in
+        let free : NoneMeet (is_legal rule p) h.reached (n + z) = record { fails = λ k lo hi. grind (arith, same, cases_lt k n, before.fails k) } in
         grind (arith, same, h.low, h.counted, count_cut start h.reached (n + a), between-none-is_legal rule p h.reached (n + z) (n + a), free, next.small)
 
     -- past it
@@ -122,7 +122,7 @@ module _ (rule : RuleSet) (p : Position) where
       skip : (b : ℕ) → ((t : ℕ) → t < b → (bit_at rest t == 1) ≡ false) → b ≤ 64 → h.at ≤ per_arrival * b
           → between (per_origin * s + h.at) (per_origin * s + end) ≡ between (per_origin * s + per_arrival * b) (per_origin * s + end)
       skip b off fits le =
-          let passing : AreCandidates rule p (passes_to w (is_legal rule p)) s w = record {
+          let passing : AreCandidates rule p (meets_on w (is_legal rule p)) s w = record {
             inside = are.inside;
             outside = λ m at to out. grind (arith, out);
           } in

@@ -23,7 +23,7 @@ module _ {X : Type 0} where
   from_filter test [] x c = absurd (none_in_nil x c)
   from_filter test (y ∷ xs) x c = grind (arith, later_in, in_cases, from_filter test xs x)
 
-  -- an element that passes the test is in the filter
+  -- an element that meets the test is in the filter
   pub in_filter : (test : X → Bool) (xs : List X) (x : X) → Contains xs x → test x ≡ true → Contains (filter test xs) x
   in_filter test [] x c t = absurd (none_in_nil x c)
   in_filter test (y ∷ xs) x c t = elim (in_cases y xs x c) [

@@ -42,7 +42,7 @@ pub arrival_needed : (rule : RuleSet) (p : Position) (m : Move) → m.to < 64 �
 unfolding is_pseudo_legal
 arrival_needed rule p m small h = arrival_by rule p m (man_on p.men m.from) small refl h
 
--- a test that can't pass fails
+-- a test that can't be met fails
 pub false_by : (b : Bool) → (b ≡ true → ⊥) → b ≡ false
 false_by b h = grind arith
 

@@ -72,9 +72,9 @@ triples_rise =
 
 -- Each move that may be made goes from a square to a square, with one of the promotions or none.
 
-some_passes : {X Q : Type 0} (test : X → Bool) (xs : List X) → ((x : X) → test x ≡ true → Q) → list_any test xs ≡ true → Q
-some_passes test [] give h = absurd (false≢true h)
-some_passes test (x ∷ xs) give h = grind (arith, or_cases (test x) (list_any test xs) h, give x, some_passes test xs give)
+some_meets : {X Q : Type 0} (test : X → Bool) (xs : List X) → ((x : X) → test x ≡ true → Q) → list_any test xs ≡ true → Q
+some_meets test [] give h = absurd (false≢true h)
+some_meets test (x ∷ xs) give h = grind (arith, or_cases (test x) (list_any test xs) h, give x, some_meets test xs give)
 
 stays_on_board : (s : ℕ) (d : Step) (k t : ℕ) → is_square (along s d k) t ≡ true → t < 64
 stays_on_board s d k t h = (along-is s d k t h).small
@@ -82,12 +82,12 @@ stays_on_board s d k t h = (along-is s d k t h).small
 goes_on_board : (g : Gait) (men : List (Option Man)) (s t : ℕ) (d : Step) → goes_by g men s t d ≡ true → t < 64
 unfolding leaps rides hops
 goes_on_board Leaper men s t d h = stays_on_board s d 1 t h
-goes_on_board Rider men s t d h = search (rules, some_passes, stays_on_board)
-goes_on_board Hopper men s t d h = search (rules, some_passes, stays_on_board)
+goes_on_board Rider men s t d h = search (rules, some_meets, stays_on_board)
+goes_on_board Hopper men s t d h = search (rules, some_meets, stays_on_board)
 
 reach_as_on_board : (men : List (Option Man)) (c : Colour) (k : Kind) (s t : ℕ) → reaches_as men c k s t ≡ true → t < 64
 unfolding reaches_as
-reach_as_on_board men c k s t h = some_passes (goes_by (gait_of k) men s t) (kind_steps c k) (λ d. goes_on_board (gait_of k) men s t d) h
+reach_as_on_board men c k s t h = some_meets (goes_by (gait_of k) men s t) (kind_steps c k) (λ d. goes_on_board (gait_of k) men s t d) h
 
 reach_of_on_board : (men : List (Option Man)) (o : Option Man) (s t : ℕ) → reaches_of men o s t ≡ true → t < 64
 reach_of_on_board men o s t h = grind (arith, false≢true, reach_as_on_board)

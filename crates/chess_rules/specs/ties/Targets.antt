@@ -12,7 +12,7 @@ use Rattle.chess_attacks.specs.Attacks.{is_paralysed}
 use Rattle.chess_attacks.specs.Reaches.{forward, reaches_as}
 use Rattle.chess_rules.specs.Legal.{is_arrival_free, last_rank, is_pawn_step}
 use Rattle.chess_attacks.specs.RuleSet.{RuleSet}
-use Rattle.chess_rules.specs.declared.listing_moves.move_filter.TargetCache.{TargetCache}
+use Rattle.chess_rules.specs.declared.listing_moves.move_test.TargetCache.{TargetCache}
 
 -- a pawn goes one or two squares forward, a king two files to either side
 unfoldable pub steps_to : Man → ℕ → ℕ → Bool
@@ -58,22 +58,22 @@ pub record IsAimed (rule : RuleSet) (p : Position) (m : Move) : Type 0 where
   pub arrival : is_arrival rule p m.from m.to ≡ true
   pub promotion : is_some m.promo ≡ is_promoting man m.to
 
--- the man on s may go to each square of w, and no move from s to another square passes the test
+-- the man on s may go to each square of w, and no move from s to another square meets the test
 pub record AreCandidates (rule : RuleSet) (p : Position) (test : Move → Bool) (s w : ℕ) : Type
     0 where
   pub inside : (t : ℕ) → t < 64 → (bit_at w t == 1) ≡ true → is_arrival rule p s t ≡ true
   pub outside : (m : Move) → m.from ≡ s → m.to < 64 → (bit_at w m.to == 1) ≡ false → test m ≡ false
 
--- the move goes to a square of w and passes the test
-abbrev pub passes_to : ℕ → (Move → Bool) → Move → Bool
-passes_to w test m = bit_at w m.to == 1 && test m
+-- the move goes to a square of w and meets the test
+abbrev pub meets_on : ℕ → (Move → Bool) → Move → Bool
+meets_on w test m = bit_at w m.to == 1 && test m
 
 -- the kept squares are candidates of the kept origin
 pub record IsTargetCacheOf (rule : RuleSet) (p : Position) (test : Move
     → Bool) (k : TargetCache) : Type 0 where
   pub are : (s : ℕ) → k.origin ≡ Some s → AreCandidates rule p test s k.squares
 
--- no move from a square outside w passes the test
+-- no move from a square outside w meets the test
 pub record AreOrigins (test : Move → Bool) (w : ℕ) : Type 0 where
   pub elsewhere : (m : Move) → m.from < 64 → m.to < 64 → (bit_at w m.from == 1) ≡ false
       → test m ≡ false

@@ -1,4 +1,4 @@
-//! The tests that castling must pass.
+//! The tests that castling must meet.
 ghost use Rattle.std.specs.Prelude.{◌≡◌, ◌≤◌, ◌-◌, ℕ, Some, length};
 ghost use Rattle.std.specs.List.{list_all, range_with_len};
 ghost use Rattle.chess_core.specs.Position.{man_on};

@@ -74,7 +74,7 @@ fn castling_squares(board: &Board, man: Man, from: Square) -> Squares
     }
 }
 
-// Returns the squares to which the man on `from` may go, whoever stands there. Castling passes only some
+// Returns the squares to which the man on `from` may go, whoever stands there. Castling meets only some
 // of its tests.
 #[tactic(auto, using(crate::proofs::listing_moves::Arrivals::other_ways, crate::proofs::listing_moves::Arrivals::pawn_ways))]
 fn arrivals_of(board: &Board, man: Man, from: Square) -> Squares
@@ -95,7 +95,7 @@ fn free_squares(board: &Board, colour: Colour) -> Squares
 }
 
 /// Returns the squares where the man on `from` may arrive; none if it is paralysed or not of the side to
-/// move. Castling passes only some of its tests.
+/// move. Castling meets only some of its tests.
 #[tactic(auto, using(crate::proofs::listing_moves::Arrivals::arrivals_nobody, crate::proofs::listing_moves::Arrivals::arrivals_other, crate::proofs::listing_moves::Arrivals::arrivals_paralysed))]
 #[inline(always)]
 pub fn arrivals<R: Rules>(board: &Board, from: Square) -> Squares

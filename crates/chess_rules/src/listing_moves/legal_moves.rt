@@ -5,17 +5,17 @@ ghost use Rattle.chess_core.specs.ties.Words.{word};
 ghost use Rattle.chess_rules.specs.ties.Evasions.{AreEvasions};
 ghost use Rattle.chess_rules.specs.ties.Blockers.{may_expose};
 ghost use Rattle.chess_rules.specs.Legal.{is_legal};
-ghost use Rattle.chess_rules.specs.ties.Places.{NonePass, IsPlaceIn, all_triples, first_after, moves_after, moves_between, place_of, cursor_onto, triple_at};
-ghost use Rattle.chess_rules.specs.ties.Filtering.{IsFiltered, SomeFails};
+ghost use Rattle.chess_rules.specs.ties.Places.{NoneMeet, IsPlaceIn, all_triples, first_after, moves_after, moves_between, place_of, cursor_onto, triple_at};
+ghost use Rattle.chess_rules.specs.ties.Filtering.{IsFirstKept, SomeFails};
 ghost use Rattle.chess_rules.specs.ties.Targets.{AreCandidates, IsTargetCacheOf, AreOrigins, IsAimed};
 
 use crate::legality::blockers::king_safety;
 use crate::legality::evasions::{evasion_squares, evasions_from};
 use crate::legality::legal::is_legal;
 use crate::legality::targets::arrivals;
-use crate::listing_moves::filter_moves::{Filtered, FilteredMoves, next_unfiltered, some_filtered};
-use crate::listing_moves::move_filter::{MoveFilter, TargetCache, next_passing};
+use crate::listing_moves::move_test::{MoveTest, TargetCache, next_found};
 use crate::listing_moves::moves::Moves;
+use crate::listing_moves::square_filter::{NextKept, SquareFilter, first_kept, some_removed};
 use crate::listing_moves::triples::{TRIPLES, move_at};
 use chess_attacks::Rules;
 use chess_core::{Board, Move, Square, Squares};
@@ -170,67 +170,67 @@ impl<R: Rules> LegalCursor<R> {
     }
 
     /// Returns `true` only if some legal move fails the filter's test; `false` says nothing. Looks for a move
-    /// that the filter takes, of a man on one of `origins`: these affect speed only. Cursor and filter must
+    /// that the filter removes, of a man on one of `origins`: these affect speed only. Cursor and filter must
     /// belong to the board's position. The board is unchanged.
-    pub fn has_filtered<S: FilteredMoves>(
+    pub fn has_removed<S: SquareFilter>(
         &self,
-        filter_moves: &mut S,
+        square_filter: &mut S,
         board: &mut Board,
         origins: Squares,
     ) -> bool
         requires well_formed { IsWellFormed board.old }
         requires place { IsPlaceIn R.rule board.old self.now }
-        requires fits { S.fits filter_moves.old R.rule board.old }
+        requires fits { S.fits square_filter.old R.rule board.old }
         ensures fails { result ≡ true → SomeFails R.rule board.old (S.test R.rule board.old) }
-        ensures same { filter_moves.new ≡ filter_moves.old }
+        ensures same { square_filter.new ≡ square_filter.old }
         ensures board { board.new ≡ board.old }
     {
-        some_filtered::<R, S>(board, self.known(), filter_moves, origins)
+        some_removed::<R, S>(board, self.known(), square_filter, origins)
     }
 
     /// Returns a legal move after the cursor, with the number of legal moves before it, and moves the cursor
-    /// to it. The moves before it fail the filter's test. It is the first move that the filter leaves, but
-    /// that is for speed only: no clause says that a filter takes any move. If it takes all moves after the
-    /// cursor, returns their number, and moves the cursor to the end; all of them fail the test. Cursor and
-    /// filter must belong to the board's position. The board is unchanged.
-    #[tactic(auto, using(crate::proofs::listing_moves::Filtering::next_filtered))]
-    pub fn next_filtered<S: FilteredMoves>(
+    /// to it. The moves before it fail the filter's test. It is the first move that the filter keeps, but
+    /// that is for speed only: no clause says that a filter removes any move. If it removes all moves after
+    /// the cursor, returns their number, and moves the cursor to the end; all of them fail the test. Cursor
+    /// and filter must belong to the board's position. The board is unchanged.
+    #[tactic(auto, using(crate::proofs::listing_moves::Filtering::next_kept))]
+    pub fn next_kept<S: SquareFilter>(
         &mut self,
-        filter_moves: &mut S,
+        square_filter: &mut S,
         board: &mut Board,
-    ) -> Filtered
+    ) -> NextKept
         requires well_formed { IsWellFormed board.old }
         requires place { IsPlaceIn R.rule board.old self.old }
-        requires fits { S.fits filter_moves.old R.rule board.old }
+        requires fits { S.fits square_filter.old R.rule board.old }
         ensures place { self.new ≡ record self.old { place = place_of result.found } }
         ensures within { IsPlaceIn R.rule board.old self.new }
-        ensures passed { MatchOption result.found
+        ensures skipped { MatchOption result.found
             ((filter (S.test R.rule board.old) (moves_after R.rule board.old self.old.place) ≡ [])
-            × (result.passed ≡ length (moves_after R.rule board.old self.old.place)))
-            (λ m. IsFiltered R.rule board.old (S.test R.rule board.old) self.old.place
-            self.new.place result.passed m) }
+            × (result.skipped ≡ length (moves_after R.rule board.old self.old.place)))
+            (λ m. IsFirstKept R.rule board.old (S.test R.rule board.old) self.old.place
+            self.new.place result.skipped m) }
         ensures following { moves_after R.rule board.old self.old.place
             ≡ moves_between R.rule board.old self.old.place self.new.place
             ++ moves_after R.rule board.old self.new.place }
         ensures legal { IfSome result.found (λ m. is_legal R.rule board.old m ≡ true) }
         ensures onward { IfSome result.found (λ m. self.old.place < self.new.place) }
-        ensures same { filter_moves.new ≡ filter_moves.old }
+        ensures same { square_filter.new ≡ square_filter.old }
         ensures board { board.new ≡ board.old }
     {
         let known = self.known();
-        let mut passed = 0;
-        let number = next_unfiltered::<R, S>(board, known, filter_moves, self.number, &mut passed);
+        let mut skipped = 0;
+        let number = first_kept::<R, S>(board, known, square_filter, self.number, &mut skipped);
         if number < TRIPLES {
             self.number = number + 1;
-            return Filtered {
+            return NextKept {
                 found: Some(move_at(number)),
-                passed,
+                skipped,
             };
         }
         self.number = TRIPLES;
-        Filtered {
+        NextKept {
             found: None,
-            passed,
+            skipped,
         }
     }
 }
@@ -253,7 +253,7 @@ pub(crate) fn next_legal<R: Rules>(
     requires end { end ≤ all_triples }
     ensures low { result < end → start ≤ result }
     ensures high { result ≤ end }
-    ensures none { NonePass (is_legal R.rule board.old) start result }
+    ensures none { NoneMeet (is_legal R.rule board.old) start result }
     ensures legal { result < end → is_legal R.rule board.old (triple_at result) ≡ true }
     ensures kept { IsTargetCacheOf R.rule board.old (is_legal R.rule board.old) kept.new }
     ensures board { board.new ≡ board.old }
@@ -262,7 +262,7 @@ pub(crate) fn next_legal<R: Rules>(
         blocker_squares: squares,
         evasion_squares,
     };
-    next_passing::<R, LegalityMasks>(board, &known, kept, start, end)
+    next_found::<R, LegalityMasks>(board, &known, kept, start, end)
 }
 
 /// What the search for legal moves knows of a position: the squares from which a move may expose the
@@ -273,7 +273,7 @@ pub struct LegalityMasks {
     pub(crate) evasion_squares: Squares,
 }
 
-impl MoveFilter for LegalityMasks {
+impl MoveTest for LegalityMasks {
     ghost use Rattle.std.specs.Prelude.{◌≡◌};
     ghost use Rattle.chess_core.specs.ties.Words.{word};
     ghost use Rattle.chess_rules.specs.ties.Evasions.{AreEvasions};

@@ -12,8 +12,8 @@ use chess_attacks::{Rules, in_check};
 use chess_core::{Board, Move};
 use std::marker::{Model, PhantomData};
 
-/// A cursor over the legal moves: the number of triples of origin, arrival and promotion that it has
-/// passed, from 0 to `TRIPLES`, in the order of moves. Contracts see this number.
+/// A cursor over the legal moves: the number of triples of origin, arrival and promotion before it, from 0
+/// to `TRIPLES`, in the order of moves. Contracts see this number.
 #[derive_where(Clone, Copy)]
 pub struct Moves<R> {
     number: u16,
@@ -50,7 +50,7 @@ impl<R> Moves<R> {
         }
     }
 
-    /// Returns the cursor that has passed `number` triples. From `TRIPLES` on it is at the end.
+    /// Returns the cursor after the first `number` triples. From `TRIPLES` on it is at the end.
     pub fn at(number: u16) -> Moves<R>
         ensures { result ≡ number }
     {
@@ -60,7 +60,7 @@ impl<R> Moves<R> {
         }
     }
 
-    /// Returns the number of triples that the cursor has passed.
+    /// Returns the number of triples before the cursor.
     pub fn number(self) -> u16
         ensures { result ≡ self }
     {
@@ -106,7 +106,7 @@ impl<R: Rules> Moves<R> {
         found
     }
 
-    /// Returns the triple that the cursor passed last, if it is a legal move in the board's position.
+    /// Returns the last triple before the cursor, if it is a legal move in the board's position.
     /// Tests only this move. The board is unchanged.
     #[tactic(auto, using(crate::proofs::listing_moves::Between::standing))]
     pub fn legal_move(self, board: &mut Board) -> Option<Move>

@@ -3,12 +3,12 @@ ghost use Rattle.std.specs.Prelude.{◌≡◌, ◌<◌, ◌&&◌, filter, not};
 ghost use Rattle.chess_core.specs.WellFormed.{IsWellFormed};
 ghost use Rattle.chess_rules.specs.Legal.{is_legal, is_nil, moves};
 ghost use Rattle.chess_rules.specs.ties.Counting.{IsKnownIn};
-ghost use Rattle.chess_rules.specs.ties.Filtering.{is_of_others, is_unfiltered};
+ghost use Rattle.chess_rules.specs.ties.Filtering.{is_of_others, is_legal_and};
 ghost use Rattle.chess_rules.specs.ties.Targets.{AreCandidates, AreOrigins, IsAimed};
 
 use crate::legality::legal::is_legal;
 use crate::listing_moves::legal_moves::{LegalCursor, LegalityMasks, candidates, own_origins};
-use crate::listing_moves::move_filter::{MoveFilter, TargetCache, next_passing};
+use crate::listing_moves::move_test::{MoveTest, TargetCache, next_found};
 use crate::listing_moves::triples::TRIPLES;
 use chess_attacks::Rules;
 use chess_attacks::words::contains;
@@ -20,14 +20,14 @@ struct Others {
     known: LegalityMasks,
 }
 
-impl MoveFilter for Others {
+impl MoveTest for Others {
     ghost use Rattle.chess_rules.specs.ties.Counting.{IsKnownIn};
-    ghost use Rattle.chess_rules.specs.ties.Idle.{is_unfiltered-idle};
-    ghost use Rattle.chess_rules.specs.ties.Filtering.{is_of_others, is_unfiltered};
+    ghost use Rattle.chess_rules.specs.ties.Idle.{is_legal_and-idle};
+    ghost use Rattle.chess_rules.specs.ties.Filtering.{is_of_others, is_legal_and};
 
-    ghost test = { λ rule p. is_unfiltered rule p (is_of_others p) };
+    ghost test = { λ rule p. is_legal_and rule p (is_of_others p) };
 
-    ghost found = { λ rule p. is_unfiltered rule p (is_of_others p) };
+    ghost found = { λ rule p. is_legal_and rule p (is_of_others p) };
 
     ghost fits = { λ s rule p. IsKnownIn rule p s.known };
 
@@ -43,14 +43,14 @@ impl MoveFilter for Others {
         is_legal_of_others::<R>(board, self.known, m)
     }
 
-    ghost idle = { λ rule p m h. is_unfiltered-idle rule p (is_of_others p) m h };
+    ghost idle = { λ rule p m h. is_legal_and-idle rule p (is_of_others p) m h };
 }
 
 // Returns a superset of the squares from which a man other than the king has a legal move: the squares
 // of all men of the side to move except the king.
 #[tactic(auto, using(crate::proofs::listing_moves::OtherMoves::other_origins))]
 fn origins_of_others<R: Rules>(board: &Board) -> Squares
-    ensures { AreOrigins (is_unfiltered R.rule board.now (is_of_others board.now)) result }
+    ensures { AreOrigins (is_legal_and R.rule board.now (is_of_others board.now)) result }
 {
     own_origins::<R>(board) & !board.squares(board.turn(), Kind::King)
 }
@@ -61,7 +61,7 @@ fn candidates_of_others<R: Rules>(board: &Board, known: LegalityMasks, from: Squ
     requires well_formed { IsWellFormed board.now }
     requires known { IsKnownIn R.rule board.now known }
     ensures { AreCandidates R.rule board.now
-        (is_unfiltered R.rule board.now (is_of_others board.now)) from result }
+        (is_legal_and R.rule board.now (is_of_others board.now)) from result }
 {
     candidates::<R>(board, known.evasion_squares, from)
 }
@@ -72,7 +72,7 @@ fn is_legal_of_others<R: Rules>(board: &mut Board, known: LegalityMasks, m: Move
     requires well_formed { IsWellFormed board.old }
     requires aimed { IsAimed R.rule board.old m }
     requires known { IsKnownIn R.rule board.old known }
-    ensures answer { result ≡ is_unfiltered R.rule board.old (is_of_others board.old) m }
+    ensures answer { result ≡ is_legal_and R.rule board.old (is_of_others board.old) m }
     ensures board { board.new ≡ board.old }
 {
     is_legal::<R>(board, known.blocker_squares, known.evasion_squares, m)
@@ -94,5 +94,5 @@ pub fn others_have_move<R: Rules>(board: &mut Board) -> bool
         origin: None,
         squares: 0,
     };
-    next_passing::<R, Others>(board, &others, &mut kept, 0, TRIPLES) < TRIPLES
+    next_found::<R, Others>(board, &others, &mut kept, 0, TRIPLES) < TRIPLES
 }

@@ -20,11 +20,14 @@ const FAMILIES: [(&str, Rule, Family, u64, u32); 6] = [
 fn escape_by_kept_flights(rt: HostRuntime) {
     for (name, rule, family, count, least) in &FAMILIES {
         let defended = kept_flights(*rule, *family, *count);
-        let (wrong, taken) = (defended.wrong, defended.taken);
+        let (wrong, removed) = (defended.wrong, defended.removed);
         assert!(rt;
             wrong.is_none(),
             "{name}: a man in number {wrong:?} has no safe defence"
         );
-        assert!(rt; taken >= *least, "{name}: {taken} men have a safe defence");
+        assert!(rt;
+            removed >= *least,
+            "{name}: {removed} men have a safe defence"
+        );
     }
 }

@@ -10,7 +10,7 @@ abbrev pub HasCounted : ℕ → ℕ → ℕ → Type 0
 HasCounted before after least = min (before + least) (2 ^ 64 - 1) ≤ after
 
 module _ {M : Type 0} where
-  -- the least of n and of the values f of the moves that pass the test
+  -- the least of n and of the values f of the moves that meet the test
   unfoldable pub least_of : (M → Bool) → (M → ℕ) → ℕ → List M → ℕ
   least_of test f n [] = n
   least_of test f n (m ∷ ms) = if test m then min (f m) (least_of test f n ms)

@@ -1,6 +1,6 @@
 -- More moves never harm, and the least length is the least.
 use Rattle.pop_solve.proofs.Words.{Battle, Game, arith, cases_lt, false, false≢true, is_lost, is_self_lost, keeps_win, least_moves, self_wins, some_move, suc, true, wins, wins_in, zero, ℕ, ◌<◌, ◌↔◌, ◌≡◌, ◌≤◌, rules}
-use Rattle.pop_solve.proofs.Longer.{climbs, first_at_most, first_is_first, first_passes, is_lost-more, is_self_lost-more, self_wins-more, wins-more}
+use Rattle.pop_solve.proofs.Longer.{climbs, first_at_most, first_is_first, first_meets, is_lost-more, is_self_lost-more, self_wins-more, wins-more}
 
 module _ {P M : Type 0} (game : Game P M) where
   -- If the other side reaches the goal within j further moves, it does so within any greater number.
@@ -50,7 +50,7 @@ module _ {P M : Type 0} (game : Game P M) where
 
     -- If White wins within n moves, White wins within the least number.
     pub wins_in_least : (n : ℕ) (p : P) → wins_in battle game n p ≡ true → wins_in battle game (least_moves battle game n p) p ≡ true
-    wins_in_least n p h = first_passes (λ k. wins_in battle game k p) n h
+    wins_in_least n p h = first_meets (λ k. wins_in battle game k p) n h
 
     -- If White wins within n moves, White wins within a number exactly if it is at least the least one.
     pub wins_exactly_from_least : (n k : ℕ) (p : P) → wins_in battle game n p ≡ true → (wins_in battle game k p ≡ true) ↔ (least_moves battle game n p ≤ k)

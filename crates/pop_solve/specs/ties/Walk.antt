@@ -21,7 +21,7 @@ pub use Rattle.pop_battle.specs.ties.Values.{attacker_to_move, value}
 pub use Rattle.pop_battle.specs.Chess.{chess}
 pub use Rattle.pop_battle.specs.ties.Frames.{Frame}
 use Rattle.pop_battle.specs.ties.Frames.{AreKnown, learned, moved, position, IsLinked, work_after, left_at_top}
-use Rattle.pop_battle.specs.ties.Passing.{CannotBeMated, Passes}
+use Rattle.pop_battle.specs.ties.Skipping.{CannotBeMated, SkipsMoves}
 use Rattle.pop_battle.specs.declared.frame.LineEnds.{LineEnds}
 use Rattle.pop_solve.specs.declared.plan.Plan.{Plan}
 pub use Rattle.pop_battle.specs.ties.Marks.{is_for_mate}
@@ -170,7 +170,7 @@ KeepsEnds ends old new = MatchOption ends (new ≡ old)
 -- from `place` on, the walk skips only moves without paths; the moves `rest` come after them
 abbrev pub GoesTo : RuleSet → Plan → ℕ → Position → ℕ → List Move → (before after : ℕ) → Type 0
 GoesTo rule plan left p place rest before after =
-    Passes rule p place rest (HaveNoPaths rule plan left p before after)
+    SkipsMoves rule p place rest (HaveNoPaths rule plan left p before after)
 
 -- `found` is the next move after `place` that may have a path
 abbrev pub IsNextOf : RuleSet → Plan → ℕ → Position → (place next before after : ℕ) → Option Move

@@ -10,9 +10,9 @@ module _ {X : Type 0} (test : X → Bool) where
   none_fails [] h = refl
   none_fails (x ∷ xs) h = grind (arith, none_fails xs)
 
-  all_pass : (xs : List X) → filter (λ x. not (test x)) xs ≡ [] → list_all test xs ≡ true
-  all_pass [] h = refl
-  all_pass (x ∷ xs) h = grind (arith, all_pass xs)
+  all_meet : (xs : List X) → filter (λ x. not (test x)) xs ≡ [] → list_all test xs ≡ true
+  all_meet [] h = refl
+  all_meet (x ∷ xs) h = grind (arith, all_meet xs)
 
 -- in a list with elements not all fail
 not_all_fail : {X : Type 0} (xs : List X) → not (eqb (length xs) 0) ≡ true → list_all (λ x. false) xs ≡ false
@@ -88,7 +88,7 @@ module _ {P M : Type 0} (battle : Battle) (game : Game P M) (n : ℕ) (q : P) wh
 
   -- A move without refutations is a key, if Black has a reply.
   pub no_refutation_is_key : can_move game q ≡ true → refutations battle game n q ≡ [] → keeps_win battle game n q ≡ true
-  no_refutation_is_key some none = key_where_answered battle some (all_pass is_answered (game.moves q) none)
+  no_refutation_is_key some none = key_where_answered battle some (all_meet is_answered (game.moves q) none)
 
   -- So if Black has a reply and the goal isn't reached, a move is a key exactly if it has no refutations.
   pub keys_are_without_refutations : game.goal q ≡ false → can_move game q ≡ true

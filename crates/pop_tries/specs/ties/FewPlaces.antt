@@ -32,9 +32,9 @@ are_few (One place) = true
 are_few (Two first second) = true
 are_few Many = false
 
--- the moves at the places pass a test
-abbrev pub all_pass : (Move → Bool) → FewPlaces → Bool
-all_pass test Empty = true
-all_pass test (One place) = test (triple_at (place - 1))
-all_pass test (Two first second) = test (triple_at (first - 1)) && test (triple_at (second - 1))
-all_pass test Many = true
+-- the moves at the places meet a test
+abbrev pub all_meet : (Move → Bool) → FewPlaces → Bool
+all_meet test Empty = true
+all_meet test (One place) = test (triple_at (place - 1))
+all_meet test (Two first second) = test (triple_at (first - 1)) && test (triple_at (second - 1))
+all_meet test Many = true

@@ -142,7 +142,7 @@ is_counted rule q Others d = not (is_forcing rule q d)
 abbrev pub refutes_among : RuleSet → Contest → Counted → Position → Move → Bool
 refutes_among rule contest counted q d = is_counted rule q counted d && refutes rule contest q d
 
--- `found` is the next legal move of p after a place that passes a test; `next` is its place
+-- `found` is the next legal move of p after a place that meets a test; `next` is its place
 abbrev pub IsNext : RuleSet → Position → (Move → Bool) → (place next : ℕ) → Option Move → Type 0
 IsNext rule p test place next found = MatchOption found
     (filter test (moves_after rule p place) ≡ [])

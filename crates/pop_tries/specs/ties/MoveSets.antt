@@ -27,11 +27,11 @@ abbrev pub may_be : Option MoveSet → Move → Bool
 may_be None m = true
 may_be (Some set) m = may_hold set m
 
--- each legal move of p that passes the test may be in the set
+-- each legal move of p that meets the test may be in the set
 abbrev pub HoldAll : RuleSet → Position → (Move → Bool) → Option MoveSet → Type 0
 HoldAll rule p test set = (m : Move) → Contains (moves rule p) m → test m ≡ true → may_be set m ≡ true
 
--- each legal move of p that passes the test may be in the set, or comes after the place
+-- each legal move of p that meets the test may be in the set, or comes after the place
 abbrev pub HoldBefore : RuleSet → Position → (Move → Bool) → Option MoveSet → ℕ → Type 0
 HoldBefore rule p test set place = (m : Move) → Contains (moves rule p) m → test m ≡ true
     → (may_be set m ≡ true) ⊎ Contains (moves_after rule p place) m

@@ -14,7 +14,7 @@ pub returns-then-enter : goal.returns-then-enter
 returns-then-enter g c =
     let s = rw (← c.len-depth.ensures.value) at c.requires.begun in
     let b = beginning.begun-by g.R.Rules.rule c.args.problem.now c.args.phase _ _ _ s _ c.requires.legal _ _ _ true _ _ c.requires.opened
-    (rw (c.of-plan.ensures, c.phase_half_moves.ensures, c.may_lead.ensures.unchanged) at c.if-enter.ensures.passes)
+    (rw (c.of-plan.ensures, c.phase_half_moves.ensures, c.may_lead.ensures.unchanged) at c.if-enter.ensures.unfollowed)
     (rw (c.of-plan.ensures, c.phase_half_moves.ensures, c.may_lead.ensures.unchanged) at c.if-enter.ensures.enters)
     (rw (c.of-plan.ensures, c.phase_half_moves.ensures, c.may_lead.ensures.unchanged) at c.if-enter.ensures.counts) (search rules) in
     rw (c.of-walk.ensures, ← c.len-depth.ensures.value) (record { standing = b.standing; left = b.left; counts = b.counts })
@@ -23,7 +23,7 @@ pub returns : goal.returns
 returns g c =
     let s = rw (← c.len-depth.ensures.value) at c.requires.begun in
     let b = beginning.begun-by g.R.Rules.rule c.args.problem.now c.args.phase _ _ _ s _ c.requires.legal _ _ _ false _ _ c.requires.opened
-    (rw (c.of-plan.ensures, c.phase_half_moves.ensures, c.may_lead.ensures.unchanged) at c.if-enter.ensures.passes)
+    (rw (c.of-plan.ensures, c.phase_half_moves.ensures, c.may_lead.ensures.unchanged) at c.if-enter.ensures.unfollowed)
     (rw (c.of-plan.ensures, c.phase_half_moves.ensures, c.may_lead.ensures.unchanged) at c.if-enter.ensures.enters)
     (rw (c.of-plan.ensures, c.phase_half_moves.ensures, c.may_lead.ensures.unchanged) at c.if-enter.ensures.counts) (search rules) in
     rw (c.of-walk.ensures, ← c.len-depth.ensures.value) (record { standing = b.standing; left = b.left; counts = b.counts })

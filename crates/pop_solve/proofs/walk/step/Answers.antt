@@ -64,7 +64,7 @@ returns g c =
     let taken = walking.enter_steps g.R.Rules.rule c.args.plan c.args.half_moves _ _ _ on.stood _ _ _ _ _ _ _ _ _ c.next_of_top.ensures.unchanged
     depth (rw c.in-Some.is at on.next) on.within on.stands _ _ _ _ _ _
     (walking.at_root _ _ (omega (arith, c.next_of_top.ensures.len, c.len-depth.ensures.value, c.requires.«open»)))
-    (rw (left, c.line_ends_after-ends.ensures.unchanged) at c.enter-emitted.ensures.passes)
+    (rw (left, c.line_ends_after-ends.ensures.unchanged) at c.enter-emitted.ensures.unfollowed)
     (rw (left, c.line_ends_after-ends.ensures.unchanged) at c.enter-emitted.ensures.enters)
     (rw (left, c.line_ends_after-ends.ensures.unchanged) at c.enter-emitted.ensures.counts) in
     let kept = walking.kept_steps g.R.Rules.rule c.args.plan c.args.half_moves _ _ _ on.stood _ _ _ _ _ _ _ _ _ c.next_of_top.ensures.unchanged

@@ -33,7 +33,7 @@ returns g c =
     let next = rw (c.contest.ensures, h.1.bare.board_at) at c.in-Some.ensures.next in
     let played = rw bare.board_at at c.play_reply-undo.ensures in
     let met = goes.shown_is_met rule (contest_of task) q by
-    (goes.head_passes (is_shown rule (contest_of task) q) (moves_after rule q c.args.place) by _ next.0) in
+    (goes.head_meets (is_shown rule (contest_of task) q) (moves_after rule q c.args.place) by _ next.0) in
     with_event rule task _ _ _ _ _ (
       h.0,
       record { first_is = h.1.first_is; threat = h.1.threat; walking = played.walking },
