@@ -189,10 +189,13 @@ pub taken_off : (rule : RuleSet) (plan : Plan) (board : Position) (old mid new :
 taken_off rule plan board old mid new before after o x on e =
     let same = same_from_push on.below new _ x (sym on.stands ∙ e) in (rw same.0 at on.stood, sym same.1)
 
--- the top frame before it has moved on
+-- the top frame has the same half-moves left and line ends after it has moved on
 pub top_is : (rule : RuleSet) (plan : Plan) (board : Position) (old mid below : List Frame) (before after : ℕ) (o : Option Move)
-    → (on : MovesOn rule plan board old mid before after o) (x : Frame) → old ≡ below ++ x ∷ [] → x ≡ on.top
-top_is rule plan board old mid below before after o on x e = (same_from_push below on.below x on.top (sym e ∙ on.stood)).1
+    → (on : MovesOn rule plan board old mid before after o) (x : Frame) → mid ≡ below ++ x ∷ []
+    → (x.left ≡ on.top.left) × (x.line_ends ≡ on.top.line_ends)
+top_is rule plan board old mid below before after o on x e =
+    let same = (same_from_push below on.below x _ (sym e ∙ on.stands)).1 in
+    (ap (λ (f : Frame). f.left) same, ap (λ (f : Frame). f.line_ends) same)
 
 -- for `step`: what holds of the frame taken off
 pub ruleset top_frame = (top_known, room_left)

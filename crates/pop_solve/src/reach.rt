@@ -84,6 +84,9 @@ fn squares_after<R: Rules>(
 /// Returns whether computing where lines can end may pay after a move, with `left` half-moves left: not without
 /// enough moves, nor against more than eight men, in Circe three, nor in diagrams with fairy men. For speed only.
 fn may_compute<R: Rules>(left: usize, board: &Board) -> bool {
+    if left < FEWEST_COMPUTED {
+        return false;
+    }
     let mating = if left % 2 == 0 {
         board.turn()
     } else {
@@ -94,7 +97,7 @@ fn may_compute<R: Rules>(left: usize, board: &Board) -> bool {
     } else {
         MOST_COMPUTED
     };
-    left >= FEWEST_COMPUTED && board.side(mating).count_ones() <= most && !has_fairy_men(board)
+    board.side(mating).count_ones() <= most && !has_fairy_men(board)
 }
 
 /// Returns whether the diagram had grasshoppers or nightriders, so that pawns may promote to them.

@@ -461,15 +461,15 @@ pub fn step<R: Rules, const N: usize, const PRUNES: bool>(
         search_state.new.opened }
 {
     let depth = frames.len() - 1;
-    let top = top_of(frames);
-    let left = top.left;
-    let known = top.line_ends;
     let Some(by) = next_of_top::<R, N>(plan, board, frames, search_state) else {
         if let Some(top) = frames.pop() {
             step_back::<R>(depth, top, board);
         }
         return false;
     };
+    let top = top_of(frames);
+    let left = top.left;
+    let known = top.line_ends;
     let ends = line_ends_after::<R, PRUNES>(plan, left - 1, by, known, board);
     if is_out_of_reach(ends) {
         return false;

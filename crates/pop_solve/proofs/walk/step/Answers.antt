@@ -1,4 +1,4 @@
-use Rattle.pop_solve.proofs.Words.{Frame, ap, arith, eqb, false, not, refl, rules, ◌≡◌}
+use Rattle.pop_solve.proofs.Words.{arith, eqb, false, not, refl, rules, ◌≡◌}
 use Rattle.pop_solve.proofs.Walking as walking
 use Rattle.pop_solve.specs.ties.Counts.{tries_all}
 use Rattle.pop_solve.proofs.walk.step.Goals as goal
@@ -42,7 +42,7 @@ line_ends_after-ends-requires g c =
     let next = rw c.in-Some.is at on.next in
     let known = walking.top_ends g.R.Rules.rule c.args.plan c.args.half_moves _ _ _ on.stood _ _ _ _ c.requires.walking.1
     c.next_of_top.ensures.unchanged next.0 refl in
-    record { well_formed = search rules; legal = search (rules, next); known = search (rules, top, known) }
+    record { well_formed = search rules; legal = search (rules, next); known = search (rules, top.0, top.1, known) }
 
 pub returns-then-is_out_of_reach : goal.returns-then-is_out_of_reach
 returns-then-is_out_of_reach g c =
@@ -50,7 +50,7 @@ returns-then-is_out_of_reach g c =
     let top = walking.top_is _ _ _ _ _ _ _ _ _ on _ (rw (← c.top.view_is) at c.top_of-top.ensures) in
     let depth = walking.depth_below _ _ _ _ on.stood c.len-depth.ensures.value in
     let none = c.if-is_out_of_reach.ensures refl in
-    let ends = rw (ap (λ (f : Frame). f.left) top, none.1) at c.line_ends_after-ends.ensures.ends in
+    let ends = rw (top.0, none.1) at c.line_ends_after-ends.ensures.ends in
     let part : tries_all (not (eqb g.row.PRUNES 0)) c.args.plan.battle ≡ false = rw (ends.0, ends.1.help) refl in
     let taken = walking.leave_steps g.R.Rules.rule c.args.plan c.args.half_moves _ _ _ on.stood _ _ _ _ _ _ _ _ _ c.next_of_top.ensures.unchanged
     depth (rw c.in-Some.is at on.next) on.within on.stands _ _ part ends.1.help (rw none.2 at ends.1.ends) c.line_ends_after-ends.ensures.unchanged in
@@ -59,7 +59,7 @@ returns-then-is_out_of_reach g c =
 pub returns : goal.returns
 returns g c =
     let on = c.next_of_top.ensures.top in
-    let left = ap (λ (f : Frame). f.left) (walking.top_is _ _ _ _ _ _ _ _ _ on _ (rw (← c.top.view_is) at c.top_of-top.ensures)) in
+    let left = (walking.top_is _ _ _ _ _ _ _ _ _ on _ (rw (← c.top.view_is) at c.top_of-top.ensures)).0 in
     let depth = walking.depth_below _ _ _ _ on.stood c.len-depth.ensures.value in
     let taken = walking.enter_steps g.R.Rules.rule c.args.plan c.args.half_moves _ _ _ on.stood _ _ _ _ _ _ _ _ _ c.next_of_top.ensures.unchanged
     depth (rw c.in-Some.is at on.next) on.within on.stands _ _ _ _ _ _
@@ -75,7 +75,7 @@ returns g c =
 pub enter-emitted-requires : goal.enter-emitted-requires
 enter-emitted-requires g c =
     let on = c.next_of_top.ensures.top in
-    let left = ap (λ (f : Frame). f.left) (walking.top_is _ _ _ _ _ _ _ _ _ on _ (rw (← c.top.view_is) at c.top_of-top.ensures)) in
+    let left = (walking.top_is _ _ _ _ _ _ _ _ _ on _ (rw (← c.top.view_is) at c.top_of-top.ensures)).0 in
     let next = rw c.in-Some.is at on.next in
     let room = walking.room_with_it g.R.Rules.rule c.args.plan c.args.half_moves _ _ _ on.stood _ _ c.requires.walking.1 in (
       search rules,
