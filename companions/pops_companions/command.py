@@ -72,7 +72,7 @@ class _HelpFormatter(argparse.RawDescriptionHelpFormatter):
 def _columns() -> int:
     """Returns how wide the help is: $COLUMNS, else the terminal, else 80 columns."""
     columns = os.environ.get("COLUMNS", "")
-    if columns.isdecimal() and int(columns):
+    if columns.isdecimal() and len(columns) <= _LONGEST_NUMBER and int(columns):
         return int(columns)
     try:
         return os.get_terminal_size(1).columns or 80

@@ -98,6 +98,16 @@ class Streams(unittest.TestCase):
             outcome = support.run(["sh", "-c", f"{command} {closed}"], b"problem 1\n#1\nsound\n\n")
             self.assertEqual(outcome, (3, b"", f"pops-page: {said} is closed\n"))
 
+    def test_a_width_that_no_terminal_has(self) -> None:
+        command = [sys.executable, str(support.COMPANIONS / "fen2pop"), "--help"]
+        texts = {}
+        for columns in ("80", "0", "-5", "x", "\xb2", "9" * 4400):
+            at = {**os.environ, "COLUMNS": columns}
+            done = subprocess.run(command, stdin=subprocess.DEVNULL, capture_output=True, env=at, check=False)
+            self.assertEqual((done.returncode, done.stderr), (0, b""), columns[:5])
+            texts[columns[:5]] = done.stdout
+        self.assertEqual(len(set(texts.values())), 1, texts)
+
     def test_a_dash_is_standard_input(self) -> None:
         report = b"problem 1\n#1\nplay\n1.Ra1-a8#\nsolutions: 1\n\n"
         problem = b"BeginProblem\nPieces White Kg6 Ra1 Black Kg8\nStipulation #1\nEndProblem\n"

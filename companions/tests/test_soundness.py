@@ -467,6 +467,15 @@ class Collection(unittest.TestCase):
         self.assertEqual(cells[:4], [f"'{title}" for title in titles[:4]])
         self.assertEqual(cells[4:], ['"a;=1"', '"b,=1"', '"""=1"', "a =1"])
 
+    def test_csv_has_nothing_unseen_before_what_a_spreadsheet_computes(self) -> None:
+        titles = ("\u200b=1", "\ufeff=1", "\u2028=1", "\xa0=1", "\u200b \ufe62", "\ufe66", "\u200ba")
+        items = (f"problem {it}\ntitle: {title}\n#1\nsound\n\n" for it, title in enumerate(titles, 1))
+        text = "".join(items).encode()
+        said = run_here.companion("pops-test", "--csv", text=text).output.decode()
+        cells = [row["title"] for row in csv.DictReader(io.StringIO(said, newline=""))]
+        self.assertEqual(cells, [*(f"'{title}" for title in titles[:-1]), titles[-1]])
+        self.assertIn('"\'\u2028=1"', said)
+
     def test_csv(self) -> None:
         rows = list(csv.DictReader(io.StringIO(self.judged("--csv").output.decode())))
         self.assertEqual([row["verdict"] for row in rows], [verdict for verdict, _ in self.WANTED])

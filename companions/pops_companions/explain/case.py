@@ -3,12 +3,13 @@
 import re
 from collections.abc import Callable, Iterable, Iterator, Sequence
 from dataclasses import dataclass, replace
+from itertools import takewhile
 from typing import Optional
 
 from pops_companions.explain.characters import decoded, shown
 from pops_companions.explain.sentences import sentence
 from pops_companions.input.reading import COMMANDS, CONDITIONS, OPTIONS, Reading, Section, step
-from pops_companions.input.words import TEXT_WORDS, Span, TextLine, Word, named
+from pops_companions.input.words import LONGEST_WORD, TEXT_WORDS, Span, TextLine, Word, named
 
 _LONGEST_QUOTED = 48
 # The word before is looked for in this many bytes.
@@ -54,10 +55,13 @@ class Case:
         return self.reading.neighbour(1)
 
     def rest_of_line(self, most: int) -> list[Word]:
-        """Returns the faulty word and the words after it on its line, at most `most`."""
+        """Returns the faulty word and the words after it on its line, at most `most`, up to one that is
+        too long.
+        """
         words = self.reading.words
         place = words.index(self.word)
-        return [it for it in words[place : place + most] if it.line == self.word.line]
+        line, here = self.word.line, words[place : place + most]
+        return list(takewhile(lambda it: it.line == line and len(it.bytes) <= LONGEST_WORD, here))
 
     @property
     def span_before(self) -> Optional[Span]:

@@ -17,8 +17,8 @@ class KnownNode(NamedTuple):
 
 
 KnownNodes = dict[bytes, KnownNode]
-# More than the half-moves of any stipulation.
-_MOST_LEVELS = 64
+# More than the half-moves of any stipulation that pops takes.
+MOST_LEVELS = 64
 
 
 @dataclass
@@ -53,7 +53,7 @@ class GrowingPhase:
         """
         below: list[list[Any]] = [self.solutions, *(node.below for _, node in self._path)]
         deepest = len(self._path)
-        below.extend([] for _ in range(_MOST_LEVELS - deepest))
+        below.extend([] for _ in range(MOST_LEVELS - deepest))
         texts = self.lines
         before = len(texts)
         for place in range(start, len(source)):

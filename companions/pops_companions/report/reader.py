@@ -15,7 +15,7 @@ from typing import Optional
 from pops_companions.chess.men import Colour
 from pops_companions.chess.stipulation import Condition, Play, Stipulation
 from pops_companions.report import events, items, lines
-from pops_companions.report.item_builder import ItemBuilder, KnownNode, KnownNodes
+from pops_companions.report.item_builder import MOST_LEVELS, ItemBuilder, KnownNode, KnownNodes
 from pops_companions.report.moves import PlayedMove, prefix, read_move
 
 
@@ -315,7 +315,7 @@ class ReportReader(LineReader):
         half = self._first_half + level
         lead = " " * (2 * level) + prefix(half)
         move = whole_move(text, lead, half, self._stipulation.side(half))
-        last = self._stipulation.first_half + self._stipulation.half_moves - 1
+        last = self._stipulation.first_half + min(self._stipulation.half_moves, MOST_LEVELS) - 1
         if move is None or half > last or not least <= level <= self._deepest:
             raise self.refused("a move, or the number of solutions", line)
         self._count += level == 0
@@ -332,8 +332,8 @@ def whole_move(text: str, lead: str, half: int, side: Colour) -> Optional[Played
 
 
 def read_events(reader: LineReader, source: Iterable[bytes]) -> Iterator[events.Event]:
-    """Yields what a text says, whose bytes come in pieces of any size."""
-    for data in source:
+    """Yields what a text says, whose bytes come in pieces of any size, as from a binary file."""
+    for data in _pieces(source):
         yield from reader.feed(data)
     yield from reader.close()
 

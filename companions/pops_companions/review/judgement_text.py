@@ -1,6 +1,7 @@
 """Judgements as text and as CSV."""
 
 import re
+import unicodedata
 from collections import Counter
 from collections.abc import Iterable, Iterator
 from typing import Optional
@@ -13,10 +14,11 @@ from pops_companions.show.titles import printable
 
 # How many moves of a finding are shown without --all.
 MOST_LINES = 10
-# What a text begins with that a spreadsheet computes.
-_OF_FORMULAS = ("=", "+", "-", "@", "\uff1d", "\uff0b", "\uff0d", "\uff20", "\t", "\r", "\n")
+# What a text begins with that a spreadsheet computes, also in another width.
+_OF_FORMULAS = ("=", "+", "-", "@")
+_ENDS_OF_CELLS = ("\t", "\r", "\n")
 # What parts cells for some reader: the semicolon where the comma is in numbers.
-_PARTING = re.compile('[,;\t\r\n"]')
+_PARTING = re.compile('[,;\t\r\n\u2028\u2029"]')
 
 COLUMNS = (
     "number",
@@ -85,9 +87,15 @@ def csv_line(values: "tuple[object, ...]") -> str:
 def _cell(value: object) -> str:
     """Returns a cell; a text that a spreadsheet would compute has an apostrophe in front."""
     text = "" if value is None else str(value)
-    if isinstance(value, str) and text.startswith(_OF_FORMULAS):
+    if isinstance(value, str) and _is_formula(text):
         text = f"'{text}"
     return '"{}"'.format(text.replace('"', '""')) if _PARTING.search(text) else text
+
+
+def _is_formula(text: str) -> bool:
+    """Returns whether a spreadsheet may compute a text: some drop what nobody sees in front."""
+    sign = next((it for it in text if unicodedata.category(it)[0] not in "CZ"), "")
+    return text.startswith(_ENDS_OF_CELLS) or unicodedata.normalize("NFKC", sign) in _OF_FORMULAS
 
 
 def as_csv(judgement: Judgement, encoding: str) -> str:
