@@ -234,7 +234,7 @@ def grown(page: Page) -> None:
     browser.wait(drawn_up_to)
     marked = browser.run("document.querySelectorAll('#tree [aria-current]').length")
     page.holds(reached != "" and page.told("reached") == reached and marked == 1, f"walked to {reached} while the report grew")
-    page.holds(" parts, " in page.told("state"), page.told("state"))
+    page.holds(", parts: " in page.told("state"), page.told("state"))
     browser.click("#stop")
     page.holds("this is a beginning" in page.told("state"), page.told("state"))
     page.holds(not browser.run("document.getElementById('beginning').hidden"), "a beginning is marked")
