@@ -41,6 +41,11 @@ OF_THE_MANUAL = (
     b"BeginProblem\nPieces White Kd6 Qh8 Rc7 Black Ke1 Pa6\nStipulation #2\nOption Variation\n"
     b"EndProblem\n"
 )
+# By Edith Baird, Leeds Mercury 1902; the key is 1.Bh7.
+BAIRD = (
+    b"BeginProblem\nPieces White Kb6 Qh5 Rd1a4 Bg6h8 Sa3d8 Pb2f2a5 Black Kd4 Rd3g7 Be1 Sb4 Pd2b3f3a6h6\n"
+    b"Stipulation s#2\nEndProblem\n"
+)
 HEAD = "BeginProblem\nTitle A pair a)\nAuthor Loyd, Samuel & Shinkman, Will\n"
 TWINS = (
     f"{HEAD}Origin The Source 1900\nRemark award: 1st Prize\n"
@@ -640,11 +645,12 @@ class Command(Case):
         head = "BeginProblem\nPieces White Kg6 Ra1 Black Kg8 Pa7\nStipulation "
         tail = "\nEndProblem\n"
         said = "lines end at move 2, Option Variation shows all of them"
-        for asked in ("#3", "s#2"):
-            outcome = self.sheet(f"{head}{asked}{tail}".encode())
-            message = f"pops-sheet: problems without Variation (1): {said}\n"
-            self.assertEqual((outcome.status, outcome.error), (0, message))
-        for asked in ("#3\nOption SetPlay Var", "#2", "s#1", "h#3"):
+        message = f"pops-sheet: problems without Variation (1): {said}\n"
+        outcome = self.sheet(f"{head}#3{tail}".encode())
+        self.assertEqual((outcome.status, outcome.error), (0, message))
+        with mock.patch("pops_companions.commands.sheet.find_tries", lambda *_: None):
+            self.assertIn(message, self.made(BAIRD).error)
+        for asked in ("#3\nOption SetPlay Var", "#2", "s#1", "h#3", "s#2"):
             self.assertEqual(self.sheet(f"{head}{asked}{tail}".encode()).error, "")
         with mock.patch("pops_companions.commands.sheet._MOST_NUMBERS", 0):
             self.assertIn("(1 of them)", self.sheet(f"{head}#3{tail}".encode()).error)
