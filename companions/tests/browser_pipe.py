@@ -128,6 +128,12 @@ class Browser:
                 return result
             self.events.append(message)
 
+    def allow(self, *permissions: str) -> None:
+        """Gives all pages these permissions."""
+        own, self._session = self._session, None
+        self.call("Browser.grantPermissions", permissions=permissions)
+        self._session = own
+
     def run(self, script: str) -> Any:
         """The value of a script in the page."""
         said = self.call(

@@ -234,7 +234,7 @@ def grown(page: Page) -> None:
     browser.wait(drawn_up_to)
     marked = browser.run("document.querySelectorAll('#tree [aria-current]').length")
     page.holds(reached != "" and page.told("reached") == reached and marked == 1, f"walked to {reached} while the report grew")
-    page.holds(" parts, " in page.told("state"), page.told("state"))
+    page.holds(", parts: " in page.told("state"), page.told("state"))
     browser.click("#stop")
     page.holds("this is a beginning" in page.told("state"), page.told("state"))
     page.holds(not browser.run("document.getElementById('beginning').hidden"), "a beginning is marked")
@@ -449,40 +449,41 @@ def edited(page: Page) -> None:
     page.holds(page.text() == "BeginProblem\nStipulation #2\nOption Variation\nEndProblem\n", f"cleared: {page.text()}")
 
 
-# Run in the page: what it would copy, instead of copying it.
-COPIED = """
-window.copied = null;
-navigator.clipboard.writeText = async text => { copied = text; };
-navigator.clipboard.write = async ([item]) => {
+# Run in the page: the picture on the browser's clipboard.
+PICTURE = """
+(async () => {
+  const [item] = await navigator.clipboard.read();
   const picture = await createImageBitmap(await item.getType('image/png'));
   const canvas = Object.assign(document.createElement('canvas'), { width: picture.width, height: picture.height });
   const pen = canvas.getContext('2d');
   pen.drawImage(picture, 0, 0);
   const inked = pen.getImageData(0, 0, picture.width, picture.height).data.reduce((sum, it, at) => sum + (at % 4 === 0 && it < 100), 0);
-  copied = { width: picture.width, inked, url: canvas.toDataURL() };
-};
+  return { width: picture.width, inked, url: canvas.toDataURL() };
+})()
 """
 
 
 def given_away(page: Page) -> None:
     """The diagram as a picture, the solution in short notation, LaTeX and YAML."""
     browser = page.browser
+    browser.allow("clipboardReadWrite", "clipboardSanitizedWrite")
     page.open(MATE_IN_TWO)
-    browser.run(COPIED)
     browser.run(SAVED)
-    browser.run("OUTS.outCopyShort()")
+    browser.click("#outCopyShort")
     page.holds("solve first" in page.told("note"), f"no solution to copy: {page.told('note')}")
     page.solve()
-    browser.run("OUTS.outCopyShort()")
-    browser.wait("copied !== null")
-    page.holds("1.Qb2!" in browser.run("copied") and "1...Kd1,Kf1,a5 2.Rc1#" in browser.run("copied"), f"copied: {browser.run('copied')}")
-    browser.run("copied = null")
+    is_copied = "document.getElementById('note').textContent === 'copied'"
+    browser.click("#outCopyShort")
+    browser.wait(is_copied)
+    short = browser.run("navigator.clipboard.readText()")
+    page.holds("1.Qb2!" in short and "1...Kd1,Kf1,a5 2.Rc1#" in short, f"copied: {short}")
+    browser.run("note('')")
     browser.click("#outCopyDiagram")
-    browser.wait("copied !== null")
-    width, inked = browser.run("[copied.width, copied.inked]")
-    page.holds(width > 700 and inked > 20000, f"a picture {width} wide, {inked} pixels of it dark")
+    browser.wait(is_copied)
+    copied = browser.run(PICTURE)
+    page.holds(copied["width"] > 700 and copied["inked"] > 20000, f"a picture {copied['width']} wide, {copied['inked']} pixels of it dark")
     if page.pictures is not None:
-        (page.pictures / "diagram.png").write_bytes(base64.b64decode(browser.run("copied.url").partition(",")[2]))
+        (page.pictures / "diagram.png").write_bytes(base64.b64decode(copied["url"].partition(",")[2]))
     browser.run("OUTS.outLatex(); OUTS.outYaml(); OUTS.outPng()")
     browser.wait("saved.length === 3")
     page.holds(browser.run("saved.join()") == "pops.tex,pops.yaml,pops.png", f"saved: {browser.run('saved.join()')}")

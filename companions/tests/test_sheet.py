@@ -41,6 +41,11 @@ OF_THE_MANUAL = (
     b"BeginProblem\nPieces White Kd6 Qh8 Rc7 Black Ke1 Pa6\nStipulation #2\nOption Variation\n"
     b"EndProblem\n"
 )
+# By Edith Baird, Leeds Mercury 1902; the key is 1.Bh7.
+BAIRD = (
+    b"BeginProblem\nPieces White Kb6 Qh5 Rd1a4 Bg6h8 Sa3d8 Pb2f2a5 Black Kd4 Rd3g7 Be1 Sb4 Pd2b3f3a6h6\n"
+    b"Stipulation s#2\nEndProblem\n"
+)
 HEAD = "BeginProblem\nTitle A pair a)\nAuthor Loyd, Samuel & Shinkman, Will\n"
 TWINS = (
     f"{HEAD}Origin The Source 1900\nRemark award: 1st Prize\n"
@@ -437,26 +442,41 @@ class Forms(Case):
         if not support.has_latex():
             print("test_sheet: no LaTeX with the package diagram here: no letters were typeset")
             return
-        codes = [*range(0xC0, 0x250), *range(0x1E00, 0x1EFA), *range(0x400, 0x460)]
-        letters = [chr(code) for code in codes if chr(code).isalpha()]
-        problem = "Pieces White Kg6 Ra1 Black Kh8\nStipulation h#1\n"
-        rows = ["".join(letters[place : place + 60]) for place in range(0, len(letters), 60)]
-        problems = (f"Title {it}\nAuthor {it[:9]}, {it[9:18]}\n{problem}" for it in rows)
-        text = f"BeginProblem\n{'NextProblem'.join(chr(10) + it for it in problems)}EndProblem\n"
-        page = self.made(text.encode(), "--to", "latex").output
+        latin, cyrillic = [*range(0xC0, 0x250), *range(0x1E00, 0x1EFA)], [*range(0x400, 0x460)]
+        both = self.page_with([*latin, *cyrillic])
         for letter in "éŁđшЂţ":
-            self.assertIn(letter, page.decode())
-        for engine in ("latex", "lualatex"):
+            self.assertIn(letter, both)
+        pages = {"latex": both, "lualatex": both}
+        if support.run(["kpsewhich", "t2aenc.def"]).status != 0:
+            print("test_sheet: no texlive-lang-cyrillic here: latex set no Cyrillic")
+            pages["latex"] = self.page_with(latin)
+        for engine, page in pages.items():
             if shutil.which(engine) is None:
                 print(f"test_sheet: no {engine} here: it set no letters")
                 continue
             source = self.room / f"{engine}.tex"
-            source.write_bytes(page)
+            source.write_text(page, "utf-8")
             words = [engine, "-interaction=nonstopmode", "-halt-on-error", source.name]
             done = subprocess.run(
                 words, cwd=self.room, capture_output=True, timeout=support.PATIENCE
             )
             self.assertEqual(done.returncode, 0, done.stdout[-2000:])
+
+    def page_with(self, codes: list[int]) -> str:
+        """A document of LaTeX with these letters in titles and authors."""
+        letters = [chr(code) for code in codes if chr(code).isalpha()]
+        problem = "Pieces White Kg6 Ra1 Black Kh8\nStipulation h#1\n"
+        rows = ["".join(letters[place : place + 60]) for place in range(0, len(letters), 60)]
+        problems = (f"Title {it}\nAuthor {it[:9]}, {it[9:18]}\n{problem}" for it in rows)
+        text = f"BeginProblem\n{'NextProblem'.join(chr(10) + it for it in problems)}EndProblem\n"
+        return self.made(text.encode(), "--to", "latex").output.decode()
+
+    def test_cyrillic_alone_needs_its_encoding(self) -> None:
+        """Debian has it in a package that a sheet in Latin letters does without."""
+        for title, wanted in (("Réti", "[T1]"), ("Réti и Ко", "[T2A,T1]")):
+            text = OF_THE_MANUAL.replace(b"Problem\n", f"Problem\nTitle {title}\n".encode(), 1)
+            page = self.made(text, "--to", "latex").output.decode()
+            self.assertIn(f"\\usepackage{wanted}{{fontenc}}\n", page)
 
     def test_letters_in_commands(self) -> None:
         """Accents, also above others and of their own; letters that plain LaTeX lacks are said."""
@@ -619,6 +639,21 @@ class Command(Case):
         self.assertIn("  1.Qb2!\n    1...Kd1,Kf1,a5 2.Rc1#\n", outcome.output.decode())
         with mock.patch("pops_companions.commands.sheet.find_tries", lambda *_: None):
             self.assertEqual(self.made(TWINS).error, "")
+
+    def test_lines_that_end_early(self) -> None:
+        """Without Variation a line has no third move, nor what mates White after his second."""
+        head = "BeginProblem\nPieces White Kg6 Ra1 Black Kg8 Pa7\nStipulation "
+        tail = "\nEndProblem\n"
+        said = "lines end at move 2, Option Variation shows all of them"
+        message = f"pops-sheet: problems without Variation (1): {said}\n"
+        outcome = self.sheet(f"{head}#3{tail}".encode())
+        self.assertEqual((outcome.status, outcome.error), (0, message))
+        with mock.patch("pops_companions.commands.sheet.find_tries", lambda *_: None):
+            self.assertIn(message, self.made(BAIRD).error)
+        for asked in ("#3\nOption SetPlay Var", "#2", "s#1", "h#3", "s#2"):
+            self.assertEqual(self.sheet(f"{head}{asked}{tail}".encode()).error, "")
+        with mock.patch("pops_companions.commands.sheet._MOST_NUMBERS", 0):
+            self.assertIn("(1 of them)", self.sheet(f"{head}#3{tail}".encode()).error)
 
     def test_a_program_of_tries(self) -> None:
         """If no text is given, the program runs, with the number of refutations that the command names."""

@@ -62,6 +62,25 @@ test('page: it begins with the example, and its buttons have their words', () =>
   assert.equal(element('count').textContent, 'problem 1 of 1: 2 + 1 men');
 });
 
+test('page: nightriders without knights are no knights', () => {
+  const countOf = men => {
+    setText(`BeginProblem\nPieces White Kg6 ${men} Black Kg8\nStipulation #1\nEndProblem\n`);
+    return element('count').textContent;
+  };
+  assert.equal(countOf('Na1'), 'problem 1 of 1: 2 + 1 men; N is a nightrider, and there is no knight: knights are S');
+  assert.equal(countOf('Na1 Sb1'), 'problem 1 of 1: 3 + 1 men');
+  setText(TEXT);
+});
+
+test('words: a number that may be 1 comes after its noun', () => {
+  for (const code of Object.keys(LANGUAGES)) {
+    speak(code);
+    assert.match(say('solving', { problem: '#2', seconds: 1, done: 0, parts: 1, found: 1 }), /\p{L} ?: 1$/u);
+    assert.match(say('comparedLeft', { count: 1 }), /\p{L} ?: 1,/u);
+  }
+  speak('en');
+});
+
 test('elements: made with label and text', () => {
   assert.equal(makeButton('label', () => {}).getAttribute('aria-label'), 'label');
   assert.equal(madeWith('p', 'text').textContent, 'text');
@@ -516,7 +535,7 @@ test('tree: set play, tries and play side by side, with what changes', () => {
     ['1...a7-a6', '2.Qb1-f5#', '!', ''],
     ['1...Kf8-e8', '', '!', ''],
   ]);
-  assert.match(box.textContent, /not shown: 1 tries/);
+  assert.match(box.textContent, /tries not shown: 1,/);
   box.querySelectorAll('button').find(it => it.textContent === '2.Qb6-f2#').onclick();
   assert.equal(element('reached').textContent, '2.Qb6-f2#');
   leave();

@@ -216,6 +216,15 @@ function noGame(men) {
   return counts.length ? say('noGame', { men: counts.join(', ') }) : '';
 }
 
+/**
+ * Says that `N` is no knight if there are nightriders and no knights.
+ * @param {Men} men
+ */
+function noKnights(men) {
+  const kinds = new Set([...men.values()].map(man => man[1]));
+  return kinds.has('N') && !kinds.has('S') ? say('noKnights') : '';
+}
+
 /** Shows the problem's position on the board, its men and its FEN, and the steps that can be undone. */
 export function showProblem() {
   const block = blockNow();
@@ -223,7 +232,8 @@ export function showProblem() {
   if (!state.walked) board.show(men, []);
   const all = blocksOf(textNow()).length;
   element('count').textContent = block
-    ? say('count', { number: block.number, all, white: countOf(men, 'w'), black: countOf(men, 'b') }) + noGame(men) : say('none');
+    ? say('count', { number: block.number, all, white: countOf(men, 'w'), black: countOf(men, 'b') }) + noGame(men) + noKnights(men)
+    : say('none');
   if (document.activeElement !== element('fen')) element('fen').value = block ? fenOfBlock(textNow(), block) : '';
   element('undo').disabled = !state.steps.has(-1);
   element('redo').disabled = !state.steps.has(1);

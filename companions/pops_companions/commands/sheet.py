@@ -32,6 +32,10 @@ from pops_companions.show.twins import groups
 
 NAME = "pops-sheet"
 SECONDS = 60.0
+# As far as the programs show a line without Variation: first move, defence, continuation.
+_HALF_MOVES_SHOWN = 3
+# More problems than these are counted and not named.
+_MOST_NUMBERS = 10
 # The most diagrams of a row.
 _MOST_IN_A_ROW = 8
 FORMS = ("html", "latex", "pdf", "text")
@@ -239,6 +243,32 @@ def is_battle(item: AnyItem) -> bool:
     return isinstance(item, SoundItem) and item.stipulation.play is not Play.HELP
 
 
+def warn_of_short_lines(
+    items: list[AnyItem], tries: dict[int, TriesItem], given: list[GivenProblem]
+) -> None:
+    """Says of which problems the lines end before their last move, because Variation is missing."""
+    numbers = [
+        it.number
+        for it in items
+        if isinstance(it, SoundItem)
+        and is_battle(it)
+        and it.stipulation.half_moves > _HALF_MOVES_SHOWN
+        and not given[it.number - 1].has_variations
+        and has_lines(it, tries.get(it.number))
+    ]
+    if numbers:
+        many = len(numbers) > _MOST_NUMBERS
+        shown = f"{len(numbers)} of them" if many else ", ".join(map(str, numbers))
+        said = "lines end at move 2, Option Variation shows all of them"
+        print(f"{NAME}: problems without Variation ({shown}): {said}", file=sys.stderr)
+
+
+def has_lines(item: SoundItem, tries: Optional[TriesItem]) -> bool:
+    """Returns whether a problem has a solution or a try."""
+    solutions = any(phase.solutions for phase in item.phases or ())
+    return solutions or tries is not None and bool(tries.tries)
+
+
 def refuse_other_texts(
     items: list[AnyItem],
     tries: dict[int, TriesItem],
@@ -284,6 +314,7 @@ def sheet(settings: Settings) -> Status:
     warn_of_names(NAME, settings.report or settings.input, items, settings.encoding)
     tries = texts.tries(items) if any(map(is_battle, items)) else {}
     refuse_other_texts(items, tries, given, boards)
+    warn_of_short_lines(items, tries, given)
     items = with_missing(items, given)
     shown = TriesShown(settings.tries)
     made = Sheet(boards, tries, LANGUAGES[settings.language], settings.encoding, shown)

@@ -177,7 +177,7 @@ def accented(case: Case) -> Optional[Explanation]:
 
 def lengthened(case: Case) -> Optional[Explanation]:
     """Explains a word of pops with letters after it."""
-    word = case.plain.lower()
+    word = without_signs(case.plain).lower()
     for name in NAMES:
         if word.startswith(name.lower()) and word[len(name) :].isalpha():
             if case.fits(name) and not _names_more(word, name):
@@ -197,8 +197,8 @@ def too_short(case: Case) -> Optional[Explanation]:
 
 
 def misspelt(case: Case) -> Optional[Explanation]:
-    """Explains a word that is nearly one of pops."""
-    word = case.plain.lower()
+    """Explains a word that is nearly one of pops, also with signs around it."""
+    word = without_signs(case.plain).lower()
     if len(word) < 3:
         return None
     best = min(case.names_here(), key=lambda name: _nearness(word, name), default=None)

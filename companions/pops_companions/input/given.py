@@ -87,6 +87,12 @@ class GivenProblem:
         return sections
 
     @property
+    def has_variations(self) -> bool:
+        """Whether it has the option Variation."""
+        options = (it for it in self.sections if it.command is Section.OPTION)
+        return any(is_short_for(word, "Variation") for it in options for word in it.words[1:])
+
+    @property
     def wanted(self) -> Optional[int]:
         """The number of solutions that a Remark asks for, as `Remark solutions 2`; the last one."""
         wanted = None

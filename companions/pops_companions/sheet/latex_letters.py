@@ -2,11 +2,11 @@
 
 from pops_companions.sheet.latex_commands import CYRILLIC, in_commands
 
-_HEAD = r"""\usepackage{iftex}
-\ifPDFTeX
-\usepackage[T2A,T1]{fontenc}
-\usepackage[utf8]{inputenc}
-"""
+_HEAD = "\\usepackage{iftex}\n\\ifPDFTeX\n"
+# (Cyrillic's encoding needs a package of its own, Debian's texlive-lang-cyrillic)
+_LATIN = "\\usepackage[T1]{fontenc}\n"
+_LATIN_AND_CYRILLIC = "\\usepackage[T2A,T1]{fontenc}\n"
+_INPUT = "\\usepackage[utf8]{inputenc}\n"
 # A letter of Cyrillic, which LaTeX has in its encoding, T2A; another one, which it may not have.
 _MACROS = r"""\usepackage{graphicx}
 \newcommand*\cyrillicletter[3]{\ifcsname u8:\detokenize{#2}\endcsname
@@ -31,7 +31,8 @@ _OTHER_ENGINES = "\\else\n\\usepackage{fontspec}\n"
 def letters_of(text: str) -> str:
     """Returns the lines of a preamble that let a document with this text be set."""
     others = _beyond_ascii(text)
-    lines = [_HEAD]
+    has_cyrillic = any(ord(character) in CYRILLIC for character in others)
+    lines = [_HEAD, _LATIN_AND_CYRILLIC if has_cyrillic else _LATIN, _INPUT]
     if others:
         lines.append(_MACROS)
     lines += [f"{_declared(character)}\n" for character in others]
