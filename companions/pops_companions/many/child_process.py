@@ -23,6 +23,8 @@ _ROOM = 1 << 16
 MOST_ROOM = 1 << 20
 _SET_ROOM = 1031
 
+# The number of standard error.
+_LAST_STREAM = 2
 # The processor time after which a program ends that outlives its seconds, in seconds beyond them.
 _SECONDS_MORE = 2
 
@@ -47,7 +49,7 @@ class ChildProcess:
         environment: Optional[dict[str, str]] = None,
     ):
         """Starts the program with its standard output in a pipe. OSError where it can't be started."""
-        watched, self._held = os.pipe()
+        watched, self._held = _pipe()
         try:
             self.run = subprocess.Popen(
                 [_plain(words[0]), *words[1:]],
@@ -135,6 +137,18 @@ class ChildProcess:
     def release(self) -> None:
         """Closes the pipe, once the program has ended."""
         os.close(self._held)
+
+
+def _pipe() -> tuple[int, int]:
+    """Returns the ends of a pipe. The reading one isn't 0, 1 or 2, which are free where a standard stream
+    is closed: a program that is started has its own streams there.
+    """
+    reading, writing = os.pipe()
+    if reading > _LAST_STREAM:
+        return reading, writing
+    moved = fcntl.fcntl(reading, fcntl.F_DUPFD_CLOEXEC, _LAST_STREAM + 1)
+    os.close(reading)
+    return moved, writing
 
 
 def has_room(pipe: Optional[IO[bytes]], length: int) -> bool:
