@@ -561,6 +561,10 @@ class Forms(Case):
         told = self.made(text.encode(), "--to", "text", "--language", "de").output.decode()
         self.assertIn("  b) Brett um 90° gedreht\n", told)
         self.assertIn("  duplex Farben umgekehrt\n", told)
+        text = text.replace("Title U duplex", "Title U a) duplex").replace("Title U\n", "Title U a)\n")
+        told = self.made(text.encode(), "--to", "text").output.decode()
+        self.assertIn("\n2. U\n", told)
+        self.assertIn("  a) duplex colours reversed\n", told)
 
     def test_originals(self) -> None:
         """Three diagrams a row with what makes the twins, all solutions after them."""
