@@ -123,6 +123,59 @@ class Twins(unittest.TestCase):
         self.assertEqual([len(one.twins) for one in joined(problems[:1] + problems[2:])], [0] * 3)
 
 
+def nodes(text: str) -> "list[dict[str, object]]":
+    """The documents of a text in YAML."""
+    found = [document.node() for document in documents(text)]
+    return [node for node in found if isinstance(node, dict)]
+
+
+DUPLEX = b"""\
+BeginProblem
+Title Both sides
+Pieces White Kh1 Rb7 Pg2h2 Black Kh8 Rb2 Pg7h7
+Stipulation h#1
+Option MaxSolutions 1 Duplex
+EndProblem
+"""
+
+
+@support.needs_module("yaml")
+class Duplex(unittest.TestCase):
+    """What an import makes of Duplex is one problem again, with that option."""
+
+    def both(self, text: bytes) -> str:
+        """The YAML of a problem of Popeye with its solutions; an import of both forms is the same."""
+        with tempfile.TemporaryDirectory() as room:
+            given, report = Path(room) / "duplex.pop", Path(room) / "duplex.report"
+            given.write_bytes(run_here.companion("pops-import", text=text).output)
+            report.write_bytes(support.run([support.pops(), str(given)]).output)
+            made = exported("yaml", "--report", str(report), str(given))
+            for form in (made, exported("popeye", str(given))):
+                self.assertEqual(same(form).problems, same(given.read_text("utf-8")).problems)
+        return made
+
+    def test_with_solutions(self) -> None:
+        """Those of the other side are as on the diagram, and its men aren't turned."""
+        (found,) = nodes(self.both(DUPLEX))
+        self.assertEqual(found["options"], ["MaxSolutions 1", "Duplex"])
+        self.assertNotIn("comments", found)
+        solution = "1.Rb2-a2 Rb7-b8 #\n\nduplex\n\n1.Rb7-a7 Rb2-b1 #"
+        self.assertEqual(found["solution"], solution)
+
+    def test_with_twins(self) -> None:
+        text = DUPLEX.replace(b"End", b"Twin Move h7 h6\nTwin Move h2 h3\nEnd")
+        (found,) = nodes(self.both(text))
+        self.assertEqual((found["title"], found["twins"]), ("Both sides", {"b": "Move h7 h6", "c": "Move h2 h3"}))
+        headings = [line for line in str(found["solution"]).split("\n") if ")" in line]
+        self.assertEqual(headings, ["a)", "a) duplex", "b) duplex", "c) Move h2 h3"])
+
+    def test_another_problem_stays_apart(self) -> None:
+        """Where the second problem isn't the first with colours turned, both are as they were."""
+        text = run_here.companion("pops-import", text=DUPLEX).output.replace(b"Rb2", b"Rc2")
+        titles = [it["title"] for it in nodes(exported("yaml", text=text))]
+        self.assertEqual(titles, ["Both sides", "Both sides duplex"])
+
+
 @support.needs_module("yaml")
 class Yaml(unittest.TestCase):
     def test_the_keys(self) -> None:

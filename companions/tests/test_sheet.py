@@ -344,6 +344,17 @@ class Lines(unittest.TestCase):
         )
 
 
+    def test_any_move_of_a_man_stands_for_its_largest_group(self) -> None:
+        """The queen stalemates from four squares, and from three the king gets away."""
+        stalemates = "".join(f"1.Qd1-{it}?\n  but\n    stalemate\n" for it in ("b1", "f1", "d5", "c1"))
+        others = "".join(f"1.Qd1-{it}?\n  zugzwang\n  but\n    1...Kh2-h1!\n" for it in ("c2", "d2", "e2"))
+        text = f"play\nsolutions: 0\ntries\n{others}{stalemates}tries: 7\n"
+        self.assertEqual(
+            lines("Kf2 Qd1 kh2 ph3", "#2", "play\nsolutions: 0\n", text)[1:4],
+            ["1.Qc2/Qd2/Qe2? Kh1!", "1.Q~?", "  but stalemate"],
+        )
+
+
 class Forms(Case):
     def test_languages_and_figures(self) -> None:
         for language, wanted in (
@@ -561,6 +572,10 @@ class Forms(Case):
         told = self.made(text.encode(), "--to", "text", "--language", "de").output.decode()
         self.assertIn("  b) Brett um 90° gedreht\n", told)
         self.assertIn("  duplex Farben umgekehrt\n", told)
+        text = text.replace("Title U duplex", "Title U a) duplex").replace("Title U\n", "Title U a)\n")
+        told = self.made(text.encode(), "--to", "text").output.decode()
+        self.assertIn("\n2. U\n", told)
+        self.assertIn("  a) duplex colours reversed\n", told)
 
     def test_originals(self) -> None:
         """Three diagrams a row with what makes the twins, all solutions after them."""

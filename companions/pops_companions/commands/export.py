@@ -75,7 +75,7 @@ def refuse_other_report(
 ) -> None:
     """Raises CommandError where the report isn't of the problems."""
     for one in problems:
-        for problem in [one.problem, *(twin.problem for twin in one.twins)]:
+        for _, problem, _ in one.parts:
             item = items.get(problem.number)
             if item is not None and item.stipulation.text != problem.stipulation:
                 raise CommandError(

@@ -5,12 +5,13 @@ from collections.abc import Iterable, Iterator, Sequence
 from dataclasses import dataclass, field, replace
 from typing import NamedTuple, Optional
 
-from pops_companions.import_.posing import posed
+from pops_companions.import_.posing import COLOURS_TURNED, posed
 from pops_companions.import_.sources import read_drafts
 from pops_companions.input.writing import text_of_problems
-from pops_companions.show.twins import label_and_title
+from pops_companions.show.twins import Label, label_and_title
 
 _FIRST_LABEL = "a)"
+_DUPLEX = "Duplex"
 
 
 @dataclass(frozen=True)
@@ -79,18 +80,39 @@ class Twin(NamedTuple):
 
 @dataclass(frozen=True)
 class Exported:
-    """A problem with its twins; the title has no label then."""
+    """A problem with its twins; the title has no label then.
+
+    With the option Duplex, `turned` are the problem and its twins with colours turned.
+    """
 
     problem: Problem
     twins: tuple[Twin, ...] = ()
+    turned: tuple[Problem, ...] = ()
 
     @property
-    def numbers(self) -> list[int]:
-        return [self.problem.number, *(twin.problem.number for twin in self.twins)]
+    def parts(self) -> "list[Part]":
+        """All its problems, in the order of a report."""
+        plain = [Part("a)" if self.twins else "", self.problem, False)]
+        plain += [Part(f"{it.letter}) {it.changes}", it.problem, False) for it in self.twins]
+        if not self.turned:
+            return plain
+        both: list[Part] = []
+        for part, turned in zip(plain, self.turned):
+            letter = part.heading.partition(" ")[0]
+            both += [part, Part(f"{letter} {_DUPLEX.lower()}".strip(), turned, True)]
+        return both
 
     def lines(self) -> list[str]:
         """Returns its lines in an input of Popeye."""
         return [*self.problem.lines(), *(f"Twin {twin.changes}" for twin in self.twins)]
+
+
+class Part(NamedTuple):
+    """A problem with the heading of its solutions; `is_turned` says that its colours are turned."""
+
+    heading: str
+    problem: Problem
+    is_turned: bool
 
 
 class LeftOut(NamedTuple):
@@ -145,14 +167,24 @@ def joined(problems: Iterable[Problem]) -> Iterator[Exported]:
 
 def _continues(run: list[Problem], problem: Problem) -> bool:
     first_title, first = label_and_title(run[0].title)
+    _, last = label_and_title(run[-1].title)
     title, label = label_and_title(problem.title)
-    expected = chr(ord("a") + len(run)) + ")"
     return (
-        (first.text, label.text) == (_FIRST_LABEL, expected)
+        label.text in _next_labels(first, last)
         and (title or "", problem.author, problem.origins)
         == (first_title or "", run[0].author, run[0].origins)
         and problem.number == run[-1].number + 1
     )
+
+
+def _next_labels(first: Label, last: Label) -> list[str]:
+    """Returns the labels that a problem may have after one of a run."""
+    labels: list[str] = []
+    if first.text == _FIRST_LABEL:
+        labels.append(f"{chr(ord('a') + last.number)})")
+    if first.text in ("", _FIRST_LABEL) and not last.is_duplex:
+        labels.append(f"{last.text} {_DUPLEX.lower()}".strip())
+    return labels
 
 
 def _joined_run(run: list[Problem]) -> Iterator[Exported]:
@@ -164,20 +196,28 @@ def _joined_run(run: list[Problem]) -> Iterator[Exported]:
 
 
 def _whole(run: list[Problem]) -> Optional[Exported]:
-    """Twins as one problem; None where their Remarks don't say what changes."""
+    """Twins and duplex as one problem; None where their Remarks don't say what changes."""
     if len(run) < 2:
         return None
-    twins = []
+    twins: list[Twin] = []
+    turned: list[Problem] = []
     for problem in run[1:]:
         _, label = label_and_title(problem.title)
-        said = [text for text in problem.remarks if text.startswith(f"{label.text} ")]
-        others = [text for text in problem.remarks if text not in said]
-        if not said or not set(others) <= set(run[0].remarks):
+        letter = label.text.partition(" ")[0]
+        said = [text for text in problem.remarks if text.startswith(f"{letter} ")]
+        others = {text for text in problem.remarks if text not in said and text != COLOURS_TURNED}
+        if not others <= set(run[0].remarks):
             return None
-        changes = said[0][len(label.text) + 1 :].replace(",", "")
-        twins.append(Twin(label.text[:-1], changes, problem))
+        if label.is_duplex:
+            turned.append(problem)
+        elif said:
+            twins.append(Twin(letter[:-1], said[0][len(letter) + 1 :].replace(",", ""), problem))
+        else:
+            return None
     title, _ = label_and_title(run[0].title)
-    return Exported(replace(run[0], title=title or ""), tuple(twins))
+    options = (*run[0].options, *[_DUPLEX] * bool(turned))
+    first = replace(run[0], title=title or "", options=options)
+    return Exported(first, tuple(twins), tuple(turned))
 
 
 def _gives_back(whole: Exported, run: list[Problem]) -> bool:

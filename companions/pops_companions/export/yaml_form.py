@@ -156,15 +156,21 @@ def _remarks(fields: Fields) -> Iterator[str]:
 
 def _solution(one: Exported, items: Mapping[int, SoundItem]) -> Iterator[str]:
     lines: list[str] = []
-    labels = ["a)", *(f"{twin.letter}) {twin.changes}" for twin in one.twins)]
-    for number, label in zip(one.numbers, labels):
-        found = solution_lines(items.get(number))
-        if found and one.twins:
-            lines += [label, ""]
-        lines += [*found, ""] if found else []
+    for part in one.parts:
+        found = solution_lines(items.get(part.problem.number))
+        if found and part.heading:
+            lines += [part.heading, ""]
+        if found:
+            lines += [*(map(_turned_back, found) if part.is_turned else found), ""]
     if lines:
         yield "solution: |"
         yield from (f"  {line}".rstrip() for line in lines[:-1])
+
+
+def _turned_back(line: str) -> str:
+    """Returns a line of a problem with colours turned as it is played on the diagram."""
+    line = re.sub("([a-h])([1-8])", lambda found: f"{found[1]}{9 - int(found[2])}", line)
+    return re.sub(r"\[\+([wb])", lambda found: "[+b" if found[1] == "w" else "[+w", line)
 
 
 def solution_lines(item: Optional[SoundItem]) -> list[str]:

@@ -19,6 +19,8 @@ from pops_companions.input.writing import pieces_line
 _MOST_REPEATED = 20
 # How much of a stipulation or a condition that pops doesn't know is repeated, for each twin.
 _MOST_QUOTED = 100
+# The Remark of a problem with colours turned, by Duplex or HalfDuplex.
+COLOURS_TURNED = "duplex: colours turned round"
 
 
 class Posed(NamedTuple):
@@ -142,7 +144,7 @@ def _turned(version: _Version) -> _Version:
         label=f"{version.label} duplex".strip(),
         setting=replace(version.setting, men=men),
         options=replace(options, crossed=crossed, may_not_castle=may_not_castle),
-        remarks=version.remarks + ["duplex: colours turned round"],
+        remarks=[*version.remarks, COLOURS_TURNED],
         notes=[] if options.plain else list(version.notes),
     )
 

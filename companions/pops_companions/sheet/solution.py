@@ -1,6 +1,6 @@
 """The solution of a problem in blocks: set play, tries, keys."""
 
-from collections.abc import Iterator, Sequence
+from collections.abc import Iterable, Iterator, Sequence
 from dataclasses import dataclass, replace
 from enum import Enum
 from typing import Optional
@@ -52,6 +52,26 @@ class TriesShown(Enum):
 _ANY_MOVE = 3
 
 
+def _moves_of_men(moves: Iterable[FirstMove]) -> dict[Square, list[FirstMove]]:
+    """Returns the moves of each man, by its square."""
+    found: dict[Square, list[FirstMove]] = {}
+    for one in moves:
+        found.setdefault(one.move.origin, []).append(one)
+    return found
+
+
+def _largest_of_each_man(
+    groups: Iterable[Sequence[FirstMove]],
+) -> dict[Square, list[FirstMove]]:
+    """Returns the moves of each man in the group where it has the most."""
+    largest: dict[Square, list[FirstMove]] = {}
+    for group in groups:
+        for origin, own in _moves_of_men(group).items():
+            if len(own) > len(largest.get(origin, [])):
+                largest[origin] = own
+    return largest
+
+
 @dataclass(frozen=True)
 class Solution:
     """How a solution is made: the men of the diagram, the condition, the language, which tries."""
@@ -90,19 +110,21 @@ class Solution:
                 said, below = f" {self._refuting(one)}", []
             if has_variations or self.shown is TriesShown.ALL:
                 groups.setdefault((said, tuple(below)), []).append(one)
+        largest = _largest_of_each_man(groups.values())
         for (said, lines), group in groups.items():
-            yield Line(f"{prefix(1)}{'/'.join(self._first_moves(group))}?{said}")
+            yield Line(f"{prefix(1)}{'/'.join(self._first_moves(group, largest))}?{said}")
             yield from (line.set_in() for line in lines)
 
-    def _first_moves(self, group: Sequence[FirstMove]) -> Iterator[str]:
-        """Yields the moves of a group; many of a man that isn't a pawn are any of its moves, `K~`."""
-        of_men: dict[Square, list[FirstMove]] = {}
-        for one in group:
-            of_men.setdefault(one.move.origin, []).append(one)
-        for origin, own in of_men.items():
+    def _first_moves(
+        self, group: Sequence[FirstMove], largest: dict[Square, list[FirstMove]]
+    ) -> Iterator[str]:
+        """Yields the moves of a group; many of a man that isn't a pawn are any of its moves, `K~`, but only
+        where it has the most moves."""
+        for origin, own in _moves_of_men(group).items():
             kind = own[0].move.kind
             castles = any(one.move.castling is not None for one in own)
-            if len(own) < _ANY_MOVE or kind is Kind.PAWN or castles:
+            is_largest = own[0] is largest[origin][0]
+            if len(own) < _ANY_MOVE or kind is Kind.PAWN or castles or not is_largest:
                 yield from (short(self.men, one.move, self.condition) for one in own)
                 continue
             man = self.men[origin]

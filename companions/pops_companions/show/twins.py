@@ -13,7 +13,7 @@ from pops_companions.input.given import GivenProblem
 from pops_companions.report.items import AnyItem, Board, SoundItem
 from pops_companions.show.titles import shown
 
-_LABEL = re.compile(r"(?:(.*) )??(?:([a-z]|[0-9]{2,3})\)( duplex)?|(duplex))", re.DOTALL)
+_LABEL = re.compile(r"(?:(.*?) )??(?:([a-z]|[0-9]{2,3})\)( duplex)?|(duplex))", re.DOTALL)
 # A twin with more changed squares is shown by a diagram of its own.
 _MOST_CHANGES = 4
 
