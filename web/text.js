@@ -2,7 +2,7 @@
 // A text of problems: reads and replaces the men and fields of one problem. The rest of the text stays byte for byte.
 // Nothing here judges a problem: the engine does.
 import { fenOf } from './position.js';
-import { atOnce } from './slices.js';
+import { atOnce, LONG_TEXT } from './slices.js';
 
 // Text lines that are fields of the page.
 const TEXT_FIELDS = ['title', 'author', 'origin'];
@@ -45,11 +45,12 @@ export function remembered(make) {
 const WORDS_A_STEP = 2000;
 
 /**
- * Reads words step by step.
+ * Reads words step by step, up to the last one that is wanted.
  * @param {string} text
+ * @param {(word: Token) => boolean} [isLast]
  * @returns {Generator<void, Token[]>}
  */
-function* readWords(text) {
+function* readWords(text, isLast = () => false) {
   /** @type {Token[]} */
   const words = [];
   const pattern = /[^ \t\n\v\f\r]+/g;
@@ -58,6 +59,7 @@ function* readWords(text) {
     /** @type {Token} */
     const token = { word: found[0], from: found.index, to: pattern.lastIndex, command };
     words.push(token);
+    if (isLast(token)) break;
     if (isTextCommand(command)) {
       const end = text.indexOf('\n', pattern.lastIndex);
       pattern.lastIndex = end < 0 ? text.length : end;
@@ -70,6 +72,14 @@ function* readWords(text) {
 
 /** Reads the words of a text with their places; the rest of a text command's line is no word. */
 export const wordsOf = remembered(text => atOnce(readWords(text)));
+
+/** @param {Token} word */
+const opensText = word => word.command === 'beginproblem';
+/**
+ * Returns whether a text has a problem; of a long one only the beginning is read.
+ * @param {string} text
+ */
+export const hasProblem = text => atOnce(readWords(text.slice(0, LONG_TEXT), opensText)).some(opensText);
 
 /**
  * Reads the problems of a text step by step.

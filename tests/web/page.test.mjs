@@ -37,7 +37,7 @@ const { beginVisit, drawVisit, openLink, storeVisit } = await import('../../web/
 const { leave, showPlace } = await import('../../web/page/walk.js');
 const { fillPrint } = await import('../../web/printing.js');
 const { fragmentOf } = await import('../../web/store.js');
-const { menOf } = await import('../../web/text.js');
+const { blocksOf, menOf } = await import('../../web/text.js');
 const { sayFound } = await import('../../web/tree.js');
 const { imported } = await import('../../web/importing.js');
 const words = await import('../../web/words.js');
@@ -662,4 +662,16 @@ test('words: the solution in short notation has the letters of its language', ()
   speak('fr');
   assert.match(shortText(item, men), /1\.Db6! menace : 2\.Df6#/);
   speak('en');
+});
+
+// (the last one: it leaves a long text among those for undo)
+test('a long text that is pasted is read in slices', () => {
+  const long = `BeginProblem\n${'a '.repeat(1 << 21)}`;
+  begin(TEXT);
+  paste(long);
+  assert.equal(textNow(), long);
+  assert.equal(blocksOf.knows(long), false);
+  begin(TEXT);
+  paste('a '.repeat(1 << 21));
+  assert.equal(textNow(), TEXT);
 });

@@ -5,7 +5,7 @@ import { imported } from '../importing.js';
 import { readFen } from '../position.js';
 import { LONG_TEXT } from '../slices.js';
 import { MOST_FILE_BYTES, textOfBytes } from '../store.js';
-import { blocksOf } from '../text.js';
+import { hasProblem } from '../text.js';
 import { say } from '../words.js';
 import { takeFen, takeText } from './editing.js';
 import { textNow } from './state.js';
@@ -51,7 +51,7 @@ function pasted(event) {
  */
 function takePasted(event, text, isText) {
   if (readFen(text)) takeFen(text);
-  else if ((!isText && blocksOf(text).length) || (text.length < LONG_TEXT && imported(text)?.text)) takeText(text);
+  else if ((!isText && hasProblem(text)) || (text.length < LONG_TEXT && imported(text)?.text)) takeText(text);
   else return;
   event.preventDefault();
 }

@@ -105,14 +105,14 @@ def path_of_journal(settings: Settings) -> str:
     return os.path.join(os.path.abspath(folder), f"{NAME}-{os.urandom(6).hex()}.journal")
 
 
-def open_journal(path: str, settings: Settings, run: bytes) -> Journal:
+def open_journal(path: str, settings: Settings, run: bytes, tasks: int) -> Journal:
     """Returns the run's journal; that of a run that stopped isn't overwritten."""
     try:
         if settings.journal is None and settings.output is None:
             # (only its owner reads it)
             new = os.O_CREAT | os.O_EXCL | os.O_NOFOLLOW | os.O_CLOEXEC
             os.close(os.open(path, new, 0o600))
-        return Journal(path, run, settings.resume, settings.seconds)
+        return Journal(path, run, settings.resume, tasks, settings.seconds)
     except JournalError as error:
         raise CommandError(Status.USAGE, str(error)) from None
     except OSError as error:
@@ -271,7 +271,7 @@ class Solving:
         elsewhere: Optional[Elsewhere],
     ) -> int:
         settings = self._settings
-        journal = open_journal(journal_path, settings, self._name)
+        journal = open_journal(journal_path, settings, self._name, len(self._tasks))
         try:
             try_out(files.targets)
         except CommandError:

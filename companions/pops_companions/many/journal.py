@@ -16,7 +16,7 @@ import zlib
 from collections.abc import Sequence
 from typing import TYPE_CHECKING, NamedTuple, Optional
 
-from pops_companions.many.tasks import Result, Source
+from pops_companions.many.tasks import UNFINISHED, Result, Source
 from pops_companions.report import lines
 
 if TYPE_CHECKING:
@@ -66,9 +66,11 @@ def is_begun(path: str) -> bool:
 
 
 class Journal:
-    """An open journal, new or of a run that goes on. `seconds` is the time limit of each problem."""
+    """An open journal, new or of a run that goes on. `tasks` is how many tasks the run has, `seconds` the
+    time limit of each problem.
+    """
 
-    def __init__(self, path: str, run: bytes, resume: bool, seconds: Optional[float]):
+    def __init__(self, path: str, run: bytes, resume: bool, tasks: int, seconds: Optional[float]):
         """Opens the journal. JournalError where it isn't there to be gone on with, or is another's.
 
         No other run opens it meanwhile.
@@ -78,6 +80,7 @@ class Journal:
         self.kept: dict[int, Kept] = {}
         self._finished: set[int] = set()
         self.parts: dict[Key, Kept] = {}
+        self._tasks = tasks
         self._seconds = seconds
         self._head = _HEAD + run + b"\n"
         opened = os.open(path, _OPEN | (0 if resume else os.O_CREAT), 0o666)
@@ -144,13 +147,13 @@ class Journal:
             return False
         if of_task:
             seconds = None if of_task[3] is None else float(of_task[3])
-            self._note(int(of_task[1]), Kept(int(of_task[2]), seconds, start, length))
-        elif of_some:
+            return self._note(int(of_task[1]), Kept(int(of_task[2]), seconds, start, length))
+        if of_some:
             place, tasks, status = (int(part) for part in of_some.group(1, 2, 3))
             if tasks > report.count(lines.ITEM_END):
                 return False
-            self._note(place, Kept(status, None, start, length, tasks))
-        elif of_part:
+            return self._note(place, Kept(status, None, start, length, tasks))
+        if of_part:
             from pops_companions.many.parts import Key
 
             place, number, depth = (int(part) for part in of_part.group(1, 3, 4))
@@ -158,13 +161,18 @@ class Journal:
             self.parts[key] = Kept(0, None, start, length)
         return True
 
-    def _note(self, place: int, kept: Kept) -> None:
-        """Notes a record; unfinished reports of its tasks no longer count."""
+    def _note(self, place: int, kept: Kept) -> bool:
+        """Notes a record; unfinished reports of its tasks no longer count. False where the run has no
+        task like it.
+        """
+        if place + kept.tasks > self._tasks or kept.status > UNFINISHED:
+            return False
         self.kept[place] = kept
         if kept.seconds is None:
             self._finished.update(range(place, place + kept.tasks))
             for of_task in range(place + 1, place + kept.tasks):
                 self.kept.pop(of_task, None)
+        return True
 
     def keep(self, result: Result) -> None:
         """Adds a report; it takes the place of an unfinished one of the same problem."""
