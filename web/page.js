@@ -32,6 +32,7 @@ const allWith = name => document.querySelectorAll(`[${name}]`);
 
 function fillWords() {
   document.documentElement.lang = language;
+  document.title = `pops: ${say('subtitle')}`;
   for (const it of allWith('data-word')) it.textContent = say(it.dataset.word ?? '');
   for (const it of allWith('data-title')) it.title = say(it.dataset.title ?? '');
   for (const it of allWith('data-label')) it.setAttribute('aria-label', say(it.dataset.label ?? ''));

@@ -591,6 +591,8 @@ def spoken(page: Page) -> None:
         browser.run(f"(it => {{ it.value = '{code}'; it.dispatchEvent(new Event('change')); }})(document.getElementById('language'))")
         browser.wait(f"!window.isBefore && {READY}")
         page.holds(page.told("solve") == solve and found in page.told("tree"), f"{code}: {page.told('solve')}, {page.told('tree')}")
+        title = browser.run("document.title")
+        page.holds(title == "pops: " + str(browser.run("say('subtitle')")), f"{code}: the window is called {title}")
         page.holds(page.text() == MATE_IN_TWO and not browser.run("document.getElementById('undo').disabled"), f"{code}: the text and undo stay")
         heights = browser.run("[...document.querySelectorAll('#fields .values input')].map(it => it.offsetHeight)")
         page.holds(len(set(heights)) == 1, f"{code}: fields of different heights, {heights}")

@@ -59,6 +59,7 @@ const noteNow = () => element('note').textContent;
 test('page: it begins with the example, and its buttons have their words', () => {
   assert.equal(textNow(), TEXT);
   assert.equal(element('outText').textContent, 'Text');
+  assert.equal(document.title, 'pops: chess problems, solved');
   assert.equal(element('count').textContent, 'problem 1 of 1: 2 + 1 men');
 });
 

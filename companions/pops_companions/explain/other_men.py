@@ -69,7 +69,8 @@ def two_letters(case: Case) -> Optional[Explanation]:
     word = case.plain
     if not re.fullmatch(r"[a-z]{2}(?:[a-h][1-8])+", word, re.IGNORECASE):
         return None
-    if word[:2].lower() in ("kt", "kn"):
+    # (`KT` is a fairy man of Popeye)
+    if word[:2] in ("Kt", "Kn", "kt", "kn"):
         return case.tells("knight_is_s", squares=word[2:])
     return case.tells("two_letters")
 
