@@ -155,7 +155,7 @@ class Duplex(unittest.TestCase):
         return made
 
     def test_with_solutions(self) -> None:
-        """Those of the other side are as on the diagram, and its men aren't turned."""
+        """The other side's solutions are as on the diagram, and its men aren't turned."""
         (found,) = nodes(self.both(DUPLEX))
         self.assertEqual(found["options"], ["MaxSolutions 1", "Duplex"])
         self.assertNotIn("comments", found)

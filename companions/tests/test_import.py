@@ -405,6 +405,15 @@ class Texts(unittest.TestCase):
         self.assertEqual(made.output.count(b"Remark both\n"), 1)
         self.assertIn(b"Title b)\nRemark both\n", made.output)
 
+    def test_signs_between_two_squares(self) -> None:
+        """As YACPDB has twins of Benkő's: `Shift a1=b1`."""
+        for sign in ("=", "==", "=>", "-->", "<-->", "-", ""):
+            made = imported_text(
+                b"BeginProblem\nPieces White Kg6 Black Kh7\nStipulation h#1\n"
+                b"Twin Shift a1%sa2\nEndProblem\n" % sign.encode()
+            )
+            self.assertIn(b"Remark b) Shift a1 a2\nPieces White Kg7 Black Kh8\n", made.output)
+
 
 @support.needs_module("yaml")
 class Options(unittest.TestCase):

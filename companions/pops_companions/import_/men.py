@@ -9,6 +9,7 @@ from pops_companions.import_.draft import Placed
 from pops_companions.import_.language import is_attribute, meaning
 from pops_companions.import_.words import Unreadable, Word, Words
 
+_PAIR = re.compile("([a-h][1-8])<?[-=]+>?([a-h][1-8])")
 _SQUARES = re.compile("(?:[a-h][1-8])+")
 _MAN = re.compile("([a-z0-9]{1,2})((?:[a-h][1-8])+)")
 
@@ -40,7 +41,12 @@ def take_squares(words: Words, what: str) -> list[Square]:
 
 
 def take_pair(words: Words, what: str) -> tuple[Square, Square]:
-    """Returns two squares, in a word or in two."""
+    """Returns two squares, in a word or in two, also with a sign between them as YACPDB has it."""
+    word = words.peek()
+    pair = None if word is None else _PAIR.fullmatch(word.key)
+    if pair is not None:
+        words.take()
+        return Square.of_name(pair[1]), Square.of_name(pair[2])
     squares = take_squares(words, what)
     if len(squares) == 1:
         squares += take_squares(words, what)
