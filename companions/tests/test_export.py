@@ -6,7 +6,7 @@ import unittest
 from collections.abc import Sequence
 from dataclasses import replace
 from pathlib import Path
-from typing import NamedTuple
+from typing import Any, NamedTuple
 
 from pops_companions.export.problems import Problem, joined, options_of, read_problems
 from pops_companions.export.yaml_form import solution_lines
@@ -123,7 +123,7 @@ class Twins(unittest.TestCase):
         self.assertEqual([len(one.twins) for one in joined(problems[:1] + problems[2:])], [0] * 3)
 
 
-def nodes(text: str) -> "list[dict[str, object]]":
+def nodes(text: str) -> "list[dict[str, Any]]":
     """The documents of a text in YAML."""
     found = [document.node() for document in documents(text)]
     return [node for node in found if isinstance(node, dict)]
@@ -166,7 +166,7 @@ class Duplex(unittest.TestCase):
         text = DUPLEX.replace(b"End", b"Twin Move h7 h6\nTwin Move h2 h3\nEnd")
         (found,) = nodes(self.both(text))
         self.assertEqual((found["title"], found["twins"]), ("Both sides", {"b": "Move h7 h6", "c": "Move h2 h3"}))
-        headings = [line for line in str(found["solution"]).split("\n") if ")" in line]
+        headings = [line for line in found["solution"].split("\n") if ")" in line]
         self.assertEqual(headings, ["a)", "a) duplex", "b) duplex", "c) Move h2 h3"])
 
     def test_another_problem_stays_apart(self) -> None:
