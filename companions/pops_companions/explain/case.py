@@ -3,7 +3,6 @@
 import re
 from collections.abc import Callable, Iterable, Iterator, Sequence
 from dataclasses import dataclass, replace
-from itertools import takewhile
 from typing import Optional
 
 from pops_companions.explain.characters import decoded, shown
@@ -60,8 +59,12 @@ class Case:
         """
         words = self.reading.words
         place = words.index(self.word)
-        line, here = self.word.line, words[place : place + most]
-        return list(takewhile(lambda it: it.line == line and len(it.bytes) <= LONGEST_WORD, here))
+        found: list[Word] = []
+        for word in words[place : place + most]:
+            if word.line != self.word.line or len(word.bytes) > LONGEST_WORD:
+                break
+            found.append(word)
+        return found
 
     @property
     def span_before(self) -> Optional[Span]:
