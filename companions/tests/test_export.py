@@ -116,6 +116,16 @@ class Twins(unittest.TestCase):
                 self.assertNotEqual(other, self.text.decode())
                 self.assertGreater(exported("popeye", text=other.encode()).count("Pieces "), 1)
 
+    def test_twins_of_which_an_import_says_more(self) -> None:
+        """A man put on another and a quarter turn stay twins, without comments."""
+        twins = b"Twin Add white Qa1\nTwin Rotate 90\nEndProblem"
+        pair = b"BeginProblem\nTitle A pair\nPieces White Kg6 Ra1 Black Kh8\nStipulation h#1\n"
+        text = run_here.companion("pops-import", text=pair + twins).output
+        self.assertIn(b"Remark the man on a1 is replaced\n", text)
+        (found,) = nodes(exported("yaml", text=text))
+        self.assertEqual(found["twins"], {"b": "Add white Qa1", "c": "Rotate 90"})
+        self.assertNotIn("comments", found)
+
     def test_a_missing_twin_ends_the_problem(self) -> None:
         problems = read_problems(self.text.decode()).problems
         self.assertEqual([len(one.twins) for one in joined(problems)], [3])

@@ -11,6 +11,8 @@ from pops_companions.input.writing import text_of_problems
 from pops_companions.show.twins import Label, label_and_title
 
 _FIRST_LABEL = "a)"
+# What an import says of a change, and says again of the joined problem.
+_SAID_OF_CHANGES = re.compile("the man on [a-h][1-8] is replaced|Rotate [0-9]+ is .*")
 _DUPLEX = "Duplex"
 
 
@@ -205,7 +207,11 @@ def _whole(run: list[Problem]) -> Optional[Exported]:
         _, label = label_and_title(problem.title)
         letter = label.text.partition(" ")[0]
         said = [text for text in problem.remarks if text.startswith(f"{letter} ")]
-        others = {text for text in problem.remarks if text not in said and text != COLOURS_TURNED}
+        others = {
+            text
+            for text in problem.remarks
+            if text not in said and text != COLOURS_TURNED and not _SAID_OF_CHANGES.fullmatch(text)
+        }
         if not others <= set(run[0].remarks):
             return None
         if label.is_duplex:
