@@ -76,6 +76,13 @@ class Judging(unittest.TestCase):
         self.assertIn("1.Kg8 Ra8#", two.words)
         self.assertIn("<h1>Ours &amp; yours</h1>", self.sheet.read_text("utf-8"))
 
+    def test_a_sheet_whose_name_begins_with_a_dash(self) -> None:
+        program = support.COMPANIONS / "pops-judge"
+        words = [sys.executable, str(program), "--pops", support.pops(), str(self.text)]
+        run = subprocess.run([*words, "-o", "./-sheet.html"], cwd=self.room, capture_output=True)
+        self.assertEqual((run.returncode, run.stderr), (0, b""))
+        self.assertEqual(self.files(), ["-sheet.html", "some.pop"])
+
     def test_a_problem_that_takes_longer_is_taken_up_again(self) -> None:
         """In its time it shows two keys of one: unsound, whatever is missing."""
         head = "problem 1\\n#1\\nplay\\n1.Ra1-a8#\\n1.Ra1-a7#\\n"

@@ -113,12 +113,13 @@ class Work:
         if not journal.is_file() and self.folder.is_sealed(report):
             return
         files.remove(str(report))
-        words = ["--pops", self._runs.pops]
+        # (the value of an option may begin with a dash, as the name of a sheet)
+        words = [f"--pops={self._runs.pops}", f"--output={report}"]
         if self._runs.jobs is not None:
-            words += ["--jobs", str(self._runs.jobs)]
+            words.append(f"--jobs={self._runs.jobs}")
         if self._runs.seconds is not None:
-            words += ["--seconds", repr(self._runs.seconds)]
-        words += ["--resume"] * is_begun(str(journal)) + ["-o", str(report), "--", str(source)]
+            words.append(f"--seconds={self._runs.seconds!r}")
+        words += [*["--resume"] * is_begun(str(journal)), "--", str(source)]
         said = io.StringIO()
         # (on a terminal it shows how far it is)
         shown: io.StringIO = _Renaming(sys.stderr, self.named) if sys.stderr.isatty() else said
