@@ -48,13 +48,17 @@ class _Workers:
         self._bundles = bundles
         self.came: "SimpleQueue[Came]" = SimpleQueue()
         self._threads = [threading.Thread(target=self._work) for _ in range(number)]
+
+    def start(self) -> None:
+        """Starts all threads. If that is broken off, `stop` ends those that were started."""
         for thread in self._threads:
             thread.start()
 
     def join(self) -> None:
-        """Waits until all have ended."""
+        """Waits until all that were started have ended."""
         for thread in self._threads:
-            thread.join()
+            if thread.is_alive():
+                thread.join()
 
     def stop(self) -> None:
         """Ends all runs, and waits until all threads have ended."""
@@ -113,6 +117,7 @@ def run_locally(
     at_work = min(jobs, len(tasks))
     workers = _Workers(program, Bundles(tasks, jobs), at_work)
     try:
+        workers.start()
         while at_work:
             at_work -= _take(workers.came, keep, failed, wait_on)
         workers.join()
