@@ -40,7 +40,7 @@ PYTHON = python()
 def commands() -> list[str]:
     """The commands that pyproject.toml names."""
     text = (support.REPOSITORY / "pyproject.toml").read_text("utf-8")
-    return re.findall(r'^(\S+) = "pops_companions\.commands\.\w+:run"$', text, re.M)
+    return re.findall(r'^(\S+) = "pops_companions\.start:\w+"$', text, re.M)
 
 
 def copied_sources(room: str) -> Path:

@@ -4,7 +4,7 @@ import argparse
 from collections.abc import Iterator
 from contextlib import AbstractContextManager
 from functools import partial
-from typing import NoReturn, Optional
+from typing import Optional
 
 from pops_companions import command
 from pops_companions.command import Status
@@ -117,8 +117,3 @@ def main(words: list[str]) -> Status:
                 target.write(text.encode("utf-8", "replace"))
     progress.end()
     return Status.FAULTY if comparison.differing else Status.GOOD
-
-
-def run() -> NoReturn:
-    """Runs the command on the program's arguments."""
-    command.run(NAME, main)

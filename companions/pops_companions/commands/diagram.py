@@ -8,7 +8,7 @@ from collections import deque
 from collections.abc import Callable, Iterator
 from functools import partial
 from pathlib import Path
-from typing import NoReturn, Optional
+from typing import Optional
 
 from pops_companions import command
 from pops_companions.command import CommandError, Status
@@ -169,8 +169,3 @@ def main(words: list[str]) -> Status:
                 target.write(contents)
             print(file)
     return status
-
-
-def run() -> NoReturn:
-    """Runs the command on the program's arguments."""
-    command.run(NAME, main)

@@ -7,7 +7,7 @@ import os
 import sys
 from collections.abc import Iterator
 from pathlib import Path
-from typing import BinaryIO, NoReturn, Optional
+from typing import BinaryIO, Optional
 
 from pops.engine import Engine
 from pops_companions import command
@@ -197,8 +197,3 @@ def main(words: list[str]) -> Status:
     if settings.fix:
         sys.stderr.write(fix(settings.input, text, settings.force))
     return status
-
-
-def run() -> NoReturn:
-    """Runs the command on the program's arguments."""
-    command.run(NAME, main)

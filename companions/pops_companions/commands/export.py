@@ -2,7 +2,7 @@
 
 import argparse
 import sys
-from typing import NoReturn, Optional
+from typing import Optional
 
 from pops_companions import command
 from pops_companions.command import CommandError, Status
@@ -107,8 +107,3 @@ def main(words: list[str]) -> Status:
         with command.written(settings.output) as target:
             target.write(written.encode("utf-8", "replace"))
     return Status.FAULTY if reading.left_out else Status.GOOD
-
-
-def run() -> NoReturn:
-    """Runs the command on the program's arguments."""
-    command.run(NAME, main)

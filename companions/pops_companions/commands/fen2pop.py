@@ -7,7 +7,7 @@ import re
 import sys
 from collections.abc import Iterator, Mapping
 from dataclasses import replace
-from typing import NamedTuple, NoReturn, Optional
+from typing import NamedTuple, Optional
 
 from pops_companions import command
 from pops_companions.chess.fen import FenError, Position, read_position
@@ -255,8 +255,3 @@ def main(words: list[str]) -> Status:
         with command.written(settings.output) as target:
             target.write(text)
     return status
-
-
-def run() -> NoReturn:
-    """Runs the command on the program's arguments."""
-    command.run(NAME, main)

@@ -7,7 +7,7 @@ import sqlite3
 import sys
 from collections.abc import Callable
 from pathlib import Path
-from typing import NoReturn, Optional
+from typing import Optional
 
 from pops_companions import command
 from pops_companions.command import CommandError, Status
@@ -269,8 +269,3 @@ def main(words: list[str]) -> Status:
     except sqlite3.Error as error:
         message = f"cannot read {settings.collection}: {error}"
         raise CommandError(Status.DEVICE, message) from None
-
-
-def run() -> NoReturn:
-    """Runs the command on the program's arguments."""
-    command.run(NAME, main)

@@ -5,7 +5,7 @@ import json
 import sys
 from collections.abc import Iterable, Sequence
 from enum import Enum
-from typing import NamedTuple, NoReturn, Optional
+from typing import NamedTuple, Optional
 
 from pops_companions import command
 from pops_companions.command import Status
@@ -233,8 +233,3 @@ def main(words: list[str]) -> Status:
             rows = [row_of(COLUMNS), *(entry.row for entry in made.entries)]
             target.write("".join(rows).encode("utf-8", "surrogateescape"))
     return Status.GOOD if made.is_whole else Status.FAULTY
-
-
-def run() -> NoReturn:
-    """Runs the command on the program's arguments."""
-    command.run(NAME, main)

@@ -5,7 +5,7 @@ import errno
 import os
 import sys
 from pathlib import Path
-from typing import NoReturn, Optional
+from typing import Optional
 
 from pops_companions import command
 from pops_companions.command import STANDARD_INPUT, CommandError, Status
@@ -186,8 +186,3 @@ def main(words: list[str]) -> Status:
             why, status = command.said_of(error), Status.DEVICE
         message = f"{why}; what is done is kept in {kept}: go on with --resume"
         raise CommandError(status, message) from None
-
-
-def run() -> NoReturn:
-    """Runs the command on the program's arguments."""
-    command.run(NAME, main)

@@ -5,7 +5,7 @@ import os
 import sys
 from collections.abc import Sequence
 from contextlib import ExitStack
-from typing import BinaryIO, NamedTuple, NoReturn, Optional
+from typing import BinaryIO, NamedTuple, Optional
 
 from pops_companions import command
 from pops_companions.command import CommandError, Status
@@ -350,8 +350,3 @@ def main(words: list[str]) -> int:
     status = solve(settings, sys.stdout.buffer)
     sys.stdout.buffer.flush()
     return status
-
-
-def run() -> NoReturn:
-    """Runs the command on the program's arguments."""
-    command.run(NAME, main)

@@ -3,7 +3,7 @@
 import argparse
 import sys
 from collections.abc import Iterator
-from typing import NoReturn, Optional
+from typing import Optional
 
 from pops_companions import command
 from pops_companions.command import Status
@@ -74,8 +74,3 @@ def main(words: list[str]) -> Status:
     with opened as items, command.written(settings.output) as target:
         target.write(shown.of(noted(items)).encode("utf-8", "replace"))
     return status
-
-
-def run() -> NoReturn:
-    """Runs the command on the program's arguments."""
-    command.run(NAME, main)

@@ -5,7 +5,7 @@ import sys
 import time
 from collections.abc import Iterable, Iterator
 from dataclasses import replace
-from typing import NoReturn, Optional
+from typing import Optional
 
 from pops.engine import Engine
 from pops.run import Ending, Limits, Result
@@ -189,8 +189,3 @@ def main(words: list[str]) -> Status:
     except (MissingError, RunError) as error:
         raise CommandError(Status.DEVICE, str(error)) from None
     return max(statuses, default=Status.GOOD)
-
-
-def run() -> NoReturn:
-    """Runs the command on the program's arguments."""
-    command.run(NAME, main)

@@ -4,7 +4,7 @@ import argparse
 import json
 from collections.abc import Iterator
 from contextlib import AbstractContextManager
-from typing import NoReturn, Optional, Union
+from typing import Optional, Union
 
 from pops_companions import command
 from pops_companions.command import Status
@@ -147,8 +147,3 @@ def main(words: list[str]) -> Status:
             if settings.events:
                 target.flush()
     return Status.GOOD
-
-
-def run() -> NoReturn:
-    """Runs the command on the program's arguments."""
-    command.run(NAME, main)

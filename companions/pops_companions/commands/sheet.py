@@ -352,8 +352,3 @@ def written_as(settings: Settings, entries: list[Entry]) -> bytes:
 
 def main(words: list[str]) -> Status:
     return sheet(arguments(words))
-
-
-def run() -> NoReturn:
-    """Runs the command on the program's arguments."""
-    command.run(NAME, main)

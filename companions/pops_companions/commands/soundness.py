@@ -2,7 +2,7 @@
 
 import argparse
 from collections.abc import Iterator
-from typing import NoReturn, Optional
+from typing import Optional
 
 from pops_companions import command
 from pops_companions.command import CommandError, Status
@@ -186,8 +186,3 @@ def main(words: list[str]) -> Status:
         pose(settings.text, settings.output)
         return Status.GOOD
     return test(settings)
-
-
-def run() -> NoReturn:
-    """Runs the command on the program's arguments."""
-    command.run(NAME, main)

@@ -1,0 +1,61 @@
+"""Begins each companion. (This module imports nothing else, so that a shortage is met in `begin`.)"""
+
+import sys
+
+# Status.FAILED and Status.UNFINISHED, whose module may be what can't be loaded.
+_FAILED = 4
+_UNFINISHED = 6
+
+
+class Companion:
+    """A companion, whose parts are loaded when it begins."""
+
+    def __init__(self, module: str):
+        self._module = module
+
+    def __call__(self) -> None:
+        """Runs the companion on the program's arguments and ends with its status."""
+        try:
+            self._run()
+        except KeyboardInterrupt:
+            _end("stopped", _UNFINISHED)
+        except MemoryError:
+            _end("out of memory", _FAILED)
+        except Exception as error:
+            if sys.flags.dev_mode:
+                raise
+            _end(f"cannot begin: {error}", _FAILED)
+
+    def _run(self) -> None:
+        from importlib import import_module
+
+        from pops_companions import command
+
+        loaded = import_module(f"pops_companions.commands.{self._module}")
+        command.run(loaded.NAME, loaded.main)
+
+
+def _end(message: str, status: int) -> None:
+    """Ends the program with a message in one line, if somebody reads it."""
+    try:
+        sys.stderr.write(f"{sys.argv[0].rpartition('/')[2]}: {message}\n")
+        sys.stderr.flush()
+    except (AttributeError, OSError):
+        pass
+    sys.exit(status)
+
+
+compare = Companion("compare")
+diagram = Companion("diagram")
+explain = Companion("explain")
+export = Companion("export")
+fen2pop = Companion("fen2pop")
+find = Companion("find")
+import_ = Companion("import_")
+judge = Companion("judge")
+many = Companion("many")
+page = Companion("page")
+popeye_py = Companion("popeye_py")
+pops2json = Companion("pops2json")
+sheet = Companion("sheet")
+soundness = Companion("soundness")
