@@ -174,8 +174,8 @@ class Streams(unittest.TestCase):
 class Ends(unittest.TestCase):
     """How a companion ends whose command is a text of Python."""
 
-    def ended(self, command: str) -> "support.Outcome":
-        lines = ["import os, signal, sys", f"sys.path.insert(0, {str(support.COMPANIONS)!r})"]
+    def ended(self, command: str, *loaded: str) -> "support.Outcome":
+        lines = ["import os, signal, sys", f"sys.path.insert(0, {str(support.COMPANIONS)!r})", *loaded]
         lines += ["signal.signal(signal.SIGINT, signal.default_int_handler)", command]
         return support.run([sys.executable, "-c", "\n".join(lines)])
 
@@ -189,6 +189,50 @@ class Ends(unittest.TestCase):
         interrupt = "os.kill(os.getpid(), signal.SIGINT)"
         outcome = self.ended(f"import pops_companions.commands\n{interrupt}")
         self.assertEqual(outcome, (-signal.SIGINT, b"", ""))
+
+    def test_an_interrupt_before_a_command_is_loaded(self) -> None:
+        outcome = self.ended(
+            "def interrupt(*_): raise KeyboardInterrupt\n"
+            "sys.meta_path.insert(0, type('Interrupting', (), {'find_spec': staticmethod(interrupt)}))\n"
+            "sys.argv = ['/a/pops-judge']\n"
+            "start.judge()",
+            "from pops_companions import start",
+        )
+        self.assertEqual(outcome, (6, b"", "pops-judge: stopped\n"))
+
+    def test_a_part_that_is_missing(self) -> None:
+        outcome = self.ended(
+            "from pops_companions import start\n"
+            "sys.modules['pops_companions.files'] = None\n"
+            "sys.argv = ['pops-find', '--version']\n"
+            "start.find()"
+        )
+        self.assertEqual((outcome.status, outcome.output), (4, b""))
+        self.assertRegex(outcome.error, r"\Apops-find: cannot begin: [^\n]*pops_companions\.files[^\n]*\n\Z")
+
+    @unittest.skipUnless(os.path.exists("/proc/self/statm"), "no file tells the memory of a process")
+    def test_too_little_memory_to_load_a_command(self) -> None:
+        for name in ("pops-find", "pops-judge", "pops-test"):
+            outcomes = [self.loaded_within(name, more) for more in range(0, 16_000, 1_000)]
+            for outcome in outcomes:
+                with self.subTest(name, outcome=outcome):
+                    self.assertIn(outcome.status, (0, 4))
+                    self.assertEqual(outcome.error.count("\n"), 1 if outcome.status else 0)
+                    self.assertRegex(outcome.error, rf"\A(?:{name}: [^\n]*\n)?\Z")
+            self.assertIn(4, {it.status for it in outcomes})
+
+    def loaded_within(self, name: str, more: int) -> "support.Outcome":
+        """How a companion ends that may take so many KiB more than Python with the module that begins it."""
+        command = {"pops-test": "soundness"}.get(name, name.removeprefix("pops-"))
+        return self.ended(
+            "pages = int(open('/proc/self/statm').read().split()[0])\n"
+            f"most = pages * resource.getpagesize() + {more} * 1024\n"
+            "resource.setrlimit(resource.RLIMIT_AS, (most, most))\n"
+            f"sys.argv = [{name!r}, '--version']\n"
+            f"start.{command}()",
+            "import resource",
+            "from pops_companions import start",
+        )
 
     def test_two_signals_at_once(self) -> None:
         both = "{signal.SIGINT, signal.SIGTERM}"

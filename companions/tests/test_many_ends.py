@@ -7,13 +7,17 @@ import signal
 import subprocess
 import sys
 import tempfile
+import threading
 import unittest
 from pathlib import Path
 from unittest import mock
 
 from pops_companions.commands.many import name_of_run
 from pops_companions.many import sessions
+from pops_companions.many.local import run_locally
+from pops_companions.many.program import Program, RunError
 from pops_companions.many.progress import Progress
+from pops_companions.many.tasks import Source, tasks_of
 from tests import support
 from tests.made_clock import made_clock
 from tests.six_problems import SixProblems, has_worked, wait_for
@@ -209,6 +213,32 @@ class Sessions(unittest.TestCase):
             sessions.end(session)
             self.assertEqual(sessions.members(session), [])
             run.communicate()
+
+
+class Threads(unittest.TestCase):
+    def test_a_stop_while_they_are_started_ends_those_that_were(self) -> None:
+        stopped, solving = threading.Event(), threading.Event()
+        self.addCleanup(stopped.set)
+
+        def solve(_: object) -> None:
+            solving.set()
+            stopped.wait(support.PATIENCE)
+            raise RunError("stopped")
+
+        program = mock.create_autospec(Program, instance=True)
+        program.solve.side_effect = solve
+        program.stop.side_effect = stopped.set
+        start = threading.Thread.start
+
+        def start_one(thread: threading.Thread) -> None:
+            if solving.is_set():
+                raise KeyboardInterrupt
+            start(thread)
+            solving.wait(support.PATIENCE)
+
+        with mock.patch.object(threading.Thread, "start", start_one), self.assertRaises(KeyboardInterrupt):
+            run_locally(program, tasks_of([Source("x.pop", LONG)] * 2), 2, lambda _: None)
+        self.assertTrue(stopped.is_set())
 
 
 class LastLine(unittest.TestCase):
