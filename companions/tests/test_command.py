@@ -222,7 +222,7 @@ class Ends(unittest.TestCase):
             self.assertIn(4, {it.status for it in outcomes})
 
     def loaded_within(self, name: str, more: int) -> "support.Outcome":
-        """How a companion ends that may take so many KiB more than Python with the module that begins it."""
+        """How a companion ends with this much more memory, in KiB, than Python takes with `start`."""
         command = {"pops-test": "soundness"}.get(name, name.removeprefix("pops-"))
         return self.ended(
             "pages = int(open('/proc/self/statm').read().split()[0])\n"
