@@ -30,8 +30,7 @@ pub fn reach_to(occupied: Squares, colour: Colour, kind: Kind, to: Square) -> Sq
     ensures { (men : List (Option Man)) → occupied ≡ occupied_squares men
         → result ≡ word (λ s. reaches_as men colour kind s to) }
 {
-    // For the proof: a square's number is below 64.
-    let _small = to.index();
+    to.show_below_64();
     match kind.gait() {
         Gait::Hopper => queen_hops_back(occupied, to),
         _ => reach_over(occupied, colour.other(), kind, to),
@@ -135,8 +134,7 @@ fn hoppers_reaching(occupied: Squares, squares: Squares, square: Square, colour:
         → squares ≡ squares_of men colour Grasshopper
         → result ≡ word (λ s. is_man (man_on men s) colour Grasshopper && reaches men s square) }
 {
-    // For the proof: a square's number is below 64.
-    let _small = square.index();
+    square.show_below_64();
     if squares & (straight_lines(square) | diagonal_lines(square)) == 0 {
         return 0;
     }
@@ -202,8 +200,7 @@ pub fn attackers_in(board: &Board, occupancy: Occupancy, square: Square, colour:
     ensures { (men : List (Option Man)) → DescribesMen board.now.men men colour occupancy
         → result ≡ word (λ s. is_of_colour (man_on men s) colour && reaches men s square) }
 {
-    // For the proof: a square's number is below 64.
-    let _small = square.index();
+    square.show_below_64();
     leaping_attackers_in(board, occupancy, square, colour)
         | straight_attackers(board, occupancy, square, colour)
         | diagonal_attackers(board, occupancy, square, colour)
@@ -218,8 +215,7 @@ pub fn has_attacker_in(board: &Board, occupancy: Occupancy, square: Square, colo
     ensures { (men : List (Option Man)) → DescribesMen board.now.men men colour occupancy
         → result ≡ is_reached men square colour }
 {
-    // For the proof: a square's number is below 64.
-    let _small = square.index();
+    square.show_below_64();
     if leaping_attackers_in(board, occupancy, square, colour) != 0 {
         return true;
     }

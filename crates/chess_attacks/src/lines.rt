@@ -100,8 +100,7 @@ impl Direction {
     fn next(self, from: Square) -> Option<Square>
         ensures { result ≡ along from (step_of self) 1 }
     {
-        // For the proof: a square's number is below 64.
-        let _small = from.index();
+        from.show_below_64();
         let ray = self.ray(from);
         if ray == 0 {
             return None;
@@ -123,8 +122,7 @@ fn ride(occupied: Squares, from: Square, direction: Direction) -> Squares
     ensures { (men : List (Option Man)) → occupied ≡ occupied_squares men
         → result ≡ word (λ t. rides men from t (step_of direction)) }
 {
-    // For the proof: a square's number is below 64.
-    let _small = from.index();
+    from.show_below_64();
     let ray = direction.ray(from);
     ray & direction.up_to_first(ray & occupied)
 }
@@ -194,8 +192,7 @@ fn hop(occupied: Squares, from: Square, direction: Direction) -> Squares
     ensures { (men : List (Option Man)) → occupied ≡ occupied_squares men
         → result ≡ word (λ t. hops men from t (step_of direction)) }
 {
-    // For the proof: a square's number is below 64.
-    let _small = from.index();
+    from.show_below_64();
     let hurdle = direction.first(direction.ray(from) & occupied);
     only(direction.next(hurdle))
 }
@@ -205,13 +202,11 @@ fn hop_back(occupied: Squares, to: Square, direction: Direction) -> Squares
     ensures { (men : List (Option Man)) → occupied ≡ occupied_squares men
         → result ≡ word (λ s. hopped_from men to s (step_of direction)) }
 {
-    // For the proof: a square's number is below 64.
-    let _small = to.index();
+    to.show_below_64();
     let Some(next) = direction.next(to) else {
         return 0;
     };
-    // For the proof: the next square's number is below 64.
-    let _near = next.index();
+    next.show_below_64();
     if contains(occupied, next) {
         ride(occupied, next, direction)
     } else {

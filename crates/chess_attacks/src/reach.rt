@@ -47,8 +47,7 @@ pub fn reaches(board: &Board, from: Square, to: Square) -> bool
 {
     match board.man_at(from) {
         Some(man) => {
-            // For the proof: a square's number is below 64.
-            let _small = to.index();
+            to.show_below_64();
             contains(reach_as(board, man.colour, man.kind, from), to)
         }
         None => false,

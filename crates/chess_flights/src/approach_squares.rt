@@ -14,8 +14,7 @@ use chess_core::{Colour, Kind, Man, Square, Squares};
 pub fn open_approaches(man: Man, to: Square) -> Squares
     ensures { AreApproached man to result }
 {
-    // For the proof: a square's number is below 64.
-    let _small = to.index();
+    to.show_below_64();
     let colour = man.colour.other();
     if man.kind.is(Kind::Grasshopper) {
         let kind = Kind::Queen;
@@ -32,8 +31,7 @@ pub fn barring_squares(man: Man, to: Square) -> Squares
     ensures { (w t : ℕ) → (bit_at w to == 1) ≡ true → t < 64 → (bit_at result t == 1) ≡ false
         → IsLeft w man t to }
 {
-    // For the proof: a square's number is below 64.
-    let _small = to.index();
+    to.show_below_64();
     open_approaches(man, to) | only(Some(to))
 }
 

@@ -45,8 +45,7 @@ fn special_arrivals(man: Man, from: Square) -> Squares
     ensures { (m : Move) → m.from ≡ from → m.to < 64 → (bit_at result m.to == 1) ≡ false
         → (is_castling man m ≡ false) × (is_promoting man m.to ≡ false) }
 {
-    // For the proof: a square's number is below 64.
-    let _small = from.index();
+    from.show_below_64();
     if man.kind.is(Kind::Pawn) {
         return LAST_RANKS;
     }

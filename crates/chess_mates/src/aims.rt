@@ -34,16 +34,14 @@ fn aimed_squares(board: &Board, from: Square) -> Squares
 fn never_aims(board: &Board, m: &Move) -> bool
     ensures { result ≡ true → aims_at_king board.now m.now ≡ false }
 {
-    // For the proof: a square's number is below 64.
-    let _small = m.to.index();
+    m.to.show_below_64();
     let Some(man) = board.man_at(m.from) else {
         return false;
     };
     let Some(king) = board.king_of(board.turn().other()) else {
         return false;
     };
-    // For the proof: a square's number is below 64.
-    let _low = king.index();
+    king.show_below_64();
     let own = Man {
         colour: board.turn(),
         kind: man.kind,
@@ -58,8 +56,7 @@ fn never_aims(board: &Board, m: &Move) -> bool
 fn aims_from_arrival(board: &Board, m: &Move) -> bool
     ensures { result ≡ aims_at_king board.now m.now }
 {
-    // For the proof: a square's number is below 64.
-    let _small = m.to.index();
+    m.to.show_below_64();
     contains(aimed_squares(board, m.from), m.to)
 }
 

@@ -248,8 +248,7 @@ fn check_targets<R: Rules>(board: &Board, squares: &CheckSquares, man: Man, from
     requires here { man_on board.now.men from ≡ Some man }
     ensures { AreCheckTargets R.rule board.now from result }
 {
-    // For the proof: a square's number is below 64.
-    let _small = from.index();
+    from.show_below_64();
     if contains(squares.blocker_squares, from) {
         return !0;
     }
@@ -309,8 +308,7 @@ fn may_check_promoted<R: Rules>(board: &Board, squares: &CheckSquares, man: Man,
     let Some(king) = board.king_of(enemy) else {
         return true;
     };
-    // For the proof: a square's number is below 64.
-    let _small = m.to.index();
+    m.to.show_below_64();
     // The captured man, if any, is on the arrival.
     let occupancy = occupancy_after(board, m.from, None, m.to);
     let seen = covered_squares(occupancy.occupied, man, m.promo, m.to);
@@ -333,8 +331,7 @@ pub(crate) fn may_check<R: Rules>(board: &Board, squares: &CheckSquares, m: &Mov
     if !keeps_its_kind(m) {
         return may_check_promoted::<R>(board, squares, man, m);
     }
-    // For the proof: a square's number is below 64.
-    let _small = m.to.index();
+    m.to.show_below_64();
     let from_there = check_squares_for(squares, man.kind);
     contains(from_there, m.to) || may_discover::<R>(board, squares, m)
 }

@@ -49,8 +49,7 @@ fn flights_from<R: Rules>(
     requires captured { captured ≡ capture_square board.now man m.now }
     ensures { IsKnown R.rule (position_after R.rule board.now m.now) result }
 {
-    // For the proof: a square's number is below 64.
-    let _small = m.to.index();
+    m.to.show_below_64();
     let occupancy = occupancy_lifted(board, m.from, captured, m.to, king);
     let near = open_squares::<R>(board, occupancy, king);
     let covered = covered_squares(occupancy.occupied, man, m.promo, m.to);

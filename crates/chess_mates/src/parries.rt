@@ -60,8 +60,7 @@ fn unpinned_squares(board: &Board, squares: &CheckSquares, m: &Move, king: Squar
     requires { AreCheckSquares board.now.men (other board.now.turn) squares.now }
     ensures { result ≡ word (is_unpinned board.now m.now king) }
 {
-    // For the proof: a square's number is below 64.
-    let _small = m.from.index();
+    m.from.show_below_64();
     let blockers = squares.blockers();
     let lines = straight_lines(king) | diagonal_lines(king);
     if contains(lines, m.from) {
@@ -96,8 +95,7 @@ fn squares_between(occupied: Squares, to: Square, king: Square) -> Squares
     ensures { (men : List (Option Man)) → occupied ≡ occupied_squares men
         → AreBetween men to king result }
 {
-    // For the proof: a square's number is below 64.
-    let _small = to.index();
+    to.show_below_64();
     let straight = seen_from_both(occupied, straight_lines(king), Kind::Rook, to, king);
     let diagonal = seen_from_both(occupied, diagonal_lines(king), Kind::Bishop, to, king);
     straight | diagonal
@@ -115,8 +113,7 @@ fn shuts(
 ) -> bool
     ensures { result ≡ true → IsShutBy occupied comers man to king square }
 {
-    // For the proof: a square's number is below 64.
-    let _small = king.index();
+    king.show_below_64();
     let Some(from) = next_bit(comers, 0) else {
         return false;
     };
@@ -130,8 +127,7 @@ fn pawn_origins(colour: Colour, square: Square) -> Squares
     ensures { (s : ℕ) → s < 64 → (bit_at result s == 1) ≡ true
         → is_square (along s (forward colour) 1) square ≡ true }
 {
-    // For the proof: a square's number is below 64.
-    let _small = square.index();
+    square.show_below_64();
     pawn_advances(colour.other(), square) & king_leaps(square)
 }
 
@@ -198,8 +194,7 @@ fn parries_between(
 fn is_untaken(occupied: Squares, takers: Squares, man: Man, to: Square, king: Square) -> bool
     ensures { result ≡ true → IsUntaken occupied takers man to king }
 {
-    // For the proof: a square's number is below 64.
-    let _small = king.index();
+    king.show_below_64();
     takers & !only(Some(king)) == 0
         && !man.kind.is(Kind::Pawn)
         && !man.kind.is_fairy()
@@ -225,8 +220,7 @@ pub(crate) fn parries_after<R: Rules>(board: &Board, squares: &CheckSquares, m: 
     let Some(king) = board.king_of(enemy) else {
         return Parries::Unknown;
     };
-    // For the proof: a square's number is below 64.
-    let _small = m.to.index();
+    m.to.show_below_64();
     let occupancy = occupancy_after(board, m.from, capture_square(board, man, m), m.to);
     let unpinned = unpinned_squares(board, squares, m, king);
     let takers = attackers_in(board, occupancy, m.to, enemy);

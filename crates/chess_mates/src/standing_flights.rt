@@ -101,8 +101,7 @@ impl StandingFlights {
         ensures { (f : ℕ) → f < 64 → (bit_at result f == 1) ≡ true
             → IsFlightBut R.rule board.now from f }
     {
-        // For the proof: a square's number is below 64.
-        let _small = from.index();
+        from.show_below_64();
         if contains(self.ridden, from) {
             return self.flights_beside(board, from);
         }
@@ -117,8 +116,7 @@ impl StandingFlights {
         ensures { (m : Move) → m.from ≡ from → m.to < 64 → (bit_at result m.to == 1) ≡ false
             → mates R.rule board.now m ≡ false }
     {
-        // For the proof: a square's number is below 64.
-        let _small = from.index();
+        from.show_below_64();
         let flights = self.lasting_flights::<R>(board, from);
         if flights == 0 {
             return !0;

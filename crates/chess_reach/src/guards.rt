@@ -57,8 +57,7 @@ impl Guard {
         ensures { (j : Kind) (s : ℕ) → s < 64 → CanBe self.now.kind j → s ≢ king
             → guards colour j s square ≡ true → has self.now.kind j s result ≡ true }
     {
-        // For the proof: a square's number is below 64.
-        let _small = square.index();
+        square.show_below_64();
         let enemy = colour.other();
         let off = !(1u64 << king.index());
         let kind = without_hops(self.kind);
@@ -103,8 +102,7 @@ impl Guard {
             → rebirth colour j square ≡ Some h → guards colour j h square ≡ true
             → has self.now.kind j square result ≡ true }
     {
-        // For the proof: a square's number is below 64.
-        let _small = square.index();
+        square.show_below_64();
         let kind = self.kind;
         let homes = at_rest(
             Man { colour, kind },

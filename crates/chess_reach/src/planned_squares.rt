@@ -61,8 +61,7 @@ fn keep_apart(quest: &Quest, places: &mut Places, most: usize) -> Option<usize>
         → Holds quest.now men places.old w most theirs ends → IsApart quest.now ends
         → MatchOption result ⊥ (λ spare. Holds quest.now men places.new w spare theirs ends) }
 {
-    // For the proof: a square's number is below 64.
-    let _small = quest.king.index();
+    quest.king.show_below_64();
     let near = Whereabouts {
         unpromoted: king_leaps(quest.king),
         queen: 0,
@@ -96,8 +95,7 @@ fn may_have_plan(quest: &Quest, king: &Guard, ours: usize, theirs: usize, captur
         → Captures quest.now.ending.are_reborn prey captured p quest.now.colour ends
         → IsQuestOf prey p quest.now king.now ours theirs → result ≡ true }
 {
-    // For the proof: a square's number is below 64.
-    let _small = quest.king.index();
+    quest.king.show_below_64();
     let Some(steps) = king.fewest(&Whereabouts::at(quest.king), 0, theirs - captured) else {
         return false;
     };

@@ -164,8 +164,7 @@ fn last_rank(colour: Colour) -> Squares
 fn pawn_steps(colour: Colour, from: Square) -> Squares
     ensures { (t : ℕ) → t < 64 → steps_to colour from t ≡ true → (bit_at result t == 1) ≡ true }
 {
-    // For the proof: a square's number is below 64.
-    let _small = from.index();
+    from.show_below_64();
     let ahead = pawn_advances(colour, from);
     if contains(second_rank(colour), from) {
         return ahead;
@@ -391,8 +390,7 @@ pub(crate) fn chain_of(
 ) -> Chain
     ensures { most < 9 → IsChain are_reborn prey man from most result }
 {
-    // For the proof: a square's number is below 64.
-    let _small = from.index();
+    from.show_below_64();
     let here = Whereabouts::at(from);
     let mut now = at_rest(man, &here, are_reborn);
     let mut chain = [now; MOVES];

@@ -33,8 +33,7 @@ fn taking_squares(hurdles: Squares, flight: Square) -> Squares
         → (bit_at near flight == 1) ≡ true → (bit_at result t == 1) ≡ false
         → IsApart k flight b → IsUntaken hurdles k near x t b flight }
 {
-    // For the proof: a square's number is below 64.
-    let _small = flight.index();
+    flight.show_below_64();
     let over = hurdles & king_leaps(flight);
     only(Some(flight)) | reach_to(over, Colour::White, Kind::Grasshopper, flight)
 }

@@ -67,8 +67,7 @@ impl KeptFlights {
         requires flights { AreThreatsOf R.rule _board.now self.now }
         ensures { AreRisky R.rule _board.now from squares result }
     {
-        // For the proof: a square's number is below 64.
-        let _small = from.index();
+        from.show_below_64();
         if R::captures_are_reborn() {
             return squares;
         }

@@ -36,8 +36,7 @@ fn castling_square(board: &Board, own: Squares, corner: Square, next: Square) ->
     ensures { (has_unmoved board.now.unmoved corner ≡ false)
         ⊎ ((bit_at own next == 1) ≡ true) ⊎ ((bit_at result next == 1) ≡ true) }
 {
-    // For the proof: a square's number is below 64.
-    let _small = next.index();
+    next.show_below_64();
     if !board.unmoved().has(corner) {
         return 0;
     }
@@ -116,8 +115,7 @@ pub(crate) fn king_attack_of<R: Rules>(board: &Board, king: Square) -> KingAttac
 pub(crate) fn lifted_from(king_attack: &KingAttack, from: Square) -> KingAttack
     ensures { IsLifted king_attack.now from result }
 {
-    // For the proof: a square's number is below 64.
-    let _small = from.index();
+    from.show_below_64();
     KingAttack {
         hurdles: hurdles_of(
             king_attack.own,

@@ -98,8 +98,7 @@ pub(crate) fn nightrider_lines(king_attack: &KingAttack, king: Square) -> Square
 fn springboards_of(men: &Attackers, to: Square) -> Squares
     ensures { AreSpringboards men.now to result }
 {
-    // For the proof: a square's number is below 64.
-    let _small = to.index();
+    to.show_below_64();
     if men.grasshoppers == 0 {
         return 0;
     }

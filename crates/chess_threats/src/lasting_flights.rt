@@ -161,8 +161,7 @@ fn taking_squares(man: Man, flight: Square) -> Squares
     ensures { (w t : ℕ) → (bit_at w flight == 1) ≡ true → t < 64 → (bit_at result t == 1) ≡ false
         → IsLeft w man t flight }
 {
-    // For the proof: a square's number is below 64.
-    let _small = flight.index();
+    flight.show_below_64();
     open_approaches(man, flight) | only(Some(flight))
 }
 

@@ -73,8 +73,7 @@ fn steps_quietly<R: Rules>(
         → list_all (is_mating R.rule (position_after R.rule board.now m.now))
         (moves R.rule (position_after R.rule board.now m.now)) ≡ false }
 {
-    // For the proof: a square's number is below 64.
-    let _small = m.to.index();
+    m.to.show_below_64();
     let Some(own) = king_after(board, man, m) else {
         return false;
     };

@@ -230,8 +230,7 @@ fn risk_of_going(
     ensures { (a b t : ℕ) → a < 64 → b < 64 → IsOff king_attack.now.hurdles result a b → t < 64
         → (bit_at reached t == 1) ≡ true → IsMet king_attack.now king_zone.now man from targets a b t }
 {
-    // For the proof: a square's number is below 64.
-    let _small = king_zone.king.index();
+    king_zone.king.show_below_64();
     let region = king_zone.near | king_zone.captures | only(Some(king_zone.king));
     let guards = guards_without(king_attack, from, region);
     let watched = watched_squares(&guards, king_zone.king, reached, targets);
@@ -573,8 +572,7 @@ pub(crate) fn critical_from(
         → IsSafeMove king_attack.now from t }
     ensures kept { IfSome kept.new (λ b. IsRiskAfterLeaving king_attack.now b.from b.risk) }
 {
-    // For the proof: a square's number is below 64.
-    let _small = from.index();
+    from.show_below_64();
     if squares & !risk.critical == 0 {
         return squares;
     }

@@ -123,8 +123,7 @@ fn is_safe_step(
     ensures { result ≡ true → (bit_at king_attack.now.hurdles to == 1) ≡ false
         → IsSafeStep king_attack.now to }
 {
-    // For the proof: a square's number is below 64.
-    let _small = to.index();
+    to.show_below_64();
     if contains(guarded, to) {
         return false;
     }
@@ -147,8 +146,7 @@ fn doubtful_step(
     ensures { (bit_at result to == 1) ≡ false → (bit_at king_attack.now.hurdles to == 1) ≡ false
         → IsSafeStep king_attack.now to }
 {
-    // For the proof: a square's number is below 64.
-    let _small = to.index();
+    to.show_below_64();
     if is_safe_step(king_attack, targets, guarded, to) {
         return 0;
     }

@@ -59,8 +59,7 @@ fn critical_step(king_attack: &KingAttack, to: Square) -> Squares
     ensures { (bit_at result to == 1) ≡ false → (bit_at king_attack.now.hurdles to == 1) ≡ false
         → IsSafeStep king_attack.now to }
 {
-    // For the proof: a square's number is below 64.
-    let _small = to.index();
+    to.show_below_64();
     only(Some(to)) & risk_at(king_attack, to).critical
 }
 
@@ -212,8 +211,7 @@ fn flightless_step<R: Rules>(king_attack: &KingAttack, targets: &OpenTargets, to
     requires { AreOpenTargets king_attack.now.men targets.now }
     ensures { (bit_at result to == 1) ≡ false → KeepsFlight R.rule king_attack.now to }
 {
-    // For the proof: a square's number is below 64.
-    let _small = to.index();
+    to.show_below_64();
     if keeps_flight_at::<R>(king_attack, targets, to) {
         return 0;
     }

@@ -34,8 +34,7 @@ fn contested_squares(board: &Board, man: Man, from: Square) -> Squares
     ensures { (m : Move) → m.from ≡ from → m.to < 64 → may_arrive board.now man from m.to ≡ true
         → (bit_at result m.to == 1) ≡ false → IsPassing board.now man m }
 {
-    // For the proof: a square's number is below 64.
-    let _small = from.index();
+    from.show_below_64();
     let enemy = man.colour.other();
     let near = king_leaps(from);
     let next = pawn_advances(man.colour, from) & near;
@@ -50,8 +49,7 @@ fn contested_squares(board: &Board, man: Man, from: Square) -> Squares
 fn special_squares(board: &Board, man: Man, from: Square) -> Squares
     ensures { ArePlain board.now man from result }
 {
-    // For the proof: a square's number is below 64.
-    let _small = from.index();
+    from.show_below_64();
     if man.kind.is(Kind::Pawn) {
         return only(board.crossed()) | contested_squares(board, man, from);
     }
@@ -66,8 +64,7 @@ fn special_squares(board: &Board, man: Man, from: Square) -> Squares
 fn altering_squares(board: &Board, man: Man, from: Square) -> Squares
     ensures { AreMere board.now man from result }
 {
-    // For the proof: a square's number is below 64.
-    let _small = from.index();
+    from.show_below_64();
     let men = board.side(Colour::White) | board.side(Colour::Black);
     if man.kind.is(Kind::Pawn) {
         men | only(board.crossed()) | LAST_RANKS
@@ -224,8 +221,7 @@ impl Threats {
         let Some(man) = board.man_at(from) else {
             return 0;
         };
-        // For the proof: a square's number is below 64.
-        let _small = from.index();
+        from.show_below_64();
         let unplain = unplain_squares::<R>(board, man, from);
         if man.kind.is(Kind::King) {
             let steps = squares & !unplain;
@@ -256,8 +252,7 @@ impl Threats {
         ensures { result ≡ true → (p : Position) → IsWellFormed p → AreThreatsOf R.rule p self.now
             → AreRisky R.rule p from squares 0 }
     {
-        // For the proof: a square's number is below 64.
-        let _small = from.index();
+        from.show_below_64();
         if from == self.king_attack.king {
             return false;
         }
@@ -274,8 +269,7 @@ impl Threats {
             → mates_after R.rule (position_after R.rule board.now m.now) 0 ≡ [] }
         ensures same { self.new ≡ self.old }
     {
-        // For the proof: a square's number is below 64.
-        let _small = m.to.index();
+        m.to.show_below_64();
         self.risky_squares::<R>(board, m.from, only(Some(m.to))) == 0
     }
 }

@@ -207,8 +207,7 @@ fn checkers_of(
     ensures { result ≡ word (λ s. is_of_colour (man_on board.now.men s) colour
         && reaches board.now.men s square) }
 {
-    // For the proof: a square's number is below 64.
-    let _small = square.index();
+    square.show_below_64();
     let occupancy = occupancy_now(board);
     leaping_attackers_in(board, occupancy, square, colour)
         | line_riders(board, colour, RiderLines::Straight) & straight
@@ -303,8 +302,7 @@ fn may_be_hurdle(board: &Board, colour: Colour, squares: Squares, square: Square
     requires { squares ≡ word (may_expose board.now.men colour) }
     ensures { result ≡ may_be_hurdle board.now.men colour square }
 {
-    // For the proof: a square's number is below 64.
-    let _small = square.index();
+    square.show_below_64();
     contains(squares, square) && contains(fairy_lines(board, colour), square)
 }
 
@@ -332,8 +330,7 @@ pub fn cannot_expose<R: Rules>(board: &Board, colour: Colour, squares: Squares, 
     requires { squares ≡ word (may_expose board.now.men colour) }
     ensures { result ≡ cannot_expose R.rule board.now colour m.now }
 {
-    // For the proof: a square's number is below 64.
-    let _small = m.from.index();
+    m.from.show_below_64();
     match board.man_at(m.from) {
         Some(man) => !contains(squares, m.from)
             && stays_off_fairy_lines::<R>(board, man, colour, squares, m),

@@ -104,8 +104,7 @@ fn leaves_check<R: Rules>(board: &Board, evasion_squares: Squares, m: &Move) -> 
         board.now.turn
         ≡ true }
 {
-    // For the proof: a square's number is below 64.
-    let _small = m.to.index();
+    m.to.show_below_64();
     if contains(evasion_squares, m.to) {
         return false;
     }
@@ -145,8 +144,7 @@ pub(crate) fn evasions_from<R: Rules>(
     requires evasion_squares { AreEvasions R.rule board.now.men board.now.turn evasion_squares }
     ensures { AreEvasionsFrom R.rule board.now from result }
 {
-    // For the proof: a square's number is below 64.
-    let _small = from.index();
+    from.show_below_64();
     if evasion_squares == !0 {
         return !0;
     }
@@ -182,8 +180,7 @@ pub(crate) fn is_safe<R: Rules>(
         board.old.turn) }
     ensures board { board.new ≡ board.old }
 {
-    // For the proof: a square's number is below 64.
-    let _small = m.to.index();
+    m.to.show_below_64();
     if cannot_expose::<R>(board, board.turn(), squares, &m) {
         return true;
     }

@@ -155,8 +155,7 @@ fn leaves_king_in_check_unplayed<R: Rules>(board: &Board, m: &Move) -> Option<bo
     ensures { IfSome result (λ b. b ≡ in_check R.rule (position_after R.rule board.now m.now).men
         board.now.turn) }
 {
-    // For the proof: a square's number is below 64.
-    let _small = m.to.index();
+    m.to.show_below_64();
     let Some(man) = board.man_at(m.from) else {
         return None;
     };

@@ -17,8 +17,7 @@ fn is_aimed<R: Rules>(board: &Board, m: &Move) -> bool
     ensures aimed { result ≡ true → IsAimed R.rule board.now m.now }
     ensures idle { result ≡ false → is_pseudo_legal R.rule board.now m.now ≡ false }
 {
-    // For the proof: a square's number is below 64.
-    let _small = m.to.index();
+    m.to.show_below_64();
     let Some(man) = board.man_at(m.from) else {
         return false;
     };

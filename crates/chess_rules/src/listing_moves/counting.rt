@@ -71,8 +71,7 @@ fn are_surely_legal<R: Rules>(
     requires squares { AreCandidates R.rule board.now (is_legal R.rule board.now) from squares }
     ensures { result ≡ true → AreLegal R.rule board.now from squares }
 {
-    // For the proof: a square's number is below 64.
-    let _small = from.index();
+    from.show_below_64();
     let Some(man) = board.man_at(from) else {
         return false;
     };

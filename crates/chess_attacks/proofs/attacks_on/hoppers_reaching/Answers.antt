@@ -4,5 +4,5 @@ use Rattle.chess_attacks.proofs.attacks_on.hoppers_reaching.Goals as goal
 
 pub returns-then-squares-straight_lines-eq0 : goal.returns-then-squares-straight_lines-eq0
 returns-then-squares-straight_lines-eq0 c = λ men occupied squares.
-    hoppers_none men _ _ _ _ _ (rw c.index-small.ensures.value at c.index-small.ensures.small) squares c.straight_lines.ensures c.diagonal_lines.ensures
+    hoppers_none men _ _ _ _ _ c.show_below_64.ensures squares c.straight_lines.ensures c.diagonal_lines.ensures
     (search rules)

@@ -5,5 +5,5 @@ use Rattle.chess_mates.proofs.checks.may_check.Goals as goal
 
 pub returns-else-contains : goal.returns-else-contains
 returns-else-contains g c =
-    let small : c.args.m.now.to < 64 = omega (arith, ap (λ (v : Move). v.to) c.m.view_is, c.index-small.ensures.value, c.index-small.ensures.small) in
+    let small : c.args.m.now.to < 64 = omega (arith, ap (λ (v : Move). v.to) c.m.view_is, c.show_below_64.ensures) in
     search (rules, no_check_by_rebirth, kings_apart, not-false)

@@ -14,12 +14,11 @@ returns-in_default c men ends w theirs holds apart =
     let left = c.loop-i.places in
     let h = c.loop-i.invariant.kept men ends w theirs holds apart in
     let lt = c.loop-i-test.true in
-    let low : q.king < 64 = subst (λ n. n < 64) c.index-small.ensures.value c.index-small.ensures.small in
     let g = slice_index_or q.guards i c.index-quest-i.result in
     let is : guard_at q.guards i ≡ g = found_at q.guards i unused c.index-quest-i.result (search rules) in
     let e = end_at q ends i in
     let small = on_board q men ends left _ _ _ i g is lt h in
-    let none = apart_off q ends i c.king_leaps.result g apart is lt (sym c.is.ensures ∙ c.if-is.true) c.king_leaps.ensures low small in
+    let none = apart_off q ends i c.king_leaps.result g apart is lt (sym c.is.ensures ∙ c.if-is.true) c.king_leaps.ensures c.show_below_64.ensures small in
     within_moves q men ends left _ _ _ i g is lt h c.without.result c.in_default.ensures.kept
     (c.without.ensures g.kind e.kind e.square small (in_place q men ends left _ _ _ i g is lt h) none)
 
@@ -30,7 +29,6 @@ loop-i-preserved c =
     let left = c.loop-i.places in
     let lt = c.loop-i-test.true in
     let room : i < length left = omega (arith, c.loop-i.invariant.size, c.requires.count, lt) in
-    let low : q.king < 64 = subst (λ n. n < 64) c.index-small.ensures.value c.index-small.ensures.small in
     let g = slice_index_or q.guards i c.index-quest-i.result in
     let is : guard_at q.guards i ≡ g = found_at q.guards i unused c.index-quest-i.result (search rules) in
     elim c.if-is.branch [
@@ -40,7 +38,7 @@ loop-i-preserved c =
             let h = c.loop-i.invariant.kept men ends w theirs holds apart in
             let e = end_at q ends i in
             let small = on_board q men ends left _ _ _ i g is lt h in
-            let none = apart_off q ends i c.king_leaps.result g apart is lt (sym c.is.ensures ∙ v.if-is.true) c.king_leaps.ensures low small in
+            let none = apart_off q ends i c.king_leaps.result g apart is lt (sym c.is.ensures ∙ v.if-is.true) c.king_leaps.ensures c.show_below_64.ensures small in
             let after = narrowed_place q men ends left _ _ _ i g is lt h v.in-Some.off room
             (kept_in q men ends left _ _ _ i g is lt h v.without.result v.in-Some.off v.in-Some.ensures.kept
             (v.without.ensures g.kind e.kind e.square small (in_place q men ends left _ _ _ i g is lt h) none)) v.in-Some.ensures.within.0 in

@@ -34,7 +34,7 @@ returns c = λ a b t inside small off low on there.
             let taken = left.ensures t low on free in
             inr (inl (record { on = taken.0; unguarded = at t (on_left _ o t (on_right g.near g.captures t taken.0)) taken.1 }))
         | inr none ↦
-            let small : g.king < 64 = omega (arith, c.index-small.ensures.value, c.index-small.ensures.small) in
+            let small : g.king < 64 = omega (arith, c.show_below_64.ensures) in
             let unseen : (bit_at seen g.king == 1) ≡ false = false_by _ (λ h.
             false≢true (sym none ∙ ap (λ (w : ℕ). bit_at w t == 1) (watched.ensures.all h) ∙ on)) in
             inl (

@@ -6,7 +6,7 @@ use Rattle.chess_reach.proofs.guards.Guard.guarding.Goals as goal
 pub returns-then-not-is : goal.returns-then-not-is
 returns-then-not-is c j s small be off guards =
     piece_guarding c.args.colour c.other-enemy.result s c.args.square c.args.king c.index.result c.other-enemy.ensures c.index.ensures.value small
-    (subst (λ n. n < 64) c.index-small.ensures.value c.index-small.ensures.small) (subst (λ n. n < 64) c.index.ensures.value c.index.ensures.small) off
+    c.show_below_64.ensures (subst (λ n. n < 64) c.index.ensures.value c.index.ensures.small) off
     c.args.self.now.kind j _ (sym c.is.ensures ∙ c.if-not-is.true) be
     (subst (λ k. AreReached (record { colour = c.other-enemy.result; kind = k }) c.args.square c.unblocked_reach.result) c.without_hops-kind.ensures
     c.unblocked_reach.ensures) guards
@@ -14,7 +14,7 @@ returns-then-not-is c j s small be off guards =
 pub returns : goal.returns
 returns c j s small be off guards =
     pawn_guarding c.args.colour c.other-enemy.result s c.args.square c.args.king c.index.result c.other-enemy.ensures c.index.ensures.value small
-    (subst (λ n. n < 64) c.index-small.ensures.value c.index-small.ensures.small) (subst (λ n. n < 64) c.index.ensures.value c.index.ensures.small) off
+    c.show_below_64.ensures (subst (λ n. n < 64) c.index.ensures.value c.index.ensures.small) off
     c.args.self.now.kind j _ _ _ (sym c.is.ensures ∙ c.if-not-is.false) be
     (subst (λ k. AreReached (record { colour = c.other-enemy.result; kind = k }) c.args.square c.unblocked_reach.result) c.without_hops-kind.ensures
     c.unblocked_reach.ensures) c.unblocked_reach-2.ensures c.unblocked_reach-3.ensures guards

@@ -12,7 +12,7 @@ returns g c =
     let x = c.in-Some.man in
     let from : c.m.inside.from ≡ m.from = ap (λ (v : Move). v.from) c.m.view_is in
     let to : c.m.inside.to ≡ m.to = ap (λ (v : Move). v.to) c.m.view_is in
-    let small : m.to < 64 = omega (arith, to, c.index-small.ensures.value, c.index-small.ensures.small) in
+    let small : m.to < 64 = omega (arith, to, c.show_below_64.ensures) in
     let here : man_on p.men m.from ≡ Some x = ap (man_on p.men) (sym from) ∙ sym c.man_at.ensures ∙ c.in-Some.is in
     let simple : is_simple g.R.Rules.rule x m (is_some (capture_square p x m)) ≡ true =
     rw (c.is_some.ensures, c.capture_square-captured.ensures) at (sym c.is_simple.ensures ∙ c.if-not-is_simple.false) in
