@@ -51,7 +51,7 @@ none_from word from t p q = grind (arith, bit_at-zero t)
 is_bit : (b : Bool) → (bit_of b == 1) ≡ b
 is_bit b = grind arith
 
--- a word isn't 0 exactly if some square passes
+-- a word isn't 0 exactly if some square meets the test
 pub not_zero : (test : ℕ → Bool) → not (word test == 0) ≡ some_square test
 not_zero test = search (rules, squares_none, squares_some)
 
@@ -65,7 +65,7 @@ word_only s p =
     square_word (λ t. is_square (Some s) t) _ (omega arith)
     (λ t b. grind (arith, one_shl s 64 p, cases_eq t s, bit_at-pow_same s, bit_at-pow_other s t, differs s t))
 
--- a bit of a word says whether the square passes
+-- a bit of a word says whether the square meets the test
 pub word_has : (test : ℕ → Bool) (w s : ℕ) → w ≡ word test → s < 64 → (bit_at w s == 1) ≡ test s
 word_has test w s h b = ap (λ n. bit_at n s == 1) h ∙ ap (λ n. n == 1) (square_bit test s b) ∙ is_bit (test s)
 
@@ -93,7 +93,7 @@ on_left a b i h = true_from_ne_false _ (λ e. let off = off_left a b i e in cc)
 pub on_right : (a b i : ℕ) → (bit_at b i == 1) ≡ true → (bit_at (bit_or a b) i == 1) ≡ true
 on_right a b i h = true_from_ne_false _ (λ e. let off = off_right a b i e in cc)
 
--- the squares of either word, where each word has those that pass a test
+-- the squares of either word, where each word has those that meet a test
 pub joined : (p q : ℕ → Bool) (k l : ℕ) → k ≡ word p → l ≡ word q → bit_or k l ≡ word (λ s. p s || q s)
 joined p q k l h i = (λ j. bit_or (h j) (i j)) ∙ squares_either p q
 

@@ -37,8 +37,8 @@ unfolding reaches reaches_as rides is_clear along
 arriving_man_shuts = (refl, refl)
 
 -- the first square from b1 on, of the word of a1 and b1, is b1
-pub earlier_squares_are_passed : find (λ s. bit_at 3 s == 1) (range_with_len 1 63) ≡ Some b1
-earlier_squares_are_passed = refl
+pub earlier_squares_are_skipped : find (λ s. bit_at 3 s == 1) (range_with_len 1 63) ≡ Some b1
+earlier_squares_are_skipped = refl
 
 -- a White pawn on e4 strikes d5, and not d3
 pub pawn_strikes_forward : (reaches_as [] White Pawn e4 d5 ≡ true) × (reaches_as [] White Pawn e4 d3 ≡ false)

@@ -45,38 +45,38 @@ taken_map w rest P Q f h = record { holds = λ s small on off. f s (h.holds s sm
 pub rest_falls : (rest k left : ℕ) (o : Option ℕ) → IfSome o (λ s. IsPopped rest s left) → o ≡ Some k → left < rest
 rest_falls rest k left o next some = (is_taken rest k left o next some).fewer
 
--- some square of a word passes if the one that is taken does, or one of the rest
-pub some_filtered : (w k left : ℕ) (test : ℕ → Bool) → IsPopped w k left
+-- some square of a word meets the test if the one that is taken does, or one of the rest
+pub some_taken_or_left : (w k left : ℕ) (test : ℕ → Bool) → IsPopped w k left
     → some_square (λ s. bit_at w s == 1 && test s) ≡ (test k || some_square (λ s. bit_at left s == 1 && test s))
-some_filtered w k left test taken = elim (cases_Bool (test k)) [
-  | inl passes ↦ rw passes (some_square_true (λ s. bit_at w s == 1 && test s) k taken.small (and_from _ _ taken.here passes))
+some_taken_or_left w k left test taken = elim (cases_Bool (test k)) [
+  | inl meets ↦ rw meets (some_square_true (λ s. bit_at w s == 1 && test s) k taken.small (and_from _ _ taken.here meets))
   | inr fails ↦ rw fails (some_square_same _ _ (λ s small. grind (arith, cases_eq k s, taken.others s, fails, and_right)))
 ]
 
--- none of no squares passes
-pub none_passes : (w : ℕ) (test : ℕ → Bool) → w ≡ 0 → some_square (λ s. bit_at w s == 1 && test s) ≡ false
-none_passes w test none =
+-- none of no squares meets the test
+pub none_meets : (w : ℕ) (test : ℕ → Bool) → w ≡ 0 → some_square (λ s. bit_at w s == 1 && test s) ≡ false
+none_meets w test none =
     some_square_false (λ s. bit_at w s == 1 && test s) 64 (omega arith) (record { fails = λ s small. rw none (rw (off_zero s) refl) })
 
--- for a search: each square of a word that is taken passes the test
-pub record PassTaken (w rest : ℕ) (test : ℕ → Bool) : Type 0 where
+-- for a search: each square of a word that is taken meets the test
+pub record MeetTaken (w rest : ℕ) (test : ℕ → Bool) : Type 0 where
   pub inside : (s : ℕ) → (bit_at rest s == 1) ≡ true → (bit_at w s == 1) ≡ true
   pub same : some_square (λ s. bit_at w s == 1 && not (test s)) ≡ some_square (λ s. bit_at rest s == 1 && not (test s))
 
--- a search goes on where the next square passes the test
-pub pass_next : (w rest k left : ℕ) (test : ℕ → Bool) → PassTaken w rest test → IsPopped rest k left → test k ≡ true → PassTaken w left test
-pass_next w rest k left test h taken passes =
+-- a search goes on where the next square meets the test
+pub meet_next : (w rest k left : ℕ) (test : ℕ → Bool) → MeetTaken w rest test → IsPopped rest k left → test k ≡ true → MeetTaken w left test
+meet_next w rest k left test h taken meets =
     record {
       inside = λ s on. h.inside s (grind (arith, cases_eq k s, taken.others s, taken.here, on));
-      same = h.same ∙ some_filtered rest k left (λ s. not (test s)) taken ∙ rw passes refl;
+      same = h.same ∙ some_taken_or_left rest k left (λ s. not (test s)) taken ∙ rw meets refl;
     }
 
 -- a search ends where the next square fails the test
-pub one_fails : (w rest k left : ℕ) (test : ℕ → Bool) → PassTaken w rest test → IsPopped rest k left → test k ≡ false
+pub one_fails : (w rest k left : ℕ) (test : ℕ → Bool) → MeetTaken w rest test → IsPopped rest k left → test k ≡ false
     → true ≡ some_square (λ s. bit_at w s == 1 && not (test s))
-one_fails w rest k left test h taken fails = sym (h.same ∙ some_filtered rest k left (λ s. not (test s)) taken ∙ rw fails refl)
+one_fails w rest k left test h taken fails = sym (h.same ∙ some_taken_or_left rest k left (λ s. not (test s)) taken ∙ rw fails refl)
 
 -- at its end none fails
-pub none_fails : (w rest : ℕ) (o : Option ℕ) (test : ℕ → Bool) → PassTaken w rest test → (o ≡ None → rest ≡ 0) → o ≡ None
+pub none_fails : (w rest : ℕ) (o : Option ℕ) (test : ℕ → Bool) → MeetTaken w rest test → (o ≡ None → rest ≡ 0) → o ≡ None
     → false ≡ some_square (λ s. bit_at w s == 1 && not (test s))
-none_fails w rest o test h end none = sym (h.same ∙ none_passes rest (λ s. not (test s)) (end none))
+none_fails w rest o test h end none = sym (h.same ∙ none_meets rest (λ s. not (test s)) (end none))

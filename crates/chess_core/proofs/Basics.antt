@@ -10,7 +10,7 @@ pub use Rattle.std.specs.List.{list_all, list_any, range_with_len, repeat}
 pub use Rattle.chess_core.specs.Castling.{with_unmoved, without_unmoved}
 unfoldable pub use Rattle.chess_core.specs.Castling.{has_unmoved, mark_unmoved, none_unmoved}
 pub use Rattle.chess_core.specs.Diagrams.{Diagram, has_men, is_kind}
-unfoldable pub use Rattle.chess_core.specs.Diagrams.{has_kind, has_right_without_man, is_other_king, is_second_king, is_stray_pawn, is_taken, is_man_on, passes_tests, position_of, is_kind_on, has_man}
+unfoldable pub use Rattle.chess_core.specs.Diagrams.{has_kind, has_right_without_man, is_other_king, is_second_king, is_stray_pawn, is_taken, is_man_on, meets_tests, position_of, is_kind_on, has_man}
 pub use Rattle.chess_core.specs.Position.{AtMostOneKing, HasNoKing, is_man, is_of_colour, kind_number, kinds, man_on, same_colour, same_kind, with_man, without_man}
 unfoldable pub use Rattle.chess_core.specs.Position.{king_square}
 pub use Rattle.chess_core.specs.Squares.{file_of, is_square, rank_of, square_at}

@@ -4,11 +4,11 @@ use Rattle.chess_core.proofs.Words.{word_with, word_without, word_same, word_bot
 
 -- ---- lists by kind and by colour
 
--- kinds that pass for the same are the same
+-- kinds that the test calls the same are the same
 pub same_kind-true : (a b : Kind) → same_kind a b ≡ true → a ≡ b
 same_kind-true a b h = grind (arith, eqb-true)
 
--- each colour passes for itself
+-- each colour is the same as itself
 pub same_colour-refl : (a : Colour) → same_colour a a ≡ true
 same_colour-refl a = search rules
 

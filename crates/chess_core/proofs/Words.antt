@@ -23,7 +23,7 @@ word_from_bits test xs d n l b h =
     let w : word_of test xs < 2 ^ 64 = subst (λ k. word_of test xs < 2 ^ k) l (word_small test xs) in
     same_from_bits_below 64 n (word_of test xs) b w (λ i p. h i p ∙ sym (word_bit test xs d i (omega arith)))
 
--- a member is put in that passes the test
+-- a member is put in that meets the test
 pub word_with : {X : Type 0} (test : X → Bool) (xs : List X) (s : ℕ) (y : X) → length xs ≡ 64 → s < 64 → test y ≡ true
     → bit_or (word_of test xs) (1 * 2 ^ s % 2 ^ 64) ≡ word_of test (set xs s y)
 word_with test xs s y l p h =
@@ -54,7 +54,7 @@ word_same test (x ∷ xs) (suc s) y d h = ap (λ n. bit_of (test x) + 2 * n) (wo
 both : (a b : Bool) → min (bit_of a) (bit_of b) ≡ bit_of (a && b)
 both a b = grind arith
 
--- what passes both tests
+-- what meets both tests
 pub word_both : {X : Type 0} (p q r : X → Bool) (xs : List X) (d : X) → length xs ≡ 64 → ((x : X) → (p x && q x) ≡ r x)
     → bit_and (word_of p xs) (word_of q xs) ≡ word_of r xs
 word_both p q r xs d l h =
@@ -95,11 +95,11 @@ square_alone s p = square_word (λ t. eqb s t) _ (omega arith)
 either : (a b : Bool) → max (bit_of a) (bit_of b) ≡ bit_of (a || b)
 either a b = grind arith
 
--- the squares that pass one test or the other
+-- the squares that meet one test or the other
 pub squares_either : (p q : ℕ → Bool) → bit_or (word p) (word q) ≡ word (λ s. p s || q s)
 squares_either p q = search (rules, square_word, or_lt, square_word_small, bit_at_or, square_bit, either)
 
--- the squares that pass both tests
+-- the squares that meet both tests
 pub squares_both : (p q : ℕ → Bool) → bit_and (word p) (word q) ≡ word (λ s. p s && q s)
 squares_both p q = search (rules, square_word, and_le_l, square_word_small, bit_at_and, square_bit, both)
 
@@ -107,29 +107,29 @@ squares_both p q = search (rules, square_word, and_le_l, square_word_small, bit_
 pub bit_false : (b : Bool) → bit_of b ≡ 0 → b ≡ false
 bit_false b h = grind arith
 
--- a word is 0 where no square passes
+-- a word is 0 where no square meets the test
 pub squares_none : (test : ℕ → Bool) → word test ≡ 0 → some_square test ≡ false
 squares_none test h =
     some_square_false test 64 (omega arith) (record { fails = λ s p. bit_false (test s) (sym (square_bit test s p) ∙ ap (λ n. bit_at n s) h ∙ bit_at-zero s) })
 
--- a bit 1 means that the test passes
+-- a bit 1 means that the square meets the test
 pub bit_true : (b : Bool) → bit_of b ≡ 1 → b ≡ true
 bit_true b h = grind arith
 
--- a word above 0 has a square that passes
+-- a word above 0 has a square that meets the test
 pub squares_some : (test : ℕ → Bool) → 0 < word test → some_square test ≡ true
 squares_some test h =
     let w = bit_at-trailing_zeros w64 (word test) h (square_word_small test) in
     some_square_true test (trailing_zeros w64 (word test)) w.0 (bit_true _ (sym (square_bit test (trailing_zeros w64 (word test)) w.0) ∙ w.1))
 
--- some square passes exactly if the bitboard isn't 0
+-- some square meets the test exactly if the bitboard isn't 0
 pub some_square_known : (test : ℕ → Bool) (n : ℕ) → n ≡ word test → not (eqb n 0) ≡ some_square test
 some_square_known test n h = grind (arith, cases_eq, squares_none, ne_eqb, squares_some)
 
 negated : (b : Bool) → 1 - bit_of b ≡ bit_of (not b)
 negated b = grind arith
 
--- the squares that don't pass
+-- the squares that don't meet the test
 pub squares_not : (p : ℕ → Bool) → bit_not w64 (word p) ≡ word (λ s. not (p s))
 squares_not p = square_word (λ s. not (p s)) _ (omega (arith, square_word_small p))
     (λ s b. bit_at_not w64 (word p) s (square_word_small p) b ∙ ap (λ n. 1 - n) (square_bit p s b) ∙ negated (p s))

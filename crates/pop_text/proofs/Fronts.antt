@@ -15,12 +15,12 @@ module _ (test : ℕ → Bool) (view left : List ℕ) (count more : ℕ) (is : l
 block_size : (view : List ℕ) (count : ℕ) → slice_range view count (count + 32) ≡ take 32 (drop count view)
 block_size view count = let size : (count + 32) - count ≡ 32 = omega arith in ap (λ n. take n (drop count view)) size
 
--- a prefix whose bytes pass, extended by one whole block
+-- a prefix whose bytes meet the test, extended by one whole block
 pub all_block : (test : ℕ → Bool) (view : List ℕ) (count : ℕ) → list_all test (take count view) ≡ true
     → list_all test (slice_range view count (count + 32)) ≡ true → list_all test (take (count + 32) view) ≡ true
 all_block test view count front all = grind (arith, block_size, list_all-append, take-add)
 
--- a prefix whose bytes pass, extended by one whole block, with the block's line ends counted
+-- a prefix whose bytes meet the test, extended by one whole block, with the block's line ends counted
 pub first_block : {test : ℕ → Bool} {view : List ℕ} {count ends others : ℕ} → AreFirst test view count ends → 32 ≤ length view - count
     → list_all test (slice_range view count (count + 32)) ≡ true → others ≡ count_by is_line_end (slice_range view count (count + 32))
     → others ≤ length (slice_range view count (count + 32)) → AreFirst test view (count + 32) (ends + others)

@@ -31,7 +31,7 @@ uses_none place had = record {
 unfoldable no_run : (test : ℕ → Bool) (place : Reading) (had : Option (List ℕ)) → UsesAll test place place had had
 no_run test place had = record { bytes = []; all = refl; uses = uses_none place had }
 
--- bytes that pass a test, used one after another
+-- bytes that meet a test, used one after another
 unfoldable pub all_then : {test : ℕ → Bool} {a b c : Reading} {had mid left : Option (List ℕ)} → UsesAll test a b had mid → UsesAll test b c mid left
     → UsesAll test a c had left
 all_then {test} p q = record { bytes = p.bytes ++ q.bytes; all = list_all-append test p.bytes q.bytes ∙ rw (p.all, q.all) refl; uses = uses_then p.uses q.uses }
@@ -41,7 +41,7 @@ unfoldable pub all_seen : {test : ℕ → Bool} {a b c : Reading} {had mid left 
     → UsesAll test a c had left
 all_seen p u = record { bytes = p.bytes; all = p.all; uses = rw append-nil at (uses_then p.uses u) }
 
--- Bytes that pass a test were used, and this was kept of them.
+-- Bytes that meet a test were used, and this was kept of them.
 pub record SoFar {A : Type 0} (test : ℕ → Bool) (keep : List ℕ → A) (old new : Reading) (had left : Option (List ℕ)) (kept : A) : Type 0 where
   pub used : UsesAll test old new had left
   pub is : kept ≡ keep used.bytes

@@ -45,12 +45,12 @@ module _ {now : Reading} {view : List ℕ} {count : ℕ} (is : IsView now view) 
   pub view_within : IsWithin now view count
   view_within = grind (arith, take-take, length-take)
 
-  -- there is a byte if the window's first byte passes a test
+  -- there is a byte if the window's first byte meets a test
   pub view_some : (test : ℕ → Bool) → ((b : ℕ) (rest : List ℕ) → view ≡ b ∷ rest → test b ≡ true → 0 < count) → (b : ℕ) (rest : List ℕ) → now.window ≡ b ∷ rest
       → test b ≡ true → now.used < limit → 0 < count
-  view_some test some b rest at passes room = grind arith
+  view_some test some b rest at meets room = grind arith
 
--- the first bytes of a view that pass a test are a prefix without a line end
+-- the first bytes of a view that meet a test are a prefix without a line end
 pub front_is : {now : Reading} {view : List ℕ} {count : ℕ} (test : ℕ → Bool) → IsView now view → Leads test view count
     → ((bytes : List ℕ) → list_all test bytes ≡ true → list_all is_in_line bytes ≡ true) → IsFront test now (take count view)
 front_is {now} {view} {count} test is p plain = grind (arith, length-take-le count view p.within, view_within is p.within, line_lines, view_some)

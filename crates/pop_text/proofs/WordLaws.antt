@@ -11,7 +11,7 @@ gap_byte b h = grind arith
 word_byte : (b : ℕ) → is_in_word b ≡ true → (is_line_end b ≡ false) × (is_blank b ≡ false)
 word_byte b h = grind arith
 
--- if all bytes pass, the first and the others pass
+-- if all bytes meet the test, the first and the others do
 pub all_parts : (test : ℕ → Bool) (b : ℕ) (bytes : List ℕ) → list_all test (b ∷ bytes) ≡ true → (test b ≡ true) × (list_all test bytes ≡ true)
 all_parts test b bytes h = grind arith
 

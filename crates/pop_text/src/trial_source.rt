@@ -109,7 +109,7 @@ impl<'a> TrialSource<'a> {
     }
 
     // Moves on by `count` bytes. `rest` is then the rest of the round.
-    fn pass(&mut self, rest: &'a [u8], count: usize)
+    fn move_on(&mut self, rest: &'a [u8], count: usize)
         requires { count ≤ self.old.left }
         ensures { self.new ≡ record self.old {
           rest = rest.now;
@@ -165,7 +165,7 @@ impl<'a> Source for TrialSource<'a> {
         let count = self.reach(rest.len(), buffer.len());
         let (given, rest) = rest.split_at(count);
         buffer[..count].copy_from_slice(given);
-        self.pass(rest, count);
+        self.move_on(rest, count);
         Ok(count)
     }
 }

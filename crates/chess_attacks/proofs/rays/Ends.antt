@@ -37,7 +37,7 @@ between s t d k i le h = grind (arith, placed_from, part)
 pub on_board : (x : ℕ) → 1 ≤ x → x ≤ 8 → is_on_board x ≡ true
 on_board x a b = and_from _ _ (le-leb 1 x a) (le-leb x 8 b)
 
--- a square given on a test is there where the test passes
+-- a square given on a test is there where the test is met
 pub cond-on : (b : Bool) (s n : ℕ) → b ≡ true → n ≡ s → cond b (Some n) None ≡ Some s
 cond-on b s n h e = grind (arith, false≢true)
 
@@ -50,7 +50,7 @@ stays s d p = search rules
 pub mirrored : (s t : ℕ) (d : Step) (k i j : ℕ) → i + j ≡ k → along s d k ≡ Some t → along t (back d) j ≡ along s d i
 mirrored s t d k i j e h = let same : k - i ≡ j = omega arith in rw same at (between s t d k i (omega arith) h)
 
--- an option that passes the test of a square holds this square
+-- an option that meets the test of a square holds this square
 pub square_is : (o : Option ℕ) (t : ℕ) → is_square o t ≡ true → o ≡ Some t
 square_is o t h = grind (arith, false≢true, eqb-true)
 

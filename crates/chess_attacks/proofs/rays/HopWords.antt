@@ -4,7 +4,7 @@ use Rattle.chess_attacks.proofs.rays.Ahead.{Ordered, Passed, not_later, onward, 
 use Rattle.chess_attacks.proofs.rays.Computed.{eighth}
 use Rattle.chess_attacks.proofs.rays.Ends.{square_is, stays}
 use Rattle.chess_attacks.proofs.rays.Ways.{hop-found, hop-made, ride-found, ride-made, ride_on-found, ride_on-made}
-use Rattle.chess_attacks.proofs.rays.Stopping.{Steps, Stops, ahead_at, occupied_not_vacant, passes_test, marked, place_le, steps_on}
+use Rattle.chess_attacks.proofs.rays.Stopping.{Steps, Stops, ahead_at, occupied_not_vacant, meets_test, marked, place_le, steps_on}
 
 -- a line has fewer than eight steps
 short : (x : Direction) (s t k : ℕ) → s < 64 → along s (step_of x) k ≡ Some t → k ≤ 8 → k < 8
@@ -101,7 +101,7 @@ next_is s x r b t p h stop ahead =
     let end = place_le (rises (step_of x)) w.0 w.1.small in
     let same : b ≡ w.0 = elim (cases_lt (place (step_of x) b) 63) [
       | inl lt ↦
-          let on = steps_on s (step_of x) b (passes_test (is_ahead s (step_of x)) r b h stop.small (stop.here lt)) in
+          let on = steps_on s (step_of x) b (meets_test (is_ahead s (step_of x)) r b h stop.small (stop.here lt)) in
           grind (arith, not_later s on.0 1 b w.0 (step_of x) (ordered x) on.1.at w.1.at le, on.1.low, on.1.at, w.1.at)
       | inr ge ↦ unplaced (rises (step_of x)) b w.0 stop.small w.1.small (omega (arith, le, end, ge))
     ] in
@@ -123,4 +123,4 @@ unfolding ray
 next_some s x r b p h some stop =
     let fits : r < 2 ^ 64 = rw h (square_word_small (is_ahead s (step_of x))) in
     let w = bit_at-trailing_zeros w64 r (omega arith) fits in
-    next_is s x r b (trailing_zeros w64 r) p h stop (passes_test (is_ahead s (step_of x)) r (trailing_zeros w64 r) h w.0 w.1)
+    next_is s x r b (trailing_zeros w64 r) p h stop (meets_test (is_ahead s (step_of x)) r (trailing_zeros w64 r) h w.0 w.1)

@@ -55,7 +55,7 @@ unfolding reaches_as
 reaches_alike men others c j s t a =
     same_steps (goes_by (gait_of j) men s t) (goes_by (gait_of j) others s t) (λ x. ways_alike (gait_of j) men others s t (step_of x) (ordered x) a) c j
 
--- where no step of the list passes the test
+-- where no step of the list meets the test
 pub any_false : (f : Step → Bool) (ds : List Step) → ((d : Step) → f d ≡ false) → list_any f ds ≡ false
 any_false f [] none = refl
 any_false f (d ∷ ds) none = or_from _ _ (none d) (any_false f ds none)

@@ -11,20 +11,20 @@ abbrev pub knight_directions : List Direction
 knight_directions = NorthNorthEast ∷ SouthSouthEast ∷ NorthNorthWest ∷ SouthSouthWest ∷ EastNorthEast ∷ EastSouthEast ∷ WestNorthWest ∷ WestSouthWest ∷ []
 
 -- a line and a bitboard share a square exactly if some square of the bitboard is on the line
-passed : (test : ℕ → Bool) (k w r : ℕ) (d : Step) → w ≡ word test → r ≡ ray k d → not (bit_and r w == 0) ≡ some_square (λ q. test q && is_ahead k d q)
+met : (test : ℕ → Bool) (k w r : ℕ) (d : Step) → w ≡ word test → r ≡ ray k d → not (bit_and r w == 0) ≡ some_square (λ q. test q && is_ahead k d q)
 unfolding ray
-passed test k w r d h i = grind (arith, squares_both, not_zero, some_square_same)
+met test k w r d h i = grind (arith, squares_both, not_zero, some_square_same)
 
 -- every square of a line that carries a man of this kind is lined with it
-pub line_passes : (test : ℕ → Bool) (k w r : ℕ) (d : Step) → w ≡ word test → r ≡ ray k d → (bit_and r w == 0) ≡ false
+pub line_meets : (test : ℕ → Bool) (k w r : ℕ) (d : Step) → w ≡ word test → r ≡ ray k d → (bit_and r w == 0) ≡ false
     → r ≡ word (λ t. is_ahead k d t && some_square (λ q. test q && is_ahead k d q))
 unfolding ray
-line_passes test k w r d h i some = grind (arith, squares_same, passed test k w r d h i)
+line_meets test k w r d h i some = grind (arith, squares_same, met test k w r d h i)
 
 -- if a line carries no man of this kind, no square of the line is lined with it
 pub line_misses : (test : ℕ → Bool) (k w r : ℕ) (d : Step) → w ≡ word test → r ≡ ray k d → (bit_and r w == 0) ≡ true
     → 0 ≡ word (λ t. is_ahead k d t && some_square (λ q. test q && is_ahead k d q))
-line_misses test k w r d h i none = grind (arith, word_empty, and_right, passed test k w r d h i)
+line_misses test k w r d h i none = grind (arith, word_empty, and_right, met test k w r d h i)
 
 -- the bitboard of the men of a colour and kind, by a test
 pub man_test : (men : List (Option Man)) (e : Colour) (j : Kind) (w : ℕ) → w ≡ squares_of men e j → w ≡ word (λ q. is_man (man_on men q) e j)

@@ -11,13 +11,13 @@ pub record Stops (men : List (Option Man)) (s : ℕ) (d : Step) (b : ℕ) : Type
   pub first : (q : ℕ) → q < 64 → is_ahead s d q ≡ true → is_some (man_on men q) ≡ true → place d b ≤ place d q
   pub here : place d b < 63 → (is_ahead s d b && is_some (man_on men b)) ≡ true
 
--- a square that passes has its bit in the word
+-- a square that meets the test has its bit in the word
 pub marked : (test : ℕ → Bool) (w q : ℕ) → w ≡ word test → q < 64 → test q ≡ true → bit_at w q ≡ 1
 marked test w q h b e = eqb-true _ _ (word_has test w q h b ∙ e)
 
--- a square whose bit is in the word passes
-pub passes_test : (test : ℕ → Bool) (w q : ℕ) → w ≡ word test → q < 64 → bit_at w q ≡ 1 → test q ≡ true
-passes_test test w q h b e = sym (word_has test w q h b) ∙ eq-eqb _ 1 e
+-- a square whose bit is in the word meets the test
+pub meets_test : (test : ℕ → Bool) (w q : ℕ) → w ≡ word test → q < 64 → bit_at w q ≡ 1 → test q ≡ true
+meets_test test w q h b e = sym (word_has test w q h b) ∙ eq-eqb _ 1 e
 
 -- the men ahead of s
 ahead_men : (men : List (Option Man)) (s : ℕ) (d : Step) (r o : ℕ) → r ≡ ray s d → o ≡ word (λ q. is_some (man_on men q))
@@ -28,7 +28,7 @@ ahead_men men s d r o h i = (λ j. bit_and (h j) (i j)) ∙ squares_both (is_ahe
 -- the first man ahead in the word of men is where the line stops
 pub stops : (men : List (Option Man)) (s : ℕ) (d : Step) (r o b : ℕ) → r ≡ ray s d → o ≡ word (λ q. is_some (man_on men q)) → IsStop d (bit_and r o) b
     → Stops men s d b
-stops men s d r o b h i stop = grind (arith, ahead_men men s d r o h i, marked, and_from, passes_test)
+stops men s d r o b h i stop = grind (arith, ahead_men men s d r o h i, marked, and_from, meets_test)
 
 -- a place on a line is at most 63
 pub place_le : (up : Bool) (t : ℕ) → t < 64 → passing_order_by up t ≤ 63

@@ -2,7 +2,7 @@
 use Rattle.chess_attacks.proofs.Chess.{Bool, List, Man, Option, Some, Step, all_at, all_range_true, along, and_from, and_parts, any_range_cases, any_range_false, any_range_true, ap, arith, eq-eqb, false≢true, first_of_and, hopped_from, hops, is_clear, is_occupied, is_square, is_vacant_at, list_all, list_any, range_with_len, refl, rides, rides_on, rules, same_Bool, second_of_and, true, ℕ, ◌&&◌, ◌+◌, ◌-◌, ◌<◌, ◌∙◌, ◌≡◌, ◌≤◌}
 use Rattle.chess_attacks.proofs.rays.Ends.{back, mirrored, square_is, stays}
 
--- a number of the range that passes
+-- a number of the range that meets the test
 found : (p : ℕ → Bool) (a n : ℕ) → list_any p (range_with_len a n) ≡ true → (k : ℕ) × (a ≤ k) × (k < a + n) × (p k ≡ true)
 found p a n h = grind (arith, any_range_cases p a n, false≢true, any_range_false)
 

@@ -1,7 +1,7 @@
 -- Bitboards of the squares that block lines.
 use Rattle.std.proofs.lemmas.Nat.Bits.{same_from_bits}
 use Rattle.std.specs.Int.Bits.{or_zero_r}
-use Rattle.chess_attacks.proofs.HoldTaken.{none_passes, some_filtered}
+use Rattle.chess_attacks.proofs.HoldTaken.{none_meets, some_taken_or_left}
 use Rattle.chess_attacks.specs.ties.Taking.{IsPopped}
 use Rattle.chess_rules.proofs.Chess.{AreRides, Bool, Colour, Kind, List, Man, Option, Queen, Step, ap, arith, bit_and, bit_at, bit_at-zero, bit_at_or, bit_or, is_rider_beyond, is_line_rider, is_met, is_on_some, is_blocking, list_any, rides, rules, shared, some_square, some_square_false, squares_both, squares_either, squares_of, squares_same, sym, word, word_empty, word_has, ℕ, ◌&&◌, ◌==◌, ◌∙◌, ◌≡◌}
 use Rattle.chess_attacks.proofs.attacks.Attacking.{met, met_none, some_square_same}
@@ -19,12 +19,12 @@ pub ridden_more : (men : List (Option Man)) (ds : List Step) (rest k left r v w 
     → bit_or r (word (ridden_by men ds rest)) ≡ w → bit_or (bit_or r v) (word (ridden_by men ds left)) ≡ w
 ridden_more men ds rest k left r v w taken h before =
     regrouped r v _ ∙ ap (bit_or r) ((λ j. bit_or (h j) (word (ridden_by men ds left))) ∙ squares_either _ (ridden_by men ds left)
-    ∙ squares_same _ _ (λ s small. sym (some_filtered rest k left (λ q. list_any (rides men q s) ds) taken))) ∙ before
+    ∙ squares_same _ _ (λ s small. sym (some_taken_or_left rest k left (λ q. list_any (rides men q s) ds) taken))) ∙ before
 
 -- where no rider is left, none gets anywhere
 pub ridden_all : (men : List (Option Man)) (ds : List Step) (rest r w : ℕ) → rest ≡ 0 → bit_or r (word (ridden_by men ds rest)) ≡ w → r ≡ w
 ridden_all men ds rest r w none h =
-    let empty = word_empty (ridden_by men ds rest) (λ s small. none_passes rest (λ q. list_any (rides men q s) ds) none) in
+    let empty = word_empty (ridden_by men ds rest) (λ s small. none_meets rest (λ q. list_any (rides men q s) ds) none) in
     sym (or_zero_r r) ∙ ap (bit_or r) empty ∙ h
 
 -- the rooks or bishops and the queens on the lines from a square

@@ -28,20 +28,20 @@ pub record Uses (old new : Reading) (had left : Option (List ℕ)) (bytes : List
   pub line : new.line ≡ old.line + count_by is_line_end bytes
   pub still : old.end ≡ Open ⊎ ((taken ≡ []) × (new.end ≡ old.end))
 
--- Between old and new bytes that pass the test are used.
+-- Between old and new bytes that meet the test are used.
 pub record UsesAll (test : ℕ → Bool) (old new : Reading) (had left : Option (List ℕ)) : Type 0 where
   pub bytes : List ℕ
   pub all : list_all test bytes ≡ true
   pub uses : Uses old new had left bytes
 
--- The first `count` bytes of the view pass the test, and `line_ends` of them are line ends.
+-- The first `count` bytes of the view meet the test, and `line_ends` of them are line ends.
 pub record AreFirst (test : ℕ → Bool) (view : List ℕ) (count line_ends : ℕ) : Type 0 where
   pub within : count ≤ length view
   pub all : list_all test (take count view) ≡ true
   pub lines : line_ends ≡ count_by is_line_end (take count view)
   pub few : line_ends ≤ count
 
--- The first `count` bytes of the view pass the test; `count` is at least 1 if the first byte passes.
+-- The first `count` bytes of the view meet the test; `count` is at least 1 if the first byte meets it.
 pub record Leads (test : ℕ → Bool) (view : List ℕ) (count : ℕ) : Type 0 where
   pub within : count ≤ length view
   pub all : list_all test (take count view) ≡ true
@@ -52,8 +52,8 @@ pub record IsView (now : Reading) (view : List ℕ) : Type 0 where
   pub bytes : view ≡ take (limit - now.used) now.window
   pub within : now.used ≤ limit
 
--- The part is a prefix of the window within the limit, passes the test and has no line end. It has at least one byte if
--- the window's first byte passes.
+-- The part is a prefix of the window within the limit, meets the test and has no line end. It has at least one byte if
+-- the window's first byte meets it.
 pub record IsFront (test : ℕ → Bool) (now : Reading) (part : List ℕ) : Type 0 where
   pub front : take (length part) now.window ≡ part
   pub flat : 0 ≡ count_by is_line_end (take (length part) now.window)

@@ -1,5 +1,5 @@
 use Rattle.chess_attacks.proofs.Chess.{differs, refl, step_of}
-use Rattle.chess_attacks.proofs.rays.Lined.{line_misses, line_passes}
+use Rattle.chess_attacks.proofs.rays.Lined.{line_misses, line_meets}
 use Rattle.chess_attacks.proofs.lines.line_with.Goals as goal
 
 pub returns-then-ray-squares-eq0 : goal.returns-then-ray-squares-eq0
@@ -8,4 +8,4 @@ returns-then-ray-squares-eq0 c = λ test held.
 
 pub returns : goal.returns
 returns c = λ test held.
-    line_passes test c.args.from c.args.squares c.ray-ray.result (step_of c.args.direction) held c.ray-ray.ensures (differs _ 0 c.if-ray-squares-eq0.false)
+    line_meets test c.args.from c.args.squares c.ray-ray.result (step_of c.args.direction) held c.ray-ray.ensures (differs _ 0 c.if-ray-squares-eq0.false)
