@@ -31,8 +31,8 @@ fn aimed_squares(board: &Board, from: Square) -> Squares
 // Returns whether the moving man is no fairy man and would attack the enemy king from its arrival on no
 // board; `false` says nothing. This test is cheap and usually enough.
 #[inline(always)]
-fn never_aims(board: &Board, m: &Move) -> bool
-    ensures { result ≡ true → aims_at_king board.now m.now ≡ false }
+fn never_aims(board: &Board, m: Move) -> bool
+    ensures { result ≡ true → aims_at_king board.now m ≡ false }
 {
     m.to.show_below_64();
     let Some(man) = board.man_at(m.from) else {
@@ -66,7 +66,7 @@ fn aims_from_arrival(board: &Board, m: &Move) -> bool
 pub fn aims_at_king(board: &Board, m: &Move) -> bool
     ensures { result ≡ aims_at_king board.now m.now }
 {
-    if never_aims(board, m) {
+    if never_aims(board, *m) {
         return false;
     }
     aims_from_arrival(board, m)

@@ -275,10 +275,10 @@ pub(crate) fn near_check_targets<R: Rules>(
 
 // Returns whether the move may expose the enemy king: a man leaves its origin, or is captured, castled
 // or reborn.
-fn may_discover<R: Rules>(board: &Board, squares: &CheckSquares, m: &Move) -> bool
+fn may_discover<R: Rules>(board: &Board, squares: &CheckSquares, m: Move) -> bool
     requires { AreCheckSquares board.now.men (other board.now.turn) squares.now }
     ensures { result ≡ not (cannot_expose (rule_of_checks R.rule board.now.men board.now.turn)
-        board.now (other board.now.turn) m.now) }
+        board.now (other board.now.turn) m) }
 {
     if are_rebirths_quiet::<R>(board) {
         return !cannot_expose::<Orthodox>(board, board.turn().other(), squares.blocker_squares, m);
@@ -287,8 +287,8 @@ fn may_discover<R: Rules>(board: &Board, squares: &CheckSquares, m: &Move) -> bo
 }
 
 // Returns whether the move doesn't promote.
-fn keeps_its_kind(m: &Move) -> bool
-    ensures { result ≡ true → m.now.promo ≡ None }
+fn keeps_its_kind(m: Move) -> bool
+    ensures { result ≡ true → m.promo ≡ None }
 {
     m.promo.is_none()
 }
@@ -312,7 +312,7 @@ fn may_check_promoted<R: Rules>(board: &Board, squares: &CheckSquares, man: Man,
     // The captured man, if any, is on the arrival.
     let occupancy = occupancy_after(board, m.from, None, m.to);
     let seen = covered_squares(occupancy.occupied, man, m.promo, m.to);
-    contains(seen, king) || !cannot_expose::<R>(board, enemy, squares.blocker_squares, m)
+    contains(seen, king) || !cannot_expose::<R>(board, enemy, squares.blocker_squares, *m)
 }
 
 // Returns whether the move may give check, if it is legal; `false` is certain.
@@ -328,12 +328,12 @@ pub(crate) fn may_check<R: Rules>(board: &Board, squares: &CheckSquares, m: &Mov
     let Some(man) = board.man_at(m.from) else {
         return true;
     };
-    if !keeps_its_kind(m) {
+    if !keeps_its_kind(*m) {
         return may_check_promoted::<R>(board, squares, man, m);
     }
     m.to.show_below_64();
     let from_there = check_squares_for(squares, man.kind);
-    contains(from_there, m.to) || may_discover::<R>(board, squares, m)
+    contains(from_there, m.to) || may_discover::<R>(board, squares, *m)
 }
 
 impl CheckSquares {

@@ -63,7 +63,7 @@ fn is_unreached(board: &Board, king: Man, from: Square, to: Square) -> bool
     let captured = capture_square(
         board,
         king,
-        &Move {
+        Move {
             from,
             to,
             promo: None,
@@ -115,7 +115,7 @@ fn steps_quietly<R: Rules>(board: &Board, squares: &CheckSquares) -> bool
         to,
         promo: None,
     };
-    is_quiet::<R>(board, squares, &step)
+    is_quiet::<R>(board, squares, step)
 }
 
 // Returns whether some legal move after the cursor certainly gives no check.
@@ -133,7 +133,7 @@ fn has_quiet_move<R: Rules>(
     ensures board { board.new ≡ board.old }
 {
     while let Some(m) = moves.next(board) {
-        if is_quiet::<R>(board, squares, &m) {
+        if is_quiet::<R>(board, squares, m) {
             return true;
         }
     }
@@ -142,13 +142,13 @@ fn has_quiet_move<R: Rules>(
 
 // Returns whether the legal move certainly gives no check, so that it doesn't mate.
 #[tactic(auto, using(chess_flights::proofs::Mating::quietly))]
-fn is_quiet<R: Rules>(board: &Board, squares: &CheckSquares, m: &Move) -> bool
+fn is_quiet<R: Rules>(board: &Board, squares: &CheckSquares, m: Move) -> bool
     requires well_formed { IsWellFormed board.now }
-    requires legal { is_legal R.rule board.now m.now ≡ true }
+    requires legal { is_legal R.rule board.now m ≡ true }
     requires squares { AreCheckSquares board.now.men (other board.now.turn) squares.now }
-    ensures { result ≡ true → is_mating R.rule board.now m.now ≡ false }
+    ensures { result ≡ true → is_mating R.rule board.now m ≡ false }
 {
-    !may_check::<R>(board, squares, m)
+    !may_check::<R>(board, squares, &m)
 }
 
 // Returns whether there is a legal move after the cursor, and each one mates.

@@ -40,14 +40,14 @@ fn are_all_seen<R: Rules>() -> bool
 fn flights_from<R: Rules>(
     board: &Board,
     man: Man,
-    m: &Move,
+    m: Move,
     captured: Option<Square>,
     king: Square,
 ) -> Flights
-    requires seen { IsSeenFrom R.rule board.now m.now man king }
+    requires seen { IsSeenFrom R.rule board.now m man king }
     requires mortal { same_kind man.kind King ≡ false }
-    requires captured { captured ≡ capture_square board.now man m.now }
-    ensures { IsKnown R.rule (position_after R.rule board.now m.now) result }
+    requires captured { captured ≡ capture_square board.now man m }
+    ensures { IsKnown R.rule (position_after R.rule board.now m) result }
 {
     m.to.show_below_64();
     let occupancy = occupancy_lifted(board, m.from, captured, m.to, king);
@@ -64,17 +64,17 @@ fn flights_from<R: Rules>(
 
 // Returns whether to look for flights after the man's move: nobody castles or is reborn, and the man
 // isn't a king.
-fn is_looked_at<R: Rules>(man: Man, m: &Move, captures: bool) -> bool
-    ensures { result ≡ (not (same_kind man.kind King) && is_simple R.rule man m.now captures) }
+fn is_looked_at<R: Rules>(man: Man, m: Move, captures: bool) -> bool
+    ensures { result ≡ (not (same_kind man.kind King) && is_simple R.rule man m captures) }
 {
     !man.kind.is(Kind::King) && is_simple::<R>(man, m, captures)
 }
 
 // Returns what is known of the flights of the side to move after this move.
-pub(crate) fn flights_after<R: Rules>(board: &Board, m: &Move) -> Flights
+pub(crate) fn flights_after<R: Rules>(board: &Board, m: Move) -> Flights
     requires well_formed { IsWellFormed board.now }
-    requires pseudo { is_pseudo_legal R.rule board.now m.now ≡ true }
-    ensures { IsKnown R.rule (position_after R.rule board.now m.now) result }
+    requires pseudo { is_pseudo_legal R.rule board.now m ≡ true }
+    ensures { IsKnown R.rule (position_after R.rule board.now m) result }
 {
     let Some(man) = board.man_at(m.from) else {
         return Flights::Unknown;

@@ -282,9 +282,9 @@ fn is_mating<R: Rules>(board: &mut Board, squares: &CheckSquares, m: Move) -> bo
     if !may_check::<R>(board, squares, &m) {
         return false;
     }
-    match flights_after::<R>(board, &m) {
+    match flights_after::<R>(board, m) {
         Flights::Left => false,
-        flights => match parries_after::<R>(board, squares, &m) {
+        flights => match parries_after::<R>(board, squares, m) {
             Parries::Possible => false,
             parries => gives_mate::<R>(board, m, flights, parries),
         },

@@ -42,9 +42,9 @@ pub(crate) enum Parries {
 
 // Returns whether the parries of the man's move can be computed: the man is no king and doesn't promote,
 // no line to the enemy king opens, nobody is reborn, and no man is paralysed.
-fn are_parries_known<R: Rules>(board: &Board, squares: &CheckSquares, man: Man, m: &Move) -> bool
+fn are_parries_known<R: Rules>(board: &Board, squares: &CheckSquares, man: Man, m: Move) -> bool
     requires { AreCheckSquares board.now.men (other board.now.turn) squares.now }
-    ensures { result ≡ true → AreParriesKnown R.rule board.now man m.now }
+    ensures { result ≡ true → AreParriesKnown R.rule board.now man m }
 {
     !man.kind.is(Kind::King)
         && m.promo.is_none()
@@ -56,9 +56,9 @@ fn are_parries_known<R: Rules>(board: &Board, squares: &CheckSquares, man: Man, 
 // Returns the squares whose men may leave them after the move without exposing the enemy king on `king`:
 // they block no line to it, alone or together with the moved man.
 #[tactic(auto, using(crate::proofs::Parrying::unpinned_beside))]
-fn unpinned_squares(board: &Board, squares: &CheckSquares, m: &Move, king: Square) -> Squares
+fn unpinned_squares(board: &Board, squares: &CheckSquares, m: Move, king: Square) -> Squares
     requires { AreCheckSquares board.now.men (other board.now.turn) squares.now }
-    ensures { result ≡ word (is_unpinned board.now m.now king) }
+    ensures { result ≡ word (is_unpinned board.now m king) }
 {
     m.from.show_below_64();
     let blockers = squares.blockers();
@@ -157,17 +157,18 @@ fn parries_between(
     board: &Board,
     occupancy: Occupancy,
     man: Man,
-    m: &Move,
+    m: Move,
     king: Square,
     unpinned: Squares,
 ) -> Parries
     ensures { (men : List (Option Man)) → DescribesMen board.now.men men (other board.now.turn) occupancy
-        → unpinned ≡ word (is_unpinned board.now m.now king)
-        → IsKnownBetween men board.now man m.now king result }
+        → unpinned ≡ word (is_unpinned board.now m king)
+        → IsKnownBetween men board.now man m king result }
 {
+    let to = m.to;
     let enemy = board.turn().other();
     let held = occupancy.occupied | fairy_lines(board, enemy);
-    let seen = squares_between(occupancy.occupied, m.to, king);
+    let seen = squares_between(occupancy.occupied, to, king);
     let between = seen & !held;
     let mut nobody_comes = seen & held == 0;
     let mut rest = between;
@@ -176,7 +177,7 @@ fn parries_between(
         let pawns = board.squares(enemy, Kind::Pawn) & occupancy.standing;
         let loose = reaching & unpinned;
         let comers = loose & !pawns | pawns & unpinned & pawn_origins(enemy, square);
-        if shuts(occupancy.occupied, man, m.to, king, square, comers) {
+        if shuts(occupancy.occupied, man, to, king, square, comers) {
             return Parries::Possible;
         }
         nobody_comes &= !is_approached(reaching, pawns, square, king, enemy);
@@ -204,13 +205,15 @@ fn is_untaken(occupied: Squares, takers: Squares, man: Man, to: Square, king: Sq
 // Returns what is known of the parries of the move, if it gives check: `Possible` if an unpinned man can
 // capture the checker or interpose, so that the move doesn't mate; `Impossible` if no man can, pinned or
 // not.
-pub(crate) fn parries_after<R: Rules>(board: &Board, squares: &CheckSquares, m: &Move) -> Parries
+pub(crate) fn parries_after<R: Rules>(board: &Board, squares: &CheckSquares, m: Move) -> Parries
     requires well_formed { IsWellFormed board.now }
-    requires pseudo { is_pseudo_legal R.rule board.now m.now ≡ true }
+    requires pseudo { is_pseudo_legal R.rule board.now m ≡ true }
     requires squares { AreCheckSquares board.now.men (other board.now.turn) squares.now }
-    ensures { AreParries R.rule (position_after R.rule board.now m.now) result }
+    ensures { AreParries R.rule (position_after R.rule board.now m) result }
 {
-    let Some(man) = board.man_at(m.from) else {
+    let from = m.from;
+    let to = m.to;
+    let Some(man) = board.man_at(from) else {
         return Parries::Unknown;
     };
     if !are_parries_known::<R>(board, squares, man, m) {
@@ -220,17 +223,17 @@ pub(crate) fn parries_after<R: Rules>(board: &Board, squares: &CheckSquares, m: 
     let Some(king) = board.king_of(enemy) else {
         return Parries::Unknown;
     };
-    m.to.show_below_64();
-    let occupancy = occupancy_after(board, m.from, capture_square(board, man, m), m.to);
+    to.show_below_64();
+    let occupancy = occupancy_after(board, from, capture_square(board, man, m), to);
     let unpinned = unpinned_squares(board, squares, m, king);
-    let takers = attackers_in(board, occupancy, m.to, enemy);
+    let takers = attackers_in(board, occupancy, to, enemy);
     let loose = takers & unpinned;
     if loose != 0 {
         return Parries::Possible;
     }
     match parries_between(board, occupancy, man, m, king, unpinned) {
         Parries::Possible => Parries::Possible,
-        Parries::Impossible if is_untaken(occupancy.occupied, takers, man, m.to, king) => {
+        Parries::Impossible if is_untaken(occupancy.occupied, takers, man, to, king) => {
             Parries::Impossible
         }
         _ => Parries::Unknown,

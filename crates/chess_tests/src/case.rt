@@ -69,14 +69,14 @@ fn rank_of(square: Square) -> u64 {
 
 impl<'a> Case<'a> {
     pub(crate) fn of(before: &'a Plain, rule: Rule, man: Man, m: Move) -> Case<'a> {
-        let after = before.after(rule, &m);
+        let after = before.after(rule, m);
         Case {
             rule,
             before,
             man,
             m,
             after,
-            legal: before.is_legal(rule, &m),
+            legal: before.is_legal(rule, m),
             was_in_check: before.is_in_check(rule, man.colour),
             exposing: checkers(&after, rule, man.colour),
             checkers: checkers(&after, rule, man.colour.other()),
@@ -303,7 +303,7 @@ impl<'a> Case<'a> {
         }
         let answers = self.after.moves_but_for_check(self.rule);
         for answer in answers.as_slice() {
-            if !self.flees(answer) && self.after.is_legal(self.rule, answer) {
+            if !self.flees(*answer) && self.after.is_legal(self.rule, *answer) {
                 return false;
             }
         }
@@ -311,7 +311,7 @@ impl<'a> Case<'a> {
     }
 
     // Returns whether the reply is the king's, to a square that was attacked before the move.
-    fn flees(&self, answer: &Move) -> bool {
+    fn flees(&self, answer: Move) -> bool {
         self.after.has(answer.from, self.after.turn, Kind::King)
             && self
                 .before
@@ -388,7 +388,7 @@ impl<'a> Case<'a> {
         if self.man.kind != Kind::King {
             return None;
         }
-        self.before.castling(self.man, &self.m)
+        self.before.castling(self.man, self.m)
     }
 
     // Returns whether the move is castling across an attacked square.
@@ -446,7 +446,7 @@ impl<'a> Case<'a> {
 
     // Returns the position after the move as if no man were reborn.
     fn unborn(&self) -> Plain {
-        self.before.after(Rule::Orthodox, &self.m)
+        self.before.after(Rule::Orthodox, self.m)
     }
 
     // Returns whether the colour would be in check if no man were reborn.

@@ -40,8 +40,8 @@ fn choices(plain: &Plain, rule: Rule) -> Choices {
     let mut choices = ArrayVec::new();
     let moves = plain.moves_but_for_check(rule);
     for m in moves.as_slice() {
-        if plain.is_legal(rule, m) {
-            let mates = plain.after(rule, m).is_mate(rule);
+        if plain.is_legal(rule, *m) {
+            let mates = plain.after(rule, *m).is_mate(rule);
             let _fits = choices.try_push(Choice { by: *m, mates });
         }
     }
@@ -243,7 +243,7 @@ fn unlike_of_play<R: Rules>(board: &mut Board, plain: &Plain, rule: Rule) -> Opt
     let mut place = Moves::<R>::start();
     while let Some(m) = place.next(board) {
         let undo = play::<R>(board, m);
-        let question = unlike_after::<R>(board, &plain.after(rule, &m), rule);
+        let question = unlike_after::<R>(board, &plain.after(rule, m), rule);
         unplay::<R>(board, m, undo);
         if question.is_some() {
             return question;

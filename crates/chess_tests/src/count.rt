@@ -23,7 +23,7 @@ pub(crate) struct Walk {
 }
 
 // Returns whether `LegalCursor` knows without playing the move that it is legal.
-fn is_known_legal<R: Rules>(board: &Board, m: &Move) -> bool {
+fn is_known_legal<R: Rules>(board: &Board, m: Move) -> bool {
     let squares = blocker_squares(board, board.turn());
     if cannot_expose::<R>(board, board.turn(), squares, m) {
         return true;
@@ -71,7 +71,7 @@ fn walk_on<R: Rules>(board: &mut Board, length: u32) -> Walk
     let mut played = 0u64;
     let mut changed = 0u64;
     while let Some(m) = place.next(board) {
-        if length == 1 && !is_known_legal::<R>(board, &m) {
+        if length == 1 && !is_known_legal::<R>(board, m) {
             played = played.saturating_add(1);
         }
         let undo = play::<R>(board, m);

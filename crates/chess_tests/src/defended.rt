@@ -61,8 +61,8 @@ fn rules_out_a_mate<R: Rules>(rule: Rule, board: &mut Board, reported: &mut u32)
     let mut threats = Threats::of::<R>(board, king);
     let mut place = Moves::<R>::start();
     while let Some(m) = place.next(board) {
-        if threats.rule_out_mate::<R>(board, &m) {
-            if is_followed_by_mate(rule, &plain, &m) {
+        if threats.rule_out_mate::<R>(board, m) {
+            if is_followed_by_mate(rule, &plain, m) {
                 return true;
             }
             *reported = reported.saturating_add(1);
@@ -72,11 +72,11 @@ fn rules_out_a_mate<R: Rules>(rule: Rule, board: &mut Board, reported: &mut u32)
 }
 
 // Returns whether some reply to the move mates, by the plain rules.
-pub(crate) fn is_followed_by_mate(rule: Rule, plain: &Plain, m: &Move) -> bool {
+pub(crate) fn is_followed_by_mate(rule: Rule, plain: &Plain, m: Move) -> bool {
     let after = plain.after(rule, m);
     let replies = after.moves_but_for_check(rule);
     for reply in replies.as_slice() {
-        if after.is_legal(rule, reply) && after.after(rule, reply).is_mate(rule) {
+        if after.is_legal(rule, *reply) && after.after(rule, *reply).is_mate(rule) {
             return true;
         }
     }

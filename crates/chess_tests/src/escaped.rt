@@ -89,7 +89,7 @@ fn said_of<R: Rules>(rule: Rule, diagram: &Diagram, from: Square) -> Said
 fn has_safe_move(rule: Rule, plain: &Plain, from: Square) -> bool {
     let moves = plain.moves_but_for_check(rule);
     for m in moves.as_slice() {
-        if m.from == from && plain.is_legal(rule, m) && !is_followed_by_mate(rule, plain, m) {
+        if m.from == from && plain.is_legal(rule, *m) && !is_followed_by_mate(rule, plain, *m) {
             return true;
         }
     }

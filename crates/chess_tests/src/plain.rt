@@ -304,7 +304,7 @@ impl Plain {
     }
 
     // Returns whether a pawn moves like this: by a capture or a step.
-    fn pawn_steps_to(&self, colour: Colour, m: &Move) -> bool {
+    fn pawn_steps_to(&self, colour: Colour, m: Move) -> bool {
         if self.reaches(m.from, m.to) {
             !self.is_empty(m.to) || self.crossed == Some(m.to)
         } else {
@@ -313,7 +313,7 @@ impl Plain {
     }
 
     // Returns whether a pawn moves like this by a step: one square ahead, or two from its second rank.
-    fn is_pawn_step(&self, colour: Colour, m: &Move) -> bool {
+    fn is_pawn_step(&self, colour: Colour, m: Move) -> bool {
         let Some(one) = next(m.from, (0, up(colour))) else {
             return false;
         };
@@ -332,7 +332,7 @@ impl Plain {
 
     // Returns the rook's square and the square that the king crosses, if the king goes two squares towards
     // a rook with castling rights, over empty squares.
-    pub(crate) fn castling(&self, king: Man, m: &Move) -> Option<(Square, Square)> {
+    pub(crate) fn castling(&self, king: Man, m: Move) -> Option<(Square, Square)> {
         let (rook, crossed) = castling_squares(king.colour, m)?;
         if self.unmoved.has(m.from) && self.unmoved.has(rook) && self.rides(rook, m.from, &LINES) {
             Some((rook, crossed))
@@ -342,7 +342,7 @@ impl Plain {
     }
 
     // Returns whether the king may castle by this move.
-    fn castles(&self, rule: Rule, king: Man, m: &Move) -> bool {
+    fn castles(&self, rule: Rule, king: Man, m: Move) -> bool {
         let Some((rook, crossed)) = self.castling(king, m) else {
             return false;
         };
@@ -362,7 +362,7 @@ impl Plain {
     }
 
     // Returns whether the move names a promotion exactly if it should.
-    fn is_promotion_right(&self, man: Man, m: &Move) -> bool {
+    fn is_promotion_right(&self, man: Man, m: Move) -> bool {
         let last = match man.colour {
             Colour::White => 8,
             Colour::Black => 1,
@@ -386,7 +386,7 @@ impl Plain {
     }
 
     // Returns whether the man moves like this, paralysed or not.
-    fn goes(&self, rule: Rule, man: Man, m: &Move) -> bool {
+    fn goes(&self, rule: Rule, man: Man, m: Move) -> bool {
         match man.kind {
             Kind::Pawn => self.pawn_steps_to(man.colour, m),
             Kind::King => self.reaches(m.from, m.to) || self.castles(rule, man, m),
@@ -395,7 +395,7 @@ impl Plain {
     }
 
     // Returns whether the move is pseudo-legal.
-    pub(crate) fn may_arrive(&self, rule: Rule, man: Man, m: &Move) -> bool {
+    pub(crate) fn may_arrive(&self, rule: Rule, man: Man, m: Move) -> bool {
         man.colour == self.turn
             && self.is_free_for(man.colour, m.to)
             && self.is_promotion_right(man, m)
@@ -404,7 +404,7 @@ impl Plain {
     }
 
     // Returns whether the man on the origin may go to the arrival, and its king isn't in check afterwards.
-    pub(crate) fn is_legal(&self, rule: Rule, m: &Move) -> bool {
+    pub(crate) fn is_legal(&self, rule: Rule, m: Move) -> bool {
         let Some(man) = self.man(m.from) else {
             return false;
         };
@@ -435,7 +435,7 @@ impl Plain {
                     to: Square::numbered(to),
                     promo: *promo,
                 };
-                if self.may_arrive(rule, man, &m) {
+                if self.may_arrive(rule, man, m) {
                     let _fits = moves.try_push(m);
                 }
             }
@@ -453,7 +453,7 @@ impl Plain {
             let mut moves = ArrayVec::new();
             self.add_moves_from(rule, Square::numbered(number), &mut moves);
             for m in moves.as_slice() {
-                if self.is_legal(rule, m) {
+                if self.is_legal(rule, *m) {
                     return true;
                 }
             }
@@ -463,7 +463,7 @@ impl Plain {
 
     // Returns the square on which the man captures by this move: its arrival, or for en passant the pawn's
     // square.
-    pub(crate) fn capture_square(&self, man: Man, m: &Move) -> Square {
+    pub(crate) fn capture_square(&self, man: Man, m: Move) -> Square {
         if man.kind == Kind::Pawn && m.from.file() != m.to.file() && self.is_empty(m.to) {
             return Square::new(m.to.file(), m.from.rank()).unwrap_or_default();
         }
@@ -471,7 +471,7 @@ impl Plain {
     }
 
     // Returns the position after a pseudo-legal move.
-    pub(crate) fn after(&self, rule: Rule, m: &Move) -> Plain {
+    pub(crate) fn after(&self, rule: Rule, m: Move) -> Plain {
         let Some(man) = self.man(m.from) else {
             return *self;
         };
@@ -489,7 +489,7 @@ impl Plain {
     }
 
     // Removes the captured man, if there is one, and moves `man`, which may promote.
-    fn carry(&mut self, man: Man, m: &Move, captured: Square) {
+    fn carry(&mut self, man: Man, m: Move, captured: Square) {
         self.men[captured.index() as usize] = None;
         self.men[m.from.index() as usize] = None;
         self.men[m.to.index() as usize] = Some(Man {
@@ -499,7 +499,7 @@ impl Plain {
     }
 
     // Moves the rook if the king castles.
-    fn move_rook(&mut self, man: Man, m: &Move) {
+    fn move_rook(&mut self, man: Man, m: Move) {
         if man.kind == Kind::King {
             if let Some((rook, crossed)) = castling_squares(man.colour, m) {
                 self.shift(rook, crossed);
@@ -538,7 +538,7 @@ impl Plain {
 
 // Returns the rook's square and the square that the king crosses, if the king goes two squares from home
 // along its rank.
-fn castling_squares(colour: Colour, m: &Move) -> Option<(Square, Square)> {
+fn castling_squares(colour: Colour, m: Move) -> Option<(Square, Square)> {
     let rank = match colour {
         Colour::White => 1u8,
         Colour::Black => 8,
@@ -565,7 +565,7 @@ fn ways_of(kind: Kind) -> &'static [(u8, u8)] {
 }
 
 // Returns the square that a pawn passes by this move, if it is a double step.
-fn passed(man: Man, m: &Move) -> Option<Square> {
+fn passed(man: Man, m: Move) -> Option<Square> {
     if man.kind == Kind::Pawn && m.from.rank().abs_diff(m.to.rank()) == 2 {
         next(m.from, (0, up(man.colour)))
     } else {

@@ -221,7 +221,7 @@ fn is_harmless_under<R: Rules>(diagram: &Diagram, wanted: Move) -> Option<bool>
                 return None;
             };
             let mut threats = Threats::of::<R>(&board, king);
-            return Some(threats.rule_out_mate::<R>(&board, &m));
+            return Some(threats.rule_out_mate::<R>(&board, m));
         }
     }
     None
@@ -249,7 +249,7 @@ fn steps_under<R: Rules>(diagram: &Diagram, wanted: Move) -> Option<bool>
     let mut place = Moves::<R>::start();
     while let Some(m) = place.next(&mut board) {
         if m == wanted {
-            return Some(QuietSteps::of(&board).follow::<R>(&board, &m));
+            return Some(QuietSteps::of(&board).follow::<R>(&board, m));
         }
     }
     None

@@ -36,26 +36,26 @@ impl Survey {
     fn count(&mut self, plain: &Plain, rule: Rule, motifs: &[Motif]) {
         let moves = plain.moves_but_for_check(rule);
         for m in moves.as_slice() {
-            self.count_move(plain, rule, m, motifs);
+            self.count_move(plain, rule, *m, motifs);
         }
         for m in &castlings() {
             if let Some(king) = plain.man(m.from) {
                 let forbidden = king.kind == Kind::King
                     && king.colour == plain.turn
-                    && plain.castling(king, m).is_some()
-                    && !plain.may_arrive(rule, king, m);
+                    && plain.castling(king, *m).is_some()
+                    && !plain.may_arrive(rule, king, *m);
                 if forbidden {
-                    self.count_move(plain, rule, m, motifs);
+                    self.count_move(plain, rule, *m, motifs);
                 }
             }
         }
     }
 
-    fn count_move(&mut self, plain: &Plain, rule: Rule, m: &Move, motifs: &[Motif]) {
+    fn count_move(&mut self, plain: &Plain, rule: Rule, m: Move, motifs: &[Motif]) {
         let Some(man) = plain.man(m.from) else {
             return;
         };
-        let case = Case::of(plain, rule, man, *m);
+        let case = Case::of(plain, rule, man, m);
         for (motif, shown) in motifs.iter().zip(self.shown.iter_mut()) {
             if case.shows(*motif) {
                 *shown = shown.saturating_add(1);

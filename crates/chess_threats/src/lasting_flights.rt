@@ -251,8 +251,8 @@ fn leave_one(squares: Squares, men: &Attackers, targets: &OpenTargets) -> bool
 }
 
 // Returns the square of the mover's king after this man's move, without castling.
-pub(crate) fn king_after(board: &Board, man: Man, m: &Move) -> Option<Square>
-    ensures { result ≡ king_after board.now man m.now }
+pub(crate) fn king_after(board: &Board, man: Man, m: Move) -> Option<Square>
+    ensures { result ≡ king_after board.now man m }
 {
     if man.kind.is(Kind::King) {
         return Some(m.to);

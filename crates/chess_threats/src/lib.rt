@@ -24,8 +24,8 @@
 //!     let mut threats = Threats::of::<Orthodox>(&board, king);
 //!     let step = |to| Move { from: king, to, promo: None };
 //!     // Ra1-a8 mates after Kh8, and nothing mates after Kf8.
-//!     assert!(rt; !threats.rule_out_mate::<Orthodox>(&board, &step(Square::H8)));
-//!     assert!(rt; threats.rule_out_mate::<Orthodox>(&board, &step(Square::F8)));
+//!     assert!(rt; !threats.rule_out_mate::<Orthodox>(&board, step(Square::H8)));
+//!     assert!(rt; threats.rule_out_mate::<Orthodox>(&board, step(Square::F8)));
 //! }
 //! ```
 //!

@@ -62,24 +62,27 @@ fn is_quiet_to(board: &Board, occupancy: Occupancy, king: Square, to: Square, ow
 fn steps_quietly<R: Rules>(
     board: &Board,
     man: Man,
-    m: &Move,
+    m: Move,
     captured: Option<Square>,
     king: Square,
     squares: Squares,
 ) -> bool
-    requires seen { IsSeenFrom R.rule board.now m.now man king }
-    requires captured { captured ≡ capture_square board.now man m.now }
+    requires seen { IsSeenFrom R.rule board.now m man king }
+    requires captured { captured ≡ capture_square board.now man m }
     ensures { result ≡ true
-        → list_all (is_mating R.rule (position_after R.rule board.now m.now))
-        (moves R.rule (position_after R.rule board.now m.now)) ≡ false }
+        → list_all (is_mating R.rule (position_after R.rule board.now m))
+        (moves R.rule (position_after R.rule board.now m)) ≡ false }
 {
-    m.to.show_below_64();
+    let from = m.from;
+    let to = m.to;
+    let promo = m.promo;
+    to.show_below_64();
     let Some(own) = king_after(board, man, m) else {
         return false;
     };
-    let occupancy = occupancy_lifted(board, m.from, captured, m.to, king);
+    let occupancy = occupancy_lifted(board, from, captured, to, king);
     let near = open_squares::<R>(board, occupancy, king);
-    let covered = covered_squares(occupancy.occupied, man, m.promo, m.to);
+    let covered = covered_squares(occupancy.occupied, man, promo, to);
     match first_safe(board, occupancy, near & squares & !covered, board.turn()) {
         Some(to) => is_quiet_to(board, occupancy, king, to, own),
         None => false,
@@ -185,12 +188,12 @@ impl QuietSteps {
 
     /// Returns whether a quiet step is certainly legal after the move, so that not every reply mates.
     /// `false` says nothing; castling and captures with rebirth always return it.
-    pub fn follow<R: Rules>(&self, board: &Board, m: &Move) -> bool
+    pub fn follow<R: Rules>(&self, board: &Board, m: Move) -> bool
         requires well_formed { IsWellFormed board.now }
-        requires legal { is_legal R.rule board.now m.now ≡ true }
+        requires legal { is_legal R.rule board.now m ≡ true }
         ensures { result ≡ true
-            → list_all (is_mating R.rule (position_after R.rule board.now m.now))
-            (moves R.rule (position_after R.rule board.now m.now)) ≡ false }
+            → list_all (is_mating R.rule (position_after R.rule board.now m))
+            (moves R.rule (position_after R.rule board.now m)) ≡ false }
     {
         let squares = self.squares;
         if squares == 0 {

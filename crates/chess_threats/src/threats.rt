@@ -261,12 +261,12 @@ impl Threats {
 
     /// Returns whether these threats show that no reply to the move mates. `false` says nothing.
     #[tactic(auto, using(crate::proofs::Sparing::one_square))]
-    pub fn rule_out_mate<R: Rules>(&mut self, board: &Board, m: &Move) -> bool
+    pub fn rule_out_mate<R: Rules>(&mut self, board: &Board, m: Move) -> bool
         requires well_formed { IsWellFormed board.now }
-        requires legal { is_legal R.rule board.now m.now ≡ true }
+        requires legal { is_legal R.rule board.now m ≡ true }
         requires threats { AreThreatsOf R.rule board.now self.old }
         ensures is_decided { result ≡ true
-            → mates_after R.rule (position_after R.rule board.now m.now) 0 ≡ [] }
+            → mates_after R.rule (position_after R.rule board.now m) 0 ≡ [] }
         ensures same { self.new ≡ self.old }
     {
         m.to.show_below_64();

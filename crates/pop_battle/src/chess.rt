@@ -192,8 +192,8 @@ pub(crate) fn is_reached_without_move<R: Rules>(goal: Goal, board: &Board) -> bo
 }
 
 /// Returns the side to which the man castles by this move, or `None` if it doesn't castle.
-fn castling_side(man: Man, by: &Move) -> Option<Side>
-    ensures { result ≡ castling_side man by.now }
+fn castling_side(man: Man, by: Move) -> Option<Side>
+    ensures { result ≡ castling_side man by }
 {
     if !is_castling(man, by) {
         return None;
@@ -214,8 +214,8 @@ fn reborn_man(man: Option<Man>, square: Option<Square>) -> Option<(Man, Square)>
 /// Returns a played move as it is shown. `man` made it, `there` is the man that was on the arrival square
 /// before, and `undo` is what `play` returned.
 #[tactic(auto, unfolding(pop_events::specs::Shown::shown_of))]
-pub fn shown_of(man: Option<Man>, there: Option<Man>, by: &Move, undo: &Undo, mark: Mark) -> Shown
-    ensures { result ≡ shown_of man there by.now undo.now mark }
+pub fn shown_of(man: Option<Man>, there: Option<Man>, by: Move, undo: &Undo, mark: Mark) -> Shown
+    ensures { result ≡ shown_of man there by undo.now mark }
 {
     let Some(man) = man else {
         return Shown::default();

@@ -115,11 +115,11 @@ impl<R: Rules> Killers<R> {
 
     /// Returns whether the threats in the board's position rule out that a reply to this move mates;
     /// `false` proves nothing. Keeps the threats for the position's other moves.
-    pub fn rule_out_mate(&mut self, board: &Board, m: &Move) -> bool
+    pub fn rule_out_mate(&mut self, board: &Board, m: Move) -> bool
         requires well_formed { IsWellFormed board.now }
-        requires legal { is_legal R.rule board.now m.now ≡ true }
+        requires legal { is_legal R.rule board.now m ≡ true }
         ensures { result ≡ true
-            → mates_after R.rule (position_after R.rule board.now m.now) 0 ≡ [] }
+            → mates_after R.rule (position_after R.rule board.now m) 0 ≡ [] }
     {
         self.compute_threats(board);
         let Some(threats) = &mut self.threats else {

@@ -37,7 +37,7 @@ fn forces_mate<R: Rules>(
     ensures value { result ≡ value Selfmate (chess Mate R.rule) 1
         (position_after R.rule board.old by) }
 {
-    if steps.follow::<R>(board, &by) || killers.rule_out_mate(board, &by) {
+    if steps.follow::<R>(board, by) || killers.rule_out_mate(board, by) {
         return false;
     }
     let undo = play::<R>(board, by);

@@ -78,7 +78,7 @@ fn play_shown<R: Rules>(goal: Goal, reached: Reached, frame: &Frame<R>, board: &
     let there = board.man_at(by.to);
     let undo = play::<R>(board, by);
     let mark = mark_after::<R>(goal, reached, board);
-    shown_of(man, there, &by, &undo, mark)
+    shown_of(man, there, by, &undo, mark)
 }
 
 /// Takes back all moves that lead to the top frame.

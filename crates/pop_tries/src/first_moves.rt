@@ -41,7 +41,7 @@ pub enum Group {
 #[tactic(auto, using(crate::proofs::Candidates::classing))]
 fn is_key_or_noted<R: Rules, const N: usize>(
     task: &Task,
-    by: &Move,
+    by: Move,
     candidates: &mut Option<MoveSet>,
     refuting: &mut Option<Refuting>,
     board: &mut Board,
@@ -52,7 +52,7 @@ fn is_key_or_noted<R: Rules, const N: usize>(
     requires few { task.now.most ≤ MOST_REFUTATIONS }
     ensures key { result ≡ belongs R.rule (contest_of task.now) Keys board.old }
     ensures noted { belongs R.rule (contest_of task.now) (Tries task.now.most) board.old ≡ true
-        → may_be candidates.new by.now ≡ true }
+        → may_be candidates.new by ≡ true }
     ensures kept { (m : Move) → may_be candidates.old m ≡ true → may_be candidates.new m ≡ true }
     ensures refuting { IsKnownTry R.rule (contest_of task.now) task.now.most board.old refuting.new }
     ensures rest { Keeps board.old board.new frames.old.items frames.new.items }
@@ -112,7 +112,7 @@ fn play_next_key<R: Rules, const N: usize>(
         let mut refuting = None;
         if is_key_or_noted::<R, N>(
             task,
-            &by,
+            by,
             &mut candidates.set,
             &mut refuting,
             board,
@@ -177,7 +177,7 @@ fn play_next_try<R: Rules, const N: usize>(
     let contest = task.contest();
     let mut known = None;
     while let Some(by) = next_move::<R>(&mut known, place, board) {
-        if may_be(candidates.set, &by) {
+        if may_be(candidates.set, by) {
             let undo = play::<R>(board, by);
             let kept = candidates.kept_at(index as usize, place.number());
             let mut refuting = Refuting::none();

@@ -27,16 +27,16 @@ impl MoveSet {
     }
 
     /// Returns whether the set may hold the move.
-    pub fn may_hold(self, by: &Move) -> bool
-        ensures { result ≡ may_hold self by.now }
+    pub fn may_hold(self, by: Move) -> bool
+        ensures { result ≡ may_hold self by }
     {
         self.origins >> by.from.index() & 1 == 1 && self.arrivals >> by.to.index() & 1 == 1
     }
 
     /// Returns the set with the move put into it.
     #[tactic(auto, using(crate::proofs::MoveSets::putting))]
-    pub fn with(self, by: &Move) -> MoveSet
-        ensures put { may_hold result by.now ≡ true }
+    pub fn with(self, by: Move) -> MoveSet
+        ensures put { may_hold result by ≡ true }
         ensures kept { (m : Move) → may_hold self m ≡ true → may_hold result m ≡ true }
     {
         MoveSet {
@@ -46,8 +46,8 @@ impl MoveSet {
     }
 
     /// Returns the set with the move put into it if `meets`.
-    pub fn with_if(self, meets: bool, by: &Move) -> MoveSet
-        ensures put { meets ≡ true → may_hold result by.now ≡ true }
+    pub fn with_if(self, meets: bool, by: Move) -> MoveSet
+        ensures put { meets ≡ true → may_hold result by ≡ true }
         ensures kept { (m : Move) → may_hold self m ≡ true → may_hold result m ≡ true }
     {
         if meets {
@@ -58,8 +58,8 @@ impl MoveSet {
 }
 
 /// Returns whether a move may be in the set; without a set nothing is known.
-pub fn may_be(set: Option<MoveSet>, by: &Move) -> bool
-    ensures { result ≡ may_be set by.now }
+pub fn may_be(set: Option<MoveSet>, by: Move) -> bool
+    ensures { result ≡ may_be set by }
 {
     match set {
         Some(set) => set.may_hold(by),
@@ -68,8 +68,8 @@ pub fn may_be(set: Option<MoveSet>, by: &Move) -> bool
 }
 
 /// Returns the set, if there is one, with the move put into it.
-pub fn noted(set: Option<MoveSet>, by: &Move) -> Option<MoveSet>
-    ensures put { may_be result by.now ≡ true }
+pub fn noted(set: Option<MoveSet>, by: Move) -> Option<MoveSet>
+    ensures put { may_be result by ≡ true }
     ensures kept { (m : Move) → may_be set m ≡ true → may_be result m ≡ true }
 {
     match set {

@@ -105,7 +105,7 @@ pub fn is_refutation<R: Rules, const N: usize>(
     if place == refuting.last {
         return true;
     }
-    if !refuting.moves.may_hold(&by) {
+    if !refuting.moves.may_hold(by) {
         return false;
     }
     refutes::<R, N>(contest, by, board, frames, search_state)
@@ -270,7 +270,7 @@ fn count_among<R: Rules, const N: usize>(
     while let Some(by) = next_move::<R>(&mut known, &mut place, board) {
         if refutes_among::<R, N>(contest, counted, by, board, frames, search_state) {
             count += 1;
-            refuting = refuting.with(&by);
+            refuting = refuting.with(by);
             last = place.number();
             search_state.killers.put(left, place);
             if count > tally.most {

@@ -23,7 +23,7 @@ pub fn shown<R: Rules>(goal: Goal, by: Move, board: &mut Board) -> Shown
     let there = board.man_at(by.to);
     let undo = play::<R>(board, by);
     let mark = mark_after::<R>(goal, Reached::Perhaps, board);
-    let shown = shown_of(man, there, &by, &undo, mark);
+    let shown = shown_of(man, there, by, &undo, mark);
     unplay::<R>(board, by, undo);
     shown
 }

@@ -178,7 +178,7 @@ fn mating_moves<R: Rules>(board: &mut Board) -> Winners
     let mut moves = MoveSet::none();
     let mut places = FewPlaces::Empty;
     while let Some(by) = mates.next(board) {
-        moves = moves.with(&by);
+        moves = moves.with(by);
         places = places.with(mates.place().number());
     }
     Winners { moves, places }
@@ -231,7 +231,7 @@ fn tested_moves<R: Rules, const N: usize>(
     let mut places = FewPlaces::Empty;
     while let Some(by) = next_move::<R>(&mut known, &mut place, board) {
         if wins_by::<R, N>(contest, length, by, board, frames, search_state) {
-            moves = moves.with(&by);
+            moves = moves.with(by);
             places = places.with(place.number());
         }
     }
@@ -310,7 +310,7 @@ fn is_threat<R: Rules, const N: usize>(
         (position_after R.rule board.old by) }
     ensures rest { Keeps board.old board.new frames.old.items frames.new.items }
 {
-    if !threat.moves.may_hold(&by) {
+    if !threat.moves.may_hold(by) {
         return false;
     }
     wins_by::<R, N>(contest, threat.length, by, board, frames, search_state)

@@ -285,8 +285,8 @@ pub fn blocker_squares(board: &Board, colour: Colour) -> Squares
 // Returns whether the move changes only its origin and its arrival: it isn't castling or en passant, and
 // captures nobody who is reborn.
 #[tactic(auto, unfolding(crate::specs::ties::Blockers::is_plain))]
-pub(crate) fn is_plain<R: Rules>(board: &Board, man: Man, m: &Move) -> bool
-    ensures { result ≡ is_plain R.rule board.now man m.now }
+pub(crate) fn is_plain<R: Rules>(board: &Board, man: Man, m: Move) -> bool
+    ensures { result ≡ is_plain R.rule board.now man m }
 {
     !is_castling(man, m)
         && board.crossed() != Some(m.to)
@@ -314,11 +314,11 @@ fn stays_off_fairy_lines<R: Rules>(
     man: Man,
     colour: Colour,
     squares: Squares,
-    m: &Move,
+    m: Move,
 ) -> bool
     requires { squares ≡ word (may_expose board.now.men colour) }
-    ensures { result ≡ (not (may_be_hurdle board.now.men colour m.now.to)
-        && is_plain R.rule board.now man m.now) }
+    ensures { result ≡ (not (may_be_hurdle board.now.men colour m.to)
+        && is_plain R.rule board.now man m) }
 {
     !may_be_hurdle(board, colour, squares, m.to) && is_plain::<R>(board, man, m)
 }
@@ -326,9 +326,9 @@ fn stays_off_fairy_lines<R: Rules>(
 /// Returns whether the move can't expose the colour's king; `squares` are the squares from which a move
 /// may.
 #[inline(always)]
-pub fn cannot_expose<R: Rules>(board: &Board, colour: Colour, squares: Squares, m: &Move) -> bool
+pub fn cannot_expose<R: Rules>(board: &Board, colour: Colour, squares: Squares, m: Move) -> bool
     requires { squares ≡ word (may_expose board.now.men colour) }
-    ensures { result ≡ cannot_expose R.rule board.now colour m.now }
+    ensures { result ≡ cannot_expose R.rule board.now colour m }
 {
     m.from.show_below_64();
     match board.man_at(m.from) {

@@ -27,10 +27,10 @@ fn are_empty(board: &Board, low: u8, high: u8) -> bool
 // nor on the square that it crosses. For the last test the king is put on that square for a moment; the
 // board is unchanged afterwards.
 #[tactic(auto, using(crate::proofs::making_moves::Castles::castling), unfolding(crate::specs::Legal::can_castle))]
-pub(crate) fn can_castle<R: Rules>(board: &mut Board, man: Man, m: &Move) -> bool
-    requires here { man_on board.old.men m.now.from ≡ Some man }
+pub(crate) fn can_castle<R: Rules>(board: &mut Board, man: Man, m: Move) -> bool
+    requires here { man_on board.old.men m.from ≡ Some man }
     requires well_formed { IsWellFormed board.old }
-    ensures answer { result ≡ can_castle R.rule board.old man m.now }
+    ensures answer { result ≡ can_castle R.rule board.old man m }
     ensures board { board.new ≡ board.old }
 {
     if !may_castle::<R>(board, man, m) {
@@ -47,8 +47,8 @@ pub(crate) fn can_castle<R: Rules>(board: &mut Board, man: Man, m: &Move) -> boo
 
 // Returns whether the king may castle, without testing the square that it crosses.
 #[tactic(auto, unfolding(crate::specs::Legal::may_castle))]
-fn may_castle<R: Rules>(board: &Board, man: Man, m: &Move) -> bool
-    ensures { result ≡ may_castle R.rule board.now man m.now }
+fn may_castle<R: Rules>(board: &Board, man: Man, m: Move) -> bool
+    ensures { result ≡ may_castle R.rule board.now man m }
 {
     let rook = corner(m);
     let (low, high) = if m.from < rook {

@@ -75,8 +75,8 @@ pub(crate) fn evasion_squares<R: Rules>(board: &Board, colour: Colour, checkers:
 
 // Returns whether the move might give its side the first man of a kind, which may paralyse the checker:
 // in Madrasi, any promotion.
-fn may_paralyse_new_kind<R: Rules>(m: &Move) -> bool
-    ensures { result ≡ may_paralyse_new_kind R.rule m.now }
+fn may_paralyse_new_kind<R: Rules>(m: Move) -> bool
+    ensures { result ≡ may_paralyse_new_kind R.rule m }
 {
     R::like_men_paralyse() && m.promo.is_some()
 }
@@ -96,11 +96,11 @@ fn paralysing_squares<R: Rules>(man: Man) -> Squares
 // Returns whether the move certainly leaves its own king in check: it isn't the king's and misses
 // `evasion_squares`. `false` says nothing.
 #[tactic(auto, using(crate::proofs::legality::StayingInCheck::check_unmet))]
-fn leaves_check<R: Rules>(board: &Board, evasion_squares: Squares, m: &Move) -> bool
+fn leaves_check<R: Rules>(board: &Board, evasion_squares: Squares, m: Move) -> bool
     requires well_formed { IsWellFormed board.now }
-    requires pseudo { is_pseudo_legal R.rule board.now m.now ≡ true }
+    requires pseudo { is_pseudo_legal R.rule board.now m ≡ true }
     requires evasion_squares { AreEvasions R.rule board.now.men board.now.turn evasion_squares }
-    ensures { result ≡ true → in_check R.rule (position_after R.rule board.now m.now).men
+    ensures { result ≡ true → in_check R.rule (position_after R.rule board.now m).men
         board.now.turn
         ≡ true }
 {
@@ -181,10 +181,10 @@ pub(crate) fn is_safe<R: Rules>(
     ensures board { board.new ≡ board.old }
 {
     m.to.show_below_64();
-    if cannot_expose::<R>(board, board.turn(), squares, &m) {
+    if cannot_expose::<R>(board, board.turn(), squares, m) {
         return true;
     }
-    if leaves_check::<R>(board, evasion_squares, &m) {
+    if leaves_check::<R>(board, evasion_squares, m) {
         return false;
     }
     !leaves_king_in_check::<R>(board, m)

@@ -22,8 +22,8 @@ use chess_attacks::{Rules, in_check};
 use chess_core::{Board, Kind, Man, Move, Square, Squares};
 
 // Returns the square of the mover's king after this man has made the move.
-fn king_after(board: &Board, man: Man, m: &Move) -> Option<Square>
-    ensures { result ≡ king_after board.now man m.now }
+fn king_after(board: &Board, man: Man, m: Move) -> Option<Square>
+    ensures { result ≡ king_after board.now man m }
 {
     if man.kind.is(Kind::King) {
         Some(m.to)
@@ -34,16 +34,16 @@ fn king_after(board: &Board, man: Man, m: &Move) -> Option<Square>
 
 /// Returns whether the move does no more than move this man and remove at most one captured man: it
 /// isn't castling, and nobody is reborn. `captures` says whether it captures.
-pub fn is_simple<R: Rules>(man: Man, m: &Move, captures: bool) -> bool
-    ensures { result ≡ is_simple R.rule man m.now captures }
+pub fn is_simple<R: Rules>(man: Man, m: Move, captures: bool) -> bool
+    ensures { result ≡ is_simple R.rule man m captures }
 {
     !is_castling(man, m) && !(R::captures_are_reborn() && captures)
 }
 
 // Returns the arrival square if the man that arrives there is of this kind; otherwise no square.
 #[tactic(auto, using(crate::proofs::legality::Exposing::arrives_as, crate::proofs::legality::Exposing::arrives_otherwise))]
-fn arrival_as(man: Man, m: &Move, kind: Kind) -> Squares
-    ensures { result ≡ word (is_arriving_as man m.now kind) }
+fn arrival_as(man: Man, m: Move, kind: Kind) -> Squares
+    ensures { result ≡ word (is_arriving_as man m kind) }
 {
     if arriving_man(man, m.promo).kind.is(kind) {
         only(Some(m.to))
@@ -54,8 +54,8 @@ fn arrival_as(man: Man, m: &Move, kind: Kind) -> Squares
 
 // Returns the squares of the mover's men of this kind after a simple move; `occupancy` is the occupancy
 // after it.
-fn own_squares_after(board: &Board, occupancy: Occupancy, man: Man, m: &Move, kind: Kind) -> Squares
-    ensures { result ≡ own_after board.now.men occupancy man m.now kind }
+fn own_squares_after(board: &Board, occupancy: Occupancy, man: Man, m: Move, kind: Kind) -> Squares
+    ensures { result ≡ own_after board.now.men occupancy man m kind }
 {
     board.squares(man.colour, kind) & occupancy.standing & !only(Some(m.from))
         | arrival_as(man, m, kind)
@@ -67,11 +67,11 @@ fn is_attacked_by_like_after(
     board: &Board,
     occupancy: Occupancy,
     man: Man,
-    m: &Move,
+    m: Move,
     square: Square,
     kind: Kind,
 ) -> bool
-    ensures { (men : List (Option Man)) → DescribesMenAfter board.now.men men man m.now occupancy
+    ensures { (men : List (Option Man)) → DescribesMenAfter board.now.men men man m occupancy
         → result ≡ some_square (λ s. is_man (man_on men s) man.colour kind
         && reaches men s square) }
 {
@@ -85,10 +85,10 @@ fn is_paralysed_after<R: Rules>(
     board: &Board,
     occupancy: Occupancy,
     man: Man,
-    m: &Move,
+    m: Move,
     square: Square,
 ) -> bool
-    ensures { (men : List (Option Man)) → DescribesMenAfter board.now.men men man m.now occupancy
+    ensures { (men : List (Option Man)) → DescribesMenAfter board.now.men men man m occupancy
         → is_of_colour (man_on men square) (other man.colour) ≡ true
         → result ≡ is_paralysed R.rule men square }
 {
@@ -109,10 +109,10 @@ fn some_unparalysed_after<R: Rules>(
     board: &Board,
     occupancy: Occupancy,
     man: Man,
-    m: &Move,
+    m: Move,
     word: Squares,
 ) -> bool
-    ensures { (men : List (Option Man)) → DescribesMenAfter board.now.men men man m.now occupancy
+    ensures { (men : List (Option Man)) → DescribesMenAfter board.now.men men man m occupancy
         → AreOthers men man.colour word
         → result ≡ some_square (λ s. bit_at word s == 1 && not (is_paralysed R.rule men s)) }
 {
@@ -131,10 +131,10 @@ fn is_attacked_after<R: Rules>(
     board: &Board,
     occupancy: Occupancy,
     man: Man,
-    m: &Move,
+    m: Move,
     square: Square,
 ) -> bool
-    ensures { (men : List (Option Man)) → DescribesMenAfter board.now.men men man m.now occupancy
+    ensures { (men : List (Option Man)) → DescribesMenAfter board.now.men men man m occupancy
         → DescribesMen board.now.men men (other man.colour) occupancy
         → result ≡ is_attacked R.rule men square (other man.colour) }
 {
@@ -149,14 +149,16 @@ fn is_attacked_after<R: Rules>(
 // Returns whether the move leaves its own king in check, without playing it; `None` if the move isn't
 // simple.
 #[inline(always)]
-fn leaves_king_in_check_unplayed<R: Rules>(board: &Board, m: &Move) -> Option<bool>
+fn leaves_king_in_check_unplayed<R: Rules>(board: &Board, m: Move) -> Option<bool>
     requires well_formed { IsWellFormed board.now }
-    requires pseudo { is_pseudo_legal R.rule board.now m.now ≡ true }
-    ensures { IfSome result (λ b. b ≡ in_check R.rule (position_after R.rule board.now m.now).men
+    requires pseudo { is_pseudo_legal R.rule board.now m ≡ true }
+    ensures { IfSome result (λ b. b ≡ in_check R.rule (position_after R.rule board.now m).men
         board.now.turn) }
 {
-    m.to.show_below_64();
-    let Some(man) = board.man_at(m.from) else {
+    let from = m.from;
+    let to = m.to;
+    to.show_below_64();
+    let Some(man) = board.man_at(from) else {
         return None;
     };
     let captured = capture_square(board, man, m);
@@ -166,7 +168,7 @@ fn leaves_king_in_check_unplayed<R: Rules>(board: &Board, m: &Move) -> Option<bo
     let Some(king) = king_after(board, man, m) else {
         return Some(false);
     };
-    let occupancy = occupancy_after(board, m.from, captured, m.to);
+    let occupancy = occupancy_after(board, from, captured, to);
     Some(is_attacked_after::<R>(board, occupancy, man, m, king))
 }
 
@@ -179,7 +181,7 @@ pub(crate) fn leaves_king_in_check<R: Rules>(board: &mut Board, m: Move) -> bool
         ≡ in_check R.rule (position_after R.rule board.old m).men board.old.turn }
     ensures board { board.new ≡ board.old }
 {
-    match leaves_king_in_check_unplayed::<R>(board, &m) {
+    match leaves_king_in_check_unplayed::<R>(board, m) {
         Some(exposed) => exposed,
         None => leaves_king_in_check_played::<R>(board, m),
     }

@@ -38,8 +38,8 @@ pub(crate) fn second_rank(colour: Colour) -> u8
 }
 
 // Returns whether the man is a king that still has its castling right.
-fn is_unmoved_king(board: &Board, man: Man, m: &Move) -> bool
-    ensures { result ≡ (same_kind man.kind King && has_unmoved board.now.unmoved m.now.from) }
+fn is_unmoved_king(board: &Board, man: Man, m: Move) -> bool
+    ensures { result ≡ (same_kind man.kind King && has_unmoved board.now.unmoved m.from) }
 {
     man.kind.is(Kind::King) && board.unmoved().has(m.from)
 }
@@ -54,7 +54,7 @@ fn can_king_go<R: Rules>(board: &mut Board, man: Man, m: &Move) -> bool
         || can_castle R.rule board.old man m.now) }
     ensures board { board.new ≡ board.old }
 {
-    reaches(board, m.from, m.to) || can_castle::<R>(board, man, m)
+    reaches(board, m.from, m.to) || can_castle::<R>(board, man, *m)
 }
 
 // Returns whether the man may go to the arrival, which is one of its arrival squares: only castling
@@ -68,7 +68,7 @@ fn can_go<R: Rules>(board: &mut Board, man: Man, m: &Move) -> bool
     ensures answer { result ≡ can_go R.rule board.old man m.now }
     ensures board { board.new ≡ board.old }
 {
-    if is_unmoved_king(board, man, m) {
+    if is_unmoved_king(board, man, *m) {
         can_king_go::<R>(board, man, m)
     } else {
         true

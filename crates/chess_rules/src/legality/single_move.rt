@@ -13,9 +13,9 @@ use chess_core::{Board, Move};
 
 // Returns whether the move arrives on one of the man's arrival squares, with a promotion exactly if it is a
 // pawn on its last rank.
-fn is_aimed<R: Rules>(board: &Board, m: &Move) -> bool
-    ensures aimed { result ≡ true → IsAimed R.rule board.now m.now }
-    ensures idle { result ≡ false → is_pseudo_legal R.rule board.now m.now ≡ false }
+fn is_aimed<R: Rules>(board: &Board, m: Move) -> bool
+    ensures aimed { result ≡ true → IsAimed R.rule board.now m }
+    ensures idle { result ≡ false → is_pseudo_legal R.rule board.now m ≡ false }
 {
     m.to.show_below_64();
     let Some(man) = board.man_at(m.from) else {
@@ -31,7 +31,7 @@ pub(crate) fn is_single_move_legal<R: Rules>(board: &mut Board, m: Move) -> bool
     ensures answer { result ≡ is_legal R.rule board.old m }
     ensures board { board.new ≡ board.old }
 {
-    is_aimed::<R>(board, &m)
+    is_aimed::<R>(board, m)
         && is_pseudo_legal::<R>(board, &m)
         && !leaves_king_in_check::<R>(board, m)
 }

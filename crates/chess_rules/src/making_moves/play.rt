@@ -27,8 +27,8 @@ pub fn arriving_man(man: Man, promo: Option<Kind>) -> Man
 
 /// Returns the corner of the rook with which a king castles by this move. For other moves the result
 /// means nothing.
-pub fn corner(m: &Move) -> Square
-    ensures { result ≡ corner m.now }
+pub fn corner(m: Move) -> Square
+    ensures { result ≡ corner m }
 {
     let from = m.from.index();
     let first = from - from % 8;
@@ -37,15 +37,15 @@ pub fn corner(m: &Move) -> Square
 
 /// Returns the square halfway between origin and arrival: the one that a castling king or a pawn's double
 /// step crosses.
-pub fn halfway(m: &Move) -> Square
-    ensures { result ≡ halfway m.now }
+pub fn halfway(m: Move) -> Square
+    ensures { result ≡ halfway m }
 {
     Square::numbered((m.from.index() + m.to.index()) / 2)
 }
 
 /// Returns whether the move is castling if this man makes it: a king goes two files along its rank.
-pub fn is_castling(man: Man, m: &Move) -> bool
-    ensures { result ≡ is_castling man m.now }
+pub fn is_castling(man: Man, m: Move) -> bool
+    ensures { result ≡ is_castling man m }
 {
     man.kind.is(Kind::King)
         && m.from.rank() == m.to.rank()
@@ -53,8 +53,8 @@ pub fn is_castling(man: Man, m: &Move) -> bool
 }
 
 // Returns whether the move is a double step if this man makes it.
-fn is_double_step(man: Man, m: &Move) -> bool
-    ensures { result ≡ is_double_step man m.now }
+fn is_double_step(man: Man, m: Move) -> bool
+    ensures { result ≡ is_double_step man m }
 {
     man.kind.is(Kind::Pawn)
         && (m.from.rank() + 2 == m.to.rank() || m.to.rank() + 2 == m.from.rank())
@@ -63,8 +63,8 @@ fn is_double_step(man: Man, m: &Move) -> bool
 /// Returns the square of the captured man, or `None` if the move captures nothing. For en passant it is one
 /// rank before the arrival.
 #[tactic(auto, unfolding(crate::specs::Play::capture_square))]
-pub fn capture_square(board: &Board, man: Man, m: &Move) -> Option<Square>
-    ensures { result ≡ capture_square board.now man m.now }
+pub fn capture_square(board: &Board, man: Man, m: Move) -> Option<Square>
+    ensures { result ≡ capture_square board.now man m }
 {
     if board.man_at(m.to).is_some() {
         Some(m.to)
@@ -92,10 +92,10 @@ pub(crate) fn remove_at(board: &mut Board, square: Option<Square>)
 // castling moves the rook.
 #[inline(always)]
 #[tactic(auto, using(crate::proofs::making_moves::Plays::capture_clears), unfolding(crate::specs::Play::moved_men))]
-fn move_men(board: &mut Board, man: Man, m: &Move, captured: Option<Square>)
-    requires moves { CanMove board.old man m.now }
-    requires captured { captured ≡ capture_square board.old man m.now }
-    ensures { board.new ≡ record board.old { men = moved_men board.old man m.now } }
+fn move_men(board: &mut Board, man: Man, m: Move, captured: Option<Square>)
+    requires moves { CanMove board.old man m }
+    requires captured { captured ≡ capture_square board.old man m }
+    ensures { board.new ≡ record board.old { men = moved_men board.old man m } }
 {
     board.lift(m.from);
     remove_at(board, captured);
@@ -225,12 +225,12 @@ fn with_rook(unmoved: Unmoved, square: Option<Square>, man: Option<Man>) -> Unmo
 
 // Makes the move of `man`, which is on the origin: first the man, then the castling rook, and last the
 // reborn man. Returns what is needed to take the move back.
-fn play_by<R: Rules>(board: &mut Board, man: Man, m: &Move) -> Undo
-    requires moves { CanMove board.old man m.now }
-    requires mortal { (y : Man) → captured_man board.old man m.now ≡ Some y
+fn play_by<R: Rules>(board: &mut Board, man: Man, m: Move) -> Undo
+    requires moves { CanMove board.old man m }
+    requires mortal { (y : Man) → captured_man board.old man m ≡ Some y
         → same_kind y.kind King ≡ false }
-    ensures after { board.new ≡ position_after_by R.rule board.old man m.now }
-    ensures undo { result ≡ undo_by R.rule board.old man m.now }
+    ensures after { board.new ≡ position_after_by R.rule board.old man m }
+    ensures undo { result ≡ undo_by R.rule board.old man m }
 {
     let square = capture_square(board, man, m);
     let captured = man_on_at(board, square);
@@ -271,7 +271,7 @@ pub fn play<R: Rules>(board: &mut Board, m: Move) -> Undo
     ensures well_formed { IsWellFormed board.new }
 {
     match board.man_at(m.from) {
-        Some(man) => play_by::<R>(board, man, &m),
+        Some(man) => play_by::<R>(board, man, m),
         None => Undo {
             captured: None,
             rebirth: None,

@@ -28,11 +28,11 @@ fn leaving_man(man: Man, promo: Option<Kind>) -> Man
 // `None` if nobody was captured.
 fn return_square(
     man: Man,
-    m: &Move,
+    m: Move,
     crossed: Option<Square>,
     captured: Option<Man>,
 ) -> Option<Square>
-    ensures { result ≡ return_square man m.now crossed captured }
+    ensures { result ≡ return_square man m crossed captured }
 {
     if captured.is_none() {
         None
@@ -45,10 +45,10 @@ fn return_square(
 
 // Returns the castling rook to its corner.
 #[tactic(auto, unfolding(crate::specs::ties::Undoing::uncastled_men))]
-fn uncastle(board: &mut Board, man: Man, m: &Move)
-    requires { is_castling man m.now ≡ true
-        → CanCastle board.old.men (halfway m.now) (corner m.now) }
-    ensures { board.new ≡ record board.old { men = uncastled_men board.old.men man m.now } }
+fn uncastle(board: &mut Board, man: Man, m: Move)
+    requires { is_castling man m ≡ true
+        → CanCastle board.old.men (halfway m) (corner m) }
+    ensures { board.new ≡ record board.old { men = uncastled_men board.old.men man m } }
 {
     if is_castling(man, m) {
         castle(board, halfway(m), corner(m));
@@ -61,11 +61,11 @@ fn go_back(board: &mut Board, man: Man, m: &Move, undo: &Undo)
     requires { CanReturn board.old.men man m.now undo.now }
     ensures { board.new ≡ before_by board.old man m.now undo.now }
 {
-    uncastle(board, man, m);
+    uncastle(board, man, *m);
     board.lift(m.to);
     put_at(
         board,
-        return_square(man, m, undo.crossed, undo.captured),
+        return_square(man, *m, undo.crossed, undo.captured),
         undo.captured,
     );
     board.place(m.from, man);

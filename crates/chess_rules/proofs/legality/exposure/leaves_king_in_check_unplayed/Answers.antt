@@ -8,7 +8,7 @@ returns-in_default-king_after g c = search (rules, no_king_exposed)
 pub returns : goal.returns
 returns g c =
     let p = c.args.board.now in
-    let m = c.args.m.now in
+    let m = c.args.m in
     let x = c.in-Some.man in
     let from : c.m.inside.from ≡ m.from = ap (λ (v : Move). v.from) c.m.view_is in
     let to : c.m.inside.to ≡ m.to = ap (λ (v : Move). v.to) c.m.view_is in
