@@ -1,5 +1,5 @@
 -- If the enemy king has a legal step without check after a move, not every reply mates.
-use Rattle.chess_flights.proofs.Chess.{AreOpen, DescribesMen, AreSteps, Colour, IsQuietTo, IsSafe, IsSeenFrom, IsWellFormed, Kind, King, List, Man, Move, Option, Position, RuleSet, Some, after_well_formed, and_left, and_right, ap, arith, arriving_man, bit_and, bit_not, capture_square, captures_arrival, cases_Bool, cases_eq, differs, eq-eqb, false, gone_to, in_check, inl, inr, is_legal, is_man, is_mating, is_of_colour, is_open, is_pseudo_legal-from_legal, is_reached, is_simple, is_some, is_square, kept_now, king-back, king_after, king_is_after, king_square, king_stands, left_now, legal_moves_are_triples, length, list_all, man_on, man_on-with_other, may_check_from, moves, no_man, not, not-true, not_attacked, occupied_squares, on_first, or_parts, other, other_twice, position_after, reaches, reaches_as, refl, rules, same_colour, same_kind, same_kind-true, occupancy_lifted, occupancy_stepped, simple_after, some_square_same, squares_both, squares_not, squares_of, sym, there_now, true, w64, word, ℕ, ◌&&◌, ◌<◌, ◌==◌, ◌||◌, ◌∙◌, ◌≡◌}
+use Rattle.chess_flights.proofs.Chess.{AreOpen, DescribesMen, AreSteps, Colour, IsQuietTo, IsSafe, IsSeenFrom, IsWellFormed, Kind, King, List, Man, Move, Option, Position, RuleSet, Some, after_well_formed, and_left, and_right, ap, arith, arriving_man, bit_and, bit_not, capture_square, captures_arrival, cases_Bool, cases_eq, differs, eq-eqb, false, gone_to, in_check, inl, inr, is_legal, is_man, is_mating, is_of_colour, is_open, may_be_made, is_reached, is_simple, is_some, is_square, kept_now, king-back, king_after, king_is_after, king_square, king_stands, left_now, legal_moves_are_triples, length, list_all, man_on, man_on-with_other, may_check_from, moves, no_man, not, not-true, not_attacked, occupied_squares, on_first, or_parts, other, other_twice, position_after, reaches, reaches_as, refl, rules, same_colour, same_kind, same_kind-true, occupancy_lifted, occupancy_stepped, simple_after, some_square_same, squares_both, squares_not, squares_of, sym, there_now, true, w64, word, ℕ, ◌&&◌, ◌<◌, ◌==◌, ◌||◌, ◌∙◌, ◌≡◌}
 use Rattle.chess_flights.proofs.Mating.{quiet, one_fails}
 use Rattle.chess_flights.proofs.Fleeing.{IsKingOn, after_seen, is_made, king_is_other, king_on, king_seen, king_step, no_king_free, no_own_arrives, open_parts, reaches_alike_of, safe_step, simple_step, some_of_colour, is_step, step_taken, step_to, turn_is}
 use Rattle.chess_flights.proofs.KingsApart.{kings_apart}
@@ -135,4 +135,4 @@ no_king_next rule p x m k well here small lawful king at =
 -- for legal moves
 pub seen_from : (rule : RuleSet) (p : Position) (x : Man) (m : Move) (k : ℕ) → IsWellFormed p → is_legal rule p m ≡ true → man_on p.men m.from ≡ Some x
     → is_simple rule x m (is_some (capture_square p x m)) ≡ true → king_square p.men (other p.turn) ≡ Some k → IsSeenFrom rule p m x k
-seen_from rule p x m k well lawful here simple king = search (rules, is_pseudo_legal-from_legal, no_king_next, legal_moves_are_triples)
+seen_from rule p x m k well lawful here simple king = search (rules, may_be_made, no_king_next, legal_moves_are_triples)

@@ -17,7 +17,7 @@ pub use Rattle.chess_rules.proofs.legality.Exposing.{king_is_after, king_stays_k
 pub use Rattle.chess_rules.proofs.legality.Seeing.{king_stands, there_now, gone_to, is_occupied_after, kept_now, left_now, no_man, occupied_now, occupied_words}
 pub use Rattle.chess_rules.proofs.legality.Blocking.{arriving_colour, king_is, man_there, moved_plainly, not_attacked, other_differs, other_twice, simple_after, unreborn_after, IsCovered, IsShift, covered_parts, frees, gone_shift, line_before, not_parted, stood, unreached}
 pub use Rattle.chess_rules.proofs.legality.StayingInCheck.{king_there}
-pub use Rattle.chess_rules.proofs.listing_moves.Calls.{is_pseudo_legal-from_legal}
+pub use Rattle.chess_rules.proofs.LegalMoves.{may_be_made}
 pub use Rattle.chess_rules.proofs.listing_moves.Places.{moves_after-end, moves_after-here, moves_after-start}
 pub use Rattle.chess_rules.proofs.listing_moves.Targeting.{every_square_on, false_by, no_pawn_arrives}
 pub use Rattle.chess_rules.proofs.listing_moves.Walks.{on_first}

@@ -1,5 +1,5 @@
 -- A king that goes next to the other king is in check there: no legal move does so.
-use Rattle.chess_flights.proofs.Chess.{CanCastle, IsMade, IsWellFormed, King, Man, Move, Position, RuleSet, Some, after_well_formed, and_from, and_parts, arith, arrived, arrived_other, can_move, capture_square, cases_Bool, corner, false, false≢true, halfway, in_check, inl, inr, is_attacked, is_attacker, is_castling, is_legal, is_pseudo_legal, is_pseudo_legal-from_legal, king-back, king_is, king_square, king_stays_king, made, man_on, man_on-without_other, man_on_at, may_check_from, move_man_other, moved_men, moved_plainly, not-true, other, other_differs, position_after, reaches_as, reborn_is, reborn_square, same_colour-refl, same_kind, same_kind-true, some_square_true, sym, taken, true, ℕ, ◌<◌, ◌∙◌, ◌≡◌}
+use Rattle.chess_flights.proofs.Chess.{CanCastle, IsMade, IsWellFormed, King, Man, Move, Position, RuleSet, Some, after_well_formed, and_from, and_parts, arith, arrived, arrived_other, can_move, capture_square, cases_Bool, corner, false, false≢true, halfway, in_check, inl, inr, is_attacked, is_attacker, is_castling, is_legal, is_pseudo_legal, may_be_made, king-back, king_is, king_square, king_stays_king, made, man_on, man_on-without_other, man_on_at, may_check_from, move_man_other, moved_men, moved_plainly, not-true, other, other_differs, position_after, reaches_as, reborn_is, reborn_square, same_colour-refl, same_kind, same_kind-true, some_square_true, sym, taken, true, ℕ, ◌<◌, ◌∙◌, ◌≡◌}
 use Rattle.chess_flights.proofs.Fleeing.{IsKingOn, king_is_able, king_on, no_king_square, steps_there}
 use Rattle.chess_flights.proofs.Standing.{stood_reborn, after_is}
 use Rattle.chess_rules.proofs.making_moves.Returns.{moved_arrival}
@@ -45,6 +45,6 @@ pub kings_apart : (rule : RuleSet) (p : Position) (x : Man) (m : Move) → IsWel
     → same_kind x.kind King ≡ true → may_check_from p.men (other p.turn) x m.to ≡ false
 unfolding may_check_from is_legal
 kings_apart rule p x m well here small lawful king =
-    let may = is_pseudo_legal-from_legal rule p m lawful in
+    let may = may_be_made rule p m lawful in
     let check = in_check_there rule p x m well (made rule p m x may here) in
     grind (arith, king_on p.men (other p.turn), check, may, same_kind-true x.kind King king, lawful, not-true, and_parts)

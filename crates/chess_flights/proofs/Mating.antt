@@ -1,5 +1,5 @@
 -- The moves that mate, by number.
-use Rattle.chess_flights.proofs.Chess.{NoneMeet, Move, Position, RuleSet, [], all_triples, and_left, and_right, arith, cases_Bool, false, first_of_and, in_check, is_legal, is_legal-idle, is_mate, is_mating, is_pseudo_legal, is_pseudo_legal-from_legal, maker, mates, mates_after, moves_after-end, moves_after-here, moves_after-start, not-true, other, position_after, position_after_by, refl, rules, second_of_and, sym, triple_at, true, ℕ, ◌+◌, ◌<◌, ◌∙◌, ◌∷◌, ◌≡◌, ◌≤◌, Bool, IsWellFormed, List, list_all, moves, moves_are_the_legal_moves}
+use Rattle.chess_flights.proofs.Chess.{NoneMeet, Move, Position, RuleSet, [], all_triples, and_left, and_right, arith, cases_Bool, false, first_of_and, in_check, is_legal, is_legal-idle, is_mate, is_mating, is_pseudo_legal, may_be_made, maker, mates, mates_after, moves_after-end, moves_after-here, moves_after-start, not-true, other, position_after, position_after_by, refl, rules, second_of_and, sym, triple_at, true, ℕ, ◌+◌, ◌<◌, ◌∙◌, ◌∷◌, ◌≡◌, ◌≤◌, Bool, IsWellFormed, List, list_all, moves, moves_are_the_legal_moves}
 use Rattle.chess_rules.proofs.listing_moves.Filtering.{wanted-none}
 use Rattle.chess_rules.proofs.listing_moves.Members.{in_cases, none_in_nil}
 use Rattle.std.specs.List.{Contains}
@@ -39,7 +39,7 @@ turn_after rule p m h = let x = maker rule p m h in rw x.1 refl
 pub no_mate_quietly : (rule : RuleSet) (p : Position) (m : Move)
     → (is_legal rule p m ≡ true → in_check rule (position_after rule p m).men (other p.turn) ≡ false) → false ≡ mates rule p m
 unfolding mates is_mate
-no_mate_quietly rule p m quiet = grind (arith, cases_Bool, and_left, turn_after, is_pseudo_legal-from_legal, and_right)
+no_mate_quietly rule p m quiet = grind (arith, cases_Bool, and_left, turn_after, may_be_made, and_right)
 
 -- a legal move that gives no check doesn't mate
 pub quiet : (rule : RuleSet) (p : Position) (m : Move) → is_legal rule p m ≡ true → in_check rule (position_after rule p m).men (other p.turn) ≡ false
@@ -54,4 +54,4 @@ unfolding mates_after mates
 mates_numbered rule p start n lt same h = sym same ∙ search (rules, first_of_and, moves_after-here, second_of_and)
 
 -- for positions in which each legal move mates
-pub ruleset quietly = (is_pseudo_legal-from_legal, moves_after-start, not-true, quiet)
+pub ruleset quietly = (may_be_made, moves_after-start, not-true, quiet)

@@ -1,5 +1,5 @@
 -- A move that doesn't arrive where its man may give check gives none.
-use Rattle.chess_mates.proofs.Chess.{AreCastlingTargets, AreCheckSquares, AreCheckTargets, CheckSquares, Colour, IsMade, IsWellFormed, King, Man, Move, Pawn, Position, Rook, RuleSet, Some, and_parts, ap, are_rebirths_quiet, arith, arrival_needed, bit_at, bit_or, cannot_expose, captures_are_reborn, cases_Bool, castling_steps, check_squares_for, enemy, false, false_by, halfway, in_check, inl, inr, is_castling, is_pseudo_legal, is_pseudo_legal-from_legal, is_some, is_square, is_two_files_aside, made, man_on, may_check_from, may_expose, may_arrive, may_go_aimed, may_be_hurdle, off_left, off_right, other, position_after, refl, rules, same_kind, steps_to, sym, true, word, word_has, ℕ, ◌+◌, ◌/◌, ◌<◌, ◌==◌, ◌∙◌, ◌≡◌, List, Option, rule_of_checks, is_promoting, arriving_man, arrived, other_twice, false≢true, Bool, Kind, along-is, bit_and, off_second, or_cases, ◌%◌, ◌*◌, ◌^◌, ◌⊎◌}
+use Rattle.chess_mates.proofs.Chess.{AreCastlingTargets, AreCheckSquares, AreCheckTargets, CheckSquares, Colour, IsMade, IsWellFormed, King, Man, Move, Pawn, Position, Rook, RuleSet, Some, and_parts, ap, are_rebirths_quiet, arith, arrival_needed, bit_at, bit_or, cannot_expose, captures_are_reborn, cases_Bool, castling_steps, check_squares_for, enemy, false, false_by, halfway, in_check, inl, inr, is_castling, is_pseudo_legal, may_be_made, is_some, is_square, is_two_files_aside, made, man_on, may_check_from, may_expose, may_arrive, may_go_aimed, may_be_hurdle, off_left, off_right, other, position_after, refl, rules, same_kind, steps_to, sym, true, word, word_has, ℕ, ◌+◌, ◌/◌, ◌<◌, ◌==◌, ◌∙◌, ◌≡◌, List, Option, rule_of_checks, is_promoting, arriving_man, arrived, other_twice, false≢true, Bool, Kind, along-is, bit_and, off_second, or_cases, ◌%◌, ◌*◌, ◌^◌, ◌⊎◌}
 use Rattle.chess_rules.proofs.legality.EvasionTargets.{plain_elsewhere}
 use Rattle.chess_flights.proofs.CastlingChecks.{castling_gives_no_check}
 use Rattle.chess_flights.proofs.Becoming.{becomes}
@@ -97,11 +97,11 @@ module _ (rule : RuleSet) (p : Position) (x : Man) (s : CheckSquares) (f : ℕ) 
   -- for a man that may give check, open a line, castle, capture en passant or cause a rebirth: each by its
   -- own word
   pub check_targets_some : AreCheckTargets rule p f (bit_or (bit_or (bit_or (bit_or a b) c) d) s.fairy_lines)
-  check_targets_some = grind (arith, no_check_elsewhere, is_pseudo_legal-from_legal, kings_apart)
+  check_targets_some = grind (arith, no_check_elsewhere, may_be_made, kings_apart)
 
 -- a word that lacks only targets to which the man can't go
 pub targets_lack : (rule : RuleSet) (p : Position) (x : Man) (f w v : ℕ) → man_on p.men f ≡ Some x → AreCheckTargets rule p f w
     → ((t : ℕ) → t < 64 → may_arrive p x f t ≡ true → (bit_at v t == 1) ≡ false → (bit_at w t == 1) ≡ false) → AreCheckTargets rule p f v
 targets_lack rule p x f w v here are off = record {
-  elsewhere = λ m at lt legal none. let may = is_pseudo_legal-from_legal rule p m legal in grind (arith, arrival_needed rule p m lt may, may, may_go_aimed);
+  elsewhere = λ m at lt legal none. let may = may_be_made rule p m legal in grind (arith, arrival_needed rule p m lt may, may, may_go_aimed);
 }

@@ -1,5 +1,5 @@
 -- Men that could reach no check square give no check.
-use Rattle.chess_mates.proofs.Chess.{AreApproaches, AreCheckOrigins, AreCheckTargets, Colour, Kind, King, Man, Move, None, Option, Position, RuleSet, Some, arith, bit_and, bit_at, bit_not, bit_or, cases_Bool, eqb-true, false, false_by, false≢true, is_legal, is_pseudo_legal-from_legal, is_square, man_on, may_arrive, off_second, off_zero, on_first, own_man, own_moves, refl, same_kind, side_of, sym, true, w64, word, word_has, ℕ, ◌<◌, ◌==◌, ◌^◌, ◌∙◌, ◌≡◌}
+use Rattle.chess_mates.proofs.Chess.{AreApproaches, AreCheckOrigins, AreCheckTargets, Colour, Kind, King, Man, Move, None, Option, Position, RuleSet, Some, arith, bit_and, bit_at, bit_not, bit_or, cases_Bool, eqb-true, false, false_by, false≢true, is_legal, may_be_made, is_square, man_on, may_arrive, off_second, off_zero, on_first, own_man, own_moves, refl, same_kind, side_of, sym, true, w64, word, word_has, ℕ, ◌<◌, ◌==◌, ◌^◌, ◌∙◌, ◌≡◌}
 use Rattle.chess_flights.proofs.Hurdles.{on_either}
 use Rattle.chess_mates.proofs.CheckTargets.{targets_lack}
 use Rattle.chess_flights.proofs.Bitboards.{off_denied, on_denied}
@@ -45,7 +45,7 @@ module _ (rule : RuleSet) (p : Position) (j : Kind) (m h w : ℕ) (stands : (s :
 -- a legal move goes from a square of its side
 from_own : (rule : _) (p : Position) (o : ℕ) (m : Move) → o ≡ side_of p.men p.turn → m.from < 64 → is_legal rule p m ≡ true → (bit_at o m.from == 1) ≡ true
 unfolding side_of
-from_own rule p o m own inside lawful = grind (arith, is_pseudo_legal-from_legal rule p m lawful, cases_Bool, own_moves, word_has)
+from_own rule p o m own inside lawful = grind (arith, may_be_made rule p m lawful, cases_Bool, own_moves, word_has)
 
 -- for `check_origins`: each man of the mover, where nothing more is known
 pub check_origins_own : (rule : RuleSet) (p : Position) (o : ℕ) → o ≡ side_of p.men p.turn → AreCheckOrigins rule p o

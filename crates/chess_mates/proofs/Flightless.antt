@@ -1,5 +1,5 @@
 -- A king in check has no legal move if all its steps are guarded after a move.
-use Rattle.chess_mates.proofs.Chess.{AreSteps, AreUnsafe, Colour, IsFlightless, IsSeenFrom, IsWellFormed, King, List, Man, Move, None, Option, Position, RuleSet, Some, [], after_well_formed, and_left, and_parts, and_right, ap, arith, arriving_colour, arriving_man, attacked_plainly, bit_and, bit_at, bit_not, can_castle, capture_square, captures_are_reborn, cases_Bool, like_men_paralyse, false, false_from_ne_true, false≢true, filter, in_check, inl, inr, is_legal, is_mate, is_nil, is_open, is_pseudo_legal-from_legal, is_reached, king_is, king_is_no_pawn, king_square, legal_moves_are_triples, made, man_on, may_castle, moves, not, not-true, occupied_squares, other, position_after, reaches, reaches_as, refl, same_colour, same_colour-refl, same_kind, same_kind-true, occupancy_lifted, some_is, sym, triples, true, true_from_ne_false, w64, word, ℕ, ◌&&◌, ◌<◌, ◌==◌, ◌∙◌, ◌∷◌, ◌≡◌}
+use Rattle.chess_mates.proofs.Chess.{AreSteps, AreUnsafe, Colour, IsFlightless, IsSeenFrom, IsWellFormed, King, List, Man, Move, None, Option, Position, RuleSet, Some, [], after_well_formed, and_left, and_parts, and_right, ap, arith, arriving_colour, arriving_man, attacked_plainly, bit_and, bit_at, bit_not, can_castle, capture_square, captures_are_reborn, cases_Bool, like_men_paralyse, false, false_from_ne_true, false≢true, filter, in_check, inl, inr, is_legal, is_mate, is_nil, is_open, may_be_made, is_reached, king_is, king_is_no_pawn, king_square, legal_moves_are_triples, made, man_on, may_castle, moves, not, not-true, occupied_squares, other, position_after, reaches, reaches_as, refl, same_colour, same_colour-refl, same_kind, same_kind-true, occupancy_lifted, some_is, sym, triples, true, true_from_ne_false, w64, word, ℕ, ◌&&◌, ◌<◌, ◌==◌, ◌∙◌, ◌∷◌, ◌≡◌}
 use Rattle.chess_flights.proofs.Fleeing.{IsKingOn, arrived_strikes, is_made, king_on, king_seen, men_stepped, reached_alike, seen_bit, step_legal_is, step_seen, step_taken, step_to}
 use Rattle.chess_flights.proofs.Mating.{turn_after}
 use Rattle.chess_flights.proofs.Standing.{unnamed}
@@ -16,7 +16,7 @@ unfolding is_open reaches reaches_as can_castle may_castle
 own_step rule q n k y well at here king check kings legal circe =
     let triple = legal_moves_are_triples rule q n well legal in
     let origin : n.from ≡ k = some_is n.from k (sym (king_is q.men q.turn n.from well.kings triple.0 (grind (arith, kings))) ∙ at) in
-    let is = made rule q n y (is_pseudo_legal-from_legal rule q n legal) (ap (man_on q.men) origin ∙ here) in
+    let is = made rule q n y (may_be_made rule q n legal) (ap (man_on q.men) origin ∙ here) in
     let promo : n.promo ≡ None = unnamed q y n n.promo (and_left _ _ (king_is_no_pawn y.kind king)) is.promotion in
     let way : is_open rule q.men q.turn k n.to ≡ true =
     grind (arith, is.can_go, king_is_no_pawn, and_left, and_right, is.mine, is.arrival, here, same_kind-true y.kind King king) in

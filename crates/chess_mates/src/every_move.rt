@@ -170,7 +170,7 @@ fn only_mates<R: Rules>(board: &mut Board, mut moves: LegalCursor<R>) -> bool
 }
 
 // Returns whether the legal move mates. The board is unchanged.
-#[tactic(auto, using(chess_rules::proofs::listing_moves::Calls::playing))]
+#[tactic(auto, using(chess_rules::proofs::LegalMoves::may_be_made))]
 fn mates_by<R: Rules>(board: &mut Board, m: Move) -> bool
     requires well_formed { IsWellFormed board.old }
     requires legal { is_legal R.rule board.old m ≡ true }

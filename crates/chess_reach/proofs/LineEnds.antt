@@ -8,7 +8,7 @@ use Rattle.chess_reach.specs.Lines.{HoldsEnds, IsLegalLine, holds_king, line_end
 use Rattle.chess_reach.specs.Plans.{saved_moves, standing_checks}
 use Rattle.chess_rules.proofs.legality.Blocking.{man_there}
 use Rattle.chess_rules.proofs.legality.StayingInCheck.{king_there}
-use Rattle.chess_rules.proofs.listing_moves.Calls.{is_pseudo_legal-from_legal}
+use Rattle.chess_rules.proofs.LegalMoves.{may_be_made}
 use Rattle.chess_rules.proofs.making_moves.Stays.{after_well_formed}
 use Rattle.pop_stipulation.specs.declared.stipulation.Goal.{Goal}
 
@@ -18,7 +18,7 @@ turn_along : (rule : RuleSet) (c : Colour) (line : List Move) (p : Position) →
 unfolding line_end IsLegalLine
 turn_along rule c [] p well legal turn = turn
 turn_along rule c (m ∷ line) p well legal turn =
-    turn_along rule c line (position_after rule p m) (after_well_formed rule p m well (is_pseudo_legal-from_legal rule p m legal.0)) legal.1
+    turn_along rule c line (position_after rule p m) (after_well_formed rule p m well (may_be_made rule p m legal.0)) legal.1
     (turn_after rule p m well legal.0 ∙ turn_shift c p.turn (length line) turn)
 
 -- the last position is well formed
@@ -26,7 +26,7 @@ well_along : (rule : RuleSet) (line : List Move) (p : Position) → IsWellFormed
 unfolding line_end IsLegalLine
 well_along rule [] p well legal = well
 well_along rule (m ∷ line) p well legal =
-    well_along rule line (position_after rule p m) (after_well_formed rule p m well (is_pseudo_legal-from_legal rule p m legal.0)) legal.1
+    well_along rule line (position_after rule p m) (after_well_formed rule p m well (may_be_made rule p m legal.0)) legal.1
 
 -- a king is on some square
 king_found : (men : List (Option Man)) (c : Colour) (s : ℕ) → s < 64 → is_man (man_on men s) c King ≡ true → (k : ℕ) × (king_square men c ≡ Some k)

@@ -15,7 +15,7 @@ use Rattle.chess_rules.proofs.Chess.{corner, has_unmoved-parts, unmoved_without_
 use Rattle.std.proofs.lemmas.Bool.{or_parts}
 use Rattle.chess_attacks.specs.RuleSet.{like_men_paralyse}
 use Rattle.chess_rules.proofs.legality.Blocking.{other_differs, other_twice}
-use Rattle.chess_rules.proofs.listing_moves.Calls.{is_pseudo_legal-from_legal}
+use Rattle.chess_rules.proofs.LegalMoves.{may_be_made}
 use Rattle.chess_rules.proofs.making_moves.Pseudo.{made}
 use Rattle.chess_rules.proofs.making_moves.Stays.{after_well_formed, maker}
 use Rattle.pop_stipulation.specs.declared.stipulation.Goal.{Goal}
@@ -85,7 +85,7 @@ plan_more goal sc rb p c n o i j k ends plan more_ours more_theirs = record {
 
 module _ (rule : RuleSet) (p : Position) (m : Move) (well : IsWellFormed p) (legal : is_legal rule p m ≡ true) where
   pub may : is_pseudo_legal rule p m ≡ true
-  may = is_pseudo_legal-from_legal rule p m legal
+  may = may_be_made rule p m legal
 
   abbrev pub man : Man
   man = (maker rule p m may).0
@@ -262,7 +262,7 @@ module _ (rule : RuleSet) (c : Colour) where
   king_along [] p s well legal king = (s, king)
   king_along (m ∷ line) p s well legal king =
       let r = king_after rule p m well legal.0 c s king in
-      king_along line (position_after rule p m) r.0 (after_well_formed rule p m well (is_pseudo_legal-from_legal rule p m legal.0)) legal.1 r.1
+      king_along line (position_after rule p m) r.0 (after_well_formed rule p m well (may_be_made rule p m legal.0)) legal.1 r.1
 
   module _ (goal : Goal) (k : ℕ) where
     -- a line that begins with a move and reaches the goal has a plan at its start
@@ -274,7 +274,7 @@ module _ (rule : RuleSet) (c : Colour) where
     unfolding line_end IsLegalLine
     line_plan_from m [] p well legal reaches turn king safe = last_move rule p m well legal.0 goal c k turn (safe refl) king reaches
     line_plan_from m (n ∷ line) p well legal reaches turn king safe =
-        let rest = line_plan_from n line (position_after rule p m) (after_well_formed rule p m well (is_pseudo_legal-from_legal rule p m legal.0)) legal.1
+        let rest = line_plan_from n line (position_after rule p m) (after_well_formed rule p m well (may_be_made rule p m legal.0)) legal.1
         reaches (turn_after rule p m well legal.0 ∙ turn_shift c p.turn (suc (length line)) turn) king
         (λ e. subst (λ (d : Colour). in_check rule (position_after rule p m).men d ≡ false) (turn ∙ last_mover_but_one c (length line) e)
         (safe_after rule p m well legal.0)) in

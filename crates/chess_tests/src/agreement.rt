@@ -36,7 +36,7 @@ pub(crate) fn compare(rule: Rule, position: &str, length: u32) -> Option<Tally> 
 }
 
 // Compares the board's position and all positions fewer than `length` moves away.
-#[tactic(auto, using(chess_rules::proofs::listing_moves::Calls::playing))]
+#[tactic(auto, using(chess_rules::proofs::LegalMoves::may_be_made))]
 fn compare_on<R: Rules>(board: &mut Board, rule: Rule, length: u32) -> Tally
     requires { IsWellFormed board.old }
     ensures { board.new ≡ board.old }

@@ -234,7 +234,7 @@ fn gives_mates_until<R: Rules>(
 
 // Compares the positions after each legal move, and the position after each move is taken back. Returns
 // the first question on which they differ.
-#[tactic(auto, using(chess_rules::proofs::listing_moves::Calls::playing))]
+#[tactic(auto, using(chess_rules::proofs::LegalMoves::may_be_made))]
 fn unlike_of_play<R: Rules>(board: &mut Board, plain: &Plain, rule: Rule) -> Option<Question>
     requires { IsWellFormed board.old }
     ensures { board.new ≡ board.old }

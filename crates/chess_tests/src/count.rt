@@ -53,7 +53,7 @@ pub(crate) fn walk_lines(rule: Rule, position: &str, length: u32) -> Option<Walk
 }
 
 // Walks along all lines of `length` legal moves from the board's position.
-#[tactic(auto, using(chess_rules::proofs::listing_moves::Calls::playing))]
+#[tactic(auto, using(chess_rules::proofs::LegalMoves::may_be_made))]
 fn walk_on<R: Rules>(board: &mut Board, length: u32) -> Walk
     requires { IsWellFormed board.old }
     ensures { board.new ≡ board.old }

@@ -76,7 +76,7 @@ fn shows_men(board: &Board, plain: &Plain, colour: Colour) -> bool {
 }
 
 // Returns the board after this move from the diagram, if the move is legal.
-#[tactic(auto, using(chess_rules::proofs::listing_moves::Calls::playing))]
+#[tactic(auto, using(chess_rules::proofs::LegalMoves::may_be_made))]
 fn after_move<R: Rules>(diagram: &Diagram, wanted: Move) -> Option<Board>
     requires { IsWellFormed (position_of diagram.now) }
     ensures { IfSome result (λ q. IsWellFormed q) }
@@ -130,7 +130,7 @@ pub(crate) fn has_outcome(rule: Rule, position: &str, m: &str, wanted: Outcome) 
 
 // Returns whether a legal move from the diagram leads to this board, and taking it back restores the
 // diagram's board.
-#[tactic(auto, using(chess_rules::proofs::listing_moves::Calls::playing))]
+#[tactic(auto, using(chess_rules::proofs::LegalMoves::may_be_made))]
 fn leads_and_back<R: Rules>(diagram: &Diagram, wanted: Move, after: &Board) -> bool
     requires { IsWellFormed (position_of diagram.now) }
 {

@@ -128,7 +128,7 @@ fn unlike_on_the_way<R: Rules>(
 }
 
 // Plays a drawn legal move, if there is one.
-#[tactic(auto, using(chess_rules::proofs::listing_moves::Calls::playing))]
+#[tactic(auto, using(chess_rules::proofs::LegalMoves::may_be_made))]
 fn play_drawn<R: Rules>(board: &mut Board, draw: &mut Draw) -> bool
     requires { IsWellFormed board.old }
     ensures { IsWellFormed board.new }

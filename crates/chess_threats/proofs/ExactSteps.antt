@@ -1,5 +1,5 @@
 -- The king's legal steps, from the squares that its attackers reach.
-use Rattle.chess_threats.proofs.Chess.{AreReached, Attackers, Grasshopper, IfSome, IsAttackedOver, IsNear, IsKingAttack, IsKingAttackOf, IsWellFormed, IsWhole, Man, Move, None, Option, Position, RuleSet, KingAttack, Some, and_from, and_parts, ap, arith, arrived, bit_and, bit_at, bit_not, capture_of_piece, capture_square, captures_are_reborn, cases_Bool, like_men_paralyse, false, false_by, false_from_ne_true, false≢true, inl, inr, is_arrival, is_arrival_free, is_attacked, is_hopper, is_legal, is_open, is_pseudo_legal-from_legal, leaps, list_any, made, man_on, men_on, no_pawn_arrives, not, on_first, other, queen_steps, reached_over, reaches_as, refl, rules, same_kind, same_kind-true, sym, true, true_from_ne_false, w64, word, word_has, ℕ, ◌<◌, ◌==◌, ◌^◌, ◌∙◌, ◌≡◌, ◌≢◌}
+use Rattle.chess_threats.proofs.Chess.{AreReached, Attackers, Grasshopper, IfSome, IsAttackedOver, IsNear, IsKingAttack, IsKingAttackOf, IsWellFormed, IsWhole, Man, Move, None, Option, Position, RuleSet, KingAttack, Some, and_from, and_parts, ap, arith, arrived, bit_and, bit_at, bit_not, capture_of_piece, capture_square, captures_are_reborn, cases_Bool, like_men_paralyse, false, false_by, false_from_ne_true, false≢true, inl, inr, is_arrival, is_arrival_free, is_attacked, is_hopper, is_legal, is_open, may_be_made, leaps, list_any, made, man_on, men_on, no_pawn_arrives, not, on_first, other, queen_steps, reached_over, reaches_as, refl, rules, same_kind, same_kind-true, sym, true, true_from_ne_false, w64, word, word_has, ℕ, ◌<◌, ◌==◌, ◌^◌, ◌∙◌, ◌≡◌, ◌≢◌}
 use Rattle.chess_flights.proofs.Fleeing.{IsKingOn, IsKingStep, king_on, may_step, step_is, step_to}
 use Rattle.chess_flights.proofs.Bitboards.{off_denied, denied_on, none_at}
 use Rattle.chess_flights.proofs.Standing.{and_left_king, no_hopper, unfree, unnamed}
@@ -89,7 +89,7 @@ module _ (rule : RuleSet) (p : Position) (v : KingAttack) (squares w : ℕ) (wel
       outside = λ n from small off. elim (cases_Bool (bit_at squares n.to == 1)) [
         | inr none ↦ are.outside n from small none
         | inl on ↦ false_from_ne_true _ (λ legal.
-            let is = made rule p n x (is_pseudo_legal-from_legal rule p n legal) (ap (man_on p.men) from ∙ king.here) in
+            let is = made rule p n x (may_be_made rule p n legal) (ap (man_on p.men) from ∙ king.here) in
             let promo : n.promo ≡ None = unnamed p x n n.promo (no_pawn_arrives x n.to (and_left_king x king.king)) is.promotion in
             let same : step_to v.king n.to ≡ n = rw (from, promo) refl in
             let attacked = attacked_there rule p (step_to v.king n.to) x v well (may_step rule p x v.king n.to (step n.to small on)) king.here small

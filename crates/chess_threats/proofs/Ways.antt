@@ -1,6 +1,6 @@
 -- How a defender arrives on a square that isn't risky: its king steps there, or another man goes there
 -- and perhaps leaves a line.
-use Rattle.chess_threats.proofs.Chess.{AreAdjacent, AreMere, ArePlain, AreRisky, AreThreatsOf, IsLike, IsMereMove, IsPlainMove, IsSafeMove, IsSafeStep, IsDecidedStep, IsKingAttackOf, IsSparedStep, IsWellFormed, KeepsFlight, KeepsFlightBeside, KeepsOne, King, Man, Move, Position, RuleSet, KingAttack, Some, ThreatsSeen, [], agree_below_at, along, and_from, and_parts, ap, arith, arrival_needed, bit_and, bit_at, bit_at_above, bit_not, bit_or, captures_are_reborn, cases_Bool, cases_lt, cond-false, cond-true, eqb-true, false, false_by, false≢true, inl, inr, is_castling, is_legal, is_man, is_pseudo_legal, is_pseudo_legal-from_legal, king_after, king_is, leaps, list_any, made, maker, man_on, mates_after, may_go_aimed, off_left, off_right, off_second, position_after, queen_steps, refl, rules, same_colour-refl, same_kind, some_is, sym, true, w64, word, ℕ, ◌<◌, ◌==◌, ◌^◌, ◌∙◌, ◌≡◌, ◌≢◌}
+use Rattle.chess_threats.proofs.Chess.{AreAdjacent, AreMere, ArePlain, AreRisky, AreThreatsOf, IsLike, IsMereMove, IsPlainMove, IsSafeMove, IsSafeStep, IsDecidedStep, IsKingAttackOf, IsSparedStep, IsWellFormed, KeepsFlight, KeepsFlightBeside, KeepsOne, King, Man, Move, Position, RuleSet, KingAttack, Some, ThreatsSeen, [], agree_below_at, along, and_from, and_parts, ap, arith, arrival_needed, bit_and, bit_at, bit_at_above, bit_not, bit_or, captures_are_reborn, cases_Bool, cases_lt, cond-false, cond-true, eqb-true, false, false_by, false≢true, inl, inr, is_castling, is_legal, is_man, is_pseudo_legal, may_be_made, king_after, king_is, leaps, list_any, made, maker, man_on, mates_after, may_go_aimed, off_left, off_right, off_second, position_after, queen_steps, refl, rules, same_colour-refl, same_kind, some_is, sym, true, w64, word, ℕ, ◌<◌, ◌==◌, ◌^◌, ◌∙◌, ◌≡◌, ◌≢◌}
 use Rattle.chess_threats.specs.ties.KingAttack.{AreNeeded}
 use Rattle.chess_flights.proofs.Bitboards.{denied_on}
 use Rattle.chess_threats.proofs.LastingFlights.{no_mate_after as flight_after}
@@ -105,7 +105,7 @@ module _ (rule : RuleSet) (p : Position) (x : Man) (v : ThreatsSeen) (well : IsW
       | inr gone ↦
           let small = inside w m.to fits on in
           let kept = keeps m.to small on gone in
-          man_keeps m (is_pseudo_legal-from_legal rule p m legal) (ap (man_on p.men) origin ∙ here) small mortal kept.0 kept.1
+          man_keeps m (may_be_made rule p m legal) (ap (man_on p.men) origin ∙ here) small mortal kept.0 kept.1
     ];
   }
 
@@ -119,7 +119,7 @@ module _ (rule : RuleSet) (p : Position) (x : Man) (v : ThreatsSeen) (well : IsW
     risky_by spares = record {
       is_decided = λ m legal origin on off.
           let small = inside w m.to fits on in
-          let may = is_pseudo_legal-from_legal rule p m legal in
+          let may = may_be_made rule p m legal in
           let both : (bit_at (bit_or u r) m.to == 1) ≡ false = off_second w (bit_or u r) m.to off on in
           let goes = rw origin at (may_go_aimed rule p x m (ap (man_on p.men) origin ∙ here) (arrival_needed rule p m small may)) in
           spares m legal may origin small on (off_left u r m.to both) (off_right u r m.to both) (plain.plain m origin small goes (off_left u r m.to both))
@@ -152,7 +152,7 @@ pub needed_are_risky : (rule : RuleSet) (v : ThreatsSeen) (s w n : ℕ) → s < 
     → s ≢ v.king_attack.king → (p : Position) → IsWellFormed p → AreThreatsOf rule p v → AreRisky rule p s w (bit_and w n)
 needed_are_risky rule v s w n low fits circe needed apart p well threats = record {
   is_decided = λ m legal origin on off.
-      let may = is_pseudo_legal-from_legal rule p m legal in
+      let may = may_be_made rule p m legal in
       let made = maker rule p m may in
       let small = inside rule p made.0 v well threats w m.to fits on in
       man_keeps rule p made.0 v well threats m may made.1 small

@@ -1,12 +1,12 @@
 -- Moves that are skipped, since no reply to them mates.
-use Rattle.pop_battle.proofs.Words.{IfSome, Bool, IsNextKept, IsFirstKept, IsWellFormed, MatchOption, Move, None, Option, Position, RuleSet, Some, [], append-nil, append_assoc, arith, filter, from_map, is_legal, is_pseudo_legal-from_legal, length, min, moves_after, moves_after-end, moves_after-here, place_of_triple, range_with_len, true, ℕ, ◌+◌, ◌-◌, ◌<◌, ◌^◌, ◌∷◌, ◌≡◌, rules, after_cut, from_range, triples_numbered, all_triples, place_of, triple_at}
+use Rattle.pop_battle.proofs.Words.{IfSome, Bool, IsNextKept, IsFirstKept, IsWellFormed, MatchOption, Move, None, Option, Position, RuleSet, Some, [], append-nil, append_assoc, arith, filter, from_map, is_legal, may_be_made, length, min, moves_after, moves_after-end, moves_after-here, place_of_triple, range_with_len, true, ℕ, ◌+◌, ◌-◌, ◌<◌, ◌^◌, ◌∷◌, ◌≡◌, rules, after_cut, from_range, triples_numbered, all_triples, place_of, triple_at}
 use Rattle.chess_rules.proofs.listing_moves.TripleNumbers.{in_triples, made_is_triple}
 
 module _ (rule : RuleSet) (p : Position) where
   -- a legal move is one of the triples
   numbered : (m : Move) → IsWellFormed p → is_legal rule p m ≡ true → (n : ℕ) × (n < all_triples) × (triple_at n ≡ m)
   numbered m sound lawful =
-      let t = made_is_triple rule p m sound.size (is_pseudo_legal-from_legal rule p m lawful) in
+      let t = made_is_triple rule p m sound.size (may_be_made rule p m lawful) in
       let w = from_map triple_at (range_with_len 0 all_triples) m (rw triples_numbered at (in_triples m t.0 t.1 t.2)) in
       (w.0, omega (arith, from_range 0 all_triples w.0 w.1), w.2)
 

@@ -1,5 +1,5 @@
 -- One turn of a test over frames.
-use Rattle.pop_battle.proofs.Words.{AreKnown, Bool, CameFrom, CameFromAt, Ends, Frame, HasCounted, IfNone, IfSome, IsDescending, IsLinked, IsOpenedOn, IsPlaceIn, IsTesting, IsWellFormed, Killer, LegalPlace, List, MatchOption, Move, None, Option, Order, Position, RuleSet, Some, Turns, Undo, [], after_well_formed, ap, arith, cases_lt, chess, cond, delivered_value, drop, drop-append-le, is_legal, joined_value, least_of, length, length-append, length-drop, length-reverse, moves_ahead, is_pseudo_legal-from_legal, list_all, list_any, min, not, pending_value, position, refl, reverse, reverse-append, rules, attacker_to_move, smallest_below, smallest_tree, work_from, work_among, suc, sum_by, sum_by-cons, take, take-append-le, take_all, tested_frame, tests, to_test, to_try, to_try_with, left_at_top, true, undo_of, untried_moves, value, walk_among, walk_count, test_work, ℕ, ◌&&◌, ◌++◌, ◌+◌, ◌-◌, ◌<◌, ◌^◌, ◌||◌, ◌∙◌, ◌∷◌, ◌≡◌, ◌≤◌, ◌⊎◌, position_after, legal_moves, Aim}
+use Rattle.pop_battle.proofs.Words.{AreKnown, Bool, CameFrom, CameFromAt, Ends, Frame, HasCounted, IfNone, IfSome, IsDescending, IsLinked, IsOpenedOn, IsPlaceIn, IsTesting, IsWellFormed, Killer, LegalPlace, List, MatchOption, Move, None, Option, Order, Position, RuleSet, Some, Turns, Undo, [], after_well_formed, ap, arith, cases_lt, chess, cond, delivered_value, drop, drop-append-le, is_legal, joined_value, least_of, length, length-append, length-drop, length-reverse, moves_ahead, may_be_made, list_all, list_any, min, not, pending_value, position, refl, reverse, reverse-append, rules, attacker_to_move, smallest_below, smallest_tree, work_from, work_among, suc, sum_by, sum_by-cons, take, take-append-le, take_all, tested_frame, tests, to_test, to_try, to_try_with, left_at_top, true, undo_of, untried_moves, value, walk_among, walk_count, test_work, ℕ, ◌&&◌, ◌++◌, ◌+◌, ◌-◌, ◌<◌, ◌^◌, ◌||◌, ◌∙◌, ◌∷◌, ◌≡◌, ◌≤◌, ◌⊎◌, position_after, legal_moves, Aim}
 use Rattle.pop_battle.proofs.Orders.{same_start}
 use Rattle.pop_battle.specs.declared.frame.MoveStage.{MoveStage}
 use Rattle.pop_battle.proofs.SmallestTrees.{trees-next, trees-end, trees-start}
@@ -199,7 +199,7 @@ module _ (rule : RuleSet) (aim : Aim) (floor : ℕ) (top : Frame) (old new : Lis
         board m))) → (p : Position) → IsTesting rule p (tests floor old) board → Turns rule aim floor p old last was is after before count
     unfolding pending_value position test_work to_test to_try IsLinked IsDescending AreKnown
     descend_turns None d before count o tries p r = record {
-      testing = rw (opened_last d, d.2) (let t = testing_top p board r in let l = is_pseudo_legal-from_legal rule board m lawful in
+      testing = rw (opened_last d, d.2) (let t = testing_top p board r in let l = may_be_made rule board m lawful in
           grind (arith, left_is, after_well_formed rule board m t.sound l));
       same = search (rules, opened_last, popped, pending_value-undecided, delivered_value-next, left_is, here p r, rest-start);
       falls = search (rules, opened_last, popped, here p r, left_is, steps-next, steps-start);

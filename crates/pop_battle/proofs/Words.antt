@@ -11,7 +11,7 @@ pub use Rattle.chess_core.specs.declared.man.Move.{Move}
 pub use Rattle.chess_core.specs.WellFormed.{IsWellFormed}
 pub use Rattle.chess_rules.proofs.listing_moves.Between.{between-here, between-none, between-past, between-skip, cut_moves, after_cut}
 pub use Rattle.chess_mates.proofs.MatesBetween.{cut_mates}
-pub use Rattle.chess_rules.proofs.listing_moves.Calls.{is_pseudo_legal-from_legal}
+pub use Rattle.chess_rules.proofs.LegalMoves.{may_be_made}
 pub use Rattle.chess_rules.proofs.listing_moves.Members.{from_map, from_range}
 pub use Rattle.chess_rules.proofs.listing_moves.Places.{moves_after-end, moves_after-here, moves_after-skip, place_of_triple, triples_numbered}
 pub use Rattle.chess_rules.proofs.making_moves.Stays.{after_well_formed}

@@ -41,7 +41,7 @@ pub(crate) fn has_mate<R: Rules>(board: &mut Board, killers: &mut Killers<R>) ->
 }
 
 /// Returns whether White mates after this move by Black. Counts the position after it.
-#[tactic(auto, using(chess_rules::proofs::listing_moves::Calls::playing))]
+#[tactic(auto, using(chess_rules::proofs::LegalMoves::may_be_made))]
 fn lets_mate<R: Rules>(by: Move, board: &mut Board, search_state: &mut SearchState<R>) -> bool
     requires well_formed { IsWellFormed board.old }
     requires legal { is_legal R.rule board.old by ≡ true }

@@ -24,7 +24,7 @@ use pop_stipulation::Goal;
 
 /// Returns whether Black must mate after this move by White. The move isn't played if Black's king has a
 /// quiet step after it, or if no reply can mate.
-#[tactic(auto, using(chess_rules::proofs::listing_moves::Calls::playing, crate::proofs::Boards::some_move, crate::proofs::LastMoves::unforced, crate::proofs::Values::last_half_move))]
+#[tactic(auto, using(chess_rules::proofs::LegalMoves::may_be_made, crate::proofs::Boards::some_move, crate::proofs::LastMoves::unforced, crate::proofs::Values::last_half_move))]
 fn forces_mate<R: Rules>(
     steps: QuietSteps,
     by: Move,

@@ -21,7 +21,7 @@ use chess_rules::{Rules, play, unplay};
 use pop_stipulation::Battle;
 
 /// Returns whether White mates next after this move, whatever Black's defence.
-#[tactic(auto, using(chess_rules::proofs::listing_moves::Calls::playing))]
+#[tactic(auto, using(chess_rules::proofs::LegalMoves::may_be_made))]
 fn leaves_no_defence<R: Rules>(
     by: Move,
     board: &mut Board,

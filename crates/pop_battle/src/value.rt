@@ -153,7 +153,7 @@ fn is_decided(answer: Option<bool>, seek: bool) -> bool
 }
 
 /// Closes a frame with the value of its position. Returns that value if the frame is the test's lowest.
-#[tactic(auto, using(chess_rules::proofs::listing_moves::Calls::playing))]
+#[tactic(auto, using(chess_rules::proofs::LegalMoves::may_be_made))]
 fn close<R: Rules>(
     value: bool,
     floor: usize,
@@ -179,7 +179,7 @@ fn close<R: Rules>(
 /// Plays a move of the top frame; `top` is that frame with its new cursor. Opens a frame for the position
 /// after the move, unless that position's value is known at once; then takes the move back and returns the
 /// value.
-#[tactic(auto, using(chess_rules::proofs::listing_moves::Calls::playing))]
+#[tactic(auto, using(chess_rules::proofs::LegalMoves::may_be_made))]
 fn descend<R: Rules, const N: usize>(
     aim: Aim,
     top: Frame<R>,

@@ -1,5 +1,5 @@
 -- After a part's first moves the walk shows exactly the part's solutions.
-use Rattle.pop_parts.proofs.Words.{Bool, Contains, IsPlayable, IsSound, IsWellFormed, List, Move, None, Option, Phase, Posed, Position, RuleSet, Some, [], after_well_formed, ap, append-nil, append_assoc, arith, battle_of, begins_path, begins_so, chess, eqb, false, filter, game_of, help_lines, is_help, is_none, is_pseudo_legal-from_legal, legal_moves, length, length-append, lines_to_goal, map, map-id, moves_are_the_legal_moves, moves_in_order, part_solutions, path_end, path_end-append, phase_half_moves, phase_start, plan_of, position_after, refl, set_tree, shown_paths, solutions, start_sound, subst, suc, sym, true, zero, ℕ, ◌++◌, ◌+◌, ◌-◌, ◌∙◌, ◌∷◌, ◌≡◌, ◌≤◌}
+use Rattle.pop_parts.proofs.Words.{Bool, Contains, IsPlayable, IsSound, IsWellFormed, List, Move, None, Option, Phase, Posed, Position, RuleSet, Some, [], after_well_formed, ap, append-nil, append_assoc, arith, battle_of, begins_path, begins_so, chess, eqb, false, filter, game_of, help_lines, is_help, is_none, may_be_made, legal_moves, length, length-append, lines_to_goal, map, map-id, moves_are_the_legal_moves, moves_in_order, part_solutions, path_end, path_end-append, phase_half_moves, phase_start, plan_of, position_after, refl, set_tree, shown_paths, solutions, start_sound, subst, suc, sym, true, zero, ℕ, ◌++◌, ◌+◌, ◌-◌, ◌∙◌, ◌∷◌, ◌≡◌, ◌≤◌}
 use Rattle.pop_stipulation.specs.declared.stipulation.Battle.{Battle}
 use Rattle.pop_events.specs.declared.event.Phase.TheVariants.{Play, Set}
 use Rattle.std.proofs.lemmas.Simd.{map-map}
@@ -16,7 +16,7 @@ module _ (rule : RuleSet) (problem : Posed) where
   is_legal-playable p well (m ∷ ms) may =
       let after = after_well_formed rule p m well in
       let rest = λ (w : IsWellFormed (position_after rule p m)). is_legal-playable (position_after rule p m) w ms in
-      grind (arith, moves_are_the_legal_moves rule p m well, after, is_pseudo_legal-from_legal rule p m, rest)
+      grind (arith, moves_are_the_legal_moves rule p m well, after, may_be_made rule p m, rest)
 
   -- help play: the lines that continue some moves
   abbrev pub lines-following : Phase → List Move → List (List Move)

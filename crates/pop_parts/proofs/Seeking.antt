@@ -1,6 +1,6 @@
 -- The walk over first moves: what a step leaves of the lists still to come.
 unfoldable use Rattle.pop_solve.specs.ties.Walk.{AreEnds}
-use Rattle.pop_parts.proofs.Words.{AreKnown, CameFrom, CameFromAt, Frame, IfSome, IsLinked, IsPlaceIn, IsRoomy, IsWalking, IsWellFormed, LegalPlace, List, Move, None, Option, Position, RuleSet, Some, Undo, [], after_well_formed, ap, append-nil, append_assoc, arith, beginnings, chess, drop, is_legal, is_pseudo_legal-from_legal, is_some, length, length-append, length-reverse, map, map-append, map-id, min, moves_after, nil_from_length, path, position, position_after, refl, reverse, rules, slice_get, suc, sym, true, undo_of, walk_work, zero, ℕ, ◌++◌, ◌+◌, ◌-◌, ◌<◌, ◌^◌, ◌∙◌, ◌∷◌, ◌≡◌, ◌≢◌, ◌≤◌}
+use Rattle.pop_parts.proofs.Words.{AreKnown, CameFrom, CameFromAt, Frame, IfSome, IsLinked, IsPlaceIn, IsRoomy, IsWalking, IsWellFormed, LegalPlace, List, Move, None, Option, Position, RuleSet, Some, Undo, [], after_well_formed, ap, append-nil, append_assoc, arith, beginnings, chess, drop, is_legal, may_be_made, is_some, length, length-append, length-reverse, map, map-append, map-id, min, moves_after, nil_from_length, path, position, position_after, refl, reverse, rules, slice_get, suc, sym, true, undo_of, walk_work, zero, ℕ, ◌++◌, ◌+◌, ◌-◌, ◌<◌, ◌^◌, ◌∙◌, ◌∷◌, ◌≡◌, ◌≢◌, ◌≤◌}
 use Rattle.std.proofs.Math.Seq.{drop-nil}
 use Rattle.pop_stipulation.specs.declared.stipulation.Goal.{Goal}
 use Rattle.pop_battle.proofs.Boards.{after_start}
@@ -60,7 +60,7 @@ walking-idle : (rule : RuleSet) (h : ℕ) (p : Position) (f : Frame) (next : ℕ
     → IsWalking rule h p (opened_frame m (undo_of rule board m) 0 ∷ (moved f next ∷ below)) after
 unfolding IsLinked IsRoomy AreKnown AreEnds position
 walking-idle rule h p f next m below board after r less lawful e =
-    let pseudo = is_pseudo_legal-from_legal rule board m lawful in grind (arith, after_well_formed rule board m r.sound pseudo, pseudo)
+    let pseudo = may_be_made rule board m lawful in grind (arith, after_well_formed rule board m r.sound pseudo, pseudo)
 
 -- the outcomes of a step, for frames listed from the bottom up, as the code holds them
 module _ (rule : RuleSet) (h d : ℕ) (p : Position) (top : Frame) (old new : List Frame) (taken : old ≡ new ++ top ∷ []) (board : Position)

@@ -1,6 +1,6 @@
 -- How the search of a phase after a beginning of moves begins.
 unfoldable use Rattle.pop_solve.specs.ties.Walk.{AreEnds}
-use Rattle.pop_solve.proofs.Words.{AreKnown, Bool, Frame, Game, HoldsAtStage, First, IsLinked, IsRoomy, IsWalking, List, Move, Part, Phase, Plan, Posed, Position, RuleSet, Stage, Within, [], after_well_formed, ap, append-nil, arith, eqb, events_along, false, false≢true, game_of, inl, inr, is_emitted, is_followed, is_for_mate, is_help, is_legal, is_mate, is_pseudo_legal-from_legal, left_of, legal_moves, length, map, moves_after, nat_tests, opened_frame, path, phase_half_moves, phase_paths, phase_start, plan_of, position, position_after, refl, reverse, rules, seeks_last, shown_paths, sym, to_come, to_open, true, undo_of, walk_count, walk_length, walk_of, ℕ, ◌++◌, ◌+◌, ◌-◌, ◌<◌, ◌∙◌, ◌∷◌, ◌≡◌, ◌≤◌}
+use Rattle.pop_solve.proofs.Words.{AreKnown, Bool, Frame, Game, HoldsAtStage, First, IsLinked, IsRoomy, IsWalking, List, Move, Part, Phase, Plan, Posed, Position, RuleSet, Stage, Within, [], after_well_formed, ap, append-nil, arith, eqb, events_along, false, false≢true, game_of, inl, inr, is_emitted, is_followed, is_for_mate, is_help, is_legal, is_mate, may_be_made, left_of, legal_moves, length, map, moves_after, nat_tests, opened_frame, path, phase_half_moves, phase_paths, phase_start, plan_of, position, position_after, refl, reverse, rules, seeks_last, shown_paths, sym, to_come, to_open, true, undo_of, walk_count, walk_length, walk_of, ℕ, ◌++◌, ◌+◌, ◌-◌, ◌<◌, ◌∙◌, ◌∷◌, ◌≡◌, ◌≤◌}
 use Rattle.pop_battle.proofs.Boards.{after_start, for_mate}
 use Rattle.pop_solve.proofs.GoingOn.{cases, ended-reached, follows-help, walk_length-help, walk_length-most}
 use Rattle.pop_solve.proofs.Counting.{at_most_one, counts-help, open-close, walk_count-start}
@@ -34,7 +34,7 @@ walking-opened : (rule : RuleSet) (h : ℕ) (p : Position) (frames : List Frame)
     → IsWalking rule h p (opened_frame m (undo_of rule board m) tried ∷ frames) (position_after rule board m)
 unfolding IsLinked IsRoomy AreKnown AreEnds position
 walking-opened rule h p frames board m tried some r lawful room =
-    grind (arith, after_well_formed rule board m r.sound (is_pseudo_legal-from_legal rule board m lawful), is_pseudo_legal-from_legal rule board m lawful)
+    grind (arith, after_well_formed rule board m r.sound (may_be_made rule board m lawful), may_be_made rule board m lawful)
 
 -- the stage with which a search after a beginning begins: the path of the beginning is still to be given, or it isn't
 abbrev pub begins_at : Posed → Phase → Bool → Stage

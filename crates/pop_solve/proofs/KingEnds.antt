@@ -1,5 +1,5 @@
 -- Where the king ends when the last move of its side is made.
-use Rattle.pop_solve.proofs.Words.{Goal, inl, inr, ◌+◌, IsWellFormed, List, Move, None, Option, Position, RuleSet, Some, [], after_well_formed, arith, cond, eqb, false, false≢true, is_legal, is_pseudo_legal-from_legal, length, nat_tests, position_after, refl, rules, sym, true, ℕ, ◌<◌, ◌≢◌, ◌∙◌, ◌∷◌, ◌≡◌}
+use Rattle.pop_solve.proofs.Words.{Goal, inl, inr, ◌+◌, IsWellFormed, List, Move, None, Option, Position, RuleSet, Some, [], after_well_formed, arith, cond, eqb, false, false≢true, is_legal, may_be_made, length, nat_tests, position_after, refl, rules, sym, true, ℕ, ◌<◌, ◌≢◌, ◌∙◌, ◌∷◌, ◌≡◌}
 use Rattle.std.specs.Int.{bit_at}
 use Rattle.chess_core.specs.Position.{is_man, king_square, man_on, other}
 use Rattle.chess_core.specs.declared.man.Colour.{Colour}
@@ -37,7 +37,7 @@ module _ (rule : RuleSet) (p : Position) (m : Move) (well : IsWellFormed p)
   q = position_after rule p m
 
   well-q : IsWellFormed q
-  well-q = after_well_formed rule p m well (is_pseudo_legal-from_legal rule p m legal)
+  well-q = after_well_formed rule p m well (may_be_made rule p m legal)
 
   -- the king's square after the move
   abbrev end : ℕ
@@ -60,7 +60,7 @@ module _ (rule : RuleSet) (p : Position) (m : Move) (well : IsWellFormed p)
       let turn : q.turn ≡ other p.turn = turn_after rule p m well legal in
       let mine : other q.turn ≡ p.turn = rw turn (twice p.turn) in
       let stays = waiting_king_stays rule q n well-q lawful end (rw mine king-end) in
-      let well-r = after_well_formed rule q n well-q (is_pseudo_legal-from_legal rule q n lawful) in
+      let well-r = after_well_formed rule q n well-q (may_be_made rule q n lawful) in
       rw (turn_after rule q n well-q lawful) (found (position_after rule q n) (other q.turn) end well-r stays)
 
   module _ (goal : Goal) (w : ℕ) (lacks : bit_at w end ≡ 0) (ends : HoldsEnds goal rule 1 q w) where

@@ -1,5 +1,5 @@
 -- The outcomes of a step, with frames listed from the top down.
-use Rattle.pop_solve.proofs.Words.{AreKnown, Bool, CameFrom, CameFromAt, Frame, GoesTo, IfSome, IsLinked, IsPlaceIn, IsRoomy, IsWalking, LegalPlace, List, Move, None, Option, Plan, Position, RuleSet, Steps, [], after_well_formed, ap, arith, chess, eqb, false, shown_paths, is_followed, is_emitted, walk_length, inl, inr, is_legal, is_pseudo_legal-from_legal, length, moves_after, opened_frame, path, position, refl, rules, suc, to_come, to_open, true, walk_work, undo_of, ℕ, ◌-◌, ◌<◌, ◌∷◌, ◌≡◌, ◌⊎◌, position_after}
+use Rattle.pop_solve.proofs.Words.{AreKnown, Bool, CameFrom, CameFromAt, Frame, GoesTo, IfSome, IsLinked, IsPlaceIn, IsRoomy, IsWalking, LegalPlace, List, Move, None, Option, Plan, Position, RuleSet, Steps, [], after_well_formed, ap, arith, chess, eqb, false, shown_paths, is_followed, is_emitted, walk_length, inl, inr, is_legal, may_be_made, length, moves_after, opened_frame, path, position, refl, rules, suc, to_come, to_open, true, walk_work, undo_of, ℕ, ◌-◌, ◌<◌, ◌∷◌, ◌≡◌, ◌⊎◌, position_after}
 use Rattle.pop_battle.specs.ties.Frames.{learned, moved}
 use Rattle.pop_battle.proofs.Tests.{came_from}
 use Rattle.pop_solve.proofs.GoingOn.{ended-reached, walk_length-most, ways}
@@ -97,7 +97,7 @@ module _ (full : Bool) (rule : RuleSet) (plan : Plan) (h : ℕ) (p : Position) (
         let u = undo_of rule board m in
         let tried = walk_length plan.battle plan.variation (chess plan.goal rule) t (position_after rule board m) in
         let less = walk_length-most (chess plan.goal rule) plan.battle plan.variation t (position_after rule board m) in
-        let pseudo = is_pseudo_legal-from_legal rule board m lawful in (
+        let pseudo = may_be_made rule board m lawful in (
           record {
             walking = grind (arith, less, after_well_formed rule board m r.sound pseudo, pseudo);
             come = rw after_here (come-enter rule plan h p f below next m _ t fuel left here u (rw (← after_here) b));

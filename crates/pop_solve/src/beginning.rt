@@ -28,7 +28,7 @@ use pop_stipulation::MOST_HALF_MOVES;
 
 /// Returns whether a path may begin with this legal move, after which `left` half-moves are left: if each
 /// path ends with it and mates, only if it mates.
-#[tactic(auto, using(chess_rules::proofs::listing_moves::Calls::playing))]
+#[tactic(auto, using(chess_rules::proofs::LegalMoves::may_be_made))]
 fn may_lead<R: Rules>(plan: Plan, left: usize, by: Move, board: &mut Board) -> bool
     requires well_formed { IsWellFormed board.old }
     requires few { left ≤ MOST_HALF_MOVES }

@@ -56,7 +56,7 @@ fn cost_of_test<R: Rules>(
 
 /// Returns how many positions were tried to find that the defence `by` holds, or `None` if it doesn't
 /// hold. `left` is the number of half-moves left after the defence.
-#[tactic(auto, using(chess_rules::proofs::listing_moves::Calls::playing))]
+#[tactic(auto, using(chess_rules::proofs::LegalMoves::may_be_made))]
 fn cost_of_defence<R: Rules>(
     aim: Aim,
     left: usize,
@@ -117,7 +117,7 @@ fn choose_killer<R: Rules>(aim: Aim, left: usize, board: &Board, killers: &mut K
 /// tests of rising length. After each test but the longest, the cheapest defence becomes the killer: the
 /// first defence found may take many positions to confirm, and more still with more half-moves left. In
 /// help play and selfmates the killers stay unchanged.
-#[tactic(auto, using(chess_rules::proofs::listing_moves::Calls::playing))]
+#[tactic(auto, using(chess_rules::proofs::LegalMoves::may_be_made))]
 pub(crate) fn guess_killers<R: Rules>(
     plan: Plan,
     left: usize,

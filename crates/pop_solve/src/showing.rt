@@ -23,7 +23,7 @@ use pop_events::Shown;
 use pop_stipulation::{Goal, MOST_FRAMES, MOST_HALF_MOVES};
 
 /// Takes back the move of a frame.
-#[tactic(auto, using(chess_rules::proofs::listing_moves::Calls::playing))]
+#[tactic(auto, using(chess_rules::proofs::LegalMoves::may_be_made))]
 fn take_back<R: Rules>(frame: &Frame<R>, board: &mut Board)
     requires came { CameFrom R.rule frame.now board.old }
     ensures before { (p : Position) → CameFromAt R.rule frame.now board.old p → board.new ≡ p }
@@ -63,7 +63,7 @@ fn reached_along<R: Rules>(plan: Plan, frames: &[Frame<R>], k: usize) -> Reached
 
 /// Plays the move of a frame again and returns it as it is shown. `reached` says whether it is known to
 /// reach the goal.
-#[tactic(auto, using(chess_rules::proofs::listing_moves::Calls::playing), unfolding(pop_events::specs::Shown::shown_move))]
+#[tactic(auto, using(chess_rules::proofs::LegalMoves::may_be_made), unfolding(pop_events::specs::Shown::shown_move))]
 fn play_shown<R: Rules>(goal: Goal, reached: Reached, frame: &Frame<R>, board: &mut Board) -> Shown
     requires well_formed { IsWellFormed board.old }
     requires legal { is_legal R.rule board.old frame.now.by ≡ true }

@@ -25,11 +25,10 @@ use Rattle.chess_core.specs.declared.man.Colour.{Colour}
 use Rattle.chess_core.specs.declared.man.Colour.TheVariants.{Black, White}
 use Rattle.std.specs.Prelude.{Option, Some}
 use Rattle.std.specs.List.{range_with_len}
-use Rattle.pop_tries.proofs.Words.{ap, from_map, is_pseudo_legal-from_legal}
+use Rattle.pop_tries.proofs.Words.{ap, from_map, may_be_made}
 use Rattle.chess_rules.specs.Legal.{is_legal}
 use Rattle.chess_rules.specs.ties.Places.{all_triples, place_of, triple_at}
 use Rattle.chess_rules.proofs.listing_moves.Members.{from_range}
-use Rattle.chess_rules.proofs.listing_moves.Calls.{playing}
 use Rattle.chess_rules.proofs.listing_moves.Places.{place_of_triple, triples_numbered}
 use Rattle.chess_rules.proofs.listing_moves.TripleNumbers.{in_triples, made_is_triple}
 
@@ -293,7 +292,7 @@ defence_without_threat rule contest q d none = rw none refl
 pub placed : (rule : RuleSet) (p : Position) (m : Move) (place : ℕ) → IsWellFormed p → is_legal rule p m ≡ true → place ≡ place_of (Some m)
     → (1 ≤ place) × (place ≤ all_triples) × (triple_at (place - 1) ≡ m)
 placed rule p m place well legal e =
-    let t = made_is_triple rule p m well.size (is_pseudo_legal-from_legal rule p m legal) in
+    let t = made_is_triple rule p m well.size (may_be_made rule p m legal) in
     let w = from_map triple_at (range_with_len 0 all_triples) m (rw triples_numbered at (in_triples m t.0 t.1 t.2)) in
     let few : w.0 < all_triples = omega (arith, from_range 0 all_triples w.0 w.1) in
     let at : place ≡ w.0 + 1 = e ∙ ap (λ (x : Move). place_of (Some x)) (sym w.2) ∙ place_of_triple w.0 few in
@@ -306,7 +305,7 @@ pub ruleset replying = (reply_by_value, reply_in_short)
 pub ruleset passing = (passed_by_value, no_win_at_goal, no_win_in_short)
 
 -- for the test of a defence
-pub ruleset defending = (passed_well_formed, defence_by_loop, defence_without_threat, playing)
+pub ruleset defending = (passed_well_formed, defence_by_loop, defence_without_threat, may_be_made)
 
 -- without a refutation a first move is a key if Black has a reply, or if the goal is reached in direct play
 pub key_with_reply : (battle : Battle) (goal : Goal) (rule : RuleSet) (n : ℕ) (q : Position) → length (refutations battle (chess goal rule) n q) ≡ 0

@@ -1,5 +1,5 @@
 -- What the calls of a search's steps below a first move yield.
-use Rattle.pop_tries.proofs.Words.{Bool, Goal, IsSound, List, Move, Posed, Position, RuleSet, [], and_parts, ap, arith, chess_passing, check, cond, false, false≢true, filter, first_in, from_filter, half_moves, is_pseudo_legal-from_legal, has_threat, is_in_set_play, length, play_start, position_after, refl, sym, true, zugzwang, ℕ, ◌+◌, ◌-◌, ◌∙◌, ◌∷◌, ◌≡◌, ◌≤◌}
+use Rattle.pop_tries.proofs.Words.{Bool, Goal, IsSound, List, Move, Posed, Position, RuleSet, [], and_parts, ap, arith, chess_passing, check, cond, false, false≢true, filter, first_in, from_filter, half_moves, may_be_made, has_threat, is_in_set_play, length, play_start, position_after, refl, sym, true, zugzwang, ℕ, ◌+◌, ◌-◌, ◌∙◌, ◌∷◌, ◌≡◌, ◌≤◌}
 use Rattle.std.specs.Prelude.{None, Option, Some, is_some, reverse}
 use Rattle.std.proofs.lemmas.List.{length-reverse, nil_from_length}
 use Rattle.chess_core.specs.Undo.{Undo}
@@ -96,10 +96,10 @@ module _ (rule : RuleSet) (m : Move) (undo : Undo) (q p : Position) where
   played_from came = record {
     before = p;
     well_formed = came.sound;
-    pseudo = is_pseudo_legal-from_legal rule p m came.legal;
+    pseudo = may_be_made rule p m came.legal;
     after = came.led;
     undo = came.undone;
   }
 
   pub taken_back : (r : Position) → CameBy rule m undo q p → RestoresPosition rule q m undo r → r ≡ p
-  taken_back r came back = back p came.sound (is_pseudo_legal-from_legal rule p m came.legal) came.led came.undone
+  taken_back r came back = back p came.sound (may_be_made rule p m came.legal) came.led came.undone

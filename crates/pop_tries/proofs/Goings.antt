@@ -1,5 +1,5 @@
 -- What a step of a search for tries leaves, with an event or without.
-use Rattle.pop_tries.proofs.Words.{BareTryEvent, List, Move, Position, RuleSet, [], after_well_formed, ap, false, false≢true, is_pseudo_legal-from_legal, play_start, refl, sym, true, ℕ, ◌+◌, ◌<◌, ◌∙◌, ◌∷◌, ◌≡◌}
+use Rattle.pop_tries.proofs.Words.{BareTryEvent, List, Move, Position, RuleSet, [], after_well_formed, ap, false, false≢true, may_be_made, play_start, refl, sym, true, ℕ, ◌+◌, ◌<◌, ◌∙◌, ◌∷◌, ◌≡◌}
 use Rattle.std.specs.Prelude.{None, Option, Some, is_some}
 use Rattle.std.proofs.lemmas.Option.{none-some}
 use Rattle.chess_core.specs.Undo.{Undo}
@@ -77,7 +77,7 @@ module _ {A : Type 0} (rule : RuleSet) (task : Task) (fit : IsContest (contest_o
     record { board_at = at; none = none },
     record {
       came = record { sound = s.sound.well_formed; legal = legal; led = refl; undone = back };
-      sound = after_well_formed rule (play_start task.problem) m s.sound.well_formed (is_pseudo_legal-from_legal rule (play_start task.problem) m legal);
+      sound = after_well_formed rule (play_start task.problem) m s.sound.well_formed (may_be_made rule (play_start task.problem) m legal);
       refuted = held;
       placed = record {
         asked = placed.asked;

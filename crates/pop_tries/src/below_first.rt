@@ -34,7 +34,7 @@ use pop_events::TryEvent;
 use pop_solve::plan::Plan;
 
 /// Takes a first move back. Returns the next stage.
-#[tactic(auto, using(chess_rules::proofs::listing_moves::Calls::playing))]
+#[tactic(auto, using(chess_rules::proofs::LegalMoves::may_be_made))]
 fn end_first<R: Rules>(first: First<R>, board: &mut Board) -> TriesStage<R>
     requires came { (p : Position) × CameBy R.rule first.by first.undo board.old p }
     ensures stage { result ≡ FirstMove first.firsts }
@@ -202,7 +202,7 @@ pub(crate) fn walk_threats<R: Rules, const N: usize>(
 }
 
 /// Plays a reply and opens the walk over what stands below it. Returns what takes it back, and its event.
-#[tactic(auto, using(chess_rules::proofs::listing_moves::Calls::playing))]
+#[tactic(auto, using(chess_rules::proofs::LegalMoves::may_be_made))]
 fn play_reply<R: Rules, const N: usize>(
     task: &Task,
     by: Move,
@@ -242,7 +242,7 @@ fn play_reply<R: Rules, const N: usize>(
 
 /// Finds the next reply that is shown, plays it, and opens the walk over what stands below it; after the last
 /// one what is shown below the first move ends.
-#[tactic(auto, using(chess_rules::proofs::listing_moves::Calls::playing), unfolding(crate::specs::ties::Searching::HoldsAt, crate::specs::ties::Searching::rank))]
+#[tactic(auto, using(chess_rules::proofs::LegalMoves::may_be_made), unfolding(crate::specs::ties::Searching::HoldsAt, crate::specs::ties::Searching::rank))]
 pub(crate) fn find_reply<R: Rules, const N: usize>(
     task: &Task,
     first: First<R>,

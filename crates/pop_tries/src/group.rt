@@ -129,7 +129,7 @@ fn end_group<R: Rules>(task: &Task, group: Group, count: u32, candidates: Candid
 }
 
 /// Finds the next first move of a group and plays it, or ends the group.
-#[tactic(auto, using(chess_rules::proofs::listing_moves::Calls::playing), unfolding(crate::specs::ties::Searching::HoldsAt, crate::specs::ties::Searching::rank))]
+#[tactic(auto, using(chess_rules::proofs::LegalMoves::may_be_made), unfolding(crate::specs::ties::Searching::HoldsAt, crate::specs::ties::Searching::rank))]
 pub(crate) fn find_first<R: Rules, const N: usize>(
     task: &Task,
     firsts: Firsts<R>,
@@ -155,7 +155,7 @@ pub(crate) fn find_first<R: Rules, const N: usize>(
 
 /// Shows a first move that has been played: takes it back, since it is shown from the position before it, and
 /// plays it again.
-#[tactic(auto, using(chess_rules::proofs::listing_moves::Calls::playing))]
+#[tactic(auto, using(chess_rules::proofs::LegalMoves::may_be_made))]
 fn begin_first<R: Rules>(
     task: &Task,
     firsts: Firsts<R>,

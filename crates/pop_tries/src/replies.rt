@@ -64,7 +64,7 @@ fn is_refuted<R: Rules, const N: usize>(
 }
 
 /// Returns whether the legal reply `by` refutes the first move that led to the board's position.
-#[tactic(auto, using(chess_rules::proofs::listing_moves::Calls::playing))]
+#[tactic(auto, using(chess_rules::proofs::LegalMoves::may_be_made))]
 pub fn refutes<R: Rules, const N: usize>(
     contest: Contest,
     by: Move,
@@ -163,7 +163,7 @@ impl Tally {
 }
 
 /// Returns whether the legal move `by` gives check.
-#[tactic(auto, using(chess_rules::proofs::listing_moves::Calls::playing))]
+#[tactic(auto, using(chess_rules::proofs::LegalMoves::may_be_made))]
 fn gives_check<R: Rules>(by: Move, board: &mut Board) -> bool
     requires well_formed { IsWellFormed board.old }
     requires legal { is_legal R.rule board.old by ≡ true }

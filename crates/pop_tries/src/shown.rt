@@ -12,7 +12,7 @@ use pop_events::Shown;
 use pop_stipulation::stipulation::Goal;
 
 /// Returns a legal move of the board's position as it is shown.
-#[tactic(auto, using(chess_rules::proofs::listing_moves::Calls::playing), unfolding(pop_events::specs::Shown::shown_move))]
+#[tactic(auto, using(chess_rules::proofs::LegalMoves::may_be_made), unfolding(pop_events::specs::Shown::shown_move))]
 pub fn shown<R: Rules>(goal: Goal, by: Move, board: &mut Board) -> Shown
     requires well_formed { IsWellFormed board.old }
     requires legal { is_legal R.rule board.old by ≡ true }

@@ -141,7 +141,7 @@ pub fn threat_length<R: Rules, const N: usize>(
 }
 
 /// Returns whether White wins within `length` half-moves that begin with the legal move `by`.
-#[tactic(auto, using(chess_rules::proofs::listing_moves::Calls::playing, crate::proofs::Contests::kept_by_value))]
+#[tactic(auto, using(chess_rules::proofs::LegalMoves::may_be_made, crate::proofs::Contests::kept_by_value))]
 fn wins_by<R: Rules, const N: usize>(
     contest: Contest,
     length: usize,
@@ -367,7 +367,7 @@ fn all_work<R: Rules, const N: usize>(
 }
 
 /// Returns whether the legal reply `by` is a defence, if the threats are few.
-#[tactic(auto, using(chess_rules::proofs::listing_moves::Calls::playing, crate::proofs::FewPlaces::places_of))]
+#[tactic(auto, using(chess_rules::proofs::LegalMoves::may_be_made, crate::proofs::FewPlaces::places_of))]
 fn stops_few<R: Rules, const N: usize>(
     contest: Contest,
     threat: Threat,

@@ -10,7 +10,7 @@ use pop_input::problem::Problem;
 use pop_stipulation::stipulation::{Form, Goal};
 
 /// Returns the number of lists of fewer than `half_moves` moves, each legal when it is played.
-#[tactic(auto, using(chess_rules::proofs::listing_moves::Calls::playing))]
+#[tactic(auto, using(chess_rules::proofs::LegalMoves::may_be_made))]
 fn walk_count<R: Rules>(board: &Board, half_moves: usize) -> u64
     requires { IsWellFormed board.now }
 {
@@ -72,7 +72,7 @@ struct Shown {
 /// shows it. At each position of the tree, if one move decides, the tree goes on only after the deciding
 /// move with the smallest tree, otherwise after all moves. If the goal is reached or no move is left, the
 /// tree is empty.
-#[tactic(auto, using(chess_rules::proofs::listing_moves::Calls::playing))]
+#[tactic(auto, using(chess_rules::proofs::LegalMoves::may_be_made))]
 fn smallest<R: Rules>(battle: Battle, board: &Board, left: usize) -> Shown
     requires { IsWellFormed board.now }
 {
@@ -120,7 +120,7 @@ pub(crate) struct Tried {
     pub positions: u64,
 }
 
-#[tactic(auto, using(chess_rules::proofs::listing_moves::Calls::playing))]
+#[tactic(auto, using(chess_rules::proofs::LegalMoves::may_be_made))]
 fn try_all<R: Rules>(problem: &Problem) -> Tried {
     let diagram = problem.diagram();
     let mut tried = Tried {

@@ -151,7 +151,7 @@ pub(crate) fn can_move<R: Rules>(board: &Board) -> bool
 
 /// Returns whether the goal is reached, or the other side reaches it within `moves` further moves against
 /// every defence.
-#[tactic(auto, using(chess_rules::proofs::listing_moves::Calls::playing))]
+#[tactic(auto, using(chess_rules::proofs::LegalMoves::may_be_made))]
 fn is_lost<R: Rules>(goal: Goal, board: &Board, moves: u8) -> bool
     requires { IsWellFormed board.now }
 {
@@ -180,7 +180,7 @@ fn is_lost<R: Rules>(goal: Goal, board: &Board, moves: u8) -> bool
 }
 
 /// Returns whether the side to move forces the other side to reach the goal within `moves` moves.
-#[tactic(auto, using(chess_rules::proofs::listing_moves::Calls::playing))]
+#[tactic(auto, using(chess_rules::proofs::LegalMoves::may_be_made))]
 fn self_wins<R: Rules>(goal: Goal, board: &Board, moves: u8) -> bool
     requires { IsWellFormed board.now }
 {
@@ -208,7 +208,7 @@ fn self_wins<R: Rules>(goal: Goal, board: &Board, moves: u8) -> bool
 
 /// Returns whether White, after a move to this position, still wins within `moves` moves, which include
 /// that move.
-#[tactic(auto, using(chess_rules::proofs::listing_moves::Calls::playing))]
+#[tactic(auto, using(chess_rules::proofs::LegalMoves::may_be_made))]
 fn keeps<R: Rules>(goal: Goal, selfmate: bool, board: &Board, moves: u8) -> bool
     requires { IsWellFormed board.now }
 {
@@ -229,7 +229,7 @@ fn keeps<R: Rules>(goal: Goal, selfmate: bool, board: &Board, moves: u8) -> bool
 }
 
 /// Returns whether White, to move, wins within `moves` moves.
-#[tactic(auto, using(chess_rules::proofs::listing_moves::Calls::playing))]
+#[tactic(auto, using(chess_rules::proofs::LegalMoves::may_be_made))]
 fn wins<R: Rules>(goal: Goal, selfmate: bool, board: &Board, moves: u8) -> bool
     requires { IsWellFormed board.now }
 {
@@ -274,7 +274,7 @@ struct Battle {
 /// Adds White's moves that win within `moves` moves and, down to `left` further moves by White, the
 /// defences below each with the shortest continuations.
 #[cycle(tree)]
-#[tactic(auto, using(chess_rules::proofs::listing_moves::Calls::playing))]
+#[tactic(auto, using(chess_rules::proofs::LegalMoves::may_be_made))]
 fn white<R: Rules>(
     reported: &mut PhaseText,
     battle: Battle,
@@ -301,7 +301,7 @@ fn white<R: Rules>(
 
 /// Adds the defences, with the shortest continuations.
 #[cycle(tree)]
-#[tactic(auto, using(chess_rules::proofs::listing_moves::Calls::playing))]
+#[tactic(auto, using(chess_rules::proofs::LegalMoves::may_be_made))]
 fn black<R: Rules>(reported: &mut PhaseText, battle: Battle, board: &Board, depth: u32, left: u8)
     requires well_formed { IsWellFormed board.now }
     requires some { 1 ≤ left }
@@ -327,7 +327,7 @@ fn black<R: Rules>(reported: &mut PhaseText, battle: Battle, board: &Board, dept
 }
 
 /// Adds set play: the first moves by Black after which White still wins, with the shortest continuations.
-#[tactic(auto, using(chess_rules::proofs::listing_moves::Calls::playing))]
+#[tactic(auto, using(chess_rules::proofs::LegalMoves::may_be_made))]
 fn set<R: Rules>(reported: &mut PhaseText, battle: Battle, board: &Board, left: u8)
     requires { IsWellFormed board.now }
 {
@@ -349,7 +349,7 @@ fn set<R: Rules>(reported: &mut PhaseText, battle: Battle, board: &Board, left: 
 }
 
 /// Adds the lines of `left` further half-moves that reach the goal.
-#[tactic(auto, using(chess_rules::proofs::listing_moves::Calls::playing))]
+#[tactic(auto, using(chess_rules::proofs::LegalMoves::may_be_made))]
 fn help<R: Rules>(
     reported: &mut PhaseText,
     goal: Goal,

@@ -7,7 +7,7 @@ use Rattle.chess_reach.proofs.OneMove.{other_step, own_step, stays}
 use Rattle.chess_reach.proofs.Picture.{picture}
 use Rattle.chess_reach.specs.Lines.{IsLegalLine, line_end, mover, reaches_goal}
 use Rattle.chess_reach.specs.Plans.{saved_moves, standing_checks}
-use Rattle.chess_rules.proofs.listing_moves.Calls.{is_pseudo_legal-from_legal}
+use Rattle.chess_rules.proofs.LegalMoves.{may_be_made}
 use Rattle.chess_rules.proofs.making_moves.Pseudo.{made}
 use Rattle.pop_stipulation.specs.declared.stipulation.Goal.{Goal}
 
@@ -27,7 +27,7 @@ module _ (rule : RuleSet) (goal : Goal) (c : Colour) (k : ℕ) where
     -- A plan after a move of colour c that doesn't castle is one before it, with one move more of c.
     pub plan_before_own_move : p.turn ≡ c → is_castling x m ≡ false → HasPlan goal sc rule p c (suc n) o k
     plan_before_own_move turn plain =
-        let may = is_pseudo_legal-from_legal rule p m legal in
+        let may = may_be_made rule p m legal in
         own_step (captures_are_reborn rule) p (position_after rule p m) x (arriving_man x m.promo) m.from m.to (capture_square p x m) (reborn_square rule p x m)
         (is_gone rule p x m well may here plain) after.0
         goal sc c n o k ((made rule p m x may here).mine ∙ turn) after.1
@@ -35,7 +35,7 @@ module _ (rule : RuleSet) (goal : Goal) (c : Colour) (k : ℕ) where
     -- A plan after a move of the other side that doesn't castle is one before it, with one move more of that side.
     pub plan_before_their_move : p.turn ≡ other c → is_castling x m ≡ false → HasPlan goal sc rule p c n (suc o) k
     plan_before_their_move turn plain =
-        let may = is_pseudo_legal-from_legal rule p m legal in
+        let may = may_be_made rule p m legal in
         other_step (captures_are_reborn rule) p (position_after rule p m) x (arriving_man x m.promo) m.from m.to (capture_square p x m) (reborn_square rule p x m)
         (is_gone rule p x m well may here plain) after.0
         goal sc c n o k ((made rule p m x may here).mine ∙ turn) after.1
@@ -43,7 +43,7 @@ module _ (rule : RuleSet) (goal : Goal) (c : Colour) (k : ℕ) where
     -- Castling of colour c counts as three moves: two of its king and one of its rook.
     pub plan_before_own_castling : p.turn ≡ c → is_castling x m ≡ true → HasPlan goal sc rule p c (n + 3) o k
     plan_before_own_castling turn castling =
-        let may = is_pseudo_legal-from_legal rule p m legal in
+        let may = may_be_made rule p m legal in
         rw three (own_castling rule p x m well may here castling (captures_are_reborn rule) goal sc c n o k after.0 ((made rule p m x may here).mine ∙ turn) after.1)
       where
         three : n + 3 ≡ suc (suc (suc n))
@@ -52,7 +52,7 @@ module _ (rule : RuleSet) (goal : Goal) (c : Colour) (k : ℕ) where
     -- Castling of the other side likewise.
     pub plan_before_their_castling : p.turn ≡ other c → is_castling x m ≡ true → HasPlan goal sc rule p c n (o + 3) k
     plan_before_their_castling turn castling =
-        let may = is_pseudo_legal-from_legal rule p m legal in
+        let may = may_be_made rule p m legal in
         rw three (other_castling rule p x m well may here castling (captures_are_reborn rule) goal sc c n o k after.0 ((made rule p m x may here).mine ∙ turn) after.1)
       where
         three : o + 3 ≡ suc (suc (suc o))

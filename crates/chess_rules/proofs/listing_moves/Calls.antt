@@ -1,5 +1,5 @@
 -- Successive calls of `next` on one position.
-use Rattle.chess_rules.proofs.Chess.{List, MatchOption, Move, Option, Position, RuleSet, [], and_parts, arith, drop, drop-drop, is_legal, is_pseudo_legal, moves, moves_after, place_of, refl, slice_get, suc, true, zero, ℕ, ◌+◌, ◌∷◌, ◌≡◌}
+use Rattle.chess_rules.proofs.Chess.{List, MatchOption, Move, Option, Position, RuleSet, [], arith, drop, drop-drop, moves, moves_after, place_of, refl, slice_get, suc, true, zero, ℕ, ◌+◌, ◌∷◌, ◌≡◌}
 use Rattle.chess_rules.proofs.listing_moves.Places.{moves_after-end}
 
 get_first : (l : List Move) (n : ℕ) → slice_get l n ≡ slice_get (drop n l) 0
@@ -19,11 +19,3 @@ step_on rule p n place next o at e rest = grind (arith, drop-drop 1 n (moves rul
 pub answer_is : (rule : RuleSet) (p : Position) (n place next : ℕ) (o : Option Move) → moves_after rule p place ≡ drop n (moves rule p)
     → MatchOption o (moves_after rule p place ≡ []) (λ m. moves_after rule p place ≡ (m ∷ moves_after rule p next)) → o ≡ slice_get (moves rule p) n
 answer_is rule p n place next o at rest = grind (arith, get_first (moves rule p) n)
-
--- a legal move may be made
-pub is_pseudo_legal-from_legal : (rule : RuleSet) (p : Position) (m : Move) → is_legal rule p m ≡ true → is_pseudo_legal rule p m ≡ true
-unfolding is_legal
-is_pseudo_legal-from_legal rule p m h = (and_parts _ _ h).0
-
--- for a caller that plays what `next` gives
-pub ruleset playing = (is_pseudo_legal-from_legal)

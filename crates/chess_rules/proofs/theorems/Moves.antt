@@ -2,7 +2,7 @@
 -- them.
 use Rattle.chess_rules.proofs.Chess.{AllPairs, AllPairs-filter, Bool, Contains, IsWellFormed, Move, Position, RuleSet, Some, and_from, and_parts, arith, false, false_from_ne_true, in_check, is_legal, is_mate, is_nil, is_stalemate, moves, nat_lt, not-true, not_from_false, place_of, precedes, promotion_precedes, promotions, rules, sym, triples, true, true≢false, ℕ, ◌&&◌, ◌<◌, ◌==◌, ◌||◌, ◌↔◌, ◌∙◌, ◌≡◌, ◌≢◌, ◌⊎◌}
 use Rattle.std.proofs.lemmas.Bool.Decides.{nat_tests}
-use Rattle.chess_rules.proofs.listing_moves.Calls.{is_pseudo_legal-from_legal}
+use Rattle.chess_rules.proofs.LegalMoves.{may_be_made}
 use Rattle.chess_rules.proofs.listing_moves.Places.{place_of_triple}
 use Rattle.chess_rules.proofs.listing_moves.Members.{from_filter, in_filter, pairs_weaker}
 use Rattle.chess_rules.proofs.listing_moves.TripleNumbers.{from_triples, in_triples, made_is_triple, numbered, triples_by_number, triples_rise, nil_where_nothing, nothing_in}
@@ -39,7 +39,7 @@ never_precedes_itself m before = search (rules, nat_tests)
 module _ (rule : RuleSet) (p : Position) where
   -- Each legal move of a well-formed position is a triple.
   pub legal_moves_are_triples : (m : Move) → IsWellFormed p → is_legal rule p m ≡ true → IsTriple m
-  legal_moves_are_triples m well h = made_is_triple rule p m well.size (is_pseudo_legal-from_legal rule p m h)
+  legal_moves_are_triples m well h = made_is_triple rule p m well.size (may_be_made rule p m h)
 
   -- In any position, a move is in `moves` exactly if it is a triple and legal.
   pub moves_are_the_legal_triples : (m : Move) → Contains (moves rule p) m ↔ (IsTriple m × (is_legal rule p m ≡ true))

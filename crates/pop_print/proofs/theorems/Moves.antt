@@ -12,7 +12,7 @@ use Rattle.chess_core.specs.declared.man.Move.{Move}
 use Rattle.chess_core.specs.WellFormed.{IsWellFormed}
 use Rattle.chess_rules.specs.Legal.{is_legal, is_promotion_right, is_pseudo_legal}
 use Rattle.chess_attacks.specs.RuleSet.{RuleSet}
-use Rattle.chess_rules.proofs.listing_moves.Calls.{is_pseudo_legal-from_legal}
+use Rattle.chess_rules.proofs.LegalMoves.{may_be_made}
 use Rattle.chess_rules.proofs.making_moves.Pseudo.{IsMade, king_is_no_pawn, made}
 use Rattle.chess_core.proofs.Kept.{same_colour-refl}
 use Rattle.pop_stipulation.specs.declared.stipulation.Goal.{Goal}
@@ -192,8 +192,8 @@ module _ (goal : Goal) (rule : RuleSet) (p : Position) (well : IsWellFormed p) w
 
   shown_by_man : (m : Move) (o : Option Man) → man_on p.men m.from ≡ o → is_legal rule p m ≡ true → (x : Man) × IsShown m x
   unfolding shown_move shown_of is_pseudo_legal
-  shown_by_man m None here h = grind (arith, is_pseudo_legal-from_legal rule p m h, true≢false)
-  shown_by_man m (Some x) here h = grind (arith, made rule p m x (is_pseudo_legal-from_legal rule p m h) here, is_pseudo_legal-from_legal rule p m h, made)
+  shown_by_man m None here h = grind (arith, may_be_made rule p m h, true≢false)
+  shown_by_man m (Some x) here h = grind (arith, made rule p m x (may_be_made rule p m h) here, may_be_made rule p m h, made)
 
   -- The text determines the move, if neither move castles or both castle to one side.
   same_move : (m n : Move) (x y : Man) (c d : Option Side) → IsShown m x → IsShown n y

@@ -1,5 +1,5 @@
 -- The lines of help play: which lists of moves they are, that each comes once, and in which order.
-use Rattle.pop_solve.proofs.Words.{AllPairs, Contains, Game, Goal, IsWellFormed, List, Move, Position, Precedes, RuleSet, [], after_well_formed, arith, chess, help_lines, is_goal_reached, is_legal, is_pseudo_legal-from_legal, length, moves_are_the_legal_moves, moves_differ, moves_in_order, none_in_nil, pairs_nil, path_end, refl, rules, suc, true, zero, ℕ, ◌↔◌, ◌∷◌, ◌≡◌, ◌≢◌, ◌≤◌, position_after}
+use Rattle.pop_solve.proofs.Words.{AllPairs, Contains, Game, Goal, IsWellFormed, List, Move, Position, Precedes, RuleSet, [], after_well_formed, arith, chess, help_lines, is_goal_reached, is_legal, may_be_made, length, moves_are_the_legal_moves, moves_differ, moves_in_order, none_in_nil, pairs_nil, path_end, refl, rules, suc, true, zero, ℕ, ◌↔◌, ◌∷◌, ◌≡◌, ◌≢◌, ◌≤◌, position_after}
 use Rattle.pop_solve.proofs.HelpPlay.{from_lines, in_lines, lines_stand}
 use Rattle.pop_solve.proofs.theorems.Lists.{IsPlayable, StandsBefore, never_before_itself}
 
@@ -36,7 +36,7 @@ module _ (goal : Goal) (rule : RuleSet) where
   playable_is_legal p [] well = (λ w. tt, λ w. tt)
   playable_is_legal p (m ∷ line) well =
       let rest = playable_is_legal (position_after rule p m) line in
-      grind (arith, moves_are_the_legal_moves, rest, after_well_formed, is_pseudo_legal-from_legal)
+      grind (arith, moves_are_the_legal_moves, rest, after_well_formed, may_be_made)
 
   -- From a well-formed position a list is a line of help play in h half-moves, one or more, exactly if it
   -- has h moves, each legal in its position, and the goal is reached in its last position.

@@ -1,4 +1,4 @@
-use Rattle.pop_parts.proofs.Words.{Frame, ap, is_pseudo_legal-from_legal, rules, ◌≡◌}
+use Rattle.pop_parts.proofs.Words.{Frame, ap, may_be_made, rules, ◌≡◌}
 use Rattle.pop_parts.proofs.Seeking as seeking
 use Rattle.pop_parts.proofs.beginnings.seek.Goals as goal
 
@@ -29,7 +29,7 @@ returns-then-len-depth g c = record {
 }
 
 pub play-undo-requires-clause-pseudo : goal.play-undo-requires-clause-pseudo
-play-undo-requires-clause-pseudo g c = search (rules, is_pseudo_legal-from_legal, c.next_move.ensures.unchanged, c.in-Some-next_move.ensures.next)
+play-undo-requires-clause-pseudo g c = search (rules, may_be_made, c.next_move.ensures.unchanged, c.in-Some-next_move.ensures.next)
 
 pub returns : goal.returns
 returns g c = record {

@@ -1,4 +1,4 @@
-use Rattle.pop_tries.proofs.Words.{is_pseudo_legal-from_legal, position_after, rules, sym, true, ◌∙◌, ◌≡◌}
+use Rattle.pop_tries.proofs.Words.{may_be_made, position_after, rules, sym, true, ◌∙◌, ◌≡◌}
 use Rattle.pop_tries.specs.declared.first_moves.Group.TheVariants.{Keys}
 use Rattle.pop_tries.specs.ties.FewPlaces.{IsPlaceOf}
 use Rattle.pop_tries.specs.ties.FirstMoves.{belongs, is_try_after}
@@ -16,7 +16,7 @@ unplay-requires g c =
     record {
       before = c.args.board.now;
       well_formed = c.requires.ready.well_formed;
-      pseudo = is_pseudo_legal-from_legal _ _ _ next.1;
+      pseudo = may_be_made _ _ _ next.1;
       after = c.is_key_or_noted.ensures.rest.board ∙ (rw here at c.play-undo.ensures.after);
       undo = rw here at c.play-undo.ensures.undo;
     }
@@ -34,7 +34,7 @@ loop-by-preserved g c =
     place_is rule p c.in-Some.by c.number.result c.requires.ready.well_formed next.1 (c.number.ensures ∙ c.in-Some.ensures.place) in
     let key = rw led at c.is_key_or_noted.ensures.key in (
       (
-        c.unplay.ensures.before p c.requires.ready.well_formed (is_pseudo_legal-from_legal _ _ _ next.1) (c.is_key_or_noted.ensures.rest.board ∙ led)
+        c.unplay.ensures.before p c.requires.ready.well_formed (may_be_made _ _ _ next.1) (c.is_key_or_noted.ensures.rest.board ∙ led)
             (rw here at c.play-undo.ensures.undo),
         c.is_key_or_noted.ensures.rest.frames ∙ c.loop-by.invariant.0.1,
         rw c.loop-by.invariant.0.0 at c.in-Some.ensures.within,

@@ -1,4 +1,4 @@
-use Rattle.pop_tries.proofs.Words.{after_well_formed, is_pseudo_legal-from_legal, rules, sym, ◌∙◌}
+use Rattle.pop_tries.proofs.Words.{after_well_formed, may_be_made, rules, sym, ◌∙◌}
 use Rattle.pop_tries.specs.ties.FirstMoves.{is_try_after}
 use Rattle.pop_tries.specs.ties.FewPlaces.{IsPlaceOf}
 use Rattle.pop_tries.specs.ties.Searching.{contest_of}
@@ -15,7 +15,7 @@ unplay-requires g c =
     record {
       before = c.args.board.now;
       well_formed = c.requires.ready.well_formed;
-      pseudo = is_pseudo_legal-from_legal _ _ _ next.1;
+      pseudo = may_be_made _ _ _ next.1;
       after = c.is_try_as_kept.ensures.rest.board ∙ (rw here at c.play-undo.ensures.after);
       undo = rw here at c.play-undo.ensures.undo;
     }
@@ -36,7 +36,7 @@ is_try_as_kept-requires g c =
         (
           rw (c.contest-contest.ensures, led) (record {
             fits = c.requires.ready.fits;
-            well_formed = after_well_formed rule p c.in-Some.by c.requires.ready.well_formed (is_pseudo_legal-from_legal rule p c.in-Some.by next.1);
+            well_formed = after_well_formed rule p c.in-Some.by c.requires.ready.well_formed (may_be_made rule p c.in-Some.by next.1);
             room = search rules;
           }),
           (

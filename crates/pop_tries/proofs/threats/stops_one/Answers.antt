@@ -1,4 +1,4 @@
-use Rattle.pop_tries.proofs.Words.{is_pseudo_legal-from_legal, keeps_win, not, position_after, rules, sym, works, ◌∙◌, ◌≡◌}
+use Rattle.pop_tries.proofs.Words.{may_be_made, keeps_win, not, position_after, rules, sym, works, ◌∙◌, ◌≡◌}
 use Rattle.pop_battle.specs.Chess.{set_start}
 use Rattle.pop_tries.specs.Events.{chess_passing}
 use Rattle.pop_tries.specs.ties.Contests.{game_in, moves_of}
@@ -20,7 +20,7 @@ unplay-requires g c =
     record {
       before = c.args.board.now;
       well_formed = c.requires.well_formed;
-      pseudo = is_pseudo_legal-from_legal _ _ _ c.requires.legal;
+      pseudo = may_be_made _ _ _ c.requires.legal;
       after = c.works-still.ensures.rest.board ∙ (rw back at c.play-undo.ensures.after);
       undo = rw back at c.play-undo.ensures.undo;
     }
@@ -45,7 +45,7 @@ loop-tried-preserved-then-is_threat g c =
     c.in-Some-next_move.ensures.place in
     let back : c.unpass.new.board ≡ c.args.board.now = c.unpass.ensures.before c.args.board.now (search rules) c.loop-tried.invariant.1 in
     let home : c.unplay.new.board ≡ c.args.board.now = c.unplay.ensures.before c.args.board.now c.requires.well_formed
-    (is_pseudo_legal-from_legal _ _ _ c.requires.legal) (c.works-still.ensures.rest.board ∙ (rw back at c.play-undo.ensures.after))
+    (may_be_made _ _ _ c.requires.legal) (c.works-still.ensures.rest.board ∙ (rw back at c.play-undo.ensures.after))
     (rw back at c.play-undo.ensures.undo) in
     let none = not_there (λ m. keeps_win c.args.contest.battle (game_in g.R.Rules.rule c.args.contest) (moves_of c.in-Some.threats.length)
     (position_after g.R.Rules.rule (set_start c.args.board.now) m)) c.in-Some-next_move.tried _ _ next.0
@@ -66,7 +66,7 @@ pub returns-then-not-still-clause-rest : goal.returns-then-not-still-clause-rest
 returns-then-not-still-clause-rest g c =
     let back : c.unpass.new.board ≡ c.args.board.now = c.unpass.ensures.before c.args.board.now (search rules) c.loop-tried.invariant.1 in
     record {
-      board = c.unplay.ensures.before c.args.board.now c.requires.well_formed (is_pseudo_legal-from_legal _ _ _ c.requires.legal)
+      board = c.unplay.ensures.before c.args.board.now c.requires.well_formed (may_be_made _ _ _ c.requires.legal)
           (c.works-still.ensures.rest.board ∙ (rw back at c.play-undo.ensures.after)) (rw back at c.play-undo.ensures.undo);
       frames = c.works-still.ensures.rest.frames ∙ (c.is_threat.ensures.rest.frames ∙ c.loop-tried.invariant.2);
     }

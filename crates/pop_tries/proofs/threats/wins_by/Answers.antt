@@ -1,18 +1,18 @@
-use Rattle.pop_tries.proofs.Words.{is_pseudo_legal-from_legal, ◌∙◌}
+use Rattle.pop_tries.proofs.Words.{may_be_made, ◌∙◌}
 use Rattle.pop_tries.proofs.threats.wins_by.Goals as goal
 
 pub unplay-requires : goal.unplay-requires
 unplay-requires g c = record {
   before = c.args.board.now;
   well_formed = c.requires.well_formed;
-  pseudo = is_pseudo_legal-from_legal _ _ _ c.requires.legal;
+  pseudo = may_be_made _ _ _ c.requires.legal;
   after = c.value_of-wins.ensures.board ∙ c.play-undo.ensures.after;
   undo = c.play-undo.ensures.undo;
 }
 
 pub returns-clause-rest : goal.returns-clause-rest
 returns-clause-rest g c = record {
-  board = c.unplay.ensures.before c.args.board.now c.requires.well_formed (is_pseudo_legal-from_legal _ _ _ c.requires.legal)
+  board = c.unplay.ensures.before c.args.board.now c.requires.well_formed (may_be_made _ _ _ c.requires.legal)
       (c.value_of-wins.ensures.board ∙ c.play-undo.ensures.after) c.play-undo.ensures.undo;
   frames = c.value_of-wins.ensures.frames;
 }

@@ -1,10 +1,10 @@
-use Rattle.chess_threats.proofs.Chess.{ThreatsSeen, ap, arith, is_pseudo_legal-from_legal, maker, rules, sym, ◌∙◌}
+use Rattle.chess_threats.proofs.Chess.{ThreatsSeen, ap, arith, may_be_made, maker, rules, sym, ◌∙◌}
 use Rattle.chess_threats.proofs.Ways.{moves_are_risky, steps_are_risky, unkept_are_risky}
 use Rattle.chess_threats.proofs.threats.Threats.risky_squares.Goals as goal
 
 pub returns-in_default-clause-risky : goal.returns-in_default-clause-risky
 returns-in_default-clause-risky g c = record {
-  is_decided = λ m legal origin on off. grind (arith, (maker _ _ m (is_pseudo_legal-from_legal _ _ m legal)).1, c.man_at.ensures, c.in_default.is);
+  is_decided = λ m legal origin on off. grind (arith, (maker _ _ m (may_be_made _ _ m legal)).1, c.man_at.ensures, c.in_default.is);
 }
 
 pub returns-then-is-clause-risky : goal.returns-then-is-clause-risky
