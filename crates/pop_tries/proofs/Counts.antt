@@ -4,7 +4,7 @@ use Rattle.chess_rules.specs.Legal.{is_legal}
 use Rattle.chess_rules.specs.ties.Places.{moves_after, moves_between, place_of}
 use Rattle.pop_battle.proofs.Boards.{after_start}
 use Rattle.std.proofs.lemmas.List.Elements.{filter-append}
-use Rattle.pop_tries.proofs.Words.{IsWellFormed, subst, cases_lt, eqb, false≢true, inl, inr, length-append, nat_tests, sym, Bool, Some, false, true, List, Move, Position, RuleSet, [], arith, filter, length, legal_moves, not, refl, refutations, ℕ, ◌&&◌, ◌+◌, ◌-◌, ◌<◌, ◌∙◌, ◌∷◌, ◌≡◌, ◌≢◌, ◌≤◌}
+use Rattle.pop_tries.proofs.Words.{IsWellFormed, subst, cases_lt, eqb, inl, inr, length-append, nat_tests, sym, Bool, Some, false, true, List, Move, Position, RuleSet, [], arith, filter, length, legal_moves, not, refl, refutations, ℕ, ◌&&◌, ◌+◌, ◌-◌, ◌<◌, ◌∙◌, ◌∷◌, ◌≡◌, ◌≢◌, ◌≤◌}
 use Rattle.std.proofs.Common.{min}
 use Rattle.pop_tries.specs.declared.contest.Contest.{Contest}
 use Rattle.pop_tries.specs.declared.replies.Counted.TheVariants.{All, Forcing, Others}

@@ -11,7 +11,7 @@ use Rattle.pop_tries.specs.declared.move_set.MoveSet.{MoveSet}
 use Rattle.pop_tries.specs.ties.Contests.{IsLength, moves_of, wins_within}
 use Rattle.pop_tries.specs.ties.MoveSets.{HoldAll, may_hold}
 use Rattle.chess_rules.specs.Legal.{is_legal}
-use Rattle.chess_rules.specs.ties.Places.{moves_after, place_of, triple_at}
+use Rattle.chess_rules.specs.ties.Places.{moves_after, place_of}
 use Rattle.std.specs.Prelude.{Some}
 use Rattle.pop_battle.proofs.Boards.{after_start}
 use Rattle.pop_tries.proofs.Contests.{placed}

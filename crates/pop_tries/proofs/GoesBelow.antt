@@ -11,6 +11,7 @@ use Rattle.pop_solve.proofs.Sound.{in_range}
 use Rattle.pop_solve.specs.Events.{last_shown}
 use Rattle.pop_solve.specs.ties.Walk.{IsRoomy}
 use Rattle.pop_tries.specs.Shown.{shown_below_first, try_event_of}
+use Rattle.pop_tries.specs.declared.desk.Desk.{Desk}
 use Rattle.pop_tries.specs.declared.contest.Contest.{Contest}
 use Rattle.pop_events.specs.declared.try_event.TryEvent.TheVariants.{Key, Node, Try}
 use Rattle.pop_tries.specs.declared.first_moves.Group.{Group}
@@ -37,7 +38,8 @@ shallow problem s h items slice e r same =
     omega (arith, e, in_range problem s, room-length h (reverse items) r, length-reverse items, ap length same)
 
 -- a test that keeps board and frames leaves the board's position, and no frame in use
-pub still_bare : {q p now : Position} {old new : List Frame} → Keeps p now old new → IsBare q old p → IsBare q new now
+pub still_bare : {A : Type 0} {n : ℕ} {q : Position} {old new : Desk A n} → Keeps old new → IsBare q old.frames.items old.board
+    → IsBare q new.frames.items new.board
 still_bare keeps bare = record { board_at = keeps.board ∙ bare.board_at; none = keeps.frames ∙ bare.none }
 
 -- after a walk below a first move, with the board back where that move led and no frame left, the replies follow

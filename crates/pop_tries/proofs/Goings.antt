@@ -18,7 +18,7 @@ use Rattle.pop_tries.specs.declared.stage.TriesStage.{TriesStage}
 use Rattle.pop_tries.specs.declared.stage.TriesStage.TheVariants.{Beginning, Faced, FirstMove}
 use Rattle.pop_tries.specs.ties.Contests.{IsContest}
 use Rattle.pop_tries.specs.ties.FirstMoves.{AreRefuting}
-use Rattle.pop_tries.specs.ties.Searching.{Emits, Goes, IsPlaced, IsTask, after_first, HoldCandidates, beginning_of, contest_of, ending_of, first_event, firsts_after, group_left, is_stopped, rank}
+use Rattle.pop_tries.specs.ties.Searching.{Emits, GoesWith, IsPlaced, IsTask, after_first, HoldCandidates, beginning_of, contest_of, ending_of, first_event, firsts_after, group_left, is_stopped, rank}
 unfoldable use Rattle.pop_tries.specs.ties.Searching.{HoldsAt, left_of}
 use Rattle.pop_tries.proofs.Steps.{group_begins, next_first, still_few, still_limited}
 
@@ -26,7 +26,7 @@ module _ {A : Type 0} (rule : RuleSet) (task : Task) (old new : TriesStage A) (w
     (holds : HoldsAt rule task new items board) where
   -- a step with an event
   pub with_event : (shown : TryEvent) (bare : BareTryEvent) → left_of rule task old was ≡ bare ∷ left_of rule task new items
-      → shown ≡ try_event_of rule task.problem bare → Goes rule task old was new items board (Some shown)
+      → shown ≡ try_event_of rule task.problem bare → GoesWith rule task old was new items board (Some shown)
   with_event shown bare left e = record {
     holds = holds;
     emits = (bare, left, e);
@@ -34,7 +34,7 @@ module _ {A : Type 0} (rule : RuleSet) (task : Task) (old new : TriesStage A) (w
   }
 
   -- a step without an event
-  pub without_event : left_of rule task old was ≡ left_of rule task new items → rank new < rank old → Goes rule task old was new items board None
+  pub without_event : left_of rule task old was ≡ left_of rule task new items → rank new < rank old → GoesWith rule task old was new items board None
   without_event left less = record { holds = holds; emits = left; falls = λ _. less }
 
 -- a group begins
@@ -48,7 +48,7 @@ group_comes A rule task group before candidates place e was items = rw e (group_
 pub group_ended : {A : Type 0} (rule : RuleSet) (task : Task) (firsts : Firsts A) (new : TriesStage A) (was items : List Frame) (board : Position)
     (event : Option TryEvent) → HoldsAt rule task new items board
     → Emits rule task (ending_of rule task firsts.group firsts.count) (left_of rule task new items) event → is_some event ≡ true
-    → group_left rule task firsts ≡ ending_of rule task firsts.group firsts.count → Goes rule task (FirstMove firsts) was new items board event
+    → group_left rule task firsts ≡ ending_of rule task firsts.group firsts.count → GoesWith rule task (FirstMove firsts) was new items board event
 unfolding left_of
 group_ended rule task firsts new was items board event h e s l = record {
   holds = h;

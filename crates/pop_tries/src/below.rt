@@ -5,12 +5,11 @@ ghost use Rattle.pop_solve.specs.Events.{last_shown};
 ghost use Rattle.pop_solve.specs.ties.Walk.{IsEnded, IsWalking, path};
 ghost use Rattle.pop_tries.specs.ties.Starts.{base_position, ShowsBelow, ShowsNext};
 
-use arrayvec::ArrayVec;
+use crate::desk::Desk;
 use chess_core::board::Board;
 use chess_core::man::Move;
 use chess_rules::{Moves, Rules};
 use pop_battle::frame::Frame;
-use pop_battle::search_state::SearchState;
 use pop_events::Shown;
 use pop_input::{MOST_FRAMES, Problem};
 use pop_solve::plan::Plan;
@@ -39,21 +38,23 @@ pub struct WalkBelow {
 
 /// Opens the walk over what is shown below the board's position, which White, to move, wins with
 /// `half_moves` half-moves left: below a reply, or where Black has passed. No frame is in use before.
-pub fn open_walk<R: Rules, const N: usize>(
-    plan: Plan,
-    half_moves: usize,
-    board: &mut Board,
-    frames: &mut ArrayVec<Frame<R>, N>,
-    search_state: &mut SearchState<R>,
-)
-    requires well_formed { IsWellFormed board.old }
-    requires empty { frames.old.items ≡ [] }
+pub fn open_walk<R: Rules, const N: usize>(plan: Plan, half_moves: usize, desk: &mut Desk<R, N>)
+    requires well_formed { IsWellFormed desk.old.board }
+    requires empty { desk.old.frames.items ≡ [] }
     requires room { half_moves < N }
-    ensures walking { IsWalking R.rule half_moves board.old (reverse frames.new.items) board.new }
-    ensures come { ShowsBelow R.rule plan half_moves board.old (reverse frames.new.items) }
+    ensures walking { IsWalking R.rule half_moves desk.old.board (reverse desk.new.frames.items)
+        desk.new.board }
+    ensures come { ShowsBelow R.rule plan half_moves desk.old.board (reverse
+        desk.new.frames.items) }
 {
-    let left = walk_length::<R, N>(plan, half_moves, board, frames, search_state);
-    frames.push(Frame {
+    let left = walk_length::<R, N>(
+        plan,
+        half_moves,
+        &mut desk.board,
+        &mut desk.frames,
+        &mut desk.search_state,
+    );
+    desk.frames.push(Frame {
         place: Moves::start(),
         left,
         known: None,
@@ -66,23 +67,27 @@ pub fn open_walk<R: Rules, const N: usize>(
 pub fn walk_on<R: Rules, const N: usize>(
     problem: &Problem,
     walk: WalkBelow,
-    board: &mut Board,
-    frames: &mut ArrayVec<Frame<R>, N>,
-    search_state: &mut SearchState<R>,
+    desk: &mut Desk<R, N>,
 ) -> bool
     requires room { walk.half_moves < N }
     requires walking { IsWalking R.rule walk.half_moves
         (base_position R.rule problem.now walk.first walk.base)
-        (reverse frames.old.items) board.old }
+        (reverse desk.old.frames.items) desk.old.board }
     ensures walking { IsWalking R.rule walk.half_moves
         (base_position R.rule problem.now walk.first walk.base)
-        (reverse frames.new.items) board.new }
+        (reverse desk.new.frames.items) desk.new.board }
     ensures next { ShowsNext R.rule walk.plan walk.half_moves
         (base_position R.rule problem.now walk.first walk.base)
-        (reverse frames.old.items) (reverse frames.new.items) board.new result }
+        (reverse desk.old.frames.items) (reverse desk.new.frames.items) desk.new.board result }
 {
-    while !frames.is_empty() {
-        if step::<R, N, true>(walk.plan, walk.half_moves, board, frames, search_state) {
+    while !desk.frames.is_empty() {
+        if step::<R, N, true>(
+            walk.plan,
+            walk.half_moves,
+            &mut desk.board,
+            &mut desk.frames,
+            &mut desk.search_state,
+        ) {
             return true;
         }
     }

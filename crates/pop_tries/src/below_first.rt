@@ -19,17 +19,15 @@ ghost use Rattle.pop_tries.specs.ties.Contests.{AreThreats, IsContest};
 ghost use Rattle.pop_tries.specs.ties.Searching.{after_first, below_and_after, contest_of, event_of_faced, left_of, Goes, HoldsAt, IsFirst, IsWalkedBelow, MayStep, rank, ShowsNode};
 
 use crate::below::{Base, open_walk, shown_node, walk_on};
+use crate::desk::Desk;
 use crate::first_moves::{Group, next_refutation, next_reply};
 use crate::shown::shown;
 use crate::stage::{First, Played, Step, Task, TriesStage};
 use crate::threats::{find_threat, pass, unpass};
-use arrayvec::ArrayVec;
 use chess_core::board::Board;
 use chess_core::man::Move;
 use chess_core::square::Square;
 use chess_rules::{Moves, Rules, Undo, has_legal_move, in_check, play, unplay};
-use pop_battle::frame::Frame;
-use pop_battle::search_state::SearchState;
 use pop_events::TryEvent;
 use pop_solve::plan::Plan;
 
@@ -67,26 +65,23 @@ fn end_replies<R: Rules>(task: &Task, first: First<R>, board: &mut Board) -> Tri
 pub(crate) fn face<R: Rules, const N: usize>(
     task: &Task,
     first: First<R>,
-    board: &mut Board,
-    frames: &mut ArrayVec<Frame<R>, N>,
-    search_state: &mut SearchState<R>,
+    desk: &mut Desk<R, N>,
 ) -> Step<R>
-    requires { MayStep R.rule task.now (Faced first) frames.old.items board.old N }
-    ensures { Goes R.rule task.now (Faced first) frames.old.items result.stage
-        frames.new.items board.new result.event }
+    requires { MayStep R.rule task.now (Faced first) desk.old N }
+    ensures { Goes R.rule task.now (Faced first) desk.old result.stage desk.new result.event }
 {
-    if !has_legal_move::<R>(board) {
+    if !has_legal_move::<R>(&mut desk.board) {
         return Step {
-            stage: end_replies(task, first, board),
+            stage: end_replies(task, first, &mut desk.board),
             event: None,
         };
     }
-    let threat = find_threat::<R, N>(task.contest(), board, frames, search_state);
+    let threat = find_threat::<R, N>(task.contest(), desk);
     let first = First { threat, ..first };
     if threat.is_some() {
-        return begin_threats::<R, N>(task, first, board, frames, search_state);
+        return begin_threats::<R, N>(task, first, desk);
     }
-    let checked = in_check::<R>(board, board.turn());
+    let checked = in_check::<R>(&desk.board, desk.board.turn());
     Step {
         stage: TriesStage::Reply {
             first,
@@ -112,27 +107,18 @@ fn faced_event(checked: bool) -> TryEvent
 fn begin_threats<R: Rules, const N: usize>(
     task: &Task,
     first: First<R>,
-    board: &mut Board,
-    frames: &mut ArrayVec<Frame<R>, N>,
-    search_state: &mut SearchState<R>,
+    desk: &mut Desk<R, N>,
 ) -> Step<R>
-    requires may_step { MayStep R.rule task.now (Faced first) frames.old.items board.old N }
+    requires may_step { MayStep R.rule task.now (Faced first) desk.old N }
     requires threat { AreThreats R.rule (contest_of task.now) (after_first R.rule task.now first.by)
         first.threat }
     requires some { is_some first.threat ≡ true }
     requires reply { can_move (game_of R.rule task.now.problem)
         (after_first R.rule task.now first.by) ≡ true }
-    ensures { Goes R.rule task.now (Faced first) frames.old.items result.stage
-        frames.new.items board.new result.event }
+    ensures { Goes R.rule task.now (Faced first) desk.old result.stage desk.new result.event }
 {
-    let crossed = pass(board);
-    open_walk::<R, N>(
-        Plan::of(&task.problem),
-        task.half_moves_below(),
-        board,
-        frames,
-        search_state,
-    );
+    let crossed = pass(&mut desk.board);
+    open_walk::<R, N>(Plan::of(&task.problem), task.half_moves_below(), desk);
     Step {
         stage: TriesStage::Threats { first, crossed },
         event: Some(TryEvent::Threat),
@@ -145,24 +131,27 @@ fn next_node<R: Rules, const N: usize>(
     task: &Task,
     first: &First<R>,
     base: Base,
-    board: &mut Board,
-    frames: &mut ArrayVec<Frame<R>, N>,
-    search_state: &mut SearchState<R>,
+    desk: &mut Desk<R, N>,
 ) -> Option<TryEvent>
     requires sound { IsSound task.now.problem }
     requires room { half_moves task.now.problem.stipulation < N }
-    requires walked { IsWalkedBelow R.rule task.now first.now
-        (base_position R.rule task.now.problem first.now.by base) frames.old.items board.old }
-    ensures walked { IsWalkedBelow R.rule task.now first.now
-        (base_position R.rule task.now.problem first.now.by base) frames.new.items board.new }
-    ensures next { ShowsNode R.rule task.now first.now.by base frames.old.items frames.new.items
-        board.new result }
+    requires walked { IsWalkedBelow R.rule task.now first.now (base_position R.rule task.now.problem
+        first.now.by base) desk.old.frames.items desk.old.board }
+    ensures walked { IsWalkedBelow R.rule task.now first.now (base_position R.rule task.now.problem
+        first.now.by base) desk.new.frames.items desk.new.board }
+    ensures next { ShowsNode R.rule task.now first.now.by base desk.old.frames.items
+        desk.new.frames.items desk.new.board result }
 {
     let walk = &task.walk_below(first.by, base);
-    if !walk_on::<R, N>(&task.problem, *walk, board, frames, search_state) {
+    if !walk_on::<R, N>(&task.problem, *walk, desk) {
         return None;
     }
-    let node = shown_node::<R>(&task.problem, *walk, frames.as_slice(), board);
+    let node = shown_node::<R>(
+        &task.problem,
+        *walk,
+        desk.frames.as_slice(),
+        &mut desk.board,
+    );
     Some(TryEvent::Node {
         depth: node.depth,
         half: node.half,
@@ -176,22 +165,20 @@ pub(crate) fn walk_threats<R: Rules, const N: usize>(
     task: &Task,
     first: First<R>,
     crossed: Option<Square>,
-    board: &mut Board,
-    frames: &mut ArrayVec<Frame<R>, N>,
-    search_state: &mut SearchState<R>,
+    desk: &mut Desk<R, N>,
 ) -> Step<R>
-    requires { MayStep R.rule task.now (Threats first crossed) frames.old.items board.old N }
-    ensures { Goes R.rule task.now (Threats first crossed) frames.old.items result.stage
-        frames.new.items board.new result.event }
+    requires { MayStep R.rule task.now (Threats first crossed) desk.old N }
+    ensures { Goes R.rule task.now (Threats first crossed) desk.old result.stage desk.new
+        result.event }
 {
-    let next = next_node::<R, N>(task, &first, Base::Passed, board, frames, search_state);
+    let next = next_node::<R, N>(task, &first, Base::Passed, desk);
     if let Some(event) = next {
         return Step {
             stage: TriesStage::Threats { first, crossed },
             event: Some(event),
         };
     }
-    unpass(board, crossed);
+    unpass(&mut desk.board, crossed);
     Step {
         stage: TriesStage::Reply {
             first,
@@ -206,32 +193,24 @@ pub(crate) fn walk_threats<R: Rules, const N: usize>(
 fn play_reply<R: Rules, const N: usize>(
     task: &Task,
     by: Move,
-    board: &mut Board,
-    frames: &mut ArrayVec<Frame<R>, N>,
-    search_state: &mut SearchState<R>,
+    desk: &mut Desk<R, N>,
 ) -> (Undo, TryEvent)
     requires room { half_moves task.now.problem.stipulation < N }
-    requires well_formed { IsWellFormed board.old }
-    requires legal { is_legal R.rule board.old by ≡ true }
-    requires empty { frames.old.items ≡ [] }
-    ensures undo { result.0 ≡ undo_of R.rule board.old by }
+    requires well_formed { IsWellFormed desk.old.board }
+    requires legal { is_legal R.rule desk.old.board by ≡ true }
+    requires empty { desk.old.frames.items ≡ [] }
+    ensures undo { result.0 ≡ undo_of R.rule desk.old.board by }
     ensures event { result.1 ≡ Node 1 2 (shown_move task.now.problem.stipulation.goal R.rule
-        board.old by) }
+        desk.old.board by) }
     ensures walking { IsWalking R.rule (half_moves task.now.problem.stipulation - 2)
-        (position_after R.rule board.old by) (reverse frames.new.items) board.new }
+        (position_after R.rule desk.old.board by) (reverse desk.new.frames.items) desk.new.board }
     ensures come { ShowsBelow R.rule (plan_of task.now.problem)
         (half_moves task.now.problem.stipulation - 2)
-        (position_after R.rule board.old by) (reverse frames.new.items) }
+        (position_after R.rule desk.old.board by) (reverse desk.new.frames.items) }
 {
-    let shown = shown::<R>(task.problem.stipulation().goal, by, board);
-    let undo = play::<R>(board, by);
-    open_walk::<R, N>(
-        Plan::of(&task.problem),
-        task.half_moves_below(),
-        board,
-        frames,
-        search_state,
-    );
+    let shown = shown::<R>(task.problem.stipulation().goal, by, &mut desk.board);
+    let undo = play::<R>(&mut desk.board, by);
+    open_walk::<R, N>(Plan::of(&task.problem), task.half_moves_below(), desk);
     let event = TryEvent::Node {
         depth: 1,
         half: 2,
@@ -247,30 +226,20 @@ pub(crate) fn find_reply<R: Rules, const N: usize>(
     task: &Task,
     first: First<R>,
     place: Moves<R>,
-    board: &mut Board,
-    frames: &mut ArrayVec<Frame<R>, N>,
-    search_state: &mut SearchState<R>,
+    desk: &mut Desk<R, N>,
 ) -> Step<R>
-    requires { MayStep R.rule task.now (Reply first place) frames.old.items board.old N }
-    ensures { Goes R.rule task.now (Reply first place) frames.old.items result.stage
-        frames.new.items board.new result.event }
+    requires { MayStep R.rule task.now (Reply first place) desk.old N }
+    ensures { Goes R.rule task.now (Reply first place) desk.old result.stage desk.new result.event }
 {
     let mut next = place;
-    let found = next_reply::<R, N>(
-        task.contest(),
-        &first,
-        &mut next,
-        board,
-        frames,
-        search_state,
-    );
+    let found = next_reply::<R, N>(task.contest(), &first, &mut next, desk);
     let Some(by) = found else {
         return Step {
-            stage: end_replies(task, first, board),
+            stage: end_replies(task, first, &mut desk.board),
             event: None,
         };
     };
-    let (undo, event) = play_reply::<R, N>(task, by, board, frames, search_state);
+    let (undo, event) = play_reply::<R, N>(task, by, desk);
     let reply = Played {
         place: next,
         by,
@@ -288,23 +257,21 @@ pub(crate) fn walk_reply<R: Rules, const N: usize>(
     task: &Task,
     first: First<R>,
     reply: Played<R>,
-    board: &mut Board,
-    frames: &mut ArrayVec<Frame<R>, N>,
-    search_state: &mut SearchState<R>,
+    desk: &mut Desk<R, N>,
 ) -> Step<R>
-    requires { MayStep R.rule task.now (BelowReply first reply) frames.old.items board.old N }
-    ensures { Goes R.rule task.now (BelowReply first reply) frames.old.items result.stage
-        frames.new.items board.new result.event }
+    requires { MayStep R.rule task.now (BelowReply first reply) desk.old N }
+    ensures { Goes R.rule task.now (BelowReply first reply) desk.old result.stage desk.new
+        result.event }
 {
     let base = Base::Reply { by: reply.by };
-    let next = next_node::<R, N>(task, &first, base, board, frames, search_state);
+    let next = next_node::<R, N>(task, &first, base, desk);
     if let Some(event) = next {
         return Step {
             stage: TriesStage::BelowReply { first, reply },
             event: Some(event),
         };
     }
-    unplay::<R>(board, reply.by, reply.undo);
+    unplay::<R>(&mut desk.board, reply.by, reply.undo);
     Step {
         stage: TriesStage::Reply {
             first,
@@ -319,14 +286,12 @@ pub(crate) fn walk_reply<R: Rules, const N: usize>(
 pub(crate) fn begin_refutations<R: Rules, const N: usize>(
     task: &Task,
     first: First<R>,
-    board: &mut Board,
-    frames: &ArrayVec<Frame<R>, N>,
+    desk: &mut Desk<R, N>,
 ) -> Step<R>
-    requires holds { HoldsAt R.rule task.now (But first) frames.now.items board.old }
-    ensures { Goes R.rule task.now (But first) frames.now.items result.stage
-        frames.now.items board.new result.event }
+    requires holds { HoldsAt R.rule task.now (But first) desk.old.frames.items desk.old.board }
+    ensures { Goes R.rule task.now (But first) desk.old result.stage desk.new result.event }
 {
-    if !has_legal_move::<R>(board) {
+    if !has_legal_move::<R>(&mut desk.board) {
         return Step {
             stage: TriesStage::Stalemate { first },
             event: Some(TryEvent::But),
@@ -346,15 +311,14 @@ pub(crate) fn begin_refutations<R: Rules, const N: usize>(
 pub(crate) fn end_stalemate<R: Rules, const N: usize>(
     task: &Task,
     first: First<R>,
-    board: &mut Board,
-    frames: &ArrayVec<Frame<R>, N>,
+    desk: &mut Desk<R, N>,
 ) -> Step<R>
-    requires holds { HoldsAt R.rule task.now (Stalemate first) frames.now.items board.old }
-    ensures { Goes R.rule task.now (Stalemate first) frames.now.items result.stage
-        frames.now.items board.new result.event }
+    requires holds { HoldsAt R.rule task.now (Stalemate first) desk.old.frames.items
+        desk.old.board }
+    ensures { Goes R.rule task.now (Stalemate first) desk.old result.stage desk.new result.event }
 {
     Step {
-        stage: end_first(first, board),
+        stage: end_first(first, &mut desk.board),
         event: Some(TryEvent::Stalemate),
     }
 }
@@ -365,30 +329,21 @@ pub(crate) fn find_refutation<R: Rules, const N: usize>(
     task: &Task,
     first: First<R>,
     place: Moves<R>,
-    board: &mut Board,
-    frames: &mut ArrayVec<Frame<R>, N>,
-    search_state: &mut SearchState<R>,
+    desk: &mut Desk<R, N>,
 ) -> Step<R>
-    requires { MayStep R.rule task.now (Refutation first place) frames.old.items board.old N }
-    ensures { Goes R.rule task.now (Refutation first place) frames.old.items result.stage
-        frames.new.items board.new result.event }
+    requires { MayStep R.rule task.now (Refutation first place) desk.old N }
+    ensures { Goes R.rule task.now (Refutation first place) desk.old result.stage desk.new
+        result.event }
 {
     let mut next = place;
-    let found = next_refutation::<R, N>(
-        task.contest(),
-        first.refuting,
-        &mut next,
-        board,
-        frames,
-        search_state,
-    );
+    let found = next_refutation::<R, N>(task.contest(), first.refuting, &mut next, desk);
     let Some(by) = found else {
         return Step {
-            stage: end_first(first, board),
+            stage: end_first(first, &mut desk.board),
             event: None,
         };
     };
-    let shown = shown::<R>(task.problem.stipulation().goal, by, board);
+    let shown = shown::<R>(task.problem.stipulation().goal, by, &mut desk.board);
     Step {
         stage: TriesStage::Refutation { first, place: next },
         event: Some(TryEvent::Refutation(shown)),

@@ -1,6 +1,5 @@
 //! The next key, try, shown reply or refutation after a place in the order of moves.
 ghost use Rattle.std.specs.Prelude.{◌≡◌, ◌≤◌, MatchOption, Some, true};
-ghost use Rattle.arrayvec.specs.ArrayVec.{array_vec_len};
 ghost use Rattle.chess_rules.specs.Legal.{is_legal};
 ghost use Rattle.chess_rules.specs.ties.Places.{place_of};
 ghost use Rattle.chess_core.specs.declared.man.Move.{Move};
@@ -11,6 +10,7 @@ ghost use Rattle.pop_tries.specs.ties.MoveSets.{may_be, HoldAll, HoldBefore};
 ghost use Rattle.pop_tries.specs.ties.Searching.{contest_of};
 
 use crate::contest::Contest;
+use crate::desk::Desk;
 use crate::kept_tries::Candidates;
 use crate::move_set::{MoveSet, may_be, noted};
 use crate::refuting::Refuting;
@@ -19,13 +19,9 @@ use crate::replies::{
 };
 use crate::stage::{First, Firsts, MOST_REFUTATIONS, Task};
 use crate::threats::is_defence;
-use arrayvec::ArrayVec;
-use chess_core::board::Board;
 use chess_core::man::Move;
 use chess_rules::{Moves, Rules, Undo, play, unplay};
 use pop_battle::chess::next_move;
-use pop_battle::frame::Frame;
-use pop_battle::search_state::SearchState;
 
 /// Which first moves are shown.
 #[derive(Clone, Copy, Debug)]
@@ -44,30 +40,29 @@ fn is_key_or_noted<R: Rules, const N: usize>(
     by: Move,
     candidates: &mut Option<MoveSet>,
     refuting: &mut Option<Refuting>,
-    board: &mut Board,
-    frames: &mut ArrayVec<Frame<R>, N>,
-    search_state: &mut SearchState<R>,
+    desk: &mut Desk<R, N>,
 ) -> bool
-    requires ready { IsReady (contest_of task.now) board.old (array_vec_len frames.old) N }
+    requires ready { IsReady (contest_of task.now) desk.old N }
     requires few { task.now.most ≤ MOST_REFUTATIONS }
-    ensures key { result ≡ belongs R.rule (contest_of task.now) Keys board.old }
-    ensures noted { belongs R.rule (contest_of task.now) (Tries task.now.most) board.old ≡ true
+    ensures key { result ≡ belongs R.rule (contest_of task.now) Keys desk.old.board }
+    ensures noted { belongs R.rule (contest_of task.now) (Tries task.now.most) desk.old.board ≡ true
         → may_be candidates.new by ≡ true }
     ensures kept { (m : Move) → may_be candidates.old m ≡ true → may_be candidates.new m ≡ true }
-    ensures refuting { IsKnownTry R.rule (contest_of task.now) task.now.most board.old refuting.new }
-    ensures rest { Keeps board.old board.new frames.old.items frames.new.items }
+    ensures refuting { IsKnownTry R.rule (contest_of task.now) task.now.most desk.old.board
+        refuting.new }
+    ensures rest { Keeps desk.old desk.new }
 {
     let contest = task.contest();
     *refuting = None;
     if task.most == 0 {
-        return is_key::<R, N>(contest, board, frames, search_state);
+        return is_key::<R, N>(contest, desk);
     }
-    if are_two_refutations::<R, N>(contest, task.most, board, frames, search_state) {
+    if are_two_refutations::<R, N>(contest, task.most, desk) {
         return false;
     }
-    let tally = count_refutations::<R, N>(contest, task.most, board, frames, search_state);
+    let tally = count_refutations::<R, N>(contest, task.most, desk);
     if tally.count == 0 {
-        if is_key_unrefuted::<R>(contest, board) {
+        if is_key_unrefuted::<R>(contest, &mut desk.board) {
             return true;
         }
         *candidates = noted(*candidates, by);
@@ -88,40 +83,32 @@ fn play_next_key<R: Rules, const N: usize>(
     task: &Task,
     place: &mut Moves<R>,
     candidates: &mut Candidates,
-    board: &mut Board,
-    frames: &mut ArrayVec<Frame<R>, N>,
-    search_state: &mut SearchState<R>,
+    desk: &mut Desk<R, N>,
 ) -> Option<(Move, Undo, Refuting)>
-    requires ready { IsReady (contest_of task.now) board.old (array_vec_len frames.old) N }
+    requires ready { IsReady (contest_of task.now) desk.old N }
     requires few { task.now.most ≤ MOST_REFUTATIONS }
-    requires noted { HoldBefore R.rule board.old (is_try_after R.rule (contest_of task.now)
-        task.now.most board.old) candidates.old.set place.old }
-    requires kept { AreKept R.rule (contest_of task.now) task.now.most board.old candidates.old.kept }
-    ensures frames { frames.new.items ≡ frames.old.items }
-    ensures next { IsPlayed R.rule (contest_of task.now) Keys board.old board.new place.old
-        place.new result }
-    ensures noted { MatchOption result (HoldAll R.rule board.old (is_try_after R.rule
-        (contest_of task.now) task.now.most board.old) candidates.new.set)
-        (λ _. HoldBefore R.rule board.old (is_try_after R.rule (contest_of task.now)
-        task.now.most board.old) candidates.new.set place.new) }
-    ensures kept { AreKept R.rule (contest_of task.now) task.now.most board.old candidates.new.kept }
+    requires noted { HoldBefore R.rule desk.old.board (is_try_after R.rule (contest_of task.now)
+        task.now.most desk.old.board) candidates.old.set place.old }
+    requires kept { AreKept R.rule (contest_of task.now) task.now.most desk.old.board
+        candidates.old.kept }
+    ensures frames { desk.new.frames.items ≡ desk.old.frames.items }
+    ensures next { IsPlayed R.rule (contest_of task.now) Keys desk.old.board desk.new.board
+        place.old place.new result }
+    ensures noted { MatchOption result (HoldAll R.rule desk.old.board (is_try_after R.rule
+        (contest_of task.now) task.now.most desk.old.board) candidates.new.set)
+        (λ _. HoldBefore R.rule desk.old.board (is_try_after R.rule (contest_of task.now)
+        task.now.most desk.old.board) candidates.new.set place.new) }
+    ensures kept { AreKept R.rule (contest_of task.now) task.now.most desk.old.board
+        candidates.new.kept }
 {
     let mut known = None;
-    while let Some(by) = next_move::<R>(&mut known, place, board) {
-        let undo = play::<R>(board, by);
+    while let Some(by) = next_move::<R>(&mut known, place, &mut desk.board) {
+        let undo = play::<R>(&mut desk.board, by);
         let mut refuting = None;
-        if is_key_or_noted::<R, N>(
-            task,
-            by,
-            &mut candidates.set,
-            &mut refuting,
-            board,
-            frames,
-            search_state,
-        ) {
+        if is_key_or_noted::<R, N>(task, by, &mut candidates.set, &mut refuting, desk) {
             return Some((by, undo, Refuting::none()));
         }
-        unplay::<R>(board, by, undo);
+        unplay::<R>(&mut desk.board, by, undo);
         candidates.keep(place.number(), refuting);
     }
     None
@@ -134,22 +121,20 @@ fn is_try_as_kept<R: Rules, const N: usize>(
     most: u32,
     kept: Option<Refuting>,
     refuting: &mut Refuting,
-    board: &mut Board,
-    frames: &mut ArrayVec<Frame<R>, N>,
-    search_state: &mut SearchState<R>,
+    desk: &mut Desk<R, N>,
 ) -> bool
-    requires ready { IsReady contest board.old (array_vec_len frames.old) N }
+    requires ready { IsReady contest desk.old N }
     requires few { most ≤ MOST_REFUTATIONS }
-    requires kept { IsKnownTry R.rule contest most board.old kept }
-    ensures tried { result ≡ belongs R.rule contest (Tries most) board.old }
-    ensures refuting { result ≡ true → AreRefuting R.rule contest board.old refuting.new }
-    ensures rest { Keeps board.old board.new frames.old.items frames.new.items }
+    requires kept { IsKnownTry R.rule contest most desk.old.board kept }
+    ensures tried { result ≡ belongs R.rule contest (Tries most) desk.old.board }
+    ensures refuting { result ≡ true → AreRefuting R.rule contest desk.old.board refuting.new }
+    ensures rest { Keeps desk.old desk.new }
 {
     if let Some(set) = kept {
         *refuting = set;
         return true;
     }
-    is_try::<R, N>(contest, most, refuting, board, frames, search_state)
+    is_try::<R, N>(contest, most, refuting, desk)
 }
 
 /// Plays the next try after `place` with at most `task.most` refutations, and moves `place` to it. Tests only
@@ -161,38 +146,29 @@ fn play_next_try<R: Rules, const N: usize>(
     place: &mut Moves<R>,
     candidates: &Candidates,
     index: u32,
-    board: &mut Board,
-    frames: &mut ArrayVec<Frame<R>, N>,
-    search_state: &mut SearchState<R>,
+    desk: &mut Desk<R, N>,
 ) -> Option<(Move, Undo, Refuting)>
-    requires ready { IsReady (contest_of task.now) board.old (array_vec_len frames.old) N }
+    requires ready { IsReady (contest_of task.now) desk.old N }
     requires few { task.now.most ≤ MOST_REFUTATIONS }
-    requires held { HoldAll R.rule board.old (is_try_after R.rule (contest_of task.now)
-        task.now.most board.old) candidates.now.set }
-    requires kept { AreKept R.rule (contest_of task.now) task.now.most board.old candidates.now.kept }
-    ensures frames { frames.new.items ≡ frames.old.items }
-    ensures next { IsPlayed R.rule (contest_of task.now) (Tries task.now.most) board.old board.new
-        place.old place.new result }
+    requires held { HoldAll R.rule desk.old.board (is_try_after R.rule (contest_of task.now)
+        task.now.most desk.old.board) candidates.now.set }
+    requires kept { AreKept R.rule (contest_of task.now) task.now.most desk.old.board
+        candidates.now.kept }
+    ensures frames { desk.new.frames.items ≡ desk.old.frames.items }
+    ensures next { IsPlayed R.rule (contest_of task.now) (Tries task.now.most) desk.old.board
+        desk.new.board place.old place.new result }
 {
     let contest = task.contest();
     let mut known = None;
-    while let Some(by) = next_move::<R>(&mut known, place, board) {
+    while let Some(by) = next_move::<R>(&mut known, place, &mut desk.board) {
         if may_be(candidates.set, by) {
-            let undo = play::<R>(board, by);
+            let undo = play::<R>(&mut desk.board, by);
             let kept = candidates.kept_at(index as usize, place.number());
             let mut refuting = Refuting::none();
-            if is_try_as_kept::<R, N>(
-                contest,
-                task.most,
-                kept,
-                &mut refuting,
-                board,
-                frames,
-                search_state,
-            ) {
+            if is_try_as_kept::<R, N>(contest, task.most, kept, &mut refuting, desk) {
                 return Some((by, undo, refuting));
             }
-            unplay::<R>(board, by, undo);
+            unplay::<R>(&mut desk.board, by, undo);
         }
     }
     None
@@ -204,43 +180,31 @@ fn play_next_try<R: Rules, const N: usize>(
 pub fn play_next<R: Rules, const N: usize>(
     task: &Task,
     firsts: &mut Firsts<R>,
-    board: &mut Board,
-    frames: &mut ArrayVec<Frame<R>, N>,
-    search_state: &mut SearchState<R>,
+    desk: &mut Desk<R, N>,
 ) -> Option<(Move, Undo, Refuting)>
-    requires ready { IsReady (contest_of task.now) board.old (array_vec_len frames.old) N }
+    requires ready { IsReady (contest_of task.now) desk.old N }
     requires few { task.now.most ≤ MOST_REFUTATIONS }
     requires asked { IsAsked firsts.old.group task.now.most }
     requires noted { AreCandidates R.rule (contest_of task.now) firsts.old.group task.now.most
-        board.old firsts.old.candidates firsts.old.place }
-    ensures frames { frames.new.items ≡ frames.old.items }
-    ensures next { IsPlayed R.rule (contest_of task.now) firsts.old.group board.old board.new
-        firsts.old.place firsts.new.place result }
-    ensures noted { MatchOption result (AreTries R.rule (contest_of task.now) task.now.most board.old
-        firsts.new.candidates)
-        (λ _. AreCandidates R.rule (contest_of task.now) firsts.old.group task.now.most
-        board.old firsts.new.candidates firsts.new.place) }
+        desk.old.board firsts.old.candidates firsts.old.place }
+    ensures frames { desk.new.frames.items ≡ desk.old.frames.items }
+    ensures next { IsPlayed R.rule (contest_of task.now) firsts.old.group desk.old.board
+        desk.new.board firsts.old.place firsts.new.place result }
+    ensures noted { MatchOption result (AreTries R.rule (contest_of task.now) task.now.most
+        desk.old.board firsts.new.candidates) (λ _. AreCandidates R.rule (contest_of task.now)
+        firsts.old.group task.now.most desk.old.board firsts.new.candidates firsts.new.place) }
     ensures group { firsts.new.group ≡ firsts.old.group }
     ensures count { firsts.new.count ≡ firsts.old.count }
 {
     let index = firsts.count;
     match firsts.group {
-        Group::Keys => play_next_key::<R, N>(
-            task,
-            &mut firsts.place,
-            &mut firsts.candidates,
-            board,
-            frames,
-            search_state,
-        ),
+        Group::Keys => play_next_key::<R, N>(task, &mut firsts.place, &mut firsts.candidates, desk),
         Group::Tries { .. } => play_next_try::<R, N>(
             task,
             &mut firsts.place,
             &firsts.candidates,
             index,
-            board,
-            frames,
-            search_state,
+            desk,
         ),
     }
 }
@@ -252,30 +216,20 @@ fn is_shown<R: Rules, const N: usize>(
     first: &First<R>,
     by: Move,
     place: u16,
-    board: &mut Board,
-    frames: &mut ArrayVec<Frame<R>, N>,
-    search_state: &mut SearchState<R>,
+    desk: &mut Desk<R, N>,
 ) -> bool
-    requires ready { IsReady contest board.old (array_vec_len frames.old) N }
-    requires threat { AreThreats R.rule contest board.old first.now.threat }
-    requires refuting { AreRefuting R.rule contest board.old first.now.refuting }
-    requires legal { is_legal R.rule board.old by ≡ true }
+    requires ready { IsReady contest desk.old N }
+    requires threat { AreThreats R.rule contest desk.old.board first.now.threat }
+    requires refuting { AreRefuting R.rule contest desk.old.board first.now.refuting }
+    requires legal { is_legal R.rule desk.old.board by ≡ true }
     requires place { place ≡ place_of (Some by) }
-    ensures shown { result ≡ is_shown R.rule contest board.old by }
-    ensures rest { Keeps board.old board.new frames.old.items frames.new.items }
+    ensures shown { result ≡ is_shown R.rule contest desk.old.board by }
+    ensures rest { Keeps desk.old desk.new }
 {
-    if is_refutation::<R, N>(
-        contest,
-        first.refuting,
-        by,
-        place,
-        board,
-        frames,
-        search_state,
-    ) {
+    if is_refutation::<R, N>(contest, first.refuting, by, place, desk) {
         return false;
     }
-    is_defence::<R, N>(contest, first.threat, by, board, frames, search_state)
+    is_defence::<R, N>(contest, first.threat, by, desk)
 }
 
 /// Returns the next reply after `place` that is shown below the first move that led to the board's position,
@@ -286,28 +240,18 @@ pub fn next_reply<R: Rules, const N: usize>(
     contest: Contest,
     first: &First<R>,
     place: &mut Moves<R>,
-    board: &mut Board,
-    frames: &mut ArrayVec<Frame<R>, N>,
-    search_state: &mut SearchState<R>,
+    desk: &mut Desk<R, N>,
 ) -> Option<Move>
-    requires ready { IsReady contest board.old (array_vec_len frames.old) N }
-    requires threat { AreThreats R.rule contest board.old first.now.threat }
-    requires refuting { AreRefuting R.rule contest board.old first.now.refuting }
-    ensures rest { Keeps board.old board.new frames.old.items frames.new.items }
-    ensures next { IsNext R.rule board.old (is_shown R.rule contest board.old)
+    requires ready { IsReady contest desk.old N }
+    requires threat { AreThreats R.rule contest desk.old.board first.now.threat }
+    requires refuting { AreRefuting R.rule contest desk.old.board first.now.refuting }
+    ensures rest { Keeps desk.old desk.new }
+    ensures next { IsNext R.rule desk.old.board (is_shown R.rule contest desk.old.board)
         place.old place.new result }
 {
     let mut known = None;
-    while let Some(by) = next_move::<R>(&mut known, place, board) {
-        if is_shown::<R, N>(
-            contest,
-            first,
-            by,
-            place.number(),
-            board,
-            frames,
-            search_state,
-        ) {
+    while let Some(by) = next_move::<R>(&mut known, place, &mut desk.board) {
+        if is_shown::<R, N>(contest, first, by, place.number(), desk) {
             return Some(by);
         }
     }
@@ -321,27 +265,17 @@ pub fn next_refutation<R: Rules, const N: usize>(
     contest: Contest,
     refuting: Refuting,
     place: &mut Moves<R>,
-    board: &mut Board,
-    frames: &mut ArrayVec<Frame<R>, N>,
-    search_state: &mut SearchState<R>,
+    desk: &mut Desk<R, N>,
 ) -> Option<Move>
-    requires ready { IsReady contest board.old (array_vec_len frames.old) N }
-    requires refuting { AreRefuting R.rule contest board.old refuting }
-    ensures rest { Keeps board.old board.new frames.old.items frames.new.items }
-    ensures next { IsNext R.rule board.old (refutes R.rule contest board.old)
+    requires ready { IsReady contest desk.old N }
+    requires refuting { AreRefuting R.rule contest desk.old.board refuting }
+    ensures rest { Keeps desk.old desk.new }
+    ensures next { IsNext R.rule desk.old.board (refutes R.rule contest desk.old.board)
         place.old place.new result }
 {
     let mut known = None;
-    while let Some(by) = next_move::<R>(&mut known, place, board) {
-        if is_refutation::<R, N>(
-            contest,
-            refuting,
-            by,
-            place.number(),
-            board,
-            frames,
-            search_state,
-        ) {
+    while let Some(by) = next_move::<R>(&mut known, place, &mut desk.board) {
+        if is_refutation::<R, N>(contest, refuting, by, place.number(), desk) {
             return Some(by);
         }
     }

@@ -10,18 +10,16 @@ ghost use Rattle.pop_tries.specs.ties.Candidates.{candidates_of, none_kept};
 ghost use Rattle.pop_tries.specs.ties.Contests.{IsContest};
 ghost use Rattle.pop_tries.specs.ties.Searching.{contest_of, ending_of, event_of_first, first_event as bare_first, is_stopped, left_of, Emits, Goes, HoldsAt, HoldTries, IsBare, IsTask, MayStep};
 
+use crate::desk::Desk;
 use crate::first_moves::{Group, play_next};
 use crate::kept_tries::Candidates;
 use crate::move_set::MoveSet;
 use crate::refuting::Refuting;
 use crate::shown::shown;
 use crate::stage::{First, Firsts, Step, Task, TriesStage};
-use arrayvec::ArrayVec;
 use chess_core::board::Board;
 use chess_core::man::Move;
 use chess_rules::{Moves, Rules, Undo, play, unplay};
-use pop_battle::frame::Frame;
-use pop_battle::search_state::SearchState;
 use pop_events::{Shown, TryEvent};
 
 /// Returns the stage before the keys.
@@ -51,14 +49,13 @@ pub(crate) fn begin_group<R: Rules, const N: usize>(
     task: &Task,
     group: Group,
     candidates: Candidates,
-    board: &Board,
-    frames: &ArrayVec<Frame<R>, N>,
+    desk: &Desk<R, N>,
 ) -> Step<R>
     requires task { IsTask task.now }
-    requires holds { HoldsAt R.rule task.now {A = R} (Beginning group candidates) frames.now.items
-        board.now }
-    ensures { Goes R.rule task.now (Beginning group candidates) frames.now.items result.stage
-        frames.now.items board.now result.event }
+    requires holds { HoldsAt R.rule task.now {A = R} (Beginning group candidates)
+        desk.now.frames.items desk.now.board }
+    ensures { Goes R.rule task.now (Beginning group candidates) desk.now result.stage desk.now
+        result.event }
 {
     Step {
         stage: TriesStage::FirstMove {
@@ -133,24 +130,21 @@ fn end_group<R: Rules>(task: &Task, group: Group, count: u32, candidates: Candid
 pub(crate) fn find_first<R: Rules, const N: usize>(
     task: &Task,
     firsts: Firsts<R>,
-    board: &mut Board,
-    frames: &mut ArrayVec<Frame<R>, N>,
-    search_state: &mut SearchState<R>,
+    desk: &mut Desk<R, N>,
 ) -> Step<R>
-    requires { MayStep R.rule task.now (FirstMove firsts) frames.old.items board.old N }
-    ensures { Goes R.rule task.now (FirstMove firsts) frames.old.items result.stage
-        frames.new.items board.new result.event }
+    requires { MayStep R.rule task.now (FirstMove firsts) desk.old N }
+    ensures { Goes R.rule task.now (FirstMove firsts) desk.old result.stage desk.new result.event }
 {
     let group = firsts.group;
     if is_stopped(task, group, firsts.count) {
         return end_group(task, group, firsts.count, Candidates::of(None));
     }
     let mut next = firsts;
-    let found = play_next::<R, N>(task, &mut next, board, frames, search_state);
+    let found = play_next::<R, N>(task, &mut next, desk);
     let Some((by, undo, refuting)) = found else {
         return end_group(task, group, firsts.count, next.candidates);
     };
-    begin_first(task, next.counted(), by, undo, refuting, board)
+    begin_first(task, next.counted(), by, undo, refuting, &mut desk.board)
 }
 
 /// Shows a first move that has been played: takes it back, since it is shown from the position before it, and

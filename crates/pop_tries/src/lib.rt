@@ -11,6 +11,7 @@
 mod below;
 mod below_first;
 mod contest;
+mod desk;
 mod few_places;
 mod first_moves;
 mod group;

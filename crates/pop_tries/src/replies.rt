@@ -1,6 +1,5 @@
 //! Keys, tries and refutations: tests of first moves and of the replies to them.
 ghost use Rattle.std.specs.Prelude.{◌≡◌, ◌+◌, ◌-◌, ◌≤◌, filter, not, min, true, length, Some};
-ghost use Rattle.arrayvec.specs.ArrayVec.{array_vec_len};
 ghost use Rattle.chess_core.specs.WellFormed.{IsWellFormed};
 ghost use Rattle.chess_rules.specs.Legal.{is_legal, moves};
 ghost use Rattle.chess_rules.specs.ties.Places.{moves_between, place_of};
@@ -13,73 +12,67 @@ ghost use Rattle.pop_tries.specs.ties.MoveSets.{may_hold, HoldAll};
 ghost use Rattle.pop_tries.specs.ties.FirstMoves.{AreRefuting, IsRefutedAt, gives_check, is_counted, is_forcing, is_heavy, is_refuted_by_stalemate, refutes, refutes_among};
 
 use crate::contest::Contest;
+use crate::desk::Desk;
 use crate::move_set::MoveSet;
 use crate::refuting::Refuting;
 use crate::stage::MOST_REFUTATIONS;
-use arrayvec::ArrayVec;
 use chess_core::board::Board;
 use chess_core::man::{Kind, Man, Move};
 use chess_rules::{Moves, Rules, has_legal_move, in_check, is_stalemate, play, unplay};
 use pop_battle::chess::{next_move, reaches_goal};
-use pop_battle::frame::Frame;
-use pop_battle::search_state::SearchState;
 use pop_battle::value::value_of;
 use pop_stipulation::{Battle, Goal};
 
 /// Returns whether the first move that led to the board's position is a key.
 #[tactic(auto, using(crate::proofs::Contests::key_by_value))]
-pub fn is_key<R: Rules, const N: usize>(
-    contest: Contest,
-    board: &mut Board,
-    frames: &mut ArrayVec<Frame<R>, N>,
-    search_state: &mut SearchState<R>,
-) -> bool
-    requires ready { IsReady contest board.old (array_vec_len frames.old) N }
+pub fn is_key<R: Rules, const N: usize>(contest: Contest, desk: &mut Desk<R, N>) -> bool
+    requires ready { IsReady contest desk.old N }
     ensures key { result ≡ keeps_win contest.battle (game_in R.rule contest)
-        contest.stipulation.n board.old }
-    ensures rest { Keeps board.old board.new frames.old.items frames.new.items }
+        contest.stipulation.n desk.old.board }
+    ensures rest { Keeps desk.old desk.new }
 {
     let left = contest.stipulation.half_moves().saturating_sub(1);
-    value_of::<R, N>(contest.aim(), left, board, frames, search_state)
+    value_of::<R, N>(
+        contest.aim(),
+        left,
+        &mut desk.board,
+        &mut desk.frames,
+        &mut desk.search_state,
+    )
 }
 
 /// Returns whether White no longer wins after the reply that led to the board's position.
 #[tactic(auto, using(crate::proofs::Contests::replying))]
-fn is_refuted<R: Rules, const N: usize>(
-    contest: Contest,
-    board: &mut Board,
-    frames: &mut ArrayVec<Frame<R>, N>,
-    search_state: &mut SearchState<R>,
-) -> bool
-    requires ready { IsReady contest board.old (array_vec_len frames.old) N }
+fn is_refuted<R: Rules, const N: usize>(contest: Contest, desk: &mut Desk<R, N>) -> bool
+    requires ready { IsReady contest desk.old N }
     ensures refuted { result ≡ not (is_in_set_play contest.battle (game_in R.rule contest)
-        contest.stipulation.n board.old) }
-    ensures rest { Keeps board.old board.new frames.old.items frames.new.items }
+        contest.stipulation.n desk.old.board) }
+    ensures rest { Keeps desk.old desk.new }
 {
     let half_moves = contest.stipulation.half_moves();
     if half_moves < 2 {
         return true;
     }
-    !value_of::<R, N>(contest.aim(), half_moves - 2, board, frames, search_state)
+    !value_of::<R, N>(
+        contest.aim(),
+        half_moves - 2,
+        &mut desk.board,
+        &mut desk.frames,
+        &mut desk.search_state,
+    )
 }
 
 /// Returns whether the legal reply `by` refutes the first move that led to the board's position.
 #[tactic(auto, using(chess_rules::proofs::LegalMoves::may_be_made))]
-pub fn refutes<R: Rules, const N: usize>(
-    contest: Contest,
-    by: Move,
-    board: &mut Board,
-    frames: &mut ArrayVec<Frame<R>, N>,
-    search_state: &mut SearchState<R>,
-) -> bool
-    requires ready { IsReady contest board.old (array_vec_len frames.old) N }
-    requires legal { is_legal R.rule board.old by ≡ true }
-    ensures refutes { result ≡ refutes R.rule contest board.old by }
-    ensures rest { Keeps board.old board.new frames.old.items frames.new.items }
+pub fn refutes<R: Rules, const N: usize>(contest: Contest, by: Move, desk: &mut Desk<R, N>) -> bool
+    requires ready { IsReady contest desk.old N }
+    requires legal { is_legal R.rule desk.old.board by ≡ true }
+    ensures refutes { result ≡ refutes R.rule contest desk.old.board by }
+    ensures rest { Keeps desk.old desk.new }
 {
-    let undo = play::<R>(board, by);
-    let refuted = is_refuted::<R, N>(contest, board, frames, search_state);
-    unplay::<R>(board, by, undo);
+    let undo = play::<R>(&mut desk.board, by);
+    let refuted = is_refuted::<R, N>(contest, desk);
+    unplay::<R>(&mut desk.board, by, undo);
     refuted
 }
 
@@ -91,16 +84,14 @@ pub fn is_refutation<R: Rules, const N: usize>(
     refuting: Refuting,
     by: Move,
     place: u16,
-    board: &mut Board,
-    frames: &mut ArrayVec<Frame<R>, N>,
-    search_state: &mut SearchState<R>,
+    desk: &mut Desk<R, N>,
 ) -> bool
-    requires ready { IsReady contest board.old (array_vec_len frames.old) N }
-    requires refuting { AreRefuting R.rule contest board.old refuting }
-    requires legal { is_legal R.rule board.old by ≡ true }
+    requires ready { IsReady contest desk.old N }
+    requires refuting { AreRefuting R.rule contest desk.old.board refuting }
+    requires legal { is_legal R.rule desk.old.board by ≡ true }
     requires place { place ≡ place_of (Some by) }
-    ensures refutes { result ≡ refutes R.rule contest board.old by }
-    ensures rest { Keeps board.old board.new frames.old.items frames.new.items }
+    ensures refutes { result ≡ refutes R.rule contest desk.old.board by }
+    ensures rest { Keeps desk.old desk.new }
 {
     if place == refuting.last {
         return true;
@@ -108,7 +99,7 @@ pub fn is_refutation<R: Rules, const N: usize>(
     if !refuting.moves.may_hold(by) {
         return false;
     }
-    refutes::<R, N>(contest, by, board, frames, search_state)
+    refutes::<R, N>(contest, by, desk)
 }
 
 /// Returns whether the first move that led to the board's position is a key, if no reply refutes it.
@@ -116,8 +107,8 @@ pub fn is_refutation<R: Rules, const N: usize>(
 pub fn is_key_unrefuted<R: Rules>(contest: Contest, board: &mut Board) -> bool
     requires well_formed { IsWellFormed board.old }
     ensures key { length (refutations contest.battle (game_in R.rule contest) contest.stipulation.n
-        board.old) ≡ 0
-        → result ≡ keeps_win contest.battle (game_in R.rule contest) contest.stipulation.n board.old }
+        board.old) ≡ 0 → result ≡ keeps_win contest.battle (game_in R.rule contest)
+        contest.stipulation.n board.old }
     ensures unchanged { board.new ≡ board.old }
 {
     if has_legal_move::<R>(board) {
@@ -219,19 +210,17 @@ fn refutes_among<R: Rules, const N: usize>(
     contest: Contest,
     counted: Counted,
     by: Move,
-    board: &mut Board,
-    frames: &mut ArrayVec<Frame<R>, N>,
-    search_state: &mut SearchState<R>,
+    desk: &mut Desk<R, N>,
 ) -> bool
-    requires ready { IsReady contest board.old (array_vec_len frames.old) N }
-    requires legal { is_legal R.rule board.old by ≡ true }
-    ensures refutes { result ≡ refutes_among R.rule contest counted board.old by }
-    ensures rest { Keeps board.old board.new frames.old.items frames.new.items }
+    requires ready { IsReady contest desk.old N }
+    requires legal { is_legal R.rule desk.old.board by ≡ true }
+    ensures refutes { result ≡ refutes_among R.rule contest counted desk.old.board by }
+    ensures rest { Keeps desk.old desk.new }
 {
-    if !is_counted::<R>(counted, by, board) {
+    if !is_counted::<R>(counted, by, &mut desk.board) {
         return false;
     }
-    refutes::<R, N>(contest, by, board, frames, search_state)
+    refutes::<R, N>(contest, by, desk)
 }
 
 /// Returns the number of half-moves under which the replies that refute are killers.
@@ -245,21 +234,20 @@ fn count_among<R: Rules, const N: usize>(
     contest: Contest,
     counted: Counted,
     tally: Tally,
-    board: &mut Board,
-    frames: &mut ArrayVec<Frame<R>, N>,
-    search_state: &mut SearchState<R>,
+    desk: &mut Desk<R, N>,
 ) -> Tally
-    requires ready { IsReady contest board.old (array_vec_len frames.old) N }
+    requires ready { IsReady contest desk.old N }
     requires few { (tally.count ≤ tally.most) × (tally.most ≤ MOST_REFUTATIONS) }
-    requires last { IsRefutedAt R.rule contest board.old tally.last }
+    requires last { IsRefutedAt R.rule contest desk.old.board tally.last }
     ensures count { result.count ≡ min (tally.count + length (filter (refutes_among R.rule contest
-        counted board.old) (moves R.rule board.old))) (tally.most + 1) }
+        counted desk.old.board) (moves R.rule desk.old.board))) (tally.most + 1) }
     ensures most { result.most ≡ tally.most }
-    ensures kept { (m : Move) → may_hold tally.refuting m ≡ true → may_hold result.refuting m ≡ true }
-    ensures held { result.count ≤ tally.most → HoldAll R.rule board.old (refutes_among R.rule contest
-        counted board.old) (Some result.refuting) }
-    ensures last { IsRefutedAt R.rule contest board.old result.last }
-    ensures rest { Keeps board.old board.new frames.old.items frames.new.items }
+    ensures kept { (m : Move) → may_hold tally.refuting m ≡ true → may_hold result.refuting m ≡
+        true }
+    ensures held { result.count ≤ tally.most → HoldAll R.rule desk.old.board (refutes_among R.rule
+        contest counted desk.old.board) (Some result.refuting) }
+    ensures last { IsRefutedAt R.rule contest desk.old.board result.last }
+    ensures rest { Keeps desk.old desk.new }
 {
     let mut known = None;
     let mut place = Moves::<R>::start();
@@ -267,12 +255,12 @@ fn count_among<R: Rules, const N: usize>(
     let mut count = tally.count;
     let mut refuting = tally.refuting;
     let mut last = tally.last;
-    while let Some(by) = next_move::<R>(&mut known, &mut place, board) {
-        if refutes_among::<R, N>(contest, counted, by, board, frames, search_state) {
+    while let Some(by) = next_move::<R>(&mut known, &mut place, &mut desk.board) {
+        if refutes_among::<R, N>(contest, counted, by, desk) {
             count += 1;
             refuting = refuting.with(by);
             last = place.number();
-            search_state.killers.put(left, place);
+            desk.search_state.killers.put(left, place);
             if count > tally.most {
                 return Tally {
                     count,
@@ -297,18 +285,16 @@ fn count_among<R: Rules, const N: usize>(
 pub fn count_refutations<R: Rules, const N: usize>(
     contest: Contest,
     most: u32,
-    board: &mut Board,
-    frames: &mut ArrayVec<Frame<R>, N>,
-    search_state: &mut SearchState<R>,
+    desk: &mut Desk<R, N>,
 ) -> Tally
-    requires ready { IsReady contest board.old (array_vec_len frames.old) N }
+    requires ready { IsReady contest desk.old N }
     requires few { most ≤ MOST_REFUTATIONS }
     ensures count { result.count ≡ min (length (refutations contest.battle (game_in R.rule contest)
-        contest.stipulation.n board.old)) (most + 1) }
-    ensures held { result.count ≤ most → HoldAll R.rule board.old (refutes R.rule contest board.old)
-        (Some result.refuting) }
-    ensures last { IsRefutedAt R.rule contest board.old result.last }
-    ensures rest { Keeps board.old board.new frames.old.items frames.new.items }
+        contest.stipulation.n desk.old.board)) (most + 1) }
+    ensures held { result.count ≤ most → HoldAll R.rule desk.old.board (refutes R.rule contest
+        desk.old.board) (Some result.refuting) }
+    ensures last { IsRefutedAt R.rule contest desk.old.board result.last }
+    ensures rest { Keeps desk.old desk.new }
 {
     let none = Tally {
         count: 0,
@@ -317,13 +303,13 @@ pub fn count_refutations<R: Rules, const N: usize>(
         last: 0,
     };
     if contest.stipulation.half_moves() < 5 {
-        return count_among::<R, N>(contest, Counted::All, none, board, frames, search_state);
+        return count_among::<R, N>(contest, Counted::All, none, desk);
     }
-    let some = count_among::<R, N>(contest, Counted::Forcing, none, board, frames, search_state);
+    let some = count_among::<R, N>(contest, Counted::Forcing, none, desk);
     if some.count > most {
         return some;
     }
-    count_among::<R, N>(contest, Counted::Others, some, board, frames, search_state)
+    count_among::<R, N>(contest, Counted::Others, some, desk)
 }
 
 /// Returns whether the move at `place` is a legal reply to the first move that led to the board's position, and
@@ -331,19 +317,17 @@ pub fn count_refutations<R: Rules, const N: usize>(
 fn refutes_at<R: Rules, const N: usize>(
     contest: Contest,
     place: Moves<R>,
-    board: &mut Board,
-    frames: &mut ArrayVec<Frame<R>, N>,
-    search_state: &mut SearchState<R>,
+    desk: &mut Desk<R, N>,
 ) -> bool
-    requires ready { IsReady contest board.old (array_vec_len frames.old) N }
-    ensures one { result ≡ true → length (filter (refutes R.rule contest board.old)
-        (moves_between R.rule board.old (place - 1) place)) ≡ 1 }
-    ensures rest { Keeps board.old board.new frames.old.items frames.new.items }
+    requires ready { IsReady contest desk.old N }
+    ensures one { result ≡ true → length (filter (refutes R.rule contest desk.old.board)
+        (moves_between R.rule desk.old.board (place - 1) place)) ≡ 1 }
+    ensures rest { Keeps desk.old desk.new }
 {
-    let Some(by) = place.legal_move(board) else {
+    let Some(by) = place.legal_move(&mut desk.board) else {
         return false;
     };
-    refutes::<R, N>(contest, by, board, frames, search_state)
+    refutes::<R, N>(contest, by, desk)
 }
 
 /// Returns whether the last two replies that refuted other first moves refute this one too, which led to the
@@ -353,27 +337,24 @@ fn refutes_at<R: Rules, const N: usize>(
 pub fn are_two_refutations<R: Rules, const N: usize>(
     contest: Contest,
     most: u32,
-    board: &mut Board,
-    frames: &mut ArrayVec<Frame<R>, N>,
-    search_state: &mut SearchState<R>,
+    desk: &mut Desk<R, N>,
 ) -> bool
-    requires ready { IsReady contest board.old (array_vec_len frames.old) N }
+    requires ready { IsReady contest desk.old N }
     ensures one { result ≡ true → most ≡ 1 }
     ensures two { result ≡ true → 2 ≤ length (refutations contest.battle (game_in R.rule contest)
-        contest.stipulation.n board.old) }
-    ensures rest { Keeps board.old board.new frames.old.items frames.new.items }
+        contest.stipulation.n desk.old.board) }
+    ensures rest { Keeps desk.old desk.new }
 {
     if most != 1 || contest.stipulation.half_moves() != 3 {
         return false;
     }
     let left = half_moves_of_replies(contest);
-    let last = search_state.killers.of(Battle::Direct, left);
-    let earlier = search_state.killers.earlier(Battle::Direct, left);
+    let last = desk.search_state.killers.of(Battle::Direct, left);
+    let earlier = desk.search_state.killers.earlier(Battle::Direct, left);
     if last.is(earlier) {
         return false;
     }
-    refutes_at::<R, N>(contest, last, board, frames, search_state)
-        && refutes_at::<R, N>(contest, earlier, board, frames, search_state)
+    refutes_at::<R, N>(contest, last, desk) && refutes_at::<R, N>(contest, earlier, desk)
 }
 
 /// Returns whether the first move that led to the board's position stalemates, which refutes it in a direct
@@ -398,24 +379,22 @@ pub fn is_try<R: Rules, const N: usize>(
     contest: Contest,
     most: u32,
     refuting: &mut Refuting,
-    board: &mut Board,
-    frames: &mut ArrayVec<Frame<R>, N>,
-    search_state: &mut SearchState<R>,
+    desk: &mut Desk<R, N>,
 ) -> bool
-    requires ready { IsReady contest board.old (array_vec_len frames.old) N }
+    requires ready { IsReady contest desk.old N }
     requires few { most ≤ MOST_REFUTATIONS }
     ensures tried { result ≡ is_try contest.battle (game_in R.rule contest) contest.stipulation.n
-        (chess_passing R.rule) most board.old }
-    ensures refuting { result ≡ true → AreRefuting R.rule contest board.old refuting.new }
-    ensures rest { Keeps board.old board.new frames.old.items frames.new.items }
+        (chess_passing R.rule) most desk.old.board }
+    ensures refuting { result ≡ true → AreRefuting R.rule contest desk.old.board refuting.new }
+    ensures rest { Keeps desk.old desk.new }
 {
     if most == 0 {
         return false;
     }
-    let tally = count_refutations::<R, N>(contest, most, board, frames, search_state);
+    let tally = count_refutations::<R, N>(contest, most, desk);
     *refuting = tally.known();
     if tally.count == 0 {
-        return is_refuted_by_stalemate::<R>(contest, board);
+        return is_refuted_by_stalemate::<R>(contest, &mut desk.board);
     }
     tally.count <= most
 }

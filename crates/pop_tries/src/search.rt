@@ -8,15 +8,12 @@ ghost use Rattle.pop_tries.specs.ties.Searching.{first_stage, is_over, IsOf, lef
 use crate::below_first::{
     begin_refutations, end_stalemate, face, find_refutation, find_reply, walk_reply, walk_threats,
 };
+use crate::desk::Desk;
 use crate::group::{begin_group, beginning_of_keys, find_first};
 use crate::set_play::{begin_set_play, walk_set_play};
 use crate::stage::{MOST_REFUTATIONS, Step, Task, TriesStage};
-use arrayvec::ArrayVec;
 use chess_core::board::Board;
 use chess_rules::Rules;
-use pop_battle::frame::Frame;
-use pop_battle::killers::Killers;
-use pop_battle::search_state::SearchState;
 use pop_events::{Event, TryEvent};
 use pop_input::problem::Problem;
 use pop_stipulation::Battle;
@@ -30,9 +27,7 @@ use std::marker::Model;
 pub struct TriesSearch<R: Rules, const N: usize> {
     task: Task,
     stage: TriesStage<R>,
-    board: Board,
-    frames: ArrayVec<Frame<R>, N>,
-    search_state: SearchState<R>,
+    desk: Desk<R, N>,
 }
 
 impl<R: Rules, const N: usize> Model for TriesSearch<R, N> {
@@ -43,10 +38,10 @@ impl<R: Rules, const N: usize> Model for TriesSearch<R, N> {
     ghost view = { λ s. record {
       problem = s.task.problem;
       most = s.task.most;
-      left = left_of R.rule s.task s.stage s.frames.items;
+      left = left_of R.rule s.task s.stage s.desk.frames.items;
     } };
 
-    ghost invariant = { λ s. MayStep R.rule s.task s.stage s.frames.items s.board N };
+    ghost invariant = { λ s. MayStep R.rule s.task s.stage s.desk N };
 }
 
 impl<R: Rules, const N: usize> TriesSearch<R, N> {
@@ -73,9 +68,7 @@ impl<R: Rules, const N: usize> TriesSearch<R, N> {
                 most,
             },
             stage,
-            board: Board::of(&problem.diagram()),
-            frames: ArrayVec::new(),
-            search_state: SearchState::with(Killers::none()),
+            desk: Desk::with(Board::of(&problem.diagram())),
         }
     }
 
@@ -87,13 +80,7 @@ impl<R: Rules, const N: usize> TriesSearch<R, N> {
         ensures problem { self.new.problem ≡ self.old.problem }
         ensures most { self.new.most ≡ self.old.most }
     {
-        next_event::<R, N>(
-            &self.task,
-            &mut self.stage,
-            &mut self.board,
-            &mut self.frames,
-            &mut self.search_state,
-        )
+        next_event::<R, N>(&self.task, &mut self.stage, &mut self.desk)
     }
 }
 
@@ -121,45 +108,34 @@ fn is_over<R: Rules>(stage: TriesStage<R>) -> bool
 fn take_step<R: Rules, const N: usize>(
     task: &Task,
     stage: TriesStage<R>,
-    board: &mut Board,
-    frames: &mut ArrayVec<Frame<R>, N>,
-    search_state: &mut SearchState<R>,
+    desk: &mut Desk<R, N>,
 ) -> Step<R>
-    requires may_step { MayStep R.rule task.now stage frames.old.items board.old N }
+    requires may_step { MayStep R.rule task.now stage desk.old N }
     requires open { is_over stage ≡ false }
-    ensures { Goes R.rule task.now stage frames.old.items result.stage
-        frames.new.items board.new result.event }
+    ensures { Goes R.rule task.now stage desk.old result.stage desk.new result.event }
 {
     match stage {
         TriesStage::NoTries => Step {
             stage: TriesStage::Over,
             event: Some(TryEvent::NoTries),
         },
-        TriesStage::SetPlay => begin_set_play(task, board, frames),
+        TriesStage::SetPlay => begin_set_play(task, desk),
         TriesStage::Impossible => Step {
             stage: beginning_of_keys(),
             event: Some(TryEvent::Set(Event::Impossible)),
         },
-        TriesStage::Within { stage } => walk_set_play(task, stage, board, frames, search_state),
+        TriesStage::Within { stage } => walk_set_play(task, stage, desk),
         TriesStage::Beginning { group, candidates } => {
-            begin_group(task, group, candidates, board, frames)
+            begin_group(task, group, candidates, desk)
         }
-        TriesStage::FirstMove { firsts } => find_first(task, firsts, board, frames, search_state),
-        TriesStage::Faced { first } => face(task, first, board, frames, search_state),
-        TriesStage::Threats { first, crossed } => {
-            walk_threats(task, first, crossed, board, frames, search_state)
-        }
-        TriesStage::Reply { first, place } => {
-            find_reply(task, first, place, board, frames, search_state)
-        }
-        TriesStage::BelowReply { first, reply } => {
-            walk_reply(task, first, reply, board, frames, search_state)
-        }
-        TriesStage::But { first } => begin_refutations(task, first, board, frames),
-        TriesStage::Refutation { first, place } => {
-            find_refutation(task, first, place, board, frames, search_state)
-        }
-        TriesStage::Stalemate { first } => end_stalemate(task, first, board, frames),
+        TriesStage::FirstMove { firsts } => find_first(task, firsts, desk),
+        TriesStage::Faced { first } => face(task, first, desk),
+        TriesStage::Threats { first, crossed } => { walk_threats(task, first, crossed, desk) }
+        TriesStage::Reply { first, place } => { find_reply(task, first, place, desk) }
+        TriesStage::BelowReply { first, reply } => { walk_reply(task, first, reply, desk) }
+        TriesStage::But { first } => begin_refutations(task, first, desk),
+        TriesStage::Refutation { first, place } => { find_refutation(task, first, place, desk) }
+        TriesStage::Stalemate { first } => end_stalemate(task, first, desk),
         TriesStage::Over => Step { stage, event: None },
     }
 }
@@ -168,22 +144,20 @@ fn take_step<R: Rules, const N: usize>(
 fn next_event<R: Rules, const N: usize>(
     task: &Task,
     stage: &mut TriesStage<R>,
-    board: &mut Board,
-    frames: &mut ArrayVec<Frame<R>, N>,
-    search_state: &mut SearchState<R>,
+    desk: &mut Desk<R, N>,
 ) -> Option<TryEvent>
-    requires { MayStep R.rule task.now stage.old frames.old.items board.old N }
-    ensures holds { HoldsAt R.rule task.now stage.new frames.new.items board.new }
+    requires { MayStep R.rule task.now stage.old desk.old N }
+    ensures holds { HoldsAt R.rule task.now stage.new desk.new.frames.items desk.new.board }
     ensures next { MatchOption result
-        ((left_of R.rule task.now stage.old frames.old.items ≡ [])
-        × (left_of R.rule task.now stage.new frames.new.items ≡ []))
+        ((left_of R.rule task.now stage.old desk.old.frames.items ≡ [])
+        × (left_of R.rule task.now stage.new desk.new.frames.items ≡ []))
         (λ shown. (bare : BareTryEvent)
-        × (left_of R.rule task.now stage.old frames.old.items
-        ≡ bare ∷ left_of R.rule task.now stage.new frames.new.items)
+        × (left_of R.rule task.now stage.old desk.old.frames.items
+        ≡ bare ∷ left_of R.rule task.now stage.new desk.new.frames.items)
         × (shown ≡ try_event_of R.rule task.now.problem bare)) }
 {
     while !is_over(*stage) {
-        let step = take_step::<R, N>(task, *stage, board, frames, search_state);
+        let step = take_step::<R, N>(task, *stage, desk);
         *stage = step.stage;
         if step.event.is_some() {
             return step.event;

@@ -3,13 +3,11 @@ ghost use Rattle.pop_events.specs.declared.event.Phase.TheVariants.{Set};
 ghost use Rattle.pop_tries.specs.declared.stage.TriesStage.TheVariants.{SetPlay, Within};
 ghost use Rattle.pop_tries.specs.ties.Searching.{Goes, HoldsAt, MayStep};
 
+use crate::desk::Desk;
 use crate::group::beginning_of_keys;
 use crate::stage::{Step, Task, TriesStage};
-use arrayvec::ArrayVec;
-use chess_core::board::Board;
 use chess_rules::{Moves, Rules};
 use pop_battle::frame::Frame;
-use pop_battle::search_state::SearchState;
 use pop_events::{Event, Phase, TryEvent};
 use pop_solve::phases::{Scope, Stage, Walk, advance, phase_half_moves, set_up};
 use pop_solve::plan::Plan;
@@ -18,23 +16,21 @@ use pop_solve::plan::Plan;
 #[tactic(auto, unfolding(crate::specs::ties::Searching::HoldsAt, crate::specs::ties::Searching::rank))]
 pub(crate) fn begin_set_play<R: Rules, const N: usize>(
     task: &Task,
-    board: &mut Board,
-    frames: &mut ArrayVec<Frame<R>, N>,
+    desk: &mut Desk<R, N>,
 ) -> Step<R>
-    requires { MayStep {A = R} R.rule task.now SetPlay frames.old.items board.old N }
-    ensures { Goes R.rule task.now SetPlay frames.old.items result.stage
-        frames.new.items board.new result.event }
+    requires { MayStep {A = R} R.rule task.now SetPlay desk.old N }
+    ensures { Goes R.rule task.now SetPlay desk.old result.stage desk.new result.event }
 {
     let phase = Phase::Set;
     let event = Some(TryEvent::Set(Event::Phase(phase)));
-    if !set_up::<R>(&task.problem, phase, board) {
+    if !set_up::<R>(&task.problem, phase, &mut desk.board) {
         return Step {
             stage: TriesStage::Impossible,
             event,
         };
     }
     let left = phase_half_moves(&task.problem, phase);
-    frames.push(Frame {
+    desk.frames.push(Frame {
         place: Moves::start(),
         left,
         known: None,
@@ -59,22 +55,19 @@ pub(crate) fn begin_set_play<R: Rules, const N: usize>(
 pub(crate) fn walk_set_play<R: Rules, const N: usize>(
     task: &Task,
     stage: Stage,
-    board: &mut Board,
-    frames: &mut ArrayVec<Frame<R>, N>,
-    search_state: &mut SearchState<R>,
+    desk: &mut Desk<R, N>,
 ) -> Step<R>
-    requires { MayStep {A = R} R.rule task.now (Within stage) frames.old.items board.old N }
-    ensures { Goes R.rule task.now (Within stage) frames.old.items result.stage
-        frames.new.items board.new result.event }
+    requires { MayStep {A = R} R.rule task.now (Within stage) desk.old N }
+    ensures { Goes R.rule task.now (Within stage) desk.old result.stage desk.new result.event }
 {
     let mut stage = stage;
     let mut event = None;
     advance::<R, N, true>(
         &task.problem,
         &mut stage,
-        board,
-        frames,
-        search_state,
+        &mut desk.board,
+        &mut desk.frames,
+        &mut desk.search_state,
         &mut event,
     );
     match event {

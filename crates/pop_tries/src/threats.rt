@@ -17,17 +17,15 @@ ghost use Rattle.pop_tries.specs.ties.FewPlaces.{all_meet, are_few, AreAt, ArePl
 ghost use Rattle.chess_rules.specs.ties.Places.{all_triples, triple_at};
 
 use crate::contest::Contest;
+use crate::desk::Desk;
 use crate::few_places::FewPlaces;
 use crate::move_set::MoveSet;
-use arrayvec::ArrayVec;
 use chess_core::board::Board;
 use chess_core::man::Move;
 use chess_core::square::Square;
 use chess_mates::MateCursor;
 use chess_rules::{Moves, Rules, in_check, play, unplay};
 use pop_battle::chess::{is_for_mate, next_move, reaches_goal, turn_over};
-use pop_battle::frame::Frame;
-use pop_battle::search_state::SearchState;
 use pop_battle::value::value_of;
 use pop_solve::plan::Plan;
 use pop_solve::walk::walk_length;
@@ -72,43 +70,39 @@ pub fn unpass(board: &mut Board, crossed: Option<Square>)
 
 /// Returns whether White wins the board's position with one move less than the whole contest has.
 #[tactic(auto, using(crate::proofs::Contests::passing))]
-fn wins_with_one_less<R: Rules, const N: usize>(
-    contest: Contest,
-    board: &mut Board,
-    frames: &mut ArrayVec<Frame<R>, N>,
-    search_state: &mut SearchState<R>,
-) -> bool
-    requires ready { IsReady contest board.old (array_vec_len frames.old) N }
+fn wins_with_one_less<R: Rules, const N: usize>(contest: Contest, desk: &mut Desk<R, N>) -> bool
+    requires ready { IsReady contest desk.old N }
     ensures wins { result ≡ wins_in contest.battle (game_in R.rule contest)
-        (contest.stipulation.n - 1) board.old }
-    ensures rest { Keeps board.old board.new frames.old.items frames.new.items }
+        (contest.stipulation.n - 1) desk.old.board }
+    ensures rest { Keeps desk.old desk.new }
 {
     let half_moves = contest.stipulation.half_moves();
-    if half_moves < 2 || reaches_goal::<R>(contest.stipulation.goal, board) {
+    if half_moves < 2 || reaches_goal::<R>(contest.stipulation.goal, &mut desk.board) {
         return false;
     }
-    value_of::<R, N>(contest.aim(), half_moves - 2, board, frames, search_state)
+    value_of::<R, N>(
+        contest.aim(),
+        half_moves - 2,
+        &mut desk.board,
+        &mut desk.frames,
+        &mut desk.search_state,
+    )
 }
 
 /// Returns whether White threatens after the first move that led to the board's position.
 #[tactic(auto, using(crate::proofs::Contests::passed_well_formed))]
-pub fn has_threat<R: Rules, const N: usize>(
-    contest: Contest,
-    board: &mut Board,
-    frames: &mut ArrayVec<Frame<R>, N>,
-    search_state: &mut SearchState<R>,
-) -> bool
-    requires ready { IsReady contest board.old (array_vec_len frames.old) N }
+pub fn has_threat<R: Rules, const N: usize>(contest: Contest, desk: &mut Desk<R, N>) -> bool
+    requires ready { IsReady contest desk.old N }
     ensures threat { result ≡ has_threat contest.battle (game_in R.rule contest)
-        contest.stipulation.n (chess_passing R.rule) board.old }
-    ensures rest { Keeps board.old board.new frames.old.items frames.new.items }
+        contest.stipulation.n (chess_passing R.rule) desk.old.board }
+    ensures rest { Keeps desk.old desk.new }
 {
-    if in_check::<R>(board, board.turn()) {
+    if in_check::<R>(&desk.board, desk.board.turn()) {
         return false;
     }
-    let crossed = pass(board);
-    let wins = wins_with_one_less::<R, N>(contest, board, frames, search_state);
-    unpass(board, crossed);
+    let crossed = pass(&mut desk.board);
+    let wins = wins_with_one_less::<R, N>(contest, desk);
+    unpass(&mut desk.board, crossed);
     wins
 }
 
@@ -117,15 +111,13 @@ pub fn has_threat<R: Rules, const N: usize>(
 #[tactic(auto, using(crate::proofs::Contests::passed_well_formed))]
 pub fn threat_length<R: Rules, const N: usize>(
     contest: Contest,
-    board: &mut Board,
-    frames: &mut ArrayVec<Frame<R>, N>,
-    search_state: &mut SearchState<R>,
+    desk: &mut Desk<R, N>,
 ) -> Option<usize>
-    requires ready { IsReady contest board.old (array_vec_len frames.old) N }
-    ensures threat { IsThreat R.rule contest board.old result }
-    ensures rest { Keeps board.old board.new frames.old.items frames.new.items }
+    requires ready { IsReady contest desk.old N }
+    ensures threat { IsThreat R.rule contest desk.old.board result }
+    ensures rest { Keeps desk.old desk.new }
 {
-    if !has_threat::<R, N>(contest, board, frames, search_state) {
+    if !has_threat::<R, N>(contest, desk) {
         return None;
     }
     let plan = Plan {
@@ -134,9 +126,15 @@ pub fn threat_length<R: Rules, const N: usize>(
         variation: false,
     };
     let left = contest.stipulation.half_moves().saturating_sub(2);
-    let crossed = pass(board);
-    let length = walk_length::<R, N>(plan, left, board, frames, search_state);
-    unpass(board, crossed);
+    let crossed = pass(&mut desk.board);
+    let length = walk_length::<R, N>(
+        plan,
+        left,
+        &mut desk.board,
+        &mut desk.frames,
+        &mut desk.search_state,
+    );
+    unpass(&mut desk.board, crossed);
     Some(length)
 }
 
@@ -146,22 +144,26 @@ fn wins_by<R: Rules, const N: usize>(
     contest: Contest,
     length: usize,
     by: Move,
-    board: &mut Board,
-    frames: &mut ArrayVec<Frame<R>, N>,
-    search_state: &mut SearchState<R>,
+    desk: &mut Desk<R, N>,
 ) -> bool
     requires length { IsLength contest length }
-    requires well_formed { IsWellFormed board.old }
-    requires legal { is_legal R.rule board.old by ≡ true }
-    requires room { array_vec_len frames.old + length ≤ N }
+    requires well_formed { IsWellFormed desk.old.board }
+    requires legal { is_legal R.rule desk.old.board by ≡ true }
+    requires room { array_vec_len desk.old.frames + length ≤ N }
     ensures wins { result ≡ keeps_win contest.battle (game_in R.rule contest) (moves_of length)
-        (position_after R.rule board.old by) }
-    ensures rest { Keeps board.old board.new frames.old.items frames.new.items }
+        (position_after R.rule desk.old.board by) }
+    ensures rest { Keeps desk.old desk.new }
 {
-    let undo = play::<R>(board, by);
+    let undo = play::<R>(&mut desk.board, by);
     let left = length.saturating_sub(1);
-    let wins = value_of::<R, N>(contest.aim(), left, board, frames, search_state);
-    unplay::<R>(board, by, undo);
+    let wins = value_of::<R, N>(
+        contest.aim(),
+        left,
+        &mut desk.board,
+        &mut desk.frames,
+        &mut desk.search_state,
+    );
+    unplay::<R>(&mut desk.board, by, undo);
     wins
 }
 
@@ -188,23 +190,21 @@ fn mating_moves<R: Rules>(board: &mut Board) -> Winners
 fn winning_moves<R: Rules, const N: usize>(
     contest: Contest,
     length: usize,
-    board: &mut Board,
-    frames: &mut ArrayVec<Frame<R>, N>,
-    search_state: &mut SearchState<R>,
+    desk: &mut Desk<R, N>,
 ) -> Winners
     requires length { IsLength contest length }
-    requires well_formed { IsWellFormed board.old }
-    requires room { array_vec_len frames.old + length ≤ N }
-    ensures held { HoldAll R.rule board.old (wins_within R.rule contest length board.old)
+    requires well_formed { IsWellFormed desk.old.board }
+    requires room { array_vec_len desk.old.frames + length ≤ N }
+    ensures held { HoldAll R.rule desk.old.board (wins_within R.rule contest length desk.old.board)
         (Some result.moves) }
-    ensures places { AreAt result.places (filter (wins_within R.rule contest length board.old)
-        (moves R.rule board.old)) [] }
-    ensures rest { Keeps board.old board.new frames.old.items frames.new.items }
+    ensures places { AreAt result.places (filter (wins_within R.rule contest length desk.old.board)
+        (moves R.rule desk.old.board)) [] }
+    ensures rest { Keeps desk.old desk.new }
 {
     if length == 1 && is_for_mate(contest.stipulation.goal) {
-        return mating_moves::<R>(board);
+        return mating_moves::<R>(&mut desk.board);
     }
-    tested_moves::<R, N>(contest, length, board, frames, search_state)
+    tested_moves::<R, N>(contest, length, desk)
 }
 
 /// Returns the moves with which White, to move, wins within `length` half-moves, by testing each.
@@ -212,25 +212,23 @@ fn winning_moves<R: Rules, const N: usize>(
 fn tested_moves<R: Rules, const N: usize>(
     contest: Contest,
     length: usize,
-    board: &mut Board,
-    frames: &mut ArrayVec<Frame<R>, N>,
-    search_state: &mut SearchState<R>,
+    desk: &mut Desk<R, N>,
 ) -> Winners
     requires length { IsLength contest length }
-    requires well_formed { IsWellFormed board.old }
-    requires room { array_vec_len frames.old + length ≤ N }
-    ensures held { HoldAll R.rule board.old (wins_within R.rule contest length board.old)
+    requires well_formed { IsWellFormed desk.old.board }
+    requires room { array_vec_len desk.old.frames + length ≤ N }
+    ensures held { HoldAll R.rule desk.old.board (wins_within R.rule contest length desk.old.board)
         (Some result.moves) }
-    ensures places { AreAt result.places (filter (wins_within R.rule contest length board.old)
-        (moves R.rule board.old)) [] }
-    ensures rest { Keeps board.old board.new frames.old.items frames.new.items }
+    ensures places { AreAt result.places (filter (wins_within R.rule contest length desk.old.board)
+        (moves R.rule desk.old.board)) [] }
+    ensures rest { Keeps desk.old desk.new }
 {
     let mut known = None;
     let mut place = Moves::<R>::start();
     let mut moves = MoveSet::none();
     let mut places = FewPlaces::Empty;
-    while let Some(by) = next_move::<R>(&mut known, &mut place, board) {
-        if wins_by::<R, N>(contest, length, by, board, frames, search_state) {
+    while let Some(by) = next_move::<R>(&mut known, &mut place, &mut desk.board) {
+        if wins_by::<R, N>(contest, length, by, desk) {
             moves = moves.with(by);
             places = places.with(place.number());
         }
@@ -243,21 +241,19 @@ fn tested_moves<R: Rules, const N: usize>(
 #[tactic(auto, using(crate::proofs::Contests::passed_well_formed))]
 pub fn find_threat<R: Rules, const N: usize>(
     contest: Contest,
-    board: &mut Board,
-    frames: &mut ArrayVec<Frame<R>, N>,
-    search_state: &mut SearchState<R>,
+    desk: &mut Desk<R, N>,
 ) -> Option<Threat>
-    requires ready { IsReady contest board.old (array_vec_len frames.old) N }
-    ensures threat { AreThreats R.rule contest board.old result }
-    ensures rest { Keeps board.old board.new frames.old.items frames.new.items }
+    requires ready { IsReady contest desk.old N }
+    ensures threat { AreThreats R.rule contest desk.old.board result }
+    ensures rest { Keeps desk.old desk.new }
 {
-    let found = threat_length::<R, N>(contest, board, frames, search_state);
+    let found = threat_length::<R, N>(contest, desk);
     let Some(length) = found else {
         return None;
     };
-    let crossed = pass(board);
-    let winners = winning_moves::<R, N>(contest, length, board, frames, search_state);
-    unpass(board, crossed);
+    let crossed = pass(&mut desk.board);
+    let winners = winning_moves::<R, N>(contest, length, desk);
+    unpass(&mut desk.board, crossed);
     Some(Threat {
         length,
         moves: winners.moves,
@@ -271,20 +267,18 @@ fn works<R: Rules, const N: usize>(
     contest: Contest,
     length: usize,
     place: Moves<R>,
-    board: &mut Board,
-    frames: &mut ArrayVec<Frame<R>, N>,
-    search_state: &mut SearchState<R>,
+    desk: &mut Desk<R, N>,
 ) -> bool
     requires length { IsLength contest length }
     requires place { (1 ≤ place) × (place ≤ all_triples) }
-    requires well_formed { IsWellFormed board.old }
-    requires room { array_vec_len frames.old + length ≤ N }
+    requires well_formed { IsWellFormed desk.old.board }
+    requires room { array_vec_len desk.old.frames + length ≤ N }
     ensures works { result ≡ works contest.battle (game_in R.rule contest) contest.stipulation.n
-        (chess_passing R.rule) (moves_of length) board.old (triple_at (place - 1)) }
-    ensures rest { Keeps board.old board.new frames.old.items frames.new.items }
+        (chess_passing R.rule) (moves_of length) desk.old.board (triple_at (place - 1)) }
+    ensures rest { Keeps desk.old desk.new }
 {
-    match place.legal_move(board) {
-        Some(by) => wins_by::<R, N>(contest, length, by, board, frames, search_state),
+    match place.legal_move(&mut desk.board) {
+        Some(by) => wins_by::<R, N>(contest, length, by, desk),
         None => false,
     }
 }
@@ -296,72 +290,46 @@ fn is_threat<R: Rules, const N: usize>(
     contest: Contest,
     threat: Threat,
     by: Move,
-    board: &mut Board,
-    frames: &mut ArrayVec<Frame<R>, N>,
-    search_state: &mut SearchState<R>,
+    desk: &mut Desk<R, N>,
 ) -> bool
     requires length { IsLength contest threat.length }
-    requires well_formed { IsWellFormed board.old }
-    requires held { HoldAll R.rule board.old (wins_within R.rule contest threat.length board.old)
-        (Some threat.moves) }
-    requires legal { is_legal R.rule board.old by ≡ true }
-    requires room { array_vec_len frames.old + threat.length ≤ N }
-    ensures wins { result ≡ keeps_win contest.battle (game_in R.rule contest) (moves_of threat.length)
-        (position_after R.rule board.old by) }
-    ensures rest { Keeps board.old board.new frames.old.items frames.new.items }
+    requires well_formed { IsWellFormed desk.old.board }
+    requires held { HoldAll R.rule desk.old.board (wins_within R.rule contest threat.length
+        desk.old.board) (Some threat.moves) }
+    requires legal { is_legal R.rule desk.old.board by ≡ true }
+    requires room { array_vec_len desk.old.frames + threat.length ≤ N }
+    ensures wins { result ≡ keeps_win contest.battle (game_in R.rule contest) (moves_of
+        threat.length) (position_after R.rule desk.old.board by) }
+    ensures rest { Keeps desk.old desk.new }
 {
     if !threat.moves.may_hold(by) {
         return false;
     }
-    wins_by::<R, N>(contest, threat.length, by, board, frames, search_state)
+    wins_by::<R, N>(contest, threat.length, by, desk)
 }
 
 /// Returns whether all threats, which are few, work in the board's position.
 fn all_work<R: Rules, const N: usize>(
     contest: Contest,
     threat: Threat,
-    board: &mut Board,
-    frames: &mut ArrayVec<Frame<R>, N>,
-    search_state: &mut SearchState<R>,
+    desk: &mut Desk<R, N>,
 ) -> bool
     requires length { IsLength contest threat.length }
     requires places { ArePlaces threat.places }
-    requires well_formed { IsWellFormed board.old }
-    requires room { array_vec_len frames.old + threat.length ≤ N }
+    requires well_formed { IsWellFormed desk.old.board }
+    requires room { array_vec_len desk.old.frames + threat.length ≤ N }
     ensures works { result ≡ all_meet (works contest.battle (game_in R.rule contest)
-        contest.stipulation.n (chess_passing R.rule) (moves_of threat.length) board.old)
+        contest.stipulation.n (chess_passing R.rule) (moves_of threat.length) desk.old.board)
         threat.places }
-    ensures rest { Keeps board.old board.new frames.old.items frames.new.items }
+    ensures rest { Keeps desk.old desk.new }
 {
     let length = threat.length;
     match threat.places {
         FewPlaces::Empty | FewPlaces::Many => true,
-        FewPlaces::One { place } => {
-            works::<R, N>(
-                contest,
-                length,
-                Moves::at(place),
-                board,
-                frames,
-                search_state,
-            )
-        }
+        FewPlaces::One { place } => { works::<R, N>(contest, length, Moves::at(place), desk) }
         FewPlaces::Two { first, second } => {
-            works::<R, N>(
-                contest,
-                length,
-                Moves::at(first),
-                board,
-                frames,
-                search_state,
-            ) && works::<R, N>(
-                contest,
-                length,
-                Moves::at(second),
-                board,
-                frames,
-                search_state,
-            )
+            works::<R, N>(contest, length, Moves::at(first), desk)
+                && works::<R, N>(contest, length, Moves::at(second), desk)
         }
     }
 }
@@ -372,22 +340,20 @@ fn stops_few<R: Rules, const N: usize>(
     contest: Contest,
     threat: Threat,
     by: Move,
-    board: &mut Board,
-    frames: &mut ArrayVec<Frame<R>, N>,
-    search_state: &mut SearchState<R>,
+    desk: &mut Desk<R, N>,
 ) -> bool
-    requires threat { HoldsThreats R.rule contest board.old threat }
+    requires threat { HoldsThreats R.rule contest desk.old.board threat }
     requires few { are_few threat.places ≡ true }
-    requires well_formed { IsWellFormed board.old }
-    requires legal { is_legal R.rule board.old by ≡ true }
-    requires room { array_vec_len frames.old + half_moves contest.stipulation ≤ N }
+    requires well_formed { IsWellFormed desk.old.board }
+    requires legal { is_legal R.rule desk.old.board by ≡ true }
+    requires room { array_vec_len desk.old.frames + half_moves contest.stipulation ≤ N }
     ensures defence { result ≡ is_defence contest.battle (game_in R.rule contest)
-        contest.stipulation.n (chess_passing R.rule) board.old by }
-    ensures rest { Keeps board.old board.new frames.old.items frames.new.items }
+        contest.stipulation.n (chess_passing R.rule) desk.old.board by }
+    ensures rest { Keeps desk.old desk.new }
 {
-    let undo = play::<R>(board, by);
-    let still = all_work::<R, N>(contest, threat, board, frames, search_state);
-    unplay::<R>(board, by, undo);
+    let undo = play::<R>(&mut desk.board, by);
+    let still = all_work::<R, N>(contest, threat, desk);
+    unplay::<R>(&mut desk.board, by, undo);
     !still
 }
 
@@ -397,25 +363,23 @@ pub fn is_defence<R: Rules, const N: usize>(
     contest: Contest,
     threat: Option<Threat>,
     by: Move,
-    board: &mut Board,
-    frames: &mut ArrayVec<Frame<R>, N>,
-    search_state: &mut SearchState<R>,
+    desk: &mut Desk<R, N>,
 ) -> bool
-    requires threat { AreThreats R.rule contest board.old threat }
-    requires well_formed { IsWellFormed board.old }
-    requires legal { is_legal R.rule board.old by ≡ true }
-    requires room { array_vec_len frames.old + half_moves contest.stipulation ≤ N }
+    requires threat { AreThreats R.rule contest desk.old.board threat }
+    requires well_formed { IsWellFormed desk.old.board }
+    requires legal { is_legal R.rule desk.old.board by ≡ true }
+    requires room { array_vec_len desk.old.frames + half_moves contest.stipulation ≤ N }
     ensures defence { result ≡ is_defence contest.battle (game_in R.rule contest)
-        contest.stipulation.n (chess_passing R.rule) board.old by }
-    ensures rest { Keeps board.old board.new frames.old.items frames.new.items }
+        contest.stipulation.n (chess_passing R.rule) desk.old.board by }
+    ensures rest { Keeps desk.old desk.new }
 {
     let Some(known) = threat else {
         return true;
     };
     if known.places.are_few() {
-        return stops_few::<R, N>(contest, known, by, board, frames, search_state);
+        return stops_few::<R, N>(contest, known, by, desk);
     }
-    stops_one::<R, N>(contest, threat, by, board, frames, search_state)
+    stops_one::<R, N>(contest, threat, by, desk)
 }
 
 /// Returns whether the legal reply `by` to the first move that led to the board's position is a defence.
@@ -425,36 +389,34 @@ fn stops_one<R: Rules, const N: usize>(
     contest: Contest,
     threat: Option<Threat>,
     by: Move,
-    board: &mut Board,
-    frames: &mut ArrayVec<Frame<R>, N>,
-    search_state: &mut SearchState<R>,
+    desk: &mut Desk<R, N>,
 ) -> bool
-    requires threat { AreThreats R.rule contest board.old threat }
-    requires well_formed { IsWellFormed board.old }
-    requires legal { is_legal R.rule board.old by ≡ true }
-    requires room { array_vec_len frames.old + half_moves contest.stipulation ≤ N }
+    requires threat { AreThreats R.rule contest desk.old.board threat }
+    requires well_formed { IsWellFormed desk.old.board }
+    requires legal { is_legal R.rule desk.old.board by ≡ true }
+    requires room { array_vec_len desk.old.frames + half_moves contest.stipulation ≤ N }
     ensures defence { result ≡ is_defence contest.battle (game_in R.rule contest)
-        contest.stipulation.n (chess_passing R.rule) board.old by }
-    ensures rest { Keeps board.old board.new frames.old.items frames.new.items }
+        contest.stipulation.n (chess_passing R.rule) desk.old.board by }
+    ensures rest { Keeps desk.old desk.new }
 {
     let Some(threats) = threat else {
         return true;
     };
     let mut known = None;
     let mut place = Moves::<R>::start();
-    let mut crossed = pass(board);
-    while let Some(tried) = next_move::<R>(&mut known, &mut place, board) {
-        if is_threat::<R, N>(contest, threats, tried, board, frames, search_state) {
-            unpass(board, crossed);
-            let undo = play::<R>(board, by);
-            let still = works::<R, N>(contest, threats.length, place, board, frames, search_state);
-            unplay::<R>(board, by, undo);
+    let mut crossed = pass(&mut desk.board);
+    while let Some(tried) = next_move::<R>(&mut known, &mut place, &mut desk.board) {
+        if is_threat::<R, N>(contest, threats, tried, desk) {
+            unpass(&mut desk.board, crossed);
+            let undo = play::<R>(&mut desk.board, by);
+            let still = works::<R, N>(contest, threats.length, place, desk);
+            unplay::<R>(&mut desk.board, by, undo);
             if !still {
                 return true;
             }
-            crossed = pass(board);
+            crossed = pass(&mut desk.board);
         }
     }
-    unpass(board, crossed);
+    unpass(&mut desk.board, crossed);
     false
 }

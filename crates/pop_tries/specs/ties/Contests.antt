@@ -1,5 +1,6 @@
 -- The battle of a problem, as the code keeps it, and what its tests leave unchanged (own).
-use Rattle.std.specs.Prelude.{◌≡◌, ◌≤◌, ◌+◌, ◌/◌, ℕ, Bool, true, false, List, [], filter, Option, Some, MatchOption}
+use Rattle.std.specs.Prelude.{◌≡◌, ◌≤◌, ◌+◌, ◌/◌, ℕ, Bool, true, false, [], filter, Option, Some, MatchOption}
+use Rattle.arrayvec.specs.ArrayVec.{array_vec_len}
 use Rattle.chess_core.specs.WellFormed.{IsWellFormed}
 use Rattle.chess_core.specs.Position.{Position}
 use Rattle.chess_core.specs.declared.man.Move.{Move}
@@ -7,7 +8,6 @@ use Rattle.chess_attacks.specs.RuleSet.{RuleSet}
 use Rattle.pop_battle.specs.Chess.{chess, set_start}
 use Rattle.pop_battle.specs.Game.{Game}
 use Rattle.pop_stipulation.specs.Stipulations.{battle_of, half_moves}
-use Rattle.pop_battle.specs.ties.Frames.{Frame}
 use Rattle.pop_battle.specs.ties.Values.{attacker_to_move}
 use Rattle.pop_solve.specs.Tree.{least_moves}
 use Rattle.pop_tries.specs.Events.{chess_passing}
@@ -16,6 +16,7 @@ use Rattle.chess_rules.specs.Legal.{moves}
 use Rattle.chess_rules.specs.Play.{position_after}
 use Rattle.pop_solve.specs.Tree.{keeps_win}
 use Rattle.pop_tries.specs.declared.contest.Contest.{Contest}
+use Rattle.pop_tries.specs.declared.desk.Desk.{Desk}
 use Rattle.pop_tries.specs.declared.threats.Threat.{Threat}
 use Rattle.pop_tries.specs.ties.MoveSets.{HoldAll}
 use Rattle.pop_tries.specs.ties.FewPlaces.{AreAt}
@@ -25,20 +26,20 @@ pub record IsContest (contest : Contest) : Type 0 where
   pub fought : battle_of contest.stipulation.form ≡ Some contest.battle
   pub some : 1 ≤ contest.stipulation.n
 
--- a test of the contest may begin in p: the frames in use leave room for its half-moves
-pub record IsReady (contest : Contest) (p : Position) (used most : ℕ) : Type 0 where
+-- a test of the contest may begin at a desk: the frames in use leave room for its half-moves
+pub record IsReady {A : Type 0} {n : ℕ} (contest : Contest) (desk : Desk A n) (most : ℕ) : Type 0 where
   pub fits : IsContest contest
-  pub well_formed : IsWellFormed p
-  pub room : used + half_moves contest.stipulation ≤ most
+  pub well_formed : IsWellFormed desk.board
+  pub room : array_vec_len desk.frames + half_moves contest.stipulation ≤ most
 
 -- its game under a set of rules
 abbrev pub game_in : RuleSet → Contest → Game Position Move
 game_in rule contest = chess contest.stipulation.goal rule
 
 -- board and frames are unchanged
-pub record Keeps (p now : Position) (old new : List Frame) : Type 0 where
-  pub board : now ≡ p
-  pub frames : new ≡ old
+pub record Keeps {A : Type 0} {n : ℕ} (old new : Desk A n) : Type 0 where
+  pub board : new.board ≡ old.board
+  pub frames : new.frames.items ≡ old.frames.items
 
 -- the number of White's moves in this many half-moves, with White to move
 abbrev pub moves_of : ℕ → ℕ

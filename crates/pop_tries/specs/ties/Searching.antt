@@ -31,6 +31,7 @@ use Rattle.pop_tries.specs.ties.Starts.{base_position, shown_line}
 use Rattle.pop_tries.specs.declared.below.Base.{Base}
 use Rattle.pop_tries.specs.declared.below.WalkBelow.{WalkBelow}
 use Rattle.pop_tries.specs.declared.contest.Contest.{Contest}
+use Rattle.pop_tries.specs.declared.desk.Desk.{Desk}
 use Rattle.pop_tries.specs.declared.first_moves.Group.{Group}
 use Rattle.pop_tries.specs.declared.first_moves.Group.TheVariants.{Keys, Tries}
 use Rattle.pop_events.specs.declared.try_event.TryEvent.{TryEvent}
@@ -323,7 +324,7 @@ pub record IsTask (task : Task) : Type 0 where
   pub few : task.most ≤ 200
 
 -- what a step of a search for tries, or more of them, begins with: `most` frames leave room for the play
-pub record MayStep {A : Type 0} (rule : RuleSet) (task : Task) (stage : TriesStage A) (items : List Frame)
+pub record MayStepWith {A : Type 0} (rule : RuleSet) (task : Task) (stage : TriesStage A) (items : List Frame)
     (board : Position) (most : ℕ) : Type 0 where
   pub is_task : IsTask task
   pub room : half_moves task.problem.stipulation < most
@@ -347,9 +348,19 @@ rank (Stalemate first) = 0
 rank Over = 0
 
 -- what a step of a search for tries leaves
-pub record Goes {A : Type 0} (rule : RuleSet) (task : Task) (old : TriesStage A) (was : List Frame)
+pub record GoesWith {A : Type 0} (rule : RuleSet) (task : Task) (old : TriesStage A) (was : List Frame)
     (new : TriesStage A) (items : List Frame) (board : Position) (event : Option TryEvent) : Type 0
   where
     pub holds : HoldsAt rule task new items board
     pub emits : Emits rule task (left_of rule task old was) (left_of rule task new items) event
     pub falls : event ≡ None → rank new < rank old
+
+-- a step, or more of them, may begin at a desk
+abbrev pub MayStep : {A : Type 0} {n : ℕ} → RuleSet → Task → TriesStage A → Desk A n → ℕ → Type 0
+MayStep rule task stage desk most = MayStepWith rule task stage desk.frames.items desk.board most
+
+-- a step that began at one desk leaves another
+abbrev pub Goes : {A : Type 0} {n : ℕ} → RuleSet → Task → (old : TriesStage A) → Desk A n
+    → (new : TriesStage A) → Desk A n → Option TryEvent → Type 0
+Goes rule task old was new desk event =
+    GoesWith rule task old was.frames.items new desk.frames.items desk.board event

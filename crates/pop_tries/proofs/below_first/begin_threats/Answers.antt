@@ -11,7 +11,7 @@ pub open_walk-requires : goal.open_walk-requires
 unfolding HoldsAt
 open_walk-requires g c =
     let h = c.requires.may_step.holds in
-    (search rules, (search rules, (rw (c.pass-crossed.ensures.board, h.1.board_at) (passed_well_formed _ h.2.sound), (h.1.none, search rules))))
+    (search rules, (rw (c.pass-crossed.ensures.board, h.1.board_at) (passed_well_formed _ h.2.sound), (h.1.none, search rules)))
 
 pub returns : goal.returns
 unfolding HoldsAt
@@ -25,6 +25,6 @@ returns g c =
     let come = rw (c.of.ensures, c.half_moves_below.ensures, c.pass-crossed.ensures.board, h.1.board_at) at c.open_walk.ensures.come in
     with_event rule task _ _ _ _ _
     (h.0, record { first_is = h.2; threat = c.requires.threat; walking = walking }, rw h.1.board_at at c.pass-crossed.ensures.crossed) _ _
-    (steps.faced_with rule task h.0 first c.pass-crossed.result c.args.frames.now.items c.open_walk.new.frames.items
+    (steps.faced_with rule task h.0 first c.pass-crossed.result c.args.desk.now.frames.items c.open_walk.new.desk.frames.items
     (steps.threat_paths rule task h.0 first) (steps.shown_with_threats rule task h.0 first c.requires.reply has)
-    (steps.all_threats rule task h.0 first c.open_walk.new.frames.items has come)) refl
+    (steps.all_threats rule task h.0 first c.open_walk.new.desk.frames.items has come)) refl

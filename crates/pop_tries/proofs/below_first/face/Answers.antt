@@ -48,7 +48,7 @@ returns g c =
     let some = rw h.1.board_at at (sym (has_reply _) ∙ (sym c.has_legal_move.ensures.answer ∙ c.if-not-has_legal_move.false)) in
     let no = goes.no_threat_is rule (contest_of task) (after_first rule task first.by) first.threat none t in
     let checked = rw (c.turn.ensures, at) at c.in_check-checked.ensures in
-    let holds : HoldsAt rule task (Reply first c.start.result) c.find_threat-threat.new.frames.items c.find_threat-threat.new.board = (
+    let holds : HoldsAt rule task (Reply first c.start.result) c.find_threat-threat.new.desk.frames.items c.find_threat-threat.new.desk.board = (
       h.0,
       record {
         first_is = record { came = h.2.came; sound = h.2.sound; refuted = h.2.refuted; placed = h.2.placed };
@@ -57,6 +57,6 @@ returns g c =
       },
     ) in
     with_event rule task (Faced c.args.first) _ _ _ _ holds _ _
-    (steps.faced_without rule task h.0 first c.start.result c.args.frames.now.items c.find_threat-threat.new.frames.items _ c.start.ensures
+    (steps.faced_without rule task h.0 first c.start.result c.args.desk.now.frames.items c.find_threat-threat.new.desk.frames.items _ c.start.ensures
     (steps.shown_without_threats rule task h.0 first some no))
     (c.faced_event.ensures ∙ ap event_of_faced checked ∙ goes.faced_shown task.problem.stipulation.goal rule (after_first rule task first.by) _)

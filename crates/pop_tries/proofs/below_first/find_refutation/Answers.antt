@@ -30,6 +30,6 @@ returns g c =
     (h.0, record { board_at = c.shown-shown.ensures.unchanged ∙ bare.board_at; none = bare.none }, h.2) _ (below c.args.first.by (refutation c.in-Some.by))
     (search (
       rules,
-      steps.refutation_found g.R.Rules.rule c.args.task.now h.0 c.args.first c.args.place _ c.in-Some.by c.args.frames.now.items
-          c.next_refutation-found.new.frames.items next.0,
+      steps.refutation_found g.R.Rules.rule c.args.task.now h.0 c.args.first c.args.place _ c.in-Some.by c.args.desk.now.frames.items
+          c.next_refutation-found.new.desk.frames.items next.0,
     )) (ap (λ s. event.Refutation s) shown)

@@ -41,6 +41,6 @@ returns g c =
     ) _ (below first.by (reply (by ∷ [])))
     (search (
       rules,
-      steps.reply_found rule task h.0 first c.args.place _ by c.args.frames.now.items c.play_reply-undo.new.frames.items
+      steps.reply_found rule task h.0 first c.args.place _ by c.args.desk.now.frames.items c.play_reply-undo.new.desk.frames.items
           c.play_reply-undo.result.0 next.0 (reply_comes rule task.problem task.battle h.0 (position_after rule q by) _ met played.come),
     )) played.event

@@ -23,8 +23,8 @@ returns g c =
     let walked = c.requires.walked in
     let next = rw c.walk_below.ensures at c.walk_on.ensures.next in
     let walking = rw c.walk_below.ensures at c.walk_on.ensures.walking in
-    let line = path (reverse c.walk_on.new.frames.items) in
-    let some : 1 ≤ length line = omega (arith, next.deep c.if-not-walk_on.false, path-length (reverse c.walk_on.new.frames.items)) in
+    let line = path (reverse c.walk_on.new.desk.frames.items) in
+    let some : 1 ≤ length line = omega (arith, next.deep c.if-not-walk_on.false, path-length (reverse c.walk_on.new.desk.frames.items)) in
     let node = rw (c.walk_below.ensures, c.as_slice.ensures.value) at c.shown_node-node.ensures in
     let shown = goes.node_shown task.problem.stipulation.goal g.R.Rules.rule task.problem c.args.first.now.by line _ _ _ c.args.base some
     node.depth node.half node.shown in

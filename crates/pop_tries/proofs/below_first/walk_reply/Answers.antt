@@ -20,7 +20,7 @@ unplay-requires g c =
     let reply = c.args.reply in
     let none = c.in_default.ensures.next in
     let q = after_first g.R.Rules.rule c.args.task.now c.args.first.by in
-    search (played_from g.R.Rules.rule reply.by reply.undo c.next_node-next.new.board q (rw none.1 c.requires.holds.2))
+    search (played_from g.R.Rules.rule reply.by reply.undo c.next_node-next.new.desk.board q (rw none.1 c.requires.holds.2))
 
 pub returns : goal.returns
 unfolding HoldsAt rank

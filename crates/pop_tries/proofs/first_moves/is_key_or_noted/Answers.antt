@@ -10,18 +10,18 @@ returns-then-tally-eq0-clause-key g c =
     let contest = contest_of c.args.task.now in
     let counted = rw (c.contest-contest.ensures, c.are_two_refutations.ensures.rest.board) at c.count_refutations-tally.ensures.count in
     sym c.if-is_key_unrefuted.false
-    ∙ unrefuted_key rule contest c.args.board.now _ _ _ counted c.if-tally-eq0.true
+    ∙ unrefuted_key rule contest c.args.desk.now.board _ _ _ counted c.if-tally-eq0.true
     (rw (c.contest-contest.ensures, c.count_refutations-tally.ensures.rest.board, c.are_two_refutations.ensures.rest.board) at c.is_key_unrefuted.ensures.key)
 
 pub returns-then-tally-task-clause-key : goal.returns-then-tally-task-clause-key
 returns-then-tally-task-clause-key g c =
     let counted = rw (c.contest-contest.ensures, c.are_two_refutations.ensures.rest.board) at c.count_refutations-tally.ensures.count in
-    refuted_no_key g.R.Rules.rule (contest_of c.args.task.now) c.args.board.now _ _ counted c.if-tally-eq0.false
+    refuted_no_key g.R.Rules.rule (contest_of c.args.task.now) c.args.desk.now.board _ _ counted c.if-tally-eq0.false
 
 pub returns-else-tally-task-clause-key : goal.returns-else-tally-task-clause-key
 returns-else-tally-task-clause-key g c =
     let counted = rw (c.contest-contest.ensures, c.are_two_refutations.ensures.rest.board) at c.count_refutations-tally.ensures.count in
-    refuted_no_key g.R.Rules.rule (contest_of c.args.task.now) c.args.board.now _ _ counted c.if-tally-eq0.false
+    refuted_no_key g.R.Rules.rule (contest_of c.args.task.now) c.args.desk.now.board _ _ counted c.if-tally-eq0.false
 
 pub returns-then-tally-task-clause-refuting : goal.returns-then-tally-task-clause-refuting
 returns-then-tally-task-clause-refuting g c =
@@ -29,6 +29,6 @@ returns-then-tally-task-clause-refuting g c =
     let contest = contest_of c.args.task.now in
     let rest = c.are_two_refutations.ensures.rest.board in
     let counted = rw (c.contest-contest.ensures, rest) at c.count_refutations-tally.ensures.count in (
-      counted_try rule contest c.args.board.now c.args.task.now.most _ counted c.if-tally-eq0.false c.if-tally-task.true,
-      known_refuting rule contest c.args.board.now _ _ _ c.known.ensures ((rw (c.contest-contest.ensures, rest) at c.count_refutations-tally.ensures.held) c.if-tally-task.true) (rw (c.contest-contest.ensures, rest) at c.count_refutations-tally.ensures.last),
+      counted_try rule contest c.args.desk.now.board c.args.task.now.most _ counted c.if-tally-eq0.false c.if-tally-task.true,
+      known_refuting rule contest c.args.desk.now.board _ _ _ c.known.ensures ((rw (c.contest-contest.ensures, rest) at c.count_refutations-tally.ensures.held) c.if-tally-task.true) (rw (c.contest-contest.ensures, rest) at c.count_refutations-tally.ensures.last),
     )

@@ -14,7 +14,7 @@ unplay-requires g c =
     let next = rw c.loop-by.invariant.0.0 at c.in-Some.ensures.next in
     let here = c.in-Some.ensures.unchanged ∙ c.loop-by.invariant.0.0 in
     record {
-      before = c.args.board.now;
+      before = c.args.desk.now.board;
       well_formed = c.requires.ready.well_formed;
       pseudo = may_be_made _ _ _ next.1;
       after = c.is_key_or_noted.ensures.rest.board ∙ (rw here at c.play-undo.ensures.after);
@@ -26,7 +26,7 @@ loop-by-preserved g c =
     let next = rw c.loop-by.invariant.0.0 at c.in-Some.ensures.next in
     let here = c.in-Some.ensures.unchanged ∙ c.loop-by.invariant.0.0 in
     let rule = g.R.Rules.rule in
-    let p = c.args.board.now in
+    let p = c.args.desk.now.board in
     let most = c.args.task.now.most in
     let contest = contest_of c.args.task.now in
     let led = rw here at c.play-undo.ensures.after in
@@ -50,7 +50,7 @@ pub returns-then-is_key_or_noted-clause-next : goal.returns-then-is_key_or_noted
 returns-then-is_key_or_noted-clause-next g c =
     let next = rw c.loop-by.invariant.0.0 at c.in-Some.ensures.next in
     let rule = g.R.Rules.rule in
-    let p = c.args.board.now in
+    let p = c.args.desk.now.board in
     let contest = contest_of c.args.task.now in
     let key : belongs rule contest Keys (position_after rule p c.in-Some.by) ≡ true = search rules in (
       first_of_all (λ m. belongs rule contest Keys (position_after rule p m)) c.in-Some.by _ _ next.0 _ key c.loop-by.invariant.0.3,
@@ -59,3 +59,13 @@ returns-then-is_key_or_noted-clause-next g c =
       next.1,
       key_refuting rule contest (position_after rule p c.in-Some.by) c.none.result key c.none.ensures,
     )
+
+pub returns-then-is_key_or_noted-clause-noted : goal.returns-then-is_key_or_noted-clause-noted
+returns-then-is_key_or_noted-clause-noted g c =
+    let next = rw c.loop-by.invariant.0.0 at c.in-Some.ensures.next in
+    let here = c.in-Some.ensures.unchanged ∙ c.loop-by.invariant.0.0 in
+    let rule = g.R.Rules.rule in
+    let p = c.args.desk.now.board in
+    let led = rw here at c.play-undo.ensures.after in
+    held_on rule p (is_try_after rule (contest_of c.args.task.now) c.args.task.now.most p) c.loop-by.candidates.set c.is_key_or_noted.new.candidates _ _ c.in-Some.by
+    next.0 c.loop-by.invariant.1 (rw led at c.is_key_or_noted.ensures.noted) c.is_key_or_noted.ensures.kept

@@ -13,7 +13,7 @@ unplay-requires g c =
     let next = rw c.loop-by.invariant.0 at c.in-Some.ensures.next in
     let here = c.in-Some.ensures.unchanged ∙ c.loop-by.invariant.0 in
     record {
-      before = c.args.board.now;
+      before = c.args.desk.now.board;
       well_formed = c.requires.ready.well_formed;
       pseudo = may_be_made _ _ _ next.1;
       after = c.is_try_as_kept.ensures.rest.board ∙ (rw here at c.play-undo.ensures.after);
@@ -25,25 +25,22 @@ is_try_as_kept-requires g c =
     let next = rw c.loop-by.invariant.0 at c.in-Some.ensures.next in
     let here = c.in-Some.ensures.unchanged ∙ c.loop-by.invariant.0 in
     let rule = g.R.Rules.rule in
-    let p = c.args.board.now in
+    let p = c.args.desk.now.board in
     let contest = contest_of c.args.task.now in
     let led = rw here at c.play-undo.ensures.after in
     let on : IsPlaceOf c.number.result c.in-Some.by =
     place_is rule p c.in-Some.by c.number.result c.requires.ready.well_formed next.1 (c.number.ensures ∙ c.in-Some.ensures.place) in (
       search rules,
       (
-        search rules,
+        rw (c.contest-contest.ensures, led) (record {
+          fits = c.requires.ready.fits;
+          well_formed = after_well_formed rule p c.in-Some.by c.requires.ready.well_formed (may_be_made rule p c.in-Some.by next.1);
+          room = search rules;
+        }),
         (
-          rw (c.contest-contest.ensures, led) (record {
-            fits = c.requires.ready.fits;
-            well_formed = after_well_formed rule p c.in-Some.by c.requires.ready.well_formed (may_be_made rule p c.in-Some.by next.1);
-            room = search rules;
-          }),
-          (
-            c.requires.few,
-            rw (c.contest-contest.ensures, led) (known_at rule contest c.args.task.now.most p c.args.candidates.now.kept c.number.result c.in-Some.by c.kept_at-kept.result on
-                c.requires.kept c.kept_at-kept.ensures),
-          ),
+          c.requires.few,
+          rw (c.contest-contest.ensures, led) (known_at rule contest c.args.task.now.most p c.args.candidates.now.kept c.number.result c.in-Some.by c.kept_at-kept.result on
+              c.requires.kept c.kept_at-kept.ensures),
         ),
       ),
     )
@@ -51,7 +48,7 @@ is_try_as_kept-requires g c =
 pub loop-by-preserved : goal.loop-by-preserved
 loop-by-preserved g c =
     let next = rw c.loop-by.invariant.0 at c.in-Some.ensures.next in
-    let p = c.args.board.now in
+    let p = c.args.desk.now.board in
     let test = is_try_after g.R.Rules.rule (contest_of c.args.task.now) c.args.task.now.most p in
     let fails = not_held g.R.Rules.rule p test c.args.candidates.now.set c.in-Some.by c.requires.held c.requires.ready.well_formed next.1
     (sym c.may_be.ensures ∙ c.if-may_be.false) in

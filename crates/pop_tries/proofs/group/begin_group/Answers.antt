@@ -18,7 +18,7 @@ returns g c =
     let group = c.args.group in
     let candidates = c.first_candidates.result in
     let firsts : Firsts g.row.R.Denot = record { group = group; place = c.start.result; count = 0; candidates = candidates } in
-    let holds : HoldsAt rule task (FirstMove firsts) c.args.frames.now.items c.args.board.now = (
+    let holds : HoldsAt rule task (FirstMove firsts) c.args.desk.now.frames.items c.args.desk.now.board = (
       h.0,
       h.1,
       record {

@@ -26,7 +26,7 @@ returns-in_default g c =
     let h = c.requires.holds in
     let firsts = c.args.firsts in
     let next = rw h.1.board_at at c.in_default.ensures.next in
-    let bare : IsBare (play_start c.args.task.now.problem) c.play_next-found.new.frames.items c.play_next-found.new.board =
+    let bare : IsBare (play_start c.args.task.now.problem) c.play_next-found.new.desk.frames.items c.play_next-found.new.desk.board =
     record { board_at = next.1; none = c.play_next-found.ensures.frames ∙ h.1.none } in
     goes.group_ended g.R.Rules.rule c.args.task.now firsts _ _ _ _ _ (c.end_group-in_default.ensures.goes _ _ bare)
     (c.end_group-in_default.ensures.emits _) c.end_group-in_default.ensures.event

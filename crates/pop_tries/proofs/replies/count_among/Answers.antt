@@ -9,7 +9,7 @@ use Rattle.pop_tries.proofs.replies.count_among.Goals as goal
 pub returns-then-count-tally-clause-last : goal.returns-then-count-tally-clause-last
 returns-then-count-tally-clause-last g c =
     let next = rw c.loop-by.invariant.0 at c.in-Some.ensures.next in
-    let p = c.args.board.now in
+    let p = c.args.desk.now.board in
     let meets : refutes_among g.R.Rules.rule c.args.contest c.args.counted p c.in-Some.by ≡ true = search rules in
     refuted_at g.R.Rules.rule c.args.contest p c.number-last.result c.in-Some.by
     (place_is g.R.Rules.rule p c.in-Some.by c.number-last.result c.requires.ready.well_formed next.1 (c.number-last.ensures ∙ c.in-Some.ensures.place))
@@ -18,7 +18,7 @@ returns-then-count-tally-clause-last g c =
 pub loop-by-preserved-else-count-tally : goal.loop-by-preserved-else-count-tally
 loop-by-preserved-else-count-tally g c =
     let next = rw c.loop-by.invariant.0 at c.in-Some.ensures.next in
-    let p = c.args.board.now in
+    let p = c.args.desk.now.board in
     let test = refutes_among g.R.Rules.rule c.args.contest c.args.counted p in
     let meets : test c.in-Some.by ≡ true = search rules in
     let last = refuted_at g.R.Rules.rule c.args.contest p c.number-last.result c.in-Some.by

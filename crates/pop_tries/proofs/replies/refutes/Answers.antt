@@ -3,7 +3,7 @@ use Rattle.pop_tries.proofs.replies.refutes.Goals as goal
 
 pub unplay-requires : goal.unplay-requires
 unplay-requires g c = record {
-  before = c.args.board.now;
+  before = c.args.desk.now.board;
   well_formed = c.requires.ready.well_formed;
   pseudo = may_be_made _ _ _ c.requires.legal;
   after = c.is_refuted-refuted.ensures.rest.board ∙ c.play-undo.ensures.after;
@@ -12,7 +12,7 @@ unplay-requires g c = record {
 
 pub returns-clause-rest : goal.returns-clause-rest
 returns-clause-rest g c = record {
-  board = c.unplay.ensures.before c.args.board.now c.requires.ready.well_formed (may_be_made _ _ _ c.requires.legal)
+  board = c.unplay.ensures.before c.args.desk.now.board c.requires.ready.well_formed (may_be_made _ _ _ c.requires.legal)
       (c.is_refuted-refuted.ensures.rest.board ∙ c.play-undo.ensures.after) c.play-undo.ensures.undo;
   frames = c.is_refuted-refuted.ensures.rest.frames;
 }

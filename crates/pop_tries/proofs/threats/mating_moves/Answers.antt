@@ -1,5 +1,5 @@
 use Rattle.pop_tries.proofs.Words.{List, Move, ap, filter, inr, legal_moves, rules, subst, sym, ◌∙◌}
-use Rattle.chess_flights.specs.ties.Mates.{is_mating, mates_after}
+use Rattle.chess_flights.specs.ties.Mates.{is_mating}
 use Rattle.chess_mates.specs.ties.MatingPlaces.{MatingPlace}
 use Rattle.pop_tries.specs.ties.FewPlaces.{AreAt}
 use Rattle.pop_tries.proofs.FewPlaces.{held_along, mates_at_start, mates_held, place_is}

@@ -1,4 +1,4 @@
-use Rattle.pop_tries.proofs.Words.{keeps_win, legal_moves, filter, sym, works, ◌∙◌, position_after}
+use Rattle.pop_tries.proofs.Words.{legal_moves, filter, sym, works, ◌∙◌, position_after}
 use Rattle.pop_battle.specs.Chess.{set_start}
 use Rattle.pop_tries.specs.Events.{chess_passing}
 use Rattle.pop_tries.specs.ties.Contests.{game_in, moves_of, wins_within}
@@ -9,7 +9,7 @@ use Rattle.pop_tries.proofs.threats.stops_few.Goals as goal
 pub returns-clause-defence : goal.returns-clause-defence
 returns-clause-defence g c =
     let rule = g.R.Rules.rule in
-    let q = c.args.board.now in
+    let q = c.args.desk.now.board in
     let t = c.requires.threat in
     let after = position_after rule q c.args.by in
     let test = works c.args.contest.battle (game_in rule c.args.contest) c.args.contest.stipulation.n (chess_passing rule) (moves_of c.args.threat.length) after in

@@ -10,15 +10,15 @@ pub works-still-requires : goal.works-still-requires
 works-still-requires g c =
     let t = rw c.in-Some.is at c.requires.threat in
     let legal = rw c.loop-tried.invariant.0 at c.in-Some-next_move.ensures.next.1 in
-    let on = placed g.R.Rules.rule (set_start c.args.board.now) _ _ (passed_well_formed c.args.board.now c.requires.well_formed) legal
+    let on = placed g.R.Rules.rule (set_start c.args.desk.now.board) _ _ (passed_well_formed c.args.desk.now.board c.requires.well_formed) legal
     c.in-Some-next_move.ensures.place in
-    (search rules, (search rules, (t.timed.fits, ((on.0, on.1), (c.play-undo.ensures.well_formed, search (rules, t.timed.most))))))
+    (search rules, (t.timed.fits, ((on.0, on.1), (c.play-undo.ensures.well_formed, search (rules, t.timed.most)))))
 
 pub unplay-requires : goal.unplay-requires
 unplay-requires g c =
-    let back : c.unpass.new.board ≡ c.args.board.now = c.unpass.ensures.before c.args.board.now (search rules) c.loop-tried.invariant.1 in
+    let back : c.unpass.new.board ≡ c.args.desk.now.board = c.unpass.ensures.before c.args.desk.now.board (search rules) c.loop-tried.invariant.1 in
     record {
-      before = c.args.board.now;
+      before = c.args.desk.now.board;
       well_formed = c.requires.well_formed;
       pseudo = may_be_made _ _ _ c.requires.legal;
       after = c.works-still.ensures.rest.board ∙ (rw back at c.play-undo.ensures.after);
@@ -29,48 +29,48 @@ pub returns-then-not-still-clause-defence : goal.returns-then-not-still-clause-d
 returns-then-not-still-clause-defence g c =
     let t = rw c.in-Some.is at c.requires.threat in
     let next = rw c.loop-tried.invariant.0 at c.in-Some-next_move.ensures.next in
-    let on = placed g.R.Rules.rule (set_start c.args.board.now) _ _ (passed_well_formed c.args.board.now c.requires.well_formed) next.1
+    let on = placed g.R.Rules.rule (set_start c.args.desk.now.board) _ _ (passed_well_formed c.args.desk.now.board c.requires.well_formed) next.1
     c.in-Some-next_move.ensures.place in
-    let back : c.unpass.new.board ≡ c.args.board.now = c.unpass.ensures.before c.args.board.now (search rules) c.loop-tried.invariant.1 in
+    let back : c.unpass.new.board ≡ c.args.desk.now.board = c.unpass.ensures.before c.args.desk.now.board (search rules) c.loop-tried.invariant.1 in
     let there = found (λ m. keeps_win c.args.contest.battle (game_in g.R.Rules.rule c.args.contest) (moves_of c.in-Some.threats.length)
-    (position_after g.R.Rules.rule (set_start c.args.board.now) m)) c.in-Some-next_move.tried _ _ next.0
+    (position_after g.R.Rules.rule (set_start c.args.desk.now.board) m)) c.in-Some-next_move.tried _ _ next.0
     (λ t. not (works c.args.contest.battle (game_in g.R.Rules.rule c.args.contest) c.args.contest.stipulation.n (chess_passing g.R.Rules.rule)
-    (moves_of c.in-Some.threats.length) (position_after g.R.Rules.rule c.args.board.now c.args.by) t)) _ (search rules) (search (rules, back, on.2)) c.loop-tried.invariant.5 in
-    sym (defence_by_loop g.R.Rules.rule c.args.contest c.args.board.now c.in-Some.threats.length c.args.by t.timed ∙ there)
+    (moves_of c.in-Some.threats.length) (position_after g.R.Rules.rule c.args.desk.now.board c.args.by) t)) _ (search rules) (search (rules, back, on.2)) c.loop-tried.invariant.5 in
+    sym (defence_by_loop g.R.Rules.rule c.args.contest c.args.desk.now.board c.in-Some.threats.length c.args.by t.timed ∙ there)
 
 pub loop-tried-preserved-then-is_threat : goal.loop-tried-preserved-then-is_threat
 loop-tried-preserved-then-is_threat g c =
     let next = rw c.loop-tried.invariant.0 at c.in-Some-next_move.ensures.next in
-    let on = placed g.R.Rules.rule (set_start c.args.board.now) _ _ (passed_well_formed c.args.board.now c.requires.well_formed) next.1
+    let on = placed g.R.Rules.rule (set_start c.args.desk.now.board) _ _ (passed_well_formed c.args.desk.now.board c.requires.well_formed) next.1
     c.in-Some-next_move.ensures.place in
-    let back : c.unpass.new.board ≡ c.args.board.now = c.unpass.ensures.before c.args.board.now (search rules) c.loop-tried.invariant.1 in
-    let home : c.unplay.new.board ≡ c.args.board.now = c.unplay.ensures.before c.args.board.now c.requires.well_formed
+    let back : c.unpass.new.board ≡ c.args.desk.now.board = c.unpass.ensures.before c.args.desk.now.board (search rules) c.loop-tried.invariant.1 in
+    let home : c.unplay.new.board ≡ c.args.desk.now.board = c.unplay.ensures.before c.args.desk.now.board c.requires.well_formed
     (may_be_made _ _ _ c.requires.legal) (c.works-still.ensures.rest.board ∙ (rw back at c.play-undo.ensures.after))
     (rw back at c.play-undo.ensures.undo) in
     let none = not_there (λ m. keeps_win c.args.contest.battle (game_in g.R.Rules.rule c.args.contest) (moves_of c.in-Some.threats.length)
-    (position_after g.R.Rules.rule (set_start c.args.board.now) m)) c.in-Some-next_move.tried _ _ next.0
+    (position_after g.R.Rules.rule (set_start c.args.desk.now.board) m)) c.in-Some-next_move.tried _ _ next.0
     (λ t. not (works c.args.contest.battle (game_in g.R.Rules.rule c.args.contest) c.args.contest.stipulation.n (chess_passing g.R.Rules.rule)
-    (moves_of c.in-Some.threats.length) (position_after g.R.Rules.rule c.args.board.now c.args.by) t)) _ (search rules) (search (rules, back, on.2)) c.loop-tried.invariant.5 in
+    (moves_of c.in-Some.threats.length) (position_after g.R.Rules.rule c.args.desk.now.board c.args.by) t)) _ (search rules) (search (rules, back, on.2)) c.loop-tried.invariant.5 in
     (search (rules, home), search (rules, home), search rules, search rules, c.in-Some.is, none)
 
 pub loop-tried-preserved : goal.loop-tried-preserved
 loop-tried-preserved g c =
     let next = rw c.loop-tried.invariant.0 at c.in-Some-next_move.ensures.next in
     let none = not_asked (λ m. keeps_win c.args.contest.battle (game_in g.R.Rules.rule c.args.contest) (moves_of c.in-Some.threats.length)
-    (position_after g.R.Rules.rule (set_start c.args.board.now) m)) c.in-Some-next_move.tried _ _ next.0
+    (position_after g.R.Rules.rule (set_start c.args.desk.now.board) m)) c.in-Some-next_move.tried _ _ next.0
     (λ t. not (works c.args.contest.battle (game_in g.R.Rules.rule c.args.contest) c.args.contest.stipulation.n (chess_passing g.R.Rules.rule)
-    (moves_of c.in-Some.threats.length) (position_after g.R.Rules.rule c.args.board.now c.args.by) t)) _ (search rules) c.loop-tried.invariant.5 in
+    (moves_of c.in-Some.threats.length) (position_after g.R.Rules.rule c.args.desk.now.board c.args.by) t)) _ (search rules) c.loop-tried.invariant.5 in
     (search rules, search rules, search rules, search rules, c.in-Some.is, none)
 
 pub returns-then-not-still-clause-rest : goal.returns-then-not-still-clause-rest
 returns-then-not-still-clause-rest g c =
-    let back : c.unpass.new.board ≡ c.args.board.now = c.unpass.ensures.before c.args.board.now (search rules) c.loop-tried.invariant.1 in
+    let back : c.unpass.new.board ≡ c.args.desk.now.board = c.unpass.ensures.before c.args.desk.now.board (search rules) c.loop-tried.invariant.1 in
     record {
-      board = c.unplay.ensures.before c.args.board.now c.requires.well_formed (may_be_made _ _ _ c.requires.legal)
+      board = c.unplay.ensures.before c.args.desk.now.board c.requires.well_formed (may_be_made _ _ _ c.requires.legal)
           (c.works-still.ensures.rest.board ∙ (rw back at c.play-undo.ensures.after)) (rw back at c.play-undo.ensures.undo);
       frames = c.works-still.ensures.rest.frames ∙ (c.is_threat.ensures.rest.frames ∙ c.loop-tried.invariant.2);
     }
 
 pub returns-in_default-clause-defence : goal.returns-in_default-clause-defence
 returns-in_default-clause-defence g c =
-    sym (defence_without_threat g.R.Rules.rule c.args.contest c.args.board.now c.args.by (rw c.in_default.is at c.requires.threat))
+    sym (defence_without_threat g.R.Rules.rule c.args.contest c.args.desk.now.board c.args.by (rw c.in_default.is at c.requires.threat))

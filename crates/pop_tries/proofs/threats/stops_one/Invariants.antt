@@ -8,16 +8,16 @@ use Rattle.pop_tries.proofs.threats.stops_one.Given as goal
 
 -- Black has passed; whether the reply stops a threat depends on the threats still to come
 abbrev pub invariant-loop-tried : goal.invariant-loop-tried
-invariant-loop-tried g l = (l.board ≡ set_start l.fn.board) × (l.crossed ≡ l.fn.board.crossed) × (l.frames.items ≡ l.fn.frames.items)
-    × IfSome l.known (λ k. IsPlaceIn g.R.Rules.rule (set_start l.fn.board) k) × (l.fn.threat ≡ Some l.threats)
+invariant-loop-tried g l = (l.desk.board ≡ set_start l.fn.desk.board) × (l.crossed ≡ l.fn.desk.board.crossed) × (l.desk.frames.items ≡ l.fn.desk.frames.items)
+    × IfSome l.known (λ k. IsPlaceIn g.R.Rules.rule (set_start l.fn.desk.board) k) × (l.fn.threat ≡ Some l.threats)
     × (list_any (λ t. not (works l.fn.contest.battle (game_in g.R.Rules.rule l.fn.contest) l.fn.contest.stipulation.n (chess_passing g.R.Rules.rule)
-    (moves_of l.threats.length) (position_after g.R.Rules.rule l.fn.board l.fn.by) t))
+    (moves_of l.threats.length) (position_after g.R.Rules.rule l.fn.desk.board l.fn.by) t))
     (filter (λ m. keeps_win l.fn.contest.battle (game_in g.R.Rules.rule l.fn.contest) (moves_of l.threats.length)
-    (position_after g.R.Rules.rule (set_start l.fn.board) m)) (moves_after g.R.Rules.rule (set_start l.fn.board) l.place))
+    (position_after g.R.Rules.rule (set_start l.fn.desk.board) m)) (moves_after g.R.Rules.rule (set_start l.fn.desk.board) l.place))
     ≡ list_any (λ t. not (works l.fn.contest.battle (game_in g.R.Rules.rule l.fn.contest) l.fn.contest.stipulation.n (chess_passing g.R.Rules.rule)
-    (moves_of l.threats.length) (position_after g.R.Rules.rule l.fn.board l.fn.by) t))
+    (moves_of l.threats.length) (position_after g.R.Rules.rule l.fn.desk.board l.fn.by) t))
     (filter (λ m. keeps_win l.fn.contest.battle (game_in g.R.Rules.rule l.fn.contest) (moves_of l.threats.length)
-    (position_after g.R.Rules.rule (set_start l.fn.board) m)) (legal_moves g.R.Rules.rule (set_start l.fn.board))))
+    (position_after g.R.Rules.rule (set_start l.fn.desk.board) m)) (legal_moves g.R.Rules.rule (set_start l.fn.desk.board))))
 
 abbrev pub decreases-loop-tried : goal.decreases-loop-tried
-decreases-loop-tried g l = length (moves_after g.R.Rules.rule (set_start l.fn.board) l.place)
+decreases-loop-tried g l = length (moves_after g.R.Rules.rule (set_start l.fn.desk.board) l.place)

@@ -1,4 +1,4 @@
-use Rattle.pop_tries.proofs.Words.{Bool, Some, rules, true, ◌∙◌, ◌≡◌}
+use Rattle.pop_tries.proofs.Words.{Some, rules, true, ◌∙◌, ◌≡◌}
 use Rattle.pop_tries.specs.ties.Contests.{wins_within}
 use Rattle.pop_tries.proofs.FewPlaces.{noted_on, place_is}
 use Rattle.pop_tries.proofs.MoveSets.{held_on}
@@ -7,7 +7,7 @@ use Rattle.pop_tries.proofs.threats.tested_moves.Goals as goal
 pub loop-by-preserved-then-wins_by : goal.loop-by-preserved-then-wins_by
 loop-by-preserved-then-wins_by g c =
     let rule = g.R.Rules.rule in
-    let p = c.args.board.now in
+    let p = c.args.desk.now.board in
     let test = wins_within rule c.args.contest c.args.length p in
     let next = rw c.loop-by.invariant.0 at c.in-Some.ensures.next in
     let put = c.with-moves.ensures in

@@ -3,7 +3,7 @@ use Rattle.pop_tries.proofs.threats.wins_by.Goals as goal
 
 pub unplay-requires : goal.unplay-requires
 unplay-requires g c = record {
-  before = c.args.board.now;
+  before = c.args.desk.now.board;
   well_formed = c.requires.well_formed;
   pseudo = may_be_made _ _ _ c.requires.legal;
   after = c.value_of-wins.ensures.board ∙ c.play-undo.ensures.after;
@@ -12,7 +12,7 @@ unplay-requires g c = record {
 
 pub returns-clause-rest : goal.returns-clause-rest
 returns-clause-rest g c = record {
-  board = c.unplay.ensures.before c.args.board.now c.requires.well_formed (may_be_made _ _ _ c.requires.legal)
+  board = c.unplay.ensures.before c.args.desk.now.board c.requires.well_formed (may_be_made _ _ _ c.requires.legal)
       (c.value_of-wins.ensures.board ∙ c.play-undo.ensures.after) c.play-undo.ensures.undo;
   frames = c.value_of-wins.ensures.frames;
 }

@@ -10,10 +10,10 @@ invariant_of-result g c =
       is_task = record { sound = c.diagram.ensures.sound; few = c.requires.few };
       room = c.requires.room;
       holds = holds_first g.R.Rules.rule c.args.problem.now c.first_stage-battle.result.0 c.args.most c.first_stage-battle.ensures.battle _
-          c.first_stage-battle.ensures.stage _ c.new.ensures c.diagram.ensures.sound _ at;
+          c.first_stage-battle.ensures.stage _ c.with.ensures.frames c.diagram.ensures.sound _ (c.with.ensures.board ∙ at);
     }
 
 pub returns-clause-left : goal.returns-clause-left
 returns-clause-left g c =
     all_to_come g.R.Rules.rule c.args.problem.now c.first_stage-battle.result.0 c.args.most c.first_stage-battle.ensures.battle _
-    c.first_stage-battle.ensures.stage _ c.new.ensures
+    c.first_stage-battle.ensures.stage _ c.with.ensures.frames
