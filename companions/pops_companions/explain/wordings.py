@@ -215,9 +215,11 @@ def misspelt(case: Case) -> Optional[Explanation]:
 
 
 def _denies(word: str, name: str) -> bool:
-    """Returns whether a word may mean the opposite of a name, as NoVariation, or Castling of NoCastling."""
+    """Returns whether a word may be the opposite of a name: `NoVariation`, or `Castling`."""
     small = name.lower()
-    return word.startswith("no") != small.startswith("no") and (word.startswith("no") or small[2:].startswith(word))
+    if word.startswith("no"):
+        return not small.startswith("no")
+    return small.startswith("no") and small[2:].startswith(word)
 
 
 def _names_more(word: str, name: str) -> bool:
