@@ -80,12 +80,38 @@ class Mending(unittest.TestCase):
             ("Stipulation #2\nSetPlay", "Stipulation #2\nOption SetPlay"),
             ("Stipulation #2 (SetPlay)", "Stipulation #2 Option SetPlay"),
             ("Stipulation #2 (3+1)", "Stipulation #2"),
+            ("Stipulation #two", "Stipulation #2"),
+            ("Stipulation h# 2,5", "Stipulation h#2.5"),
+            ("Stipulation White to mate in 2", "Stipulation #2"),
+            ("Stipulation White to play and mate in two moves", "Stipulation #2"),
+            ("Stipulation #2 (set play)", "Stipulation #2 Option setplay"),
+            ("Stipulation #2\nOr A journal", "Stipulation #2\nOrigin A journal"),
+            ("Stipulation #2\nOption NoBord", "Stipulation #2\nOption NoBoard"),
             ("Award 1st Prize\nStipulation #2", "Remark award: 1st Prize\nStipulation #2"),
             ("Stipulation #2\n# a comment", "Stipulation #2\nRemark # a comment"),
             ("Stipulation #2\nStipulation #2", "Stipulation #2"),
         ):
             with self.subTest(wrong):
                 self.assertEqual(mend(text_of(PIECES, wrong)).text, text_of(PIECES, right))
+
+    def test_what_may_be_another_problem_stays(self) -> None:
+        """`or` is no Origin, no option becomes its opposite, no stipulation a comment."""
+        for wrong in (
+            "Stipulation #II",
+            "Stipulation #3 or #2",
+            "Stipulation #2/3",
+            "Stipulation =2 #",
+            "Stipulation Black to play and mate in 2",
+            "Stipulation White to move",
+            "Stipulation #2\nOption NoVariation",
+            "Stipulation #2\nOption NoSetPlay",
+            "Stipulation #2\nOption Variation No",
+            "Stipulation #2\nOption Castling h1",
+        ):
+            with self.subTest(wrong):
+                made = mend(text_of(PIECES, wrong))
+                self.assertEqual(made.text, text_of(PIECES, wrong))
+                self.assertEqual((made.mended, made.left), (0, 1))
 
     def test_what_advice_leaves_out(self) -> None:
         for wrong, right in (
