@@ -107,11 +107,15 @@ class Mending(unittest.TestCase):
             "Stipulation #2\nOption NoSetPlay",
             "Stipulation #2\nOption Variation No",
             "Stipulation #2\nOption Castling h1",
+            "Stipulation #2\nOption not SetPlay",
+            "Stipulation h#3 not",
         ):
             with self.subTest(wrong):
                 made = mend(text_of(PIECES, wrong))
                 self.assertEqual(made.text, text_of(PIECES, wrong))
                 self.assertEqual((made.mended, made.left), (0, 1))
+        made = mend(text_of(PIECES, "Stipulation h#3 not Circe"))
+        self.assertEqual((made.text, made.mended), (text_of(PIECES, "Stipulation h#3 not Circe"), 0))
 
     def test_what_advice_leaves_out(self) -> None:
         for wrong, right in (
