@@ -209,6 +209,24 @@ class Mending(unittest.TestCase):
         self.assertEqual((made.mended, made.left, faults(made.text)), (5, 0, 0))
         self.assertEqual(len(cut(made.text)), 3)
 
+    def test_a_line_that_may_mean_another_problem_is_left(self) -> None:
+        for line in (
+            *("Stipulation #2 black", "Stipulation #2 Black to move", "Stipulation mate in 2 by Black"),
+            *("Stipulation White mates in 2 after Black's move", "Stipulation mate in 1 or 2"),
+            *("Stipulation #1,5", "Stipulation #2 without castling", "Stipulation Matt in 2, nicht 3"),
+            *("Stipulation #2\nOption SetPlay=0", "Stipulation #2\nOption Variations: off"),
+            *("Stipulation #2\nOption Variatons none", "Stipulation #2\nCondition Cirse or Madrasi"),
+            *("Stipulation #2\nCondition not Cirse", "Stipulation #2\nCondition keine Cirse"),
+        ):
+            with self.subTest(line):
+                text = text_of(PIECES, *line.split("\n"))
+                made = mend(text)
+                self.assertEqual((made.mended, made.left, made.text), (0, 1, text))
+
+    def test_no_that_belongs_to_an_option_is_joined(self) -> None:
+        made = mend(text_of(PIECES, "Stipulation #1", "Option No Board"))
+        self.assertEqual(made.text, text_of(PIECES, "Stipulation #1", "Option NoBoard"))
+
     def test_the_end_is_added(self) -> None:
         text = f"BeginProblem\n{PIECES}\nStipulation #1".encode()
         self.assertEqual(mend(text).text, text + b"\nEndProblem\n")

@@ -184,9 +184,9 @@ def _other_goal(case: Case) -> Optional[Explanation]:
 
 def _comma(case: Case) -> Optional[Explanation]:
     mended = re.sub(r",5$", ".5", case.plain)
-    if mended == case.plain or not case.fits(mended):
+    if mended == case.plain:
         return None
-    return case.tells("half_point", mended=mended)
+    return case.tells("half_point", mended=mended) if case.fits(mended) else _wrong_number(case, mended)
 
 
 def _reversed(case: Case) -> Optional[Explanation]:
