@@ -272,6 +272,17 @@ function without(text, parts) {
 }
 
 /**
+ * Removes a problem's text lines that begin with these commands.
+ * @param {string} text
+ * @param {number} place
+ * @param {string[]} commands
+ */
+export function withoutLines(text, place, commands) {
+  const lines = problemAt(text, place).words.filter(word => word.command && commands.includes(word.command));
+  return without(text, lines.map(({ from, to, end = to }) => ({ from, to: end })));
+}
+
+/**
  * Replaces the men of a problem.
  * @param {string} text
  * @param {number} place

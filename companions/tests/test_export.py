@@ -212,6 +212,12 @@ award:
 distinction: Prize
 keywords: [Grimshaw]
 source-id: 12a
+issue-id: 12/1977
+volume: 3
+issue: 7
+round: 2
+tourney: Informal 1977
+judges: [Roe, "Muster, A."]
 algebraic:
   white: [Kg6, Ra1]
   black: [Kh8]
@@ -243,6 +249,12 @@ solution: |2
             "distinction": "Prize",
             "keywords": ["Grimshaw"],
             "source-id": "12a",
+            "issue-id": "12/1977",
+            "volume": "3",
+            "issue": "7",
+            "round": "2",
+            "tourney": "Informal 1977",
+            "judges": ["Roe", "Muster, A."],
             "algebraic": {"white": ["Kg6", "Ra1"], "black": ["Kh8"]},
             "stipulation": "h#1",
             "intended-solutions": "2.1",

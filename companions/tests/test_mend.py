@@ -80,12 +80,42 @@ class Mending(unittest.TestCase):
             ("Stipulation #2\nSetPlay", "Stipulation #2\nOption SetPlay"),
             ("Stipulation #2 (SetPlay)", "Stipulation #2 Option SetPlay"),
             ("Stipulation #2 (3+1)", "Stipulation #2"),
+            ("Stipulation #two", "Stipulation #2"),
+            ("Stipulation h# 2,5", "Stipulation h#2.5"),
+            ("Stipulation White to mate in 2", "Stipulation #2"),
+            ("Stipulation White to play and mate in two moves", "Stipulation #2"),
+            ("Stipulation #2 (set play)", "Stipulation #2 Option setplay"),
+            ("Stipulation #2\nOr A journal", "Stipulation #2\nOrigin A journal"),
+            ("Stipulation #2\nOption NoBord", "Stipulation #2\nOption NoBoard"),
             ("Award 1st Prize\nStipulation #2", "Remark award: 1st Prize\nStipulation #2"),
             ("Stipulation #2\n# a comment", "Stipulation #2\nRemark # a comment"),
             ("Stipulation #2\nStipulation #2", "Stipulation #2"),
         ):
             with self.subTest(wrong):
                 self.assertEqual(mend(text_of(PIECES, wrong)).text, text_of(PIECES, right))
+
+    def test_what_may_be_another_problem_stays(self) -> None:
+        """`or` is no Origin, no option becomes its opposite, no stipulation a comment."""
+        for wrong in (
+            "Stipulation #II",
+            "Stipulation #3 or #2",
+            "Stipulation #2/3",
+            "Stipulation =2 #",
+            "Stipulation Black to play and mate in 2",
+            "Stipulation White to move",
+            "Stipulation #2\nOption NoVariation",
+            "Stipulation #2\nOption NoSetPlay",
+            "Stipulation #2\nOption Variation No",
+            "Stipulation #2\nOption Castling h1",
+            "Stipulation #2\nOption not SetPlay",
+            "Stipulation h#3 not",
+        ):
+            with self.subTest(wrong):
+                made = mend(text_of(PIECES, wrong))
+                self.assertEqual(made.text, text_of(PIECES, wrong))
+                self.assertEqual((made.mended, made.left), (0, 1))
+        made = mend(text_of(PIECES, "Stipulation h#3 not Circe"))
+        self.assertEqual((made.text, made.mended), (text_of(PIECES, "Stipulation h#3 not Circe"), 0))
 
     def test_what_advice_leaves_out(self) -> None:
         for wrong, right in (
@@ -178,6 +208,24 @@ class Mending(unittest.TestCase):
         made = mend(text + text_of(PIECES, "Stipulation #1,"))
         self.assertEqual((made.mended, made.left, faults(made.text)), (5, 0, 0))
         self.assertEqual(len(cut(made.text)), 3)
+
+    def test_a_line_that_may_mean_another_problem_is_left(self) -> None:
+        for line in (
+            *("Stipulation #2 black", "Stipulation #2 Black to move", "Stipulation mate in 2 by Black"),
+            *("Stipulation White mates in 2 after Black's move", "Stipulation mate in 1 or 2"),
+            *("Stipulation #1,5", "Stipulation #2 without castling", "Stipulation Matt in 2, nicht 3"),
+            *("Stipulation #2\nOption SetPlay=0", "Stipulation #2\nOption Variations: off"),
+            *("Stipulation #2\nOption Variatons none", "Stipulation #2\nCondition Cirse or Madrasi"),
+            *("Stipulation #2\nCondition not Cirse", "Stipulation #2\nCondition keine Cirse"),
+        ):
+            with self.subTest(line):
+                text = text_of(PIECES, *line.split("\n"))
+                made = mend(text)
+                self.assertEqual((made.mended, made.left, made.text), (0, 1, text))
+
+    def test_no_that_belongs_to_an_option_is_joined(self) -> None:
+        made = mend(text_of(PIECES, "Stipulation #1", "Option No Board"))
+        self.assertEqual(made.text, text_of(PIECES, "Stipulation #1", "Option NoBoard"))
 
     def test_the_end_is_added(self) -> None:
         text = f"BeginProblem\n{PIECES}\nStipulation #1".encode()

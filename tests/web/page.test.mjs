@@ -158,6 +158,12 @@ test('files: a dropped text is taken', () => {
   assert.equal(textNow(), TEXT);
 });
 
+test('files: a text with a byte order mark is taken wherever it is pasted', () => {
+  begin('');
+  paste(`\ufeff${TEXT}`);
+  assert.equal(textNow(), TEXT);
+});
+
 test('a text that is too long for the page is refused', () => {
   const long = 'x'.repeat((1 << 23) + 1);
   for (const give of [() => paste(long), () => send('drop', { dataTransfer: { types: ['text/plain'], files: [], getData: () => long } })]) {
@@ -573,10 +579,11 @@ test('board: seen from the other side, with its letters and keys', () => {
   assert.deepEqual([...corners(), key('e4', 'ArrowUp'), key('e4', 'Home'), kept.has('pops.flipped')], ['a8', 'h1', 'e5', 'a4', false]);
 });
 
-test('editing: clear removes title, source and squares of options too, and leaves the author', () => {
-  begin('BeginProblem\nTitle A\nAuthor B\nOrigin C\nPieces White Ke1 Rh1 Black Ke8\nStipulation #2\nOption Variation NoCastling h1\nEndProblem\n');
+test('editing: clear removes titles, source, remarks and squares of options too, and leaves the author and other problems', () => {
+  const other = 'NextProblem\nTitle D\nRemark keywords: Fleck\nPieces White Kg6 Ra1 Black Kg8\nStipulation #1\nEndProblem\n';
+  begin(`BeginProblem\nTitle Z\nTitle A\nAuthor B\nOrigin C\nRemark solution: "1.Rh8#"\nPieces White Ke1 Rh1 Black Ke8\nRemark keywords: Barulin\nStipulation #2\nOption Variation NoCastling h1\n${other}`);
   changeBoard('clear');
-  assert.equal(textNow(), 'BeginProblem\nAuthor B\nStipulation #2\nOption Variation\nEndProblem\n');
+  assert.equal(textNow(), `BeginProblem\nAuthor B\nStipulation #2\nOption Variation\n${other}`);
   goSteps(-1);
   assert.match(textNow(), /Title A/);
 });

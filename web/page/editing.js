@@ -5,7 +5,7 @@ import { imported } from '../importing.js';
 import { changed, countOf, exchanged, impossibleCounts, readFen } from '../position.js';
 import { LONG_TEXT } from '../slices.js';
 import {
-  blockAt, blocksOf, fenOfBlock, lineOf, menOf, NEW_PROBLEM, tailOf, withFen, withField, withLine, withMen, withTail,
+  blockAt, blocksOf, fenOfBlock, lineOf, menOf, NEW_PROBLEM, tailOf, withFen, withField, withLine, withMen, withoutLines, withTail,
 } from '../text.js';
 import { say } from '../words.js';
 import { scrollToLine, unmarkFaults } from './faults.js';
@@ -109,13 +109,13 @@ export function changeBoard(name) {
   else change(name === 'exchange' ? exchanged : men => changed(men, name));
 }
 
-/** Removes all men, and what belongs to the position that was: title, source, and the squares of options. */
+/** Removes all men, and what belongs to the problem that was: title, source, remarks, and the squares of options. */
 function clearProblem() {
   endTyping();
   leave();
   const { from } = blockMade();
-  let text = withMen(textNow(), from, new Map());
-  for (const name of ['Title', 'Origin', 'EnPassant', 'NoCastling']) text = withField(text, from, name, null);
+  let text = withoutLines(withMen(textNow(), from, new Map()), from, ['title', 'origin', 'remark']);
+  for (const name of ['EnPassant', 'NoCastling']) text = withField(text, from, name, null);
   setText(text);
 }
 

@@ -36,7 +36,7 @@ function isTooLong(length) {
 
 /** @param {ClipboardEvent} event */
 function pasted(event) {
-  const text = event.clipboardData?.getData('text/plain') ?? '';
+  const text = (event.clipboardData?.getData('text/plain') ?? '').replace(/^\ufeff/, '');
   const isField = /** @type {Element} */ (event.target).closest?.('input, select');
   const isText = event.target === element('text');
   if (isField || !text) return;

@@ -22,6 +22,7 @@ from pops_companions.input.reading import (
     OPTIONS,
     FaultKind,
     Reading,
+    Section,
     read_piece,
     squares_of,
 )
@@ -53,6 +54,12 @@ _STAR = re.compile("A star means set play, .*: `Stipulation ([^`]+)` and `(Optio
 _BARE = re.compile(rb"(?i)^[ \t]*(?:sti|con|opt)[a-z]*[ \t]+$")
 # The number that goes with an option of Popeye.
 _ITS_NUMBER = re.compile(rb"[ \t]+[0-9]+(?!\S)")
+# Words by which a line may say something else than its other words do.
+_DENIED = re.compile(
+    rb"(?i)(?<![a-z])(?:not|no|none|or|off|false|without|except|nicht|keine?|ohne|oder|aus|pas|non|sans|ou)(?![a-z])"
+    rb"|[=:][ \t]*0"
+)
+_BLACK = re.compile(rb"(?i)(?<![a-z])(?:black|schwarz|noirs?)(?![a-z])")
 _BYTE_ORDER_MARK = "\ufeff".encode("utf-8")
 MOST_FAULTS = 50
 # What may only be missing because a word before was passed over.
@@ -110,11 +117,31 @@ def edit_for(
         return None
     left = 0 if reading.at is None else len(text) - reading.word.span.stop
     for edit in _proposed(text, reading, said):
+        if _is_unsure(text, reading, edit):
+            continue
         changed = edit.of(text)
         again = read_number(changed, number)
         if again is not None and (again.number is None or _left(changed, again) <= left):
             return edit
     return None
+
+
+def _is_unsure(text: bytes, reading: Reading, edit: Edit) -> bool:
+    """Returns whether the line of an edit may mean another problem, as `#2 or #3` or `SetPlay=0`,
+    or Black to move. A stipulation says nothing of Black.
+    """
+    start, stop = edit.span.start, edit.span.stop
+    if reading.at is None or b"\n" in text[start:stop]:
+        return False
+    line, end = text.rfind(b"\n", 0, start) + 1, text.find(b"\n", stop)
+    before, after = text[line:start], text[stop : len(text) if end < 0 else end]
+    if reading.section is Section.STIPULATION and _BLACK.search(before + b" " + after):
+        return True
+    own = _DENIED.search(text[start:stop])
+    # (`No Board` becomes NoBoard)
+    if own is not None and not edit.text.lower().startswith(own[0].lower()):
+        return True
+    return _DENIED.search(before) is not None or _DENIED.search(after) is not None
 
 
 def _left(text: bytes, reading: Reading) -> int:

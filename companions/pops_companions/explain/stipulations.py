@@ -1,7 +1,7 @@
 """Faults 8 to 10: a bad, a second or no stipulation."""
 
 import re
-from collections.abc import Iterator
+from collections.abc import Iterator, Sequence
 from typing import Any, Optional
 
 from pops_companions.explain import wanted, wordings
@@ -35,6 +35,11 @@ _IN_WORDS = re.compile(
     r"(?: (?:moves?|zügen?|coups?))?[.,;:]*(?= |$)"
 )
 _MOST_WORDS = 6
+# As `#two`.
+_NUMBER_IN_WORDS = re.compile(rf"([sh]?[#=])({'|'.join(_NUMBERS)})[.,;:]*", re.IGNORECASE)
+# What may stand before `mate in 2`.
+_WHITE_FIRST = re.compile("white (?:to )?(?:(?:play|move)s?,? and )?(?=[a-z -]*mates? )")
+_MOST_WORDS_FIRST = 5
 
 
 def looks_like_stipulation(word: str) -> bool:
@@ -50,6 +55,7 @@ def bad(case: Case) -> Iterator[Optional[Explanation]]:
     yield _half(case)
     yield _sign_of_mate(case)
     yield wordings.look_alike(case)
+    yield _white_mates(case)
     yield _section_empty(case)
     yield wordings.of_popeye(case)
     yield _without_number(case)
@@ -62,9 +68,12 @@ def bad(case: Case) -> Iterator[Optional[Explanation]]:
     yield _comma(case)
     yield _reversed(case)
     yield wordings.signs(case)
+    yield _number_in_words(case)
     yield _in_words(case)
     yield wordings.in_another_language(case)
-    yield wordings.comment(case)
+    # (as a comment `#three` would leave the problem without a stipulation)
+    if not case.plain.startswith("#"):
+        yield wordings.comment(case)
     yield case.tells("no_stipulation", forms=_FORMS)
 
 
@@ -89,7 +98,7 @@ def _section_empty(case: Case) -> Optional[Explanation]:
     kinds = (
         (sentence("an_option"), bool(named(word, OPTIONS)), "Option"),
         (sentence("a_condition"), bool(named(word, CONDITIONS)), "Condition"),
-        (sentence("a_colour"), bool(named(word, COLOURS, 3)), "Pieces"),
+        (sentence("a_colour"), _begins_men(case), "Pieces"),
         (sentence("a_man"), is_man(word), "Pieces"),
     )
     for what, holds, section in kinds:
@@ -104,11 +113,17 @@ def _section_empty(case: Case) -> Optional[Explanation]:
     return None
 
 
+def _begins_men(case: Case) -> bool:
+    """Returns whether the word is a colour with men after it."""
+    after = case.after
+    return bool(named(case.word.bytes, COLOURS, 3)) and (after is None or is_man(after.bytes))
+
+
 def _without_number(case: Case) -> Optional[Explanation]:
     if not re.fullmatch("[sh]?[#=]", case.plain, re.IGNORECASE):
         return None
     if case.after is not None:
-        whole = case.plain + decoded(case.after.bytes)
+        whole = case.plain + re.sub(",5$", ".5", decoded(case.after.bytes))
         if case.fits(whole):
             return case.tells("number_parted", case.after.span, whole=whole)
     return case.tells("number_missing_in_word", plain=case.plain)
@@ -169,9 +184,9 @@ def _other_goal(case: Case) -> Optional[Explanation]:
 
 def _comma(case: Case) -> Optional[Explanation]:
     mended = re.sub(r",5$", ".5", case.plain)
-    if mended == case.plain or not case.fits(mended):
+    if mended == case.plain:
         return None
-    return case.tells("half_point", mended=mended)
+    return case.tells("half_point", mended=mended) if case.fits(mended) else _wrong_number(case, mended)
 
 
 def _reversed(case: Case) -> Optional[Explanation]:
@@ -187,18 +202,41 @@ def _reversed(case: Case) -> Optional[Explanation]:
     return case.tells("sign_first", mended=mended)
 
 
+def _number_in_words(case: Case) -> Optional[Explanation]:
+    found = _NUMBER_IN_WORDS.fullmatch(case.plain)
+    if found is None:
+        return None
+    whole = found[1] + _NUMBERS[found[2].lower()]
+    return case.tells("in_words", whole=whole) if case.fits(whole) else None
+
+
 def _in_words(case: Case) -> Optional[Explanation]:
     if is_number(case.word.bytes):
         return case.tells("only_number", plain=case.plain)
-    words = case.rest_of_line(_MOST_WORDS)
-    found = _IN_WORDS.match(" ".join(decoded(it.bytes).lower() for it in words))
+    return _said_in_words(case, case.rest_of_line(_MOST_WORDS))
+
+
+def _white_mates(case: Case) -> Optional[Explanation]:
+    """Explains `White to mate in 2`."""
+    words = case.rest_of_line(_MOST_WORDS + _MOST_WORDS_FIRST)
+    first = _WHITE_FIRST.match(_joined(words))
+    return None if first is None else _said_in_words(case, words, first[0].count(" "))
+
+
+def _joined(words: Sequence[Word]) -> str:
+    return " ".join(decoded(it.bytes).lower() for it in words)
+
+
+def _said_in_words(case: Case, words: Sequence[Word], begin: int = 0) -> Optional[Explanation]:
+    """Explains a stipulation in words, which may begin after some others."""
+    found = _IN_WORDS.match(_joined(words[begin:]))
     sign = None if found is None else _WORDS.get(re.sub("[- ]", "", found[1]))
     if found is not None and sign is not None:
         number = re.sub("(?:½| 1/2|[.,]5)$", ".5", found[2])
         whole = sign + _NUMBERS.get(number, number)
         if not case.fits(whole):
             return _wrong_number(case, whole)
-        spans = [it.span for it in words[: found[0].count(" ") + 1]]
+        spans = [it.span for it in words[: begin + found[0].count(" ") + 1]]
         return case.tells("in_words", *spans, whole=whole)
     sign = _WORDS.get(re.sub("[-#]+$", "", case.plain.lower()))
     return None if sign is None else case.tells("in_words_as", sign=sign)

@@ -8,7 +8,8 @@ from pops_companions.explain.sentences import DATA, sentence
 from pops_companions.import_.language import ForeignWord, folded, foreign_words
 
 _KNOWN: dict[str, Any] = DATA["popeye"]
-_COLOURS = ("white", "black")
+# Words that shorten none: colours, and `not`, without which `not Circe` would be Circe.
+_NO_SHORT_FORMS = ("white", "black", "not")
 
 
 class Unread(NamedTuple):
@@ -53,7 +54,7 @@ def _found(word: str, table: dict[str, Unread]) -> Optional[Unread]:
     small = word.lower()
     if small in table:
         return table[small]
-    if len(small) < 3 or small in _COLOURS:
+    if len(small) < 3 or small in _NO_SHORT_FORMS:
         return None
     return next((it for name, it in table.items() if name.startswith(small)), None)
 

@@ -75,6 +75,9 @@ def joined(case: Case) -> Optional[Explanation]:
     found = _JOINED.fullmatch(_HALF.sub(r"\g<1>.5", case.plain))
     if found is None or not case.fits(found[1]):
         return None
+    # (`#2/3` may be a mate in 2 or 3, `#1,5` one of a half-move more)
+    if "/" in case.plain and re.fullmatch("[0-9]+", found[2]) or case.plain.endswith(",5"):
+        return None
     count = _product(found[2])
     if not count:
         return case.tells("count_unclear")

@@ -69,6 +69,9 @@ def comment(case: Case) -> Optional[Explanation]:
     found = _COMMENT.match(case.plain)
     if found is None or case.fits(case.plain.strip("".join(_SIGNS))):
         return None
+    # (a second goal alone, as in `=2 #`, is no comment)
+    if case.plain == "#" and len(case.rest_of_line(2)) < 2:
+        return None
     return case.tells("comment", first=found[1])
 
 
@@ -117,7 +120,7 @@ def parted(case: Case) -> Optional[Explanation]:
             return case.tells("parted", case.after.span, whole=whole)
     before = case.span_before
     if before is not None:
-        whole = characters.decoded(case.text[before.start : before.stop]) + word
+        whole = without_signs(characters.decoded(case.text[before.start : before.stop]) + word)
         if _is_name(whole):
             return case.tells("parted", before, whole=whole)
     return None
@@ -188,10 +191,12 @@ def lengthened(case: Case) -> Optional[Explanation]:
 def too_short(case: Case) -> Optional[Explanation]:
     """Explains two letters of a word of pops."""
     word = case.plain
-    if len(word) != 2 or not word.isalpha():
+    if len(word) != 2 or not word.isalpha() or word.lower() == "no":
         return None
+    begins_line = case.before is None or case.before.line != case.word.line
     for name in case.names_here():
-        if name.lower().startswith(word.lower()):
+        # (in `#3 or #2` it is no Origin)
+        if name.lower().startswith(word.lower()) and (begins_line or name not in TEXT_WORDS):
             return case.tells("too_short", short=name[:3], name=name)
     return None
 
@@ -204,9 +209,17 @@ def misspelt(case: Case) -> Optional[Explanation]:
     best = min(case.names_here(), key=lambda name: _nearness(word, name), default=None)
     if best is None or _nearness(word, best) > (1 if len(word) < 6 else 2):
         return None
-    if _names_more(word, best):
+    if _names_more(word, best) or _denies(word, best):
         return None
     return case.tells("misspelt", best=best)
+
+
+def _denies(word: str, name: str) -> bool:
+    """Returns whether a word may be the opposite of a name: `NoVariation`, or `Castling`."""
+    small = name.lower()
+    if word.startswith("no"):
+        return not small.startswith("no")
+    return small.startswith("no") and small[2:].startswith(word)
 
 
 def _names_more(word: str, name: str) -> bool:

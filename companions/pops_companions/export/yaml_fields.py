@@ -10,7 +10,8 @@ Value = Union["dict[str, Value]", "list[str]"]
 
 # Keys of Olive and YACPDB that an input of pops keeps as Remarks, `key: text` or `key.below: text`.
 _KEYS = (
-    *("id", "source-id", "sourceid", "distinction", "award", "awards", "keywords", "solution"),
+    *("id", "source-id", "sourceid", "issue-id", "volume", "issue", "round", "keywords", "solution"),
+    *("distinction", "award", "awards", "tourney", "judge", "judges"),
     *("date", "reprint", "reprints", "legend", "dedication", "intended-solutions", "ash", "version"),
 )
 # (a collection has fewer levels)
