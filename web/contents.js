@@ -93,11 +93,14 @@ export function showContents() {
 function* shownContents(text) {
   /** @type {Content[]} */
   const contents = [];
+  /** @type {string[]} */
+  const names = [];
   for (const block of blocksOf(text)) {
-    contents.push(contentOf(text, block));
+    const problem = contentOf(text, block);
+    contents.push(problem);
+    names.push(nameOfProblem(problem));
     yield;
   }
-  const names = contents.map(nameOfProblem);
   const list = element('problems');
   if (list.dataset.names === names.join('\n')) return contents;
   const options = [];
