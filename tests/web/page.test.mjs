@@ -690,6 +690,24 @@ function helpersOf(act) {
 
 const YAML = "---\nalgebraic:\n  white: [Kg6, Ra1]\n  black: [Kg8]\nstipulation: '#1'\n".repeat(80);
 
+test('state: each problem is compared with the solved one once after a change', () => {
+  const others = TEXT.replace('EndProblem', `NextProblem${TEXT.slice(12)}`);
+  begin(others, `${REPORT}${REPORT.replace('problem 1', 'problem 2')}`);
+  let reads = 0;
+  for (const block of state.solvedBlocks) {
+    const { words: own } = block;
+    Object.defineProperty(block, 'words', { get() { reads += 1; return own; } });
+  }
+  setText(others.replace('Ra1', 'Ra2'));
+  assert.deepEqual([1, 2, 3].map(it => state.isPosedNow(it)), [false, true, false]);
+  assert.equal(state.isCurrent(), false);
+  assert.equal(reads, 2);
+  setText(others);
+  assert.equal(state.isSolved() && state.isCurrent(), true);
+  assert.equal(reads, 2);
+  begin(TEXT);
+});
+
 test('beside: a long text of another program is shown at once, and becomes problems by a worker', () => {
   begin(TEXT);
   const [helper] = helpersOf(() => paste(YAML));
