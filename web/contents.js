@@ -46,8 +46,12 @@ function nameOfProblem({ number, title, asked, men }) {
   return `${number}. ${name.slice(0, LONGEST_NAME)}`;
 }
 
-/** @param {Content | undefined} problem whether its title ends as a twin's that isn't the first one */
-const isLabelled = problem => /(?:\)|duplex)$/.test(problem?.title ?? '');
+/**
+ * Returns the place of a problem among twins, by the label of its title; 0 without one.
+ * @param {Content} problem
+ * @returns {number}
+ */
+const placeOfTwin = ({ title }) => companions.labelAndTitle(title)[1].place;
 
 /**
  * Returns the group of twins that a problem belongs to, each with what changes in it; empty if it has no twins.
@@ -57,8 +61,10 @@ const isLabelled = problem => /(?:\)|duplex)$/.test(problem?.title ?? '');
  */
 export function twinsOf(text, contents, number) {
   let [first, last] = [number - 1, number];
-  while (first > 0 && isLabelled(contents[first])) first--;
-  while (isLabelled(contents[last])) last++;
+  /** @param {number} at whether this problem can be the next twin of the one before it */
+  const mayContinue = at => at > 0 && at < contents.length && placeOfTwin(contents[at]) > placeOfTwin(contents[at - 1]);
+  while (mayContinue(first)) first--;
+  while (mayContinue(last)) last++;
   if (last - first < 2) return [];
   const blocks = blocksOf(text);
   const given = givenOf(`BeginProblem${text.slice(blocks[first].start, blocks[last - 1].end)}\nEndProblem`);
@@ -93,11 +99,14 @@ export function showContents() {
 function* shownContents(text) {
   /** @type {Content[]} */
   const contents = [];
+  /** @type {string[]} */
+  const names = [];
   for (const block of blocksOf(text)) {
-    contents.push(contentOf(text, block));
+    const problem = contentOf(text, block);
+    contents.push(problem);
+    names.push(nameOfProblem(problem));
     yield;
   }
-  const names = contents.map(nameOfProblem);
   const list = element('problems');
   if (list.dataset.names === names.join('\n')) return contents;
   const options = [];

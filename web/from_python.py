@@ -50,7 +50,7 @@ PARTS = {
     "pops_companions.show.as_json": ("item_object",),
     "pops_companions.show.diagram": ("diagram", "diagram_file"),
     "pops_companions.show.page": ("Page",),
-    "pops_companions.show.twins": ("groups",),
+    "pops_companions.show.twins": ("groups", "label_and_title"),
 }
 # Modules that JavaScript has by hand.
 BY_HAND = {

@@ -47,12 +47,18 @@ function posedText(drafts) {
 }
 
 /**
- * Reads the problems of a text of another program; null for any other text.
+ * Returns whether a text is one of another program.
+ * @param {string} text
+ */
+export const isOfAnother = text => OF_YAML.test(text) || isOfPopeye(text);
+
+/**
+ * Reads the problems of a text of another program.
  * @param {string} text
  */
 function draftsOf(text) {
-  if (OF_YAML.test(text)) return companions.readYaml(text.replaceAll('\r\n', '\n'));
-  return isOfPopeye(text) ? companions.readPopeye(text.replaceAll('\r\n', '\n')) : null;
+  const lines = text.replaceAll('\r\n', '\n');
+  return OF_YAML.test(text) ? companions.readYaml(lines) : companions.readPopeye(lines);
 }
 
 /**
@@ -63,8 +69,8 @@ function draftsOf(text) {
  */
 export function imported(given) {
   const text = given.replace(/^\ufeff/, '');
+  if (!isOfAnother(text)) return null;
   const drafts = draftsOf(text);
-  if (!drafts) return null;
   const words = new Set(wordsOf(text).map(it => it.word));
   const refutations = drafts.reduce((/** @type {number} */ most, /** @type {any} */ { options }) => Math.max(most, options.refutations), 0);
   return { ...posedText(drafts), asksForTries: refutations > 0 || [...words].some(word => TRIES_OPTIONS.includes(optionOf(word))), refutations };

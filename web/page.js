@@ -1,5 +1,7 @@
 // @ts-check
-// The page: builds its parts, connects buttons, keys and events, and begins with the text of the link, the last visit or an example.
+// The page: builds its parts, connects buttons, keys and events, and begins with the text of the link, the last visit or an example. In a
+// worker, which has no document, the same script does the work of chores.js.
+import { serveChores } from './chores.js';
 import { showContents } from './contents.js';
 import { element, makeButton, partText } from './elements.js';
 import { makeProblem, move, solveFromHere, togglePlaying } from './line.js';
@@ -147,4 +149,5 @@ function begin() {
   loadEngine();
 }
 
-addEventListener('DOMContentLoaded', begin);
+if (typeof document === 'undefined') serveChores();
+else addEventListener('DOMContentLoaded', begin);

@@ -33,6 +33,8 @@ export function remembered(make) {
   let last = null;
   const of = (/** @type {string} */ text) => {
     if (last?.text !== text) last = { text, made: make(text) };
+    // (a string is compared with itself at once, with an equal one letter by letter)
+    last.text = text;
     return last.made;
   };
   return Object.assign(of, {

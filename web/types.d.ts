@@ -120,6 +120,9 @@ interface Head { text: string; isSound: boolean; isHelp: boolean; halfMoves: num
 /** How solving ended. */
 interface Ended { status?: number; failed?: string; isStopped?: boolean }
 
+/** What work of chores.js is given: a text, a report of it, and the numbers of the problems that are wanted. */
+interface ChoreGiven { text: string; report?: string; numbers?: number[] }
+
 /** How a program wants a text solved (npm/pops.d.ts says what each means). */
 interface SolveOptions {
   tries?: boolean; refutations?: number; workers?: number; seconds?: number; signal?: AbortSignal; check?: boolean; noBoard?: boolean;

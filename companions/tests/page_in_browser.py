@@ -489,6 +489,34 @@ def given_away(page: Page) -> None:
     page.holds(browser.run("saved.join()") == "pops.tex,pops.yaml,pops.png", f"saved: {browser.run('saved.join()')}")
 
 
+# Run in the page: how many turns of others come while something is awaited.
+TURNS = "(() => { window.turns = 0; const turn = () => { turns++; setTimeout(turn); }; turn(); })()"
+
+
+def beside(page: Page) -> None:
+    """A long collection of YAML becomes problems, and its solutions files and a copy, while the page reacts."""
+    browser = page.browser
+    browser.allow("clipboardReadWrite", "clipboardSanitizedWrite")
+    page.open()
+    browser.run(SAVED)
+    one = "---\nalgebraic:\n  white: [Kg6, Ra1]\n  black: [Kg8]\nstipulation: '#1'\n"
+    browser.run(TURNS)
+    browser.run(GIVEN % json.dumps(["paste", one * 200]))
+    page.holds("being read" in page.told("note"), f"a long text is read beside the page: {page.told('note')}")
+    browser.run("turns = 0")
+    browser.wait("document.getElementById('note').textContent.includes('became problems')")
+    page.holds(browser.run("turns > 1 && blocksOf(textNow()).length === 200"), "200 problems, while the page reacts")
+    page.solve()
+    browser.run("OUTS.outPage(); OUTS.outJson(); OUTS.outLatex(); OUTS.outYaml()")
+    browser.wait("saved.length === 4")
+    names = sorted(browser.run("saved"))
+    page.holds(names == ["pops.html", "pops.json", "pops.tex", "pops.yaml"], f"saved: {names}")
+    browser.click("#outCopyShort")
+    browser.wait("document.getElementById('note').textContent === 'copied'")
+    short = browser.run("navigator.clipboard.readText()")
+    page.holds(short == "1.Ra8#!\n", f"copied: {short}")
+
+
 def linked(page: Page) -> None:
     """A link opened beside a problem in work: in the tab of the work and in a new one; undo and solutions after a reload."""
     browser = page.browser
@@ -627,6 +655,7 @@ LOOKS: list[Callable[[Page], None]] = [
     live,
     edited,
     given_away,
+    beside,
     linked,
     composed,
     without_engine,

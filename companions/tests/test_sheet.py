@@ -20,6 +20,7 @@ from pops_companions.chess.men import Man, Square
 from pops_companions.report.items import SoundItem
 from pops_companions.report.reader import read_report
 from pops_companions.report.tries import TriesItem, read_tries
+from pops_companions.sheet.entries import Entry, index_of
 from pops_companions.sheet.languages import LANGUAGES, marked_as
 from pops_companions.sheet.solution import Solution, TriesShown
 from pops_companions.show.authors import persons
@@ -619,6 +620,23 @@ class Forms(Case):
                 self.assertEqual([it.entry for it in persons(text)], entries)
                 if names is not None:
                     self.assertEqual([it.name for it in persons(text)], names)
+
+    def test_the_index_names_each_problem_once(self) -> None:
+        """Also a person twice above a diagram; problems aren't compared, which takes long."""
+
+        class Authored(Entry):
+            __hash__ = None  # type: ignore[assignment]
+
+            def __eq__(self, other: object) -> bool:
+                raise AssertionError("compared")
+
+        first, second = (object.__new__(Authored) for _ in range(2))
+        for entry, text in ((first, "Sam Loyd & Loyd, Sam"), (second, "Sam Loyd & A. Kraemer")):
+            object.__setattr__(entry, "authors", tuple(persons(text)))
+        (kraemer, his), (loyd, both) = index_of([first, second])
+        self.assertEqual((kraemer, loyd), ("Kraemer, A.", "Loyd, Sam"))
+        self.assertEqual([id(it) for it in his], [id(second)])
+        self.assertEqual([id(it) for it in both], [id(first), id(second)])
 
     def test_three_authors(self) -> None:
         text = TWINS.replace(b"Shinkman, Will", b"Shinkman, Will; A. Third")

@@ -121,6 +121,14 @@ test('contents: names and twins of a text', () => {
   assert.deepEqual(twinsOf(text, contents, 2).map(it => [it.label.text, it.change]), [['a)', ''], ['b)', '#2']]);
 });
 
+test('twins: of many problems with labels only those of its own group are looked at', () => {
+  const one = label => `Title T ${label})\nPieces White Kg6 Ra1 Black Kg8\nStipulation #1\n`;
+  const text = `BeginProblem\n${[...'abcabcabc'].map(one).join('NextProblem\n')}EndProblem\n`;
+  const contents = contentsOf(text);
+  for (const at of [0, 1, 7, 8]) Object.defineProperty(contents, at, { get() { throw new Error('looked at'); } });
+  for (const number of [4, 5, 6]) assert.deepEqual(twinsOf(text, contents, number).map(it => it.number), [4, 5, 6]);
+});
+
 test('importing: long lines of blanks, comments and line ends, and long chains of twins, take little time', () => {
   const most = 1e5;
   const head = "algebraic:\n  white: [Kg6, Ra1]\n  black: [Kg8]\nstipulation: '#1'\n";

@@ -9,6 +9,7 @@ const REPORT = 'problem 1\n#1\nplay\n1.Ra1-a8#\nsolutions: 1\n\n';
 const TWO_MOVES = 'BeginProblem\nPieces White Kh8 Qb1 Black Kf8 Pa7\nStipulation #2\nEndProblem\n';
 const TRIES = 'problem 1\n#2\nplay\n1.Qb1-b6!\n  threat\n    2.Qb6-f6#\n  1...a7*b6\nsolutions: 1\ntries\n1.Qb1-b2?\n  zugzwang\n  but\n    1...a7-a5!\ntries: 1\n\n';
 fill({ ...sharedParts(), example: TEXT, 'fault-words': '{"8": "what the manual says"}', engine: 'AGFzbQEAAAA=' });
+const { choreDone } = await import('../../web/chores.js');
 const { comparisonOf } = await import('../../web/compared.js');
 const { Board } = await import('../../web/board.js');
 const { element, makeButton, madeWith, partText } = await import('../../web/elements.js');
@@ -16,6 +17,7 @@ const { faultBox } = await import('../../web/faults.js');
 const { makeProblem, move, solveFromHere } = await import('../../web/line.js');
 const { Notes } = await import('../../web/notes.js');
 const { showAge } = await import('../../web/page/age.js');
+const { doChore } = await import('../../web/page/beside.js');
 const { changeBoard, endTyping, goSteps, goToProblem, setText, takeFen, takeText } = await import('../../web/page/editing.js');
 const { markFaults, unmarkFaults } = await import('../../web/page/faults.js');
 const { fieldChanged } = await import('../../web/page/fields.js');
@@ -670,6 +672,98 @@ test('words: the solution in short notation has the letters of its language', ()
   speak('fr');
   assert.match(shortText(item, men), /1\.Db6! menace : 2\.Df6#/);
   speak('en');
+});
+
+/** A stand-in for a worker: it keeps what it gets, and answers when it is told to. */
+class Helper {
+  static all = [];
+
+  constructor() {
+    Helper.all.push(this);
+  }
+
+  postMessage(asked) { this.asked = asked; }
+  terminate() { this.isOver = true; }
+  answer() { this.onmessage({ data: choreDone(this.asked.name, this.asked.given) }); }
+}
+
+/** Does something with workers that are stand-ins; returns those that were made. */
+function helpersOf(act) {
+  Helper.all = [];
+  globalThis.Worker = Helper;
+  act();
+  return Helper.all;
+}
+
+const YAML = "---\nalgebraic:\n  white: [Kg6, Ra1]\n  black: [Kg8]\nstipulation: '#1'\n".repeat(80);
+
+test('state: each problem is compared with the solved one once after a change', () => {
+  const others = TEXT.replace('EndProblem', `NextProblem${TEXT.slice(12)}`);
+  begin(others, `${REPORT}${REPORT.replace('problem 1', 'problem 2')}`);
+  let reads = 0;
+  for (const block of state.solvedBlocks) {
+    const { words: own } = block;
+    Object.defineProperty(block, 'words', { get() { reads += 1; return own; } });
+  }
+  setText(others.replace('Ra1', 'Ra2'));
+  assert.deepEqual([1, 2, 3].map(it => state.isPosedNow(it)), [false, true, false]);
+  assert.equal(state.isCurrent(), false);
+  assert.equal(reads, 2);
+  setText(others);
+  assert.equal(state.isSolved() && state.isCurrent(), true);
+  assert.equal(reads, 2);
+  begin(TEXT);
+});
+
+test('beside: a long text of another program is shown at once, and becomes problems by a worker', () => {
+  begin(TEXT);
+  const [helper] = helpersOf(() => paste(YAML));
+  assert.equal(textNow(), YAML);
+  assert.equal(noteNow(), say('importing'));
+  helper.answer();
+  assert.equal(helper.isOver, true);
+  assert.equal(blocksOf(textNow()).length, 80);
+  assert.equal(noteNow(), say('imported'));
+  goSteps(-1);
+  assert.equal(textNow(), YAML);
+});
+
+test('beside: a text that was changed meanwhile stays; a worker that fails is told of', () => {
+  begin(TEXT);
+  const [late, failing] = helpersOf(() => [takeText(YAML), takeText(`${YAML}\n`)]);
+  late.answer();
+  assert.equal(textNow(), `${YAML}\n`);
+  failing.onerror({ message: 'no room' });
+  assert.equal(noteNow(), say('failed', { fault: 'no room' }));
+  assert.equal(textNow(), `${YAML}\n`);
+});
+
+test('beside: solutions of a long report are saved in other forms by a worker, under the name of the problem then', () => {
+  const saved = [];
+  const { createElement } = document;
+  document.createElement = tag => Object.assign(createElement(tag), tag === 'a' ? { click() { saved.push(this.download); } } : {});
+  const lines = '1.Kh8-g8 Ra1-a8#\n';
+  begin(TEXT.replace('Pieces', 'Title Then\nPieces').replace('#1', 'h#1').replace('Kg8', 'Kh8'), `problem 1\nh#1\nplay\n${lines.repeat(300)}solutions: 300\n\n`);
+  const helpers = helpersOf(() => [OUTS.outPage(), OUTS.outJson(), OUTS.outLatex(), OUTS.outYaml()]);
+  assert.deepEqual(helpers.map(it => it.asked.name), ['page', 'json', 'latex', 'yaml']);
+  assert.equal(noteNow(), say('making'));
+  assert.deepEqual(saved, []);
+  changeBoard('clear');
+  for (const it of helpers) it.answer();
+  assert.deepEqual(saved, ['Then.html', 'Then.json', 'Then.tex', 'Then.yaml']);
+  document.createElement = createElement;
+});
+
+test('beside: whether a long text can be converted is tried once, by a worker', () => {
+  const report = [1, 2].map(number => `problem ${number}\nline 1: fault 1: the text doesn't begin with BeginProblem\n\n`).join('');
+  const helpers = helpersOf(() => begin(YAML, report));
+  assert.equal(helpers.length, 1);
+  const convertible = () => element('tree').textContent.split(say('convert')).length - 1;
+  assert.equal(convertible(), 0);
+  helpers[0].answer();
+  assert.equal(convertible(), 2);
+  assert.equal(helpersOf(drawReport).length, 0);
+  assert.equal(doChore('import', { text: TEXT }, () => {}, () => {}), true);
 });
 
 // (the last one: it leaves a long text among those for undo)

@@ -1,13 +1,14 @@
 // @ts-check
 // Changes of the text: by typing, by the board, by a FEN, by undo and redo. All else on the page follows the text.
 import { element } from '../elements.js';
-import { imported } from '../importing.js';
+import { isOfAnother } from '../importing.js';
 import { changed, countOf, exchanged, impossibleCounts, readFen } from '../position.js';
 import { LONG_TEXT } from '../slices.js';
 import {
   blockAt, blocksOf, fenOfBlock, lineOf, menOf, NEW_PROBLEM, tailOf, withFen, withField, withLine, withMen, withoutLines, withTail,
 } from '../text.js';
 import { say } from '../words.js';
+import { doChore } from './beside.js';
 import { scrollToLine, unmarkFaults } from './faults.js';
 import { keepReplaced, storeNoText, storeText } from './keeping.js';
 import { blockNow, state, textNow } from './state.js';
@@ -184,13 +185,40 @@ export function takeText(given) {
   const text = given.replace(/^\ufeff/, '');
   if (takeFen(text)) return;
   endTyping();
-  const made = text.length < LONG_TEXT ? imported(text) : null;
+  if (text.length >= LONG_TEXT || !isOfAnother(text)) {
+    replaceText(text);
+    return;
+  }
+  let isShown = false;
+  const isMade = doChore('import', { text }, made => {
+    if (!isShown) replaceText(made.text ?? text);
+    else if (textNow() !== text) return;
+    else if (made.text) setText(made.text);
+    sayImported(made);
+  }, fault => note(say('failed', { fault })));
+  if (isMade) return;
+  isShown = true;
+  replaceText(text);
+  note(say('importing'));
+}
+
+/**
+ * Replaces the whole text, which is kept.
+ * @param {string} text
+ */
+function replaceText(text) {
   keepReplaced(textNow());
   state.beginSheet();
   state.choose(1);
-  setText(made?.text ?? text);
+  setText(text);
   element('text').setSelectionRange(0, 0);
-  if (!made) return;
+}
+
+/**
+ * Says what became of a text of another program, and switches tries on if it asks for them.
+ * @param {{ text: string | null, lost: string[], asksForTries: boolean, refutations: number }} made
+ */
+function sayImported(made) {
   const isAsked = askForTries({ ...made, text: made.text ?? '' });
   note([say(made.text ? 'imported' : 'importedNone'), ...(isAsked ? [say('triesOn')] : []), ...made.lost].join('. '));
 }

@@ -2,14 +2,15 @@
 // The faults of the report: their marks beside the text, and their explanations in the solutions.
 import { element, makeButton, partText } from '../elements.js';
 import { faultBox } from '../faults.js';
-import { imported } from '../importing.js';
-import { lineAt, remembered } from '../text.js';
+import { isOfAnother } from '../importing.js';
+import { LONG_TEXT } from '../slices.js';
+import { lineAt } from '../text.js';
 import { say } from '../words.js';
+import { doChore } from './beside.js';
 import { state, textNow } from './state.js';
 
 const MARKED_FAULTS = 100;
 const LINE_PIXELS = 20;
-const LONGEST_CONVERTED = 100000;
 /** What takes a corrected text, and what converts the text. */
 const corrected = { take: (/** @type {Corrected} */ _) => {}, convert: () => {} };
 
@@ -50,8 +51,31 @@ export function scrollToLine(line, lead) {
   element('text').scrollTop = Math.max(0, (line - lead) * LINE_PIXELS);
 }
 
-/** Returns whether another program's problems are in a text, which the page can convert. */
-const isOfAnother = remembered(text => text.length < LONGEST_CONVERTED && Boolean(imported(text)?.text));
+/** @type {{ text: string, answer: boolean | null, waiting: (() => void)[] }} the text that was tried last: whether the page can convert it, null until that is known */
+let tried = { text: '', answer: false, waiting: [] };
+
+/**
+ * Does something if the page can convert a text, because another program's problems are in it.
+ * @param {string} text
+ * @param {() => void} act
+ */
+function whenConvertible(text, act) {
+  if (tried.text !== text) tryToConvert(text);
+  if (tried.answer) act();
+  else if (tried.answer === null) tried.waiting.push(act);
+}
+
+/** @param {string} text */
+function tryToConvert(text) {
+  const own = tried = { text, answer: /** @type {boolean | null} */ (null), waiting: /** @type {(() => void)[]} */ ([]) };
+  /** @param {boolean} answer */
+  const end = answer => {
+    own.answer = answer;
+    for (const act of own.waiting.splice(0)) if (answer) act();
+  };
+  if (text.length >= LONG_TEXT || !isOfAnother(text)) end(false);
+  else doChore('import', { text }, made => end(Boolean(made.text)), () => end(false));
+}
 
 function convertButton() {
   const button = makeButton(say('convert'), () => corrected.convert());
@@ -83,6 +107,6 @@ export function whenCorrected(take, convert) {
 export function drawnFault(item) {
   const general = JSON.parse(partText('fault-words'))[item.fault.number] ?? '';
   const box = faultBox(state.solved, item, general, goToLine, made => corrected.take(made));
-  if (isOfAnother(state.solved)) box.append(convertButton());
+  whenConvertible(state.solved, () => box.append(convertButton()));
   return box;
 }

@@ -1,12 +1,13 @@
 // @ts-check
 // Texts from elsewhere: files that are opened or dropped, and pasted texts.
 import { element } from '../elements.js';
-import { imported } from '../importing.js';
+import { imported, isOfAnother } from '../importing.js';
 import { readFen } from '../position.js';
 import { LONG_TEXT } from '../slices.js';
 import { MOST_FILE_BYTES, textOfBytes } from '../store.js';
 import { hasProblem } from '../text.js';
 import { say } from '../words.js';
+import { SHORT_WORK } from './beside.js';
 import { takeFen, takeText } from './editing.js';
 import { textNow } from './state.js';
 import { note } from './views.js';
@@ -45,13 +46,19 @@ function pasted(event) {
 }
 
 /**
+ * Returns whether a text becomes problems of pops; of a long one, whether another program wrote it.
+ * @param {string} text
+ */
+const isConvertible = text => text.length < LONG_TEXT && isOfAnother(text) && (text.length >= SHORT_WORK || Boolean(imported(text)?.text));
+
+/**
  * @param {ClipboardEvent} event
  * @param {string} text
  * @param {boolean} isText
  */
 function takePasted(event, text, isText) {
   if (readFen(text)) takeFen(text);
-  else if ((!isText && hasProblem(text)) || (text.length < LONG_TEXT && imported(text)?.text)) takeText(text);
+  else if ((!isText && hasProblem(text)) || isConvertible(text)) takeText(text);
   else return;
   event.preventDefault();
 }

@@ -1,27 +1,46 @@
 // @ts-check
 // What the page gives away: files of text, report, diagrams and other forms, the clipboard, links, and the printed sheet.
-import { beyondLatex, diagramFile, givenOf, jsonOf, latexOf, sheetOf, shortText, yamlOf } from '../outputs.js';
-import { menOfRanks } from '../position.js';
+import { diagramFile } from '../outputs.js';
 import { fileNameOf, fragmentOf } from '../store.js';
-import { blockAt, blocksOf, fieldsOf, menOf, valueOf } from '../text.js';
+import { blockAt, fieldsOf, valueOf } from '../text.js';
 import { say } from '../words.js';
+import { doChore } from './beside.js';
 import { blockNow, state, textNow } from './state.js';
 import { board, note } from './views.js';
 import { ownLink } from './visit.js';
 
 /**
- * Saves a file that is named after a problem's title, the text's first without another.
+ * Names a file after a problem's title, the text's first without another.
  * @param {string} ending
- * @param {string} type
- * @param {string | Blob} content
  * @param {Block | null} block
  */
-function save(ending, type, content, block = blockAt(textNow(), 0)) {
+const nameNow = (ending, block = blockAt(textNow(), 0)) => fileNameOf(block && valueOf(fieldsOf(textNow(), block), 'title'), ending);
+
+/**
+ * Saves a file.
+ * @param {string} name
+ * @param {string} type
+ * @param {string | Blob} content
+ */
+function save(name, type, content) {
   const link = document.createElement('a');
   link.href = URL.createObjectURL(new Blob([content], { type }));
-  link.download = fileNameOf(block && valueOf(fieldsOf(textNow(), block), 'title'), ending);
+  link.download = name;
   link.click();
   setTimeout(() => URL.revokeObjectURL(link.href), 10000);
+}
+
+/** @param {string} fault */
+const sayFailed = fault => note(say('failed', { fault }));
+
+/**
+ * Does some work of chores.js; says so if it takes long.
+ * @param {string} name
+ * @param {ChoreGiven} given
+ * @param {(made: any) => void} take
+ */
+function make(name, given, take) {
+  if (!doChore(name, given, take, sayFailed)) note(say('making'));
 }
 
 /** Draws the board with its men. */
@@ -58,11 +77,8 @@ async function copyDiagram() {
 /** Returns the solved items that are posed the same now. */
 const itemsNow = () => /** @type {SoundItem[]} */ (state.items.filter(it => it.asked && !it.isChecked && it.phases.length && state.isPosedNow(it.number)));
 
-/** @param {SoundItem} item */
-function shortOf(item) {
-  const block = blocksOf(textNow())[item.number - 1];
-  return shortText(item, item.ranks.length || !block ? menOfRanks(item.ranks) : menOf(block).men);
-}
+/** @param {Item[]} items */
+const numbersOf = items => items.map(it => it.number);
 
 async function copyShort() {
   const item = itemsNow().find(it => it.number === blockNow()?.number);
@@ -70,30 +86,62 @@ async function copyShort() {
     note(say('nothing'));
     return;
   }
+  const given = { text: textNow(), report: state.report, numbers: [item.number] };
+  let [short, isMade] = ['', false];
+  const made = new Promise((take, refuse) => {
+    isMade = doChore('short', given, text => take(short = text), refuse);
+  });
   try {
-    await navigator.clipboard.writeText(shortOf(item));
+    if (isMade) await navigator.clipboard.writeText(short);
+    else {
+      note(say('making'));
+      // (a browser lets a page copy right after a click: what is made later is promised)
+      await navigator.clipboard.write([new ClipboardItem({ 'text/plain': made.then(text => new Blob([text], { type: 'text/plain' })) })]);
+    }
     note(say('copied'));
   } catch {
     note(say('copyNot'));
   }
 }
 
-/** @param {(items: Item[]) => void} act */
-function saveItems(act) {
+/** Returns whether there is a report to save; says so if there is none. */
+function hasItems() {
   if (!state.items.length) note(say('nothing'), () => !state.items.length);
-  else {
-    act(state.items.filter(item => item.isWhole || item.asked || item.fault));
-    note(state.isCurrent() ? '' : say('savedOld'));
-  }
+  return state.items.length > 0;
+}
+
+/** Says of what was saved that it isn't of the text on the page any more. */
+const sayOld = () => note(state.isCurrent() ? '' : say('savedOld'));
+
+/**
+ * Saves the items of the report in another form.
+ * @param {string} name
+ * @param {string} ending
+ * @param {string} type
+ */
+function saveItems(name, ending, type) {
+  if (!hasItems()) return;
+  const file = nameNow(ending);
+  const numbers = numbersOf(state.items.filter(item => item.isWhole || item.asked || item.fault));
+  make(name, { text: state.solved, report: state.report, numbers }, made => {
+    save(file, type, made);
+    sayOld();
+  });
+}
+
+function saveReport() {
+  if (!hasItems()) return;
+  save(nameNow('report'), 'text/plain', state.report);
+  sayOld();
 }
 
 export const OUTS = {
-  outText: () => save('pop', 'text/plain', textNow()),
-  outReport: () => saveItems(() => save('report', 'text/plain', state.report)),
-  outPage: () => saveItems(items => save('html', 'text/html', sheetOf(items, say('sheet'), givenOf(state.solved)))),
-  outSvg: () => save('svg', 'image/svg+xml', drawingNow(), blockNow()),
-  outPng: async () => save('png', 'image/png', await pictureNow(), blockNow()),
-  outJson: () => saveItems(items => save('json', 'application/json', linesOfJson(items))),
+  outText: () => save(nameNow('pop'), 'text/plain', textNow()),
+  outReport: saveReport,
+  outPage: () => saveItems('page', 'html', 'text/html'),
+  outSvg: () => save(nameNow('svg', blockNow()), 'image/svg+xml', drawingNow()),
+  outPng: async () => save(nameNow('png', blockNow()), 'image/png', await pictureNow()),
+  outJson: () => saveItems('json', 'json', 'application/json'),
   outLatex: saveLatex,
   outYaml: saveYaml,
   outCopyDiagram: copyDiagram,
@@ -105,26 +153,20 @@ export const OUTS = {
 /** Saves the problems in LaTeX, and says which letters only some of its engines set. */
 function saveLatex() {
   const faulty = state.items.filter(it => it.fault && state.isPosedNow(it.number));
-  const made = latexOf(textNow(), [...itemsNow(), ...faulty]);
-  const letters = beyondLatex(made);
-  save('tex', 'application/x-tex', made);
-  note(letters ? say('latexLacks', { letters }) : '');
+  const file = nameNow('tex');
+  make('latex', { text: textNow(), report: state.report, numbers: numbersOf([...itemsNow(), ...faulty]) }, ({ made, letters }) => {
+    save(file, 'application/x-tex', made);
+    note(letters ? say('latexLacks', { letters }) : '');
+  });
 }
 
 /** Saves the problems in YAML, and says which are left out. */
 function saveYaml() {
-  const { text, lost } = yamlOf(textNow(), itemsNow());
-  save('yaml', 'application/yaml', text);
-  note(lost.join(' '));
-}
-
-/**
- * Writes the objects of items, one per line.
- * @param {Item[]} items
- */
-function linesOfJson(items) {
-  const given = givenOf(state.solved);
-  return items.map(item => `${jsonOf(item, given[item.number - 1])}\n`).join('');
+  const file = nameNow('yaml');
+  make('yaml', { text: textNow(), report: state.report, numbers: numbersOf(itemsNow()) }, ({ text, lost }) => {
+    save(file, 'application/yaml', text);
+    note(lost.join(' '));
+  });
 }
 
 /** Says of a page from disk that its link leads nowhere on another computer. */

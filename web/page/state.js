@@ -38,6 +38,8 @@ class PageState {
     this.items = [];
     /** @type {(() => void)[]} */
     this.followers = [];
+    /** @type {{ now: string, then: string, isSolved: boolean, isAsLong: boolean, changed: Set<number> }} how the text on the page differs from the solved one: whether it is the same, has as many problems, and which are posed otherwise */
+    this.compared = { now: '', then: '', isSolved: true, isAsLong: true, changed: new Set() };
     /** Ends what still follows an earlier change. */
     this.endFollowing = () => {};
   }
@@ -138,9 +140,31 @@ class PageState {
     this.items = this.reading.items;
   }
 
+  /**
+   * Compares the text on the page with the solved one, step by step, unless it has done so.
+   * @returns {Generator<void, PageState['compared']>}
+   */
+  *compare() {
+    const [now, then] = [textNow(), this.solved];
+    if (this.compared.now === now && this.compared.then === then) {
+      // (the browser compares a string with itself at once, with an equal one letter by letter)
+      Object.assign(this.compared, { now, then });
+      return this.compared;
+    }
+    const changed = new Set();
+    const isSolved = now === then;
+    const blocks = isSolved ? this.solvedBlocks : blocksOf(now);
+    for (let at = 0; at < this.solvedBlocks.length && !isSolved; at++) {
+      if (!blocks[at] || posedIn(blocks[at]) !== posedIn(this.solvedBlocks[at])) changed.add(at + 1);
+      yield;
+    }
+    this.compared = { now, then, isSolved, isAsLong: blocks.length === this.solvedBlocks.length, changed };
+    return this.compared;
+  }
+
   /** Returns whether the text on the page is the one that was solved. */
   isSolved() {
-    return textNow() === this.solved;
+    return atOnce(this.compare()).isSolved;
   }
 
   /**
@@ -148,16 +172,15 @@ class PageState {
    * @param {number} number
    */
   isPosedNow(number) {
-    if (this.isSolved()) return true;
-    const [now, then] = [blocksOf(textNow())[number - 1], this.solvedBlocks[number - 1]];
-    return Boolean(now && then) && posedIn(now) === posedIn(then);
+    const { isSolved, changed } = atOnce(this.compare());
+    return isSolved || (number <= this.solvedBlocks.length && !changed.has(number));
   }
 
   /** Returns whether the solved problems are those on the page now. */
   isCurrent() {
-    const { length } = this.solvedBlocks;
     if (this.only) return this.isPosedNow(this.only);
-    return this.isSolved() || (length > 0 && blocksOf(textNow()).length === length && this.solvedBlocks.every((_, at) => this.isPosedNow(at + 1)));
+    const { isSolved, isAsLong, changed } = atOnce(this.compare());
+    return isSolved || (this.solvedBlocks.length > 0 && isAsLong && !changed.size);
   }
 
   /** Returns whether another text as a whole has taken the place of the solved one. */
@@ -187,6 +210,7 @@ class PageState {
    */
   *following(text) {
     yield* readText(text);
+    yield* this.compare();
     for (const act of this.followers) {
       act();
       yield;

@@ -197,6 +197,7 @@ def index_of(entries: Iterable[Entry]) -> list[tuple[str, list[Entry]]]:
     for entry in entries:
         for person in entry.authors:
             own = found.setdefault(person.entry, [])
-            if entry not in own:
+            # (a person may be named twice above one diagram)
+            if not own or own[-1] is not entry:
                 own.append(entry)
     return sorted(found.items(), key=lambda one: one[0].casefold())
