@@ -1,0 +1,6 @@
+pub mod Basics
+pub mod Steps
+pub mod Loop
+pub mod Castlings
+pub mod Ranks
+pub mod Fields

@@ -1,0 +1,62 @@
+-- The letters of FEN, by their ASCII codes (PGN Standard, section 16.1.3; those of grasshopper and
+-- nightrider are own).
+use Rattle.std.specs.Prelude.{ℕ}
+use Rattle.chess_core.specs.Letters.{bishop_letter, capital_letter, grasshopper_letter, king_letter, pawn_letter, queen_letter, rook_letter}
+use Rattle.chess_core.specs.declared.man.Colour.{Colour}
+use Rattle.chess_core.specs.declared.man.Colour.TheVariants.{White, Black}
+use Rattle.chess_core.specs.declared.man.Kind.{Kind}
+use Rattle.chess_core.specs.declared.man.Kind.TheVariants.{King, Queen, Rook, Bishop, Knight, Pawn, Grasshopper, Nightrider}
+use Rattle.chess_core.specs.declared.man.Man.{Man}
+
+-- `n`
+abbrev pub knight_letter : ℕ
+knight_letter = 110
+
+-- `h`
+abbrev pub nightrider_letter : ℕ
+nightrider_letter = 104
+
+-- the small letter of a kind of man
+abbrev pub small_letter : Kind → ℕ
+small_letter King = king_letter
+small_letter Queen = queen_letter
+small_letter Rook = rook_letter
+small_letter Bishop = bishop_letter
+small_letter Knight = knight_letter
+small_letter Pawn = pawn_letter
+small_letter Grasshopper = grasshopper_letter
+small_letter Nightrider = nightrider_letter
+
+-- a letter as a colour's men have it: White's are capitals
+abbrev pub letter_in : Colour → ℕ → ℕ
+letter_in White letter = capital_letter letter
+letter_in Black letter = letter
+
+-- the letter of a man
+abbrev pub letter_of : Man → ℕ
+letter_of man = letter_in man.colour (small_letter man.kind)
+
+-- the letter of the side to move: `w` or `b`
+abbrev pub turn_letter : Colour → ℕ
+turn_letter White = 119
+turn_letter Black = 98
+
+-- ` `
+abbrev pub blank : ℕ
+blank = 32
+
+-- `-`
+abbrev pub dash : ℕ
+dash = 45
+
+-- `/`
+abbrev pub slash : ℕ
+slash = 47
+
+-- `1`
+abbrev pub digit_1 : ℕ
+digit_1 = 49
+
+-- `8`
+abbrev pub digit_8 : ℕ
+digit_8 = 56
