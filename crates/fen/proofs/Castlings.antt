@@ -1,12 +1,13 @@
 -- Castling rights in a text.
-use Rattle.fen.proofs.Basics.{Bool, List, [], ◌⊎◌, ap, arith, cond, false, refl, subst, sym, true, ℕ, ◌&&◌, ◌++◌, ◌||◌, ◌∙◌, ◌∷◌, ◌≡◌, cases_Bool, cond-true, cond-false, eqb, eqb-true, inl, inr}
+use Rattle.fen.proofs.Basics.{Bool, List, [], ◌⊎◌, ap, arith, cond, false, refl, subst, sym, true, ℕ, ◌&&◌, ◌++◌, ◌||◌, ◌∙◌, ◌∷◌, ◌≡◌, cases_Bool, eqb, eqb-true, inl, inr}
+use Rattle.std.proofs.lemmas.Bool.{false≢true}
 use Rattle.chess_core.specs.Castling.{Unmoved, mark_unmoved, none_unmoved, with_unmoved}
 use Rattle.chess_core.specs.SquareNames.{a1, e1, h1, a8, e8, h8}
 use Rattle.fen.specs.Fen.{HasFenRights, castling_letters, letter_if, or_dash}
 use Rattle.fen.specs.ties.Reading.{AreLetters, Finds, FindsNone, letter_at, rights_before, rights_of}
 use Rattle.fen.proofs.Steps.{tails}
 
--- the rights with those of one castling
+-- the rights, and one castling more
 abbrev castling : Bool → ℕ → ℕ → Unmoved → Unmoved
 castling allowed king rook u = cond allowed (with_unmoved (with_unmoved u king) rook) u
 
@@ -94,7 +95,7 @@ letters_back text h a k q left are = rw (are.short, are.long, are.black_short, a
     ∙ ap (λ t. letter_if (letter_at 81 (letter_at 75 text).1).0 81 ++ t) (letter_back 107 (letter_at 81 (letter_at 75 text).1).1
     ∙ ap (λ t. letter_if (letter_at 107 (letter_at 81 (letter_at 75 text).1).1).0 107 ++ t) (letter_back 113 (letter_at 107 (letter_at 81 (letter_at 75 text).1).1).1))))
 
--- rights that FEN has are those of their rooks
+-- rights that FEN has follow from the rooks
 rights_again : (u : Unmoved) → HasFenRights u → u ≡ rights_of u.h1 u.a1 u.h8 u.a8
 rights_again u has = rw (← has.white, ← has.black) refl
 
@@ -194,3 +195,43 @@ pub rights_cut : (text : List ℕ) (h a k q : Bool) (left more : List ℕ) → A
     → left ≡ 45 ∷ more → ((rest : List ℕ) → more ≡ 32 ∷ rest → ⊥) → FindsNone HasFenRights rights_before text
 rights_cut text h a k q left more are eh ea ek eq e none = rights_none text h a k q left are
     (λ rest f. none rest (tails (sym e ∙ f ∙ ending_none (h || (a || (k || q))) rest (no_letter h a k q eh ea ek eq))))
+
+-- the letters that are written
+abbrev letters_text : Bool → Bool → Bool → Bool → List ℕ
+letters_text h a k q = letter_if h 75 ++ letter_if a 81 ++ letter_if k 107 ++ letter_if q 113
+
+letters_cases : (h a k q : Bool) → (h || (a || (k || q))) ≡ true → letters_text h a k q ≡ or_dash (letters_text h a k q)
+letters_cases true true true true e = refl
+letters_cases true true true false e = refl
+letters_cases true true false true e = refl
+letters_cases true true false false e = refl
+letters_cases true false true true e = refl
+letters_cases true false true false e = refl
+letters_cases true false false true e = refl
+letters_cases true false false false e = refl
+letters_cases false true true true e = refl
+letters_cases false true true false e = refl
+letters_cases false true false true e = refl
+letters_cases false true false false e = refl
+letters_cases false false true true e = refl
+letters_cases false false true false e = refl
+letters_cases false false false true e = refl
+letters_cases false false false false e = absurd (false≢true e)
+
+-- the letters of the castling rights
+rights_letters : (u : Unmoved) → castling_letters u ≡ letters_text (u.e1 && u.h1) (u.e1 && u.a1) (u.e8 && u.h8) (u.e8 && u.a8)
+unfolding castling_letters
+rights_letters u = refl
+
+-- written letters
+pub letters_written : (u : Unmoved) (h a k q : Bool) → h ≡ (u.e1 && u.h1) → a ≡ (u.e1 && u.a1) → k ≡ (u.e8 && u.h8) → q ≡ (u.e8 && u.a8)
+    → ((h ≡ true) ⊎ (((h ≡ false) × (a ≡ true)) ⊎ (((h ≡ false) × (a ≡ false) × (k ≡ true)) ⊎ ((h ≡ false) × (a ≡ false) × (k ≡ false) × (q ≡ true)))))
+    → letters_text h a k q ≡ or_dash (castling_letters u)
+letters_written u h a k q eh ea ek eq some =
+    letters_cases h a k q (some_letter h a k q some) ∙ ap or_dash (rw (eh, ea, ek, eq) refl ∙ sym (rights_letters u))
+
+-- a written dash
+pub dash_written : (u : Unmoved) (h a k q : Bool) → h ≡ (u.e1 && u.h1) → a ≡ (u.e1 && u.a1) → k ≡ (u.e8 && u.h8) → q ≡ (u.e8 && u.a8)
+    → h ≡ false → a ≡ false → k ≡ false → q ≡ false → 45 ∷ [] ≡ or_dash (castling_letters u)
+dash_written u h a k q eh ea ek eq fh fa fk fq =
+    rw (rights_letters u, sym eh ∙ fh, sym ea ∙ fa, sym ek ∙ fk, sym eq ∙ fq) refl

@@ -1,11 +1,10 @@
 -- Men and fields of a diagram together.
-use Rattle.fen.proofs.Basics.{List, Option, ap, refl, sym, ℕ, ◌<◌, ◌∙◌, ◌≡◌}
+use Rattle.fen.proofs.Basics.{List, Option, ap, sym, ℕ, ◌∙◌, ◌≡◌}
 use Rattle.std.proofs.Common.{Err, MatchResult, Ok, Result}
 use Rattle.chess_core.specs.declared.man.Man.{Man}
 use Rattle.chess_core.specs.declared.man.Colour.{Colour}
 use Rattle.chess_core.specs.Castling.{Unmoved}
 use Rattle.chess_core.specs.Diagrams.{Diagram}
-use Rattle.chess_core.specs.Position.{man_on}
 use Rattle.fen.specs.Fen.{HasFenRights, IsFenOf, IsReadAs, crossed_text}
 use Rattle.fen.specs.ties.Reading.{Finds, FindsNone, HasAll, HasFields, IsColour, IsOnBoard, fields_text, men_before, rights_before, text_from, turn_before}
 use Rattle.fen.specs.declared.not_fen.NotFen.{NotFen}

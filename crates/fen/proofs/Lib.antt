@@ -4,3 +4,4 @@ pub mod Loop
 pub mod Castlings
 pub mod Ranks
 pub mod Fields
+pub mod Written

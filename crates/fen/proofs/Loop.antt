@@ -1,5 +1,5 @@
 -- The men of a text, square by square.
-use Rattle.fen.proofs.Basics.{List, [], ◌∷◌, true, None, Option, Some, ap, arith, cases_eq, ext_get_or, get_or, inl, inr, length, refl, subst, suc, sym, zero, ℕ, ◌%◌, ◌*◌, ◌+◌, ◌-◌, ◌/◌, ◌<◌, ◌∙◌, ◌≡◌, ◌≤◌}
+use Rattle.fen.proofs.Basics.{List, [], ◌∷◌, true, None, Option, Some, ap, arith, cases_eq, ext_get_or, inl, inr, length, refl, subst, suc, sym, zero, ℕ, ◌%◌, ◌*◌, ◌+◌, ◌-◌, ◌/◌, ◌<◌, ◌∙◌, ◌≡◌}
 use Rattle.std.proofs.Common.{is_none, is_some, IsSome, Result, Ok, Err, MatchResult, get_or-set_same}
 use Rattle.std.specs.List.{list_all, repeat}
 use Rattle.std.proofs.lemmas.Bool.{false≢true, true≢false}
@@ -8,7 +8,7 @@ use Rattle.chess_core.specs.declared.diagram.Taken.{Taken}
 use Rattle.chess_core.specs.declared.man.Man.{Man}
 use Rattle.chess_core.specs.Position.{man_on, with_man}
 use Rattle.fen.specs.Fen.{with_square}
-use Rattle.fen.specs.ties.Reading.{Finds, FindsNoSquare, FindsSquare, HasAll, IsLeft, IsReadTo, IsSameBefore, PassesMark, PassesNoMark, men_before, square_before, text_from, with_mark, with_number}
+use Rattle.fen.specs.ties.Reading.{Finds, FindsNoSquare, FindsSquare, HasAll, IsReadTo, IsSameBefore, PassesMark, PassesNoMark, men_before, square_before, text_from, with_mark, with_number}
 use Rattle.fen.proofs.Steps.{number_none, row_seven}
 
 -- an empty list of squares has no man
@@ -52,12 +52,12 @@ read_none text men size none = record {
 }
 
 -- the text from a square on
-text_next : (men : List (Option Man)) (n : ℕ) (tail : List ℕ)
+pub text_next : (men : List (Option Man)) (n : ℕ) (tail : List ℕ)
     → text_from men (suc n) tail ≡ with_square (man_on men (square_before n)) (with_mark n (text_from men n tail))
 unfolding text_from
 text_next men n tail = refl
 
-text_last : (men : List (Option Man)) (tail : List ℕ) → text_from men 0 tail ≡ tail
+pub text_last : (men : List (Option Man)) (tail : List ℕ) → text_from men 0 tail ≡ tail
 unfolding text_from
 text_last men tail = refl
 

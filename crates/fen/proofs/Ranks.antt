@@ -1,12 +1,13 @@
 -- The text of the men, rank by rank and square by square.
-use Rattle.fen.proofs.Basics.{List, None, Option, Some, [], ap, append_assoc, cond-false, cond-true, false, inl, inr, length, map, refl, subst, suc, sym, ℕ, ◌*◌, ◌+◌, ◌++◌, ◌-◌, ◌<◌, ◌∙◌, ◌∷◌, ◌≡◌, cases_Bool}
-use Rattle.std.specs.List.{join_with_byte, range_with_len}
+use Rattle.fen.proofs.Basics.{List, None, Option, Some, [], ap, append_assoc, cond-false, cond-true, false, inl, inr, map, refl, sym, ℕ, ◌*◌, ◌++◌, ◌-◌, ◌∙◌, ◌∷◌, ◌≡◌, cases_Bool}
+use Rattle.std.specs.List.{range_with_len}
 use Rattle.chess_core.specs.declared.man.Man.{Man}
+use Rattle.chess_core.specs.Castling.{Unmoved}
 use Rattle.chess_core.specs.Diagrams.{Diagram}
 use Rattle.chess_core.specs.Position.{man_on}
-use Rattle.fen.specs.Letters.{blank, slash, turn_letter}
+use Rattle.fen.specs.Letters.{blank, slash, turn_letter, man_text}
 use Rattle.fen.specs.Fen.{castling_letters, crossed_text, fen_text, is_digit, men_text, or_dash, rank_text, row_text, with_empty, with_square}
-use Rattle.fen.specs.ties.Reading.{begins_with_digit, fields_text, rights_before, square_before, text_from, turn_before, with_mark}
+use Rattle.fen.specs.ties.Reading.{begins_with_digit, fields_text, rights_before, text_from, with_mark}
 
 -- the text of squares before another text
 squares_before : List (Option Man) → List ℕ → List ℕ
@@ -26,7 +27,7 @@ square_append : (square : Option Man) (first text : List ℕ) → begins_with_di
     → with_square square first ++ text ≡ with_square square (first ++ text)
 unfolding with_square
 square_append None first text ends = empty_append first text ends
-square_append (Some man) first text ends = refl
+square_append (Some man) first text ends = append_assoc (man_text man) first text
 
 row_append : (squares : List (Option Man)) (text : List ℕ) → begins_with_digit text ≡ false → row_text squares ++ text ≡ squares_before squares text
 unfolding row_text squares_before
@@ -72,3 +73,18 @@ pub fen_text_from : (d : Diagram) → fen_text d ≡ text_from d.men 64 (fields_
 unfolding fen_text rights_before fields_text
 fen_text_from d = append_assoc (men_text d.men) (blank ∷ turn_letter d.turn ∷ blank ∷ or_dash (castling_letters d.unmoved)) (blank ∷ crossed_text d.crossed)
     ∙ men_text_from d.men (turn_letter d.turn ∷ blank ∷ (or_dash (castling_letters d.unmoved) ++ (blank ∷ crossed_text d.crossed)))
+
+-- the fields written one after the other
+fields_written : (d : Diagram) → text_from d.men 64 [] ++ (turn_letter d.turn ∷ []) ++ (blank ∷ []) ++ or_dash (castling_letters d.unmoved) ++ (blank ∷ []) ++ crossed_text d.crossed ≡ fen_text d
+unfolding fen_text
+fields_written d =
+    let letters = or_dash (castling_letters d.unmoved) in
+    let men = men_text d.men in
+    rw (← men_text_from d.men [])
+    (append_assoc (men ++ (blank ∷ []) ++ (turn_letter d.turn ∷ []) ++ (blank ∷ []) ++ letters) (blank ∷ []) (crossed_text d.crossed)
+    ∙ ap (λ t. t ++ (blank ∷ crossed_text d.crossed)) (append_assoc (men ++ (blank ∷ []) ++ (turn_letter d.turn ∷ [])) (blank ∷ []) letters
+    ∙ append_assoc (men ++ (blank ∷ [])) (turn_letter d.turn ∷ []) (blank ∷ letters) ∙ append_assoc men (blank ∷ []) (turn_letter d.turn ∷ blank ∷ letters)))
+
+pub fen_written : (d : Diagram) (turn : ℕ) (u : Unmoved) (crossed : Option ℕ) → turn ≡ turn_letter d.turn → u ≡ d.unmoved → crossed ≡ d.crossed
+    → text_from d.men 64 [] ++ (turn ∷ []) ++ (blank ∷ []) ++ or_dash (castling_letters u) ++ (blank ∷ []) ++ crossed_text crossed ≡ fen_text d
+fen_written d turn u crossed et eu ec = rw (et, eu, ec) (fields_written d)

@@ -1,15 +1,15 @@
 -- Squares and marks in a text, one by one.
-use Rattle.fen.proofs.Basics.{Bool, List, None, Option, Some, [], ap, arith, cond, cond-false, cond-true, eqb, false, get_or, inl, inr, leb, length, refl, rules, suc, sym, true, zero, ℕ, ◌%◌, ◌&&◌, ◌*◌, ◌+◌, ◌-◌, ◌/◌, ◌<◌, ◌∙◌, ◌∷◌, ◌≡◌, ◌≤◌, drop, subst, cases_Bool, cases_eq, and_parts, and_from, eq-eqb, leb-true, le-leb, ne_eqb}
+use Rattle.fen.proofs.Basics.{Bool, List, None, Option, Some, [], ap, arith, cond, cond-false, cond-true, eqb, false, get_or, inl, inr, leb, refl, suc, sym, true, zero, ℕ, ◌%◌, ◌+◌, ◌-◌, ◌<◌, ◌∙◌, ◌∷◌, ◌≡◌, ◌≤◌, drop, subst, cases_Bool, cases_eq, and_parts, and_from, eq-eqb, false_from_ne_true, leb-true, le-leb, ne_eqb, ◌++◌, ◌⊎◌}
 use Rattle.std.proofs.lemmas.Bool.{false≢true, true≢false}
 use Rattle.chess_core.specs.declared.man.Man.{Man}
 use Rattle.chess_core.specs.declared.man.Colour.{Colour}
 use Rattle.chess_core.specs.declared.man.Kind.{Kind}
 use Rattle.chess_core.specs.declared.man.Colour.TheVariants.{White, Black}
 use Rattle.chess_core.specs.declared.man.Kind.TheVariants.{King, Queen, Rook, Bishop, Knight, Pawn, Grasshopper, Nightrider}
-use Rattle.chess_core.specs.Position.{man_on}
-use Rattle.fen.specs.Letters.{letter_of, letter_in, small_letter}
+use Rattle.chess_core.specs.Position.{man_on, same_kind}
+use Rattle.fen.specs.Letters.{letter_of, letter_in, man_text, small_letter}
 use Rattle.fen.specs.Fen.{is_digit, with_empty, with_square}
-use Rattle.fen.specs.ties.Reading.{FindsNoSquare, FindsSquare, IsLeft, IsRow, PassesMark, PassesNoMark, begins_with_digit, mark, square_before, text_from, with_mark, with_number}
+use Rattle.fen.specs.ties.Reading.{FindsNoMan, FindsNoSquare, FindsSquare, IsLeft, IsRow, PassesMark, PassesNoMark, begins_with_digit, mark, square_before, text_from, with_mark, with_number}
 
 -- the first byte of equal texts
 pub heads : {x y : ℕ} {xs ys : List ℕ} → x ∷ xs ≡ y ∷ ys → x ≡ y
@@ -50,6 +50,34 @@ abbrev is_end : List ℕ → Bool
 is_end [] = true
 is_end (first ∷ rest) = false
 
+-- a man's text begins with a byte that comes before or after all digits
+first_of : (c : Colour) (k : Kind) (text : List ℕ) → (first : ℕ) × (rest : List ℕ) × (man_text (of c k) ++ text ≡ first ∷ rest) × ((first < 49) ⊎ (57 < first))
+first_of White King text = (75, text, refl, inr (omega arith))
+first_of White Queen text = (81, text, refl, inr (omega arith))
+first_of White Rook text = (82, text, refl, inr (omega arith))
+first_of White Bishop text = (66, text, refl, inr (omega arith))
+first_of White Knight text = (78, text, refl, inr (omega arith))
+first_of White Pawn text = (80, text, refl, inr (omega arith))
+first_of White Grasshopper text = (71, text, refl, inr (omega arith))
+first_of White Nightrider text = (40, 78 ∷ 41 ∷ text, refl, inl (omega arith))
+first_of Black King text = (107, text, refl, inr (omega arith))
+first_of Black Queen text = (113, text, refl, inr (omega arith))
+first_of Black Rook text = (114, text, refl, inr (omega arith))
+first_of Black Bishop text = (98, text, refl, inr (omega arith))
+first_of Black Knight text = (110, text, refl, inr (omega arith))
+first_of Black Pawn text = (112, text, refl, inr (omega arith))
+first_of Black Grasshopper text = (103, text, refl, inr (omega arith))
+first_of Black Nightrider text = (40, 110 ∷ 41 ∷ text, refl, inl (omega arith))
+
+pub man_first : (man : Man) (text : List ℕ) → (first : ℕ) × (rest : List ℕ) × (man_text man ++ text ≡ first ∷ rest) × ((first < 49) ⊎ (57 < first))
+man_first man text = first_of man.colour man.kind text
+
+pub far_digit : (first : ℕ) → ((first < 49) ⊎ (57 < first)) → is_digit first ≡ false
+far_digit first far = false_from_ne_true _ (λ digit.
+    let low : 49 ≤ first = leb-true 49 first (and_parts _ _ digit).0 in
+    let high : first ≤ 56 = leb-true first 56 (and_parts _ _ digit).1 in
+    elim far [ inl h ↦ omega arith | inr h ↦ omega arith ])
+
 -- an empty square has a text
 end_first_empty : (tail : List ℕ) → [] ≡ with_empty tail → ⊥
 unfolding with_empty
@@ -65,18 +93,18 @@ unfolding with_number
 number_none empty text none = rw none refl
 
 -- a square before a text
-with_none : (tail : List ℕ) → with_square None tail ≡ with_empty tail
+pub with_none : (tail : List ℕ) → with_square None tail ≡ with_empty tail
 unfolding with_square
 with_none tail = refl
 
-with_some : (man : Man) (tail : List ℕ) → with_square (Some man) tail ≡ letter_of man ∷ tail
+pub with_some : (man : Man) (tail : List ℕ) → with_square (Some man) tail ≡ man_text man ++ tail
 unfolding with_square
 with_some man tail = refl
 
 -- a square has a text
 end_first : (square : Option Man) (tail : List ℕ) → [] ≡ with_square square tail → ⊥
 unfolding with_square
-end_first (Some man) tail e = true≢false (ap is_end e)
+end_first (Some man) tail e = true≢false (ap is_end (e ∙ (man_first man tail).2))
 end_first None tail e = end_first_empty tail e
 
 -- a number in front is a number of empty squares
@@ -118,9 +146,9 @@ number_only : (n : ℕ) (text : List ℕ) (other : Option Man) (tail : List ℕ)
 unfolding with_square
 number_only n text None tail small e = (refl, number_only_empty n text tail e)
 number_only n text (Some man) tail small e =
-    let h : 49 + n ≡ letter_of man = heads e in
-    let large : 65 < letter_of man = letter_large man in
-    absurd (omega arith)
+    let f = man_first man tail in
+    let h : 49 + n ≡ f.0 = heads (e ∙ f.2) in
+    elim f.3 [ inl far ↦ absurd (omega (arith, h, far)) | inr far ↦ absurd (omega (arith, h, far)) ]
 
 -- an empty square of a number
 finds_empty : (n : ℕ) (text : List ℕ) → n < 8 → begins_with_digit text ≡ false → FindsSquare (suc n) text None n text
@@ -156,65 +184,124 @@ finds_digit empty text first rest none is digit ends =
       only = λ other tail h. found.only other tail (sym e ∙ h);
     }
 
--- the man with a letter
+-- the man whose text comes first, and what is left
 abbrev kind_with : ℕ → Kind
 kind_with letter = cond (eqb letter 107) King (cond (eqb letter 113) Queen (cond (eqb letter 114) Rook (cond (eqb letter 98) Bishop
-    (cond (eqb letter 110) Knight (cond (eqb letter 112) Pawn (cond (eqb letter 103) Grasshopper Nightrider))))))
+    (cond (eqb letter 110) Knight (cond (eqb letter 112) Pawn Grasshopper)))))
 
-abbrev man_with : ℕ → Man
-man_with letter = cond (leb 97 letter) (of Black (kind_with letter)) (of White (kind_with (letter + 32)))
+abbrev colour_with : ℕ → Colour
+colour_with letter = cond (leb 97 letter) Black White
 
-man_again : (c : Colour) (k : Kind) → man_with (letter_in c (small_letter k)) ≡ of c k
-man_again White King = refl
-man_again White Queen = refl
-man_again White Rook = refl
-man_again White Bishop = refl
-man_again White Knight = refl
-man_again White Pawn = refl
-man_again White Grasshopper = refl
-man_again White Nightrider = refl
-man_again Black King = refl
-man_again Black Queen = refl
-man_again Black Rook = refl
-man_again Black Bishop = refl
-man_again Black Knight = refl
-man_again Black Pawn = refl
-man_again Black Grasshopper = refl
-man_again Black Nightrider = refl
+abbrev man_with : List ℕ → Man × List ℕ
+man_with [] = (of White King, [])
+man_with (first ∷ rest) = cond (eqb first 40) (of (colour_with (get_or rest 0 0)) Nightrider, drop 2 rest)
+    (of (colour_with first) (kind_with (cond (leb 97 first) first (first + 32))), rest)
 
--- men with the same letter are the same
-same_letter : (m n : Man) → letter_of m ≡ letter_of n → m ≡ n
-same_letter m n e = sym (man_again m.colour m.kind) ∙ ap man_with e ∙ man_again n.colour n.kind
+man_again : (c : Colour) (k : Kind) (rest : List ℕ) → man_with (man_text (of c k) ++ rest) ≡ (of c k, rest)
+man_again White King rest = refl
+man_again White Queen rest = refl
+man_again White Rook rest = refl
+man_again White Bishop rest = refl
+man_again White Knight rest = refl
+man_again White Pawn rest = refl
+man_again White Grasshopper rest = refl
+man_again White Nightrider rest = refl
+man_again Black King rest = refl
+man_again Black Queen rest = refl
+man_again Black Rook rest = refl
+man_again Black Bishop rest = refl
+man_again Black Knight rest = refl
+man_again Black Pawn rest = refl
+man_again Black Grasshopper rest = refl
+man_again Black Nightrider rest = refl
 
--- no letter is the first byte of an empty square's text
-letter_first : (letter : ℕ) (rest tail : List ℕ) → 65 < letter → letter ∷ rest ≡ with_empty tail → ⊥
+-- men with the same text are the same
+same_man : (m n : Man) (rest more : List ℕ) → man_text m ++ rest ≡ man_text n ++ more → (m ≡ n) × (rest ≡ more)
+same_man m n rest more e =
+    let same : (m, rest) ≡ (n, more) = sym (man_again m.colour m.kind rest) ∙ ap man_with e ∙ man_again n.colour n.kind more in
+    (ap (λ p. p.0) same, ap (λ p. p.1) same)
+
+-- no man's text is that of an empty square
+man_no_empty : (first : ℕ) (rest tail : List ℕ) → ((first < 49) ⊎ (57 < first)) → first ∷ rest ≡ with_empty tail → ⊥
 unfolding with_empty
-letter_first letter rest [] large e = let h : letter ≡ 49 = heads e in omega arith
-letter_first letter rest (first ∷ more) large e = elim (cases_Bool (is_digit first)) [
+man_no_empty first rest [] far e = let h : first ≡ 49 = heads e in elim far [ inl x ↦ omega arith | inr x ↦ omega arith ]
+man_no_empty first rest (second ∷ more) far e = elim (cases_Bool (is_digit second)) [
   | inl digit ↦
-      let h : letter ≡ first + 1 = heads (e ∙ cond-true (is_digit first) _ _ digit) in
-      let high : first ≤ 56 = leb-true _ _ (and_parts _ _ digit).1 in
-      omega arith
-  | inr other ↦ let h : letter ≡ 49 = heads (e ∙ cond-false (is_digit first) _ _ other) in omega arith
+      let h : first ≡ second + 1 = heads (e ∙ cond-true (is_digit second) _ _ digit) in
+      let low : 49 ≤ second = leb-true 49 second (and_parts _ _ digit).0 in
+      let high : second ≤ 56 = leb-true second 56 (and_parts _ _ digit).1 in
+      elim far [ inl x ↦ omega arith | inr x ↦ omega arith ]
+  | inr other ↦ let h : first ≡ 49 = heads (e ∙ cond-false (is_digit second) _ _ other) in elim far [ inl x ↦ omega arith | inr x ↦ omega arith ]
 ]
 
-only_man : (man : Man) (rest : List ℕ) (other : Option Man) (tail : List ℕ) → letter_of man ∷ rest ≡ with_square other tail
+only_man : (man : Man) (rest : List ℕ) (other : Option Man) (tail : List ℕ) → man_text man ++ rest ≡ with_square other tail
     → (other ≡ Some man) × (tail ≡ rest)
 unfolding with_square
-only_man man rest None tail e = absurd (letter_first (letter_of man) rest tail (letter_large man) e)
-only_man man rest (Some other) tail e = (ap (λ (x : Man). Some x) (same_letter other man (sym (heads e))), sym (tails e))
+only_man man rest None tail e = let f = man_first man rest in absurd (man_no_empty f.0 f.1 tail f.3 (sym f.2 ∙ e))
+only_man man rest (Some other) tail e =
+    let same = same_man other man tail rest (sym e) in
+    (ap (λ (x : Man). Some x) same.0, same.1)
 
 -- a man
-pub finds_man : (empty : ℕ) (text : List ℕ) (first : ℕ) (rest : List ℕ) (man : Man) → empty ≡ 0 → text ≡ first ∷ rest
-    → first ≡ letter_of man → FindsSquare empty text (Some man) 0 rest
+pub finds_man : (empty : ℕ) (text : List ℕ) (man : Man) (rest : List ℕ) → empty ≡ 0 → text ≡ man_text man ++ rest → FindsSquare empty text (Some man) 0 rest
 unfolding with_number with_square
-finds_man empty text first rest man none is letter =
-    let e : with_number empty text ≡ letter_of man ∷ rest = rw (none, is) (ap (λ x. x ∷ rest) letter) in
+finds_man empty text man rest none is =
+    let e : with_number empty text ≡ man_text man ++ rest = number_none empty text none ∙ is in
     record {
       left = record { small = omega arith; ends = λ some. absurd (omega arith) };
       is = e;
       only = λ other tail h. only_man man rest other tail (sym e ∙ h);
     }
+
+-- a letter without brackets, and one within
+plain_text : (man : Man) (rest : List ℕ) → same_kind man.kind Nightrider ≡ false → man_text man ++ rest ≡ letter_of man ∷ rest
+plain_text man rest e = ap (λ b. cond b (40 ∷ letter_of man ∷ 41 ∷ []) (letter_of man ∷ []) ++ rest) e
+
+bracket_text : (man : Man) (rest : List ℕ) → same_kind man.kind Nightrider ≡ true → man_text man ++ rest ≡ 40 ∷ letter_of man ∷ 41 ∷ rest
+bracket_text man rest e = ap (λ b. cond b (40 ∷ letter_of man ∷ 41 ∷ []) (letter_of man ∷ []) ++ rest) e
+
+pub plain_man : (text : List ℕ) (first : ℕ) (rest : List ℕ) (man : Man) → text ≡ first ∷ rest → (first ≡ letter_of man) × (same_kind man.kind Nightrider ≡ false)
+    → text ≡ man_text man ++ rest
+plain_man text first rest man e h = e ∙ ap (λ x. x ∷ rest) h.0 ∙ sym (plain_text man rest h.1)
+
+pub bracket_man : (text : List ℕ) (first : ℕ) (more : List ℕ) (letter : ℕ) (last rest : List ℕ) (man : Man) → text ≡ first ∷ more → first ≡ 40 → more ≡ letter ∷ last
+    → last ≡ 41 ∷ rest → (letter ≡ letter_of man) × (same_kind man.kind Nightrider ≡ true) → text ≡ man_text man ++ rest
+bracket_man text first more letter last rest man e f g l h =
+    e ∙ rw (f, g, l, h.0) refl ∙ sym (bracket_text man rest h.1)
+
+pub no_man_end : (text : List ℕ) → text ≡ [] → FindsNoMan text
+no_man_end text end = λ man rest e. true≢false (ap is_end (sym end ∙ e ∙ (man_first man rest).2))
+
+pub no_plain_man : (text : List ℕ) (first : ℕ) (rest : List ℕ) → text ≡ first ∷ rest → (first ≡ 40 → ⊥)
+    → ((man : Man) → same_kind man.kind Nightrider ≡ false → first ≡ letter_of man → ⊥) → FindsNoMan text
+no_plain_man text first rest is ne none = λ man more e. elim (cases_Bool (same_kind man.kind Nightrider)) [
+  | inl night ↦ ne (heads (sym is ∙ e ∙ bracket_text man more night))
+  | inr plain ↦ none man plain (heads (sym is ∙ e ∙ plain_text man more plain))
+]
+
+-- after a bracket comes a nightrider
+bracket_only : (text : List ℕ) (first : ℕ) (rest : List ℕ) → text ≡ first ∷ rest → first ≡ 40 → (man : Man) (more : List ℕ) → text ≡ man_text man ++ more
+    → (same_kind man.kind Nightrider ≡ true) × (rest ≡ letter_of man ∷ 41 ∷ more)
+bracket_only text first rest is f man more e = elim (cases_Bool (same_kind man.kind Nightrider)) [
+  | inl night ↦ (night, tails (sym is ∙ e ∙ bracket_text man more night))
+  | inr plain ↦
+      let h : first ≡ letter_of man = heads (sym is ∙ e ∙ plain_text man more plain) in
+      let large : 65 < letter_of man = letter_large man in
+      absurd (omega arith)
+]
+
+pub no_bracket_end : (text : List ℕ) (first : ℕ) (rest : List ℕ) → text ≡ first ∷ rest → first ≡ 40 → rest ≡ [] → FindsNoMan text
+no_bracket_end text first rest is f end = λ man more e. true≢false (ap is_end (sym end ∙ (bracket_only text first rest is f man more e).1))
+
+pub no_right_bracket : (text : List ℕ) (first : ℕ) (rest : List ℕ) (letter : ℕ) (last : List ℕ) → text ≡ first ∷ rest → first ≡ 40 → rest ≡ letter ∷ last
+    → ((more : List ℕ) → last ≡ 41 ∷ more → ⊥) → FindsNoMan text
+no_right_bracket text first rest letter last is f g none = λ man more e. none more (tails (sym g ∙ (bracket_only text first rest is f man more e).1))
+
+pub no_nightrider : (text : List ℕ) (first : ℕ) (rest : List ℕ) (letter : ℕ) (last : List ℕ) → text ≡ first ∷ rest → first ≡ 40 → rest ≡ letter ∷ last
+    → ((man : Man) → same_kind man.kind Nightrider ≡ true → letter ≡ letter_of man → ⊥) → FindsNoMan text
+no_nightrider text first rest letter last is f g none = λ man more e.
+    let b = bracket_only text first rest is f man more e in
+    none man b.0 (heads (sym g ∙ b.1))
 
 -- no square at the end of a text
 pub none_at_end : (empty : ℕ) (text : List ℕ) → empty ≡ 0 → text ≡ [] → FindsNoSquare empty text
@@ -251,25 +338,25 @@ empty_first first rest (second ∷ more) twice row e = elim (cases_Bool (is_digi
 ]
 
 pub finds_none : (empty : ℕ) (text : List ℕ) (first : ℕ) (rest : List ℕ) → empty ≡ 0 → text ≡ first ∷ rest
-    → (is_digit first ≡ true → begins_with_digit rest ≡ true) → ((man : Man) → first ≡ letter_of man → ⊥) → FindsNoSquare empty text
+    → (is_digit first ≡ true → begins_with_digit rest ≡ true) → FindsNoMan text → FindsNoSquare empty text
 finds_none empty text first rest none is twice no_man = λ square tail row e. by_square square tail row (sym (number_none empty text none ∙ is) ∙ e)
   where
     by_square : (square : Option Man) (tail : List ℕ) → IsRow 7 tail → first ∷ rest ≡ with_square square tail → ⊥
     by_square None tail row e = empty_first first rest tail twice row (e ∙ with_none tail)
-    by_square (Some man) tail row e = no_man man (heads (e ∙ with_some man tail))
+    by_square (Some man) tail row e = no_man man tail (is ∙ e ∙ with_some man tail)
 
 -- a mark isn't a digit
-mark_no_digit : (after : ℕ) → is_digit (mark after) ≡ false
+pub mark_no_digit : (after : ℕ) → is_digit (mark after) ≡ false
 mark_no_digit after = elim (cases_Bool (eqb after 0)) [
   | inl e ↦ ap (λ b. is_digit (cond b 32 47)) e
   | inr e ↦ ap (λ b. is_digit (cond b 32 47)) e
 ]
 
-with_mark_end : (after : ℕ) (text : List ℕ) → after % 8 ≡ 0 → with_mark after text ≡ mark after ∷ text
+pub with_mark_end : (after : ℕ) (text : List ℕ) → after % 8 ≡ 0 → with_mark after text ≡ mark after ∷ text
 unfolding with_mark
 with_mark_end after text e = cond-true (eqb (after % 8) 0) _ _ (eq-eqb _ _ e)
 
-with_mark_within : (after : ℕ) (text : List ℕ) → 0 < after % 8 → with_mark after text ≡ text
+pub with_mark_within : (after : ℕ) (text : List ℕ) → 0 < after % 8 → with_mark after text ≡ text
 unfolding with_mark
 with_mark_within after text h = cond-false (eqb (after % 8) 0) _ _ (ne_eqb _ _ (λ e. omega arith))
 
@@ -313,9 +400,9 @@ pub not_digit : (b d : Bool) → b ≡ false → b ≡ true → d ≡ true
 not_digit b d fails holds = absurd (false≢true (sym fails ∙ holds))
 
 -- a square before a row
-row_man : (n letter : ℕ) (text : List ℕ) → 65 < letter → IsRow n (letter ∷ text)
+row_first : (n first : ℕ) (text : List ℕ) → is_digit first ≡ false → IsRow n (first ∷ text)
 unfolding IsRow
-row_man n letter text large digit = absurd (let high : letter ≤ 56 = leb-true _ _ (and_parts _ _ digit).1 in omega arith)
+row_first n first text other digit = absurd (false≢true (sym other ∙ digit))
 
 row_empty : (n : ℕ) (text : List ℕ) → IsRow n text → IsRow (suc n) (with_empty text)
 unfolding IsRow with_empty
@@ -328,7 +415,9 @@ row_empty n (first ∷ rest) row = elim (cases_Bool (is_digit first)) [
 row_square : (n : ℕ) (square : Option Man) (text : List ℕ) → IsRow n text → IsRow (suc n) (with_square square text)
 unfolding with_square
 row_square n None text row = row_empty n text row
-row_square n (Some man) text row = row_man (suc n) (letter_of man) text (letter_large man)
+row_square n (Some man) text row =
+    let f = man_first man text in
+    subst (IsRow (suc n)) (sym f.2) (row_first (suc n) f.0 f.1 (far_digit f.0 f.3))
 
 -- a row at most this long is at most that long
 row_more : (n m : ℕ) (text : List ℕ) → n ≤ m → IsRow n text → IsRow m text

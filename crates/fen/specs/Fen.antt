@@ -1,4 +1,4 @@
--- Diagrams in FEN: its first four fields, which are those of EPD (PGN Standard, sections 16.1 and 16.2).
+-- Diagrams in FEN: its first four fields, with which EPD begins too (PGN Standard, sections 16.1 and 16.2).
 use Rattle.std.specs.Prelude.{ℕ, ◌+◌, ◌-◌, ◌*◌, ◌<◌, ◌≡◌, nat_le, Bool, ◌&&◌, ◌||◌, if◌then◌else◌, List, [], ◌∷◌, ◌++◌, length, map, Option, Some, None, IfSome, Result, MatchResult}
 use Rattle.std.specs.List.{join_with_byte, range_with_len}
 use Rattle.chess_core.specs.Castling.{Unmoved}
@@ -7,7 +7,7 @@ use Rattle.chess_core.specs.Letters.{capital_letter, king_letter, queen_letter}
 use Rattle.chess_core.specs.Position.{man_on}
 use Rattle.chess_core.specs.SquareNames.{square_text}
 use Rattle.chess_core.specs.declared.man.Man.{Man}
-use Rattle.fen.specs.Letters.{blank, dash, digit_1, digit_8, letter_of, slash, turn_letter}
+use Rattle.fen.specs.Letters.{blank, dash, digit_1, digit_8, man_text, slash, turn_letter}
 use Rattle.fen.specs.declared.not_fen.NotFen.{NotFen}
 
 -- the byte is a digit 1 to 8
@@ -20,12 +20,12 @@ with_empty [] = digit_1 ∷ []
 with_empty (first ∷ rest) =
     if is_digit first then (first + 1) ∷ rest else digit_1 ∷ first ∷ rest
 
--- the text with a square before it: a letter for a man
+-- the text with a square before it: a man or an empty square
 unfoldable pub with_square : Option Man → List ℕ → List ℕ
 with_square None text = with_empty text
-with_square (Some man) text = letter_of man ∷ text
+with_square (Some man) text = man_text man ++ text
 
--- the text of squares in a row: a letter for each man, a number for each run of empty squares
+-- the text of squares in a row: the text of each man, a number for each run of empty squares
 unfoldable pub row_text : List (Option Man) → List ℕ
 row_text [] = []
 row_text (square ∷ squares) = with_square square (row_text squares)

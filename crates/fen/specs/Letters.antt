@@ -1,20 +1,17 @@
--- The letters of FEN, by their ASCII codes (PGN Standard, section 16.1.3; those of grasshopper and
--- nightrider are own).
-use Rattle.std.specs.Prelude.{ℕ}
+-- The letters of FEN, by their ASCII codes (PGN Standard, section 16.1.3; the page's for
+-- grasshopper and nightrider).
+use Rattle.std.specs.Prelude.{ℕ, if◌then◌else◌, List, [], ◌∷◌}
 use Rattle.chess_core.specs.Letters.{bishop_letter, capital_letter, grasshopper_letter, king_letter, pawn_letter, queen_letter, rook_letter}
+use Rattle.chess_core.specs.Position.{same_kind}
 use Rattle.chess_core.specs.declared.man.Colour.{Colour}
 use Rattle.chess_core.specs.declared.man.Colour.TheVariants.{White, Black}
 use Rattle.chess_core.specs.declared.man.Kind.{Kind}
 use Rattle.chess_core.specs.declared.man.Kind.TheVariants.{King, Queen, Rook, Bishop, Knight, Pawn, Grasshopper, Nightrider}
 use Rattle.chess_core.specs.declared.man.Man.{Man}
 
--- `n`
+-- `n`, the letter of knights, and in brackets of nightriders
 abbrev pub knight_letter : ℕ
 knight_letter = 110
-
--- `h`
-abbrev pub nightrider_letter : ℕ
-nightrider_letter = 104
 
 -- the small letter of a kind of man
 abbrev pub small_letter : Kind → ℕ
@@ -25,7 +22,7 @@ small_letter Bishop = bishop_letter
 small_letter Knight = knight_letter
 small_letter Pawn = pawn_letter
 small_letter Grasshopper = grasshopper_letter
-small_letter Nightrider = nightrider_letter
+small_letter Nightrider = knight_letter
 
 -- a letter as a colour's men have it: White's are capitals
 abbrev pub letter_in : Colour → ℕ → ℕ
@@ -35,6 +32,20 @@ letter_in Black letter = letter
 -- the letter of a man
 abbrev pub letter_of : Man → ℕ
 letter_of man = letter_in man.colour (small_letter man.kind)
+
+-- `(`
+abbrev pub left_bracket : ℕ
+left_bracket = 40
+
+-- `)`
+abbrev pub right_bracket : ℕ
+right_bracket = 41
+
+-- the text of a man: its letter, in brackets for a nightrider
+abbrev pub man_text : Man → List ℕ
+man_text man =
+    if same_kind man.kind Nightrider then left_bracket ∷ letter_of man ∷ right_bracket ∷ []
+    else letter_of man ∷ []
 
 -- the letter of the side to move: `w` or `b`
 abbrev pub turn_letter : Colour → ℕ

@@ -1,20 +1,22 @@
 //! The men of a text.
-ghost use Rattle.std.specs.Prelude.{ℕ, ◌≡◌, ◌<◌, MatchOption, MatchResult, None, length};
-ghost use Rattle.chess_core.specs.Position.{man_on};
+ghost use Rattle.std.specs.Prelude.{ℕ, ◌≡◌, ◌<◌, MatchOption, MatchResult, None, length, ◌++◌, false, true};
+ghost use Rattle.chess_core.specs.Position.{man_on, same_kind};
 ghost use Rattle.chess_core.specs.declared.man.Kind.{Kind};
+ghost use Rattle.chess_core.specs.declared.man.Kind.TheVariants.{Nightrider};
 ghost use Rattle.chess_core.specs.declared.man.Man.{Man};
-ghost use Rattle.fen.specs.Letters.{letter_of, small_letter};
+ghost use Rattle.fen.specs.Letters.{letter_of, man_text, small_letter};
 ghost use Rattle.fen.specs.Fen.{is_digit};
-ghost use Rattle.fen.specs.ties.Reading.{Finds, FindsNoSquare, FindsNone, FindsSquare, HasAll, IsLeft, PassesMark, PassesNoMark, begins_with_digit, mark, men_before, square_before};
+ghost use Rattle.fen.specs.ties.Reading.{Finds, FindsNoMan, FindsNoSquare, FindsNone, FindsSquare, HasAll, IsLeft, PassesMark, PassesNoMark, begins_with_digit, mark, men_before, square_before};
 
 use crate::bytes::{skip, split};
 use crate::not_fen::NotFen;
 use chess_core::{Colour, Diagram, Kind, Man, Square};
 
-// Returns the kind of man with this small letter.
+// Returns the kind of man with this small letter that stands without brackets.
 fn kind_of(small: u8) -> Option<Kind>
-    ensures { MatchOption result ((kind : Kind) → small ≡ small_letter kind → ⊥)
-        (λ kind. small ≡ small_letter kind) }
+    ensures { MatchOption result
+        ((kind : Kind) → same_kind kind Nightrider ≡ false → small ≡ small_letter kind → ⊥)
+        (λ kind. (small ≡ small_letter kind) × (same_kind kind Nightrider ≡ false)) }
 {
     match small {
         b'k' => Some(Kind::King),
@@ -24,15 +26,15 @@ fn kind_of(small: u8) -> Option<Kind>
         b'n' => Some(Kind::Knight),
         b'p' => Some(Kind::Pawn),
         b'g' => Some(Kind::Grasshopper),
-        b'h' => Some(Kind::Nightrider),
         _ => None,
     }
 }
 
-// Returns the man with this letter.
+// Returns the man with this letter that stands without brackets.
 fn man_of(letter: u8) -> Option<Man>
-    ensures { MatchOption result ((man : Man) → letter ≡ letter_of man → ⊥)
-        (λ man. letter ≡ letter_of man) }
+    ensures { MatchOption result
+        ((man : Man) → same_kind man.kind Nightrider ≡ false → letter ≡ letter_of man → ⊥)
+        (λ man. (letter ≡ letter_of man) × (same_kind man.kind Nightrider ≡ false)) }
 {
     let (colour, small) = if letter < b'a' {
         (Colour::White, letter + 32)
@@ -42,6 +44,45 @@ fn man_of(letter: u8) -> Option<Man>
     match kind_of(small) {
         Some(kind) => Some(Man { colour, kind }),
         None => None,
+    }
+}
+
+// Returns the nightrider with this letter in brackets.
+fn nightrider_of(letter: u8) -> Option<Man>
+    ensures { MatchOption result
+        ((man : Man) → same_kind man.kind Nightrider ≡ true → letter ≡ letter_of man → ⊥)
+        (λ man. (letter ≡ letter_of man) × (same_kind man.kind Nightrider ≡ true)) }
+{
+    match letter {
+        b'N' => Some(Man {
+            colour: Colour::White,
+            kind: Kind::Nightrider,
+        }),
+        b'n' => Some(Man {
+            colour: Colour::Black,
+            kind: Kind::Nightrider,
+        }),
+        _ => None,
+    }
+}
+
+// Reads a man, and returns what is left.
+fn read_man(text: &[u8]) -> Result<(Man, &[u8]), NotFen>
+    ensures { MatchResult result (λ found. text.now ≡ man_text found.0 ++ found.1.now)
+        (λ _. FindsNoMan text.now) }
+{
+    let (first, rest) = split(text)?;
+    if first != b'(' {
+        return match man_of(first) {
+            Some(man) => Ok((man, rest)),
+            None => Err(NotFen),
+        };
+    }
+    let (letter, rest) = split(rest)?;
+    let rest = skip(rest, b')')?;
+    match nightrider_of(letter) {
+        Some(man) => Ok((man, rest)),
+        None => Err(NotFen),
     }
 }
 
@@ -76,15 +117,14 @@ fn next_square(empty: u8, text: &[u8]) -> Result<(Option<Man>, u8, &[u8]), NotFe
     if is_digit(first) && !begins_with_digit(rest) {
         return Ok((None, first - b'1', rest));
     }
-    match man_of(first) {
-        Some(man) => Ok((Some(man), 0, rest)),
-        None => Err(NotFen),
-    }
+    let (man, rest) = read_man(text)?;
+    Ok((Some(man), 0, rest))
 }
 
 // Returns the byte that ends a rank before this many squares.
-fn mark(after: u8) -> u8
-    ensures { result ≡ mark after }
+pub(crate) fn mark(after: u8) -> u8
+    ensures value { result ≡ mark after }
+    ensures small { result < 128 }
 {
     if after == 0 { b' ' } else { b'/' }
 }
@@ -105,6 +145,14 @@ fn pass_mark(after: u8, empty: u8, text: &[u8]) -> Result<(u8, &[u8]), NotFen>
     Ok((0, rest))
 }
 
+// Returns the square with this many squares after it in FEN's order.
+pub(crate) fn square_before(after: u8) -> Square
+    requires { after < 64 }
+    ensures { result ≡ square_before after }
+{
+    Square::numbered(8 * (after / 8) + (7 - after % 8))
+}
+
 // Puts what was read on its square, which is empty.
 fn set(diagram: &mut Diagram, after: u8, found: Option<Man>)
     requires size { length diagram.old.men ≡ 64 }
@@ -114,7 +162,7 @@ fn set(diagram: &mut Diagram, after: u8, found: Option<Man>)
     ensures here { man_on diagram.new.men (square_before after) ≡ found }
     ensures others { (s : ℕ) → (s ≡ square_before after → ⊥) → man_on diagram.new.men s ≡ man_on diagram.old.men s }
 {
-    let square = Square::numbered(8 * (after / 8) + (7 - after % 8));
+    let square = square_before(after);
     if let Some(man) = found {
         let _empty = diagram.put(square, man);
     }

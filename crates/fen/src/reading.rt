@@ -33,6 +33,12 @@ fn read_fields(men: Diagram, text: &[u8]) -> Result<Diagram, NotFen>
 /// # Errors
 ///
 /// `NotFen` exactly if the text is no diagram's FEN.
+///
+/// # Example
+///
+/// ```rust
+/// let diagram = fen::read(b"8/8/1KP5/3r4/8/8/8/k7 w - -")?;
+/// ```
 pub fn read(text: &[u8]) -> Result<Diagram, NotFen>
     ensures { IsReadAs text.now result }
 {

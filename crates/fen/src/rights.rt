@@ -22,7 +22,7 @@ pub(crate) fn read_turn(text: &[u8]) -> Result<(Colour, &[u8]), NotFen>
     }
 }
 
-// Returns the castling rights with those of one castling, if it is allowed.
+// Adds the rights of one castling, if it is allowed.
 fn with_castling(rights: Unmoved, is_allowed: bool, king: Square, rook: Square) -> Unmoved
     ensures { result ≡ (if is_allowed then with_unmoved (with_unmoved rights king) rook else rights) }
 {

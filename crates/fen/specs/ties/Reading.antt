@@ -5,7 +5,7 @@ use Rattle.chess_core.specs.Diagrams.{Diagram}
 use Rattle.chess_core.specs.Position.{man_on}
 use Rattle.chess_core.specs.declared.man.Colour.{Colour}
 use Rattle.chess_core.specs.declared.man.Man.{Man}
-use Rattle.fen.specs.Letters.{blank, digit_1, slash, turn_letter}
+use Rattle.fen.specs.Letters.{blank, digit_1, man_text, slash, turn_letter}
 use Rattle.fen.specs.Fen.{HasFenRights, castling_letters, crossed_text, is_digit, or_dash, with_square}
 use Rattle.fen.specs.declared.not_fen.NotFen.{NotFen}
 
@@ -55,6 +55,10 @@ pub record IsLeft (empty : ℕ) (text : List ℕ) : Type 0 where
 unfoldable pub IsRow : ℕ → List ℕ → Type 0
 IsRow n [] = ⊤
 IsRow n (first ∷ rest) = is_digit first ≡ true → (first ≤ 48 + n) × (begins_with_digit rest ≡ false)
+
+-- no man comes first
+abbrev pub FindsNoMan : List ℕ → Type 0
+FindsNoMan text = (man : Man) (rest : List ℕ) → text ≡ man_text man ++ rest → ⊥
 
 -- the square comes first, and then what is left
 pub record FindsSquare (empty : ℕ) (text : List ℕ) (square : Option Man) (announced : ℕ) (rest : List ℕ) : Type 0 where

@@ -17,13 +17,15 @@ returns-then-not-begins_with_digit c =
     (sym c.is_digit.ensures ∙ c.if-is_digit.true)
     (sym c.begins_with_digit.ensures ∙ c.if-not-begins_with_digit.true)
 
-pub returns-in-Some : goal.returns-in-Some
-returns-in-Some c = finds_man _ _ c.in_ok-first.first c.in_ok-first.rest.now c.in-Some.man (omega arith) c.in_ok-first.ensures c.in-Some.ensures
+pub returns : goal.returns
+returns c = finds_man _ _ c.in_ok-man.man c.in_ok-man.rest.now (omega arith) c.in_ok-man.ensures
 
-pub returns-in-None : goal.returns-in-None
-returns-in-None c = finds_none _ _ c.in_ok-first.first c.in_ok-first.rest.now (omega arith) c.in_ok-first.ensures
+pub returns-in_err-man : goal.returns-in_err-man
+returns-in_err-man c =
+    let p = err_from_is_err_and c.from_residual-in_err-man.result c.from_residual-in_err-man.ensures.1 in
+    rw p.1 (finds_none _ _ c.in_ok-first.first c.in_ok-first.rest.now (omega arith) c.in_ok-first.ensures
     (λ digit. elim c.else-is_digit.branch [
       | else-is_digit-via-then-is_digit+else-not-begins_with_digit w ↦ sym w.begins_with_digit.ensures ∙ w.if-not-begins_with_digit.false
       | else-is_digit-via-else-is_digit w ↦ not_digit _ _ (sym c.is_digit.ensures ∙ w.if-is_digit.false) digit
     ])
-    c.in-None.ensures
+    c.in_err-man.ensures)

@@ -1,4 +1,4 @@
-use Rattle.fen.proofs.Basics.{arith, err_from_is_err_and, ap, sym, ◌∙◌, ◌∷◌, ◌≡◌}
+use Rattle.fen.proofs.Basics.{arith, err_from_is_err_and, ap, ◌∙◌, ◌∷◌}
 use Rattle.fen.proofs.Steps.{no_mark, no_mark_number, passes_end, passes_within}
 use Rattle.fen.proofs.men.pass_mark.Goals as goal
 
@@ -11,7 +11,7 @@ returns-then-empty-gt0 c = no_mark_number _ _ _ (omega arith) c.requires (omega 
 pub returns-in_err-rest : goal.returns-in_err-rest
 returns-in_err-rest c =
     let p = err_from_is_err_and c.from_residual.result c.from_residual.ensures.1 in
-    rw (p.1) (no_mark _ _ _ (omega arith) (omega arith) (rw c.mark.ensures at c.in_err-rest.ensures))
+    rw (p.1) (no_mark _ _ _ (omega arith) (omega arith) (rw c.mark.ensures.value at c.in_err-rest.ensures))
 
 pub returns : goal.returns
-returns c = passes_end _ _ _ _ (omega arith) (omega arith) (c.in_ok-rest.ensures ∙ ap (λ m. m ∷ c.in_ok-rest.rest.now) c.mark.ensures)
+returns c = passes_end _ _ _ _ (omega arith) (omega arith) (c.in_ok-rest.ensures ∙ ap (λ m. m ∷ c.in_ok-rest.rest.now) c.mark.ensures.value)

@@ -1,4 +1,4 @@
-use Rattle.fen.proofs.Basics.{arith, err_from_is_err_and, refl, rules, ◌-◌}
+use Rattle.fen.proofs.Basics.{arith, err_from_is_err_and, refl, ◌-◌}
 use Rattle.fen.proofs.Loop.{none_at, read_all, read_more, read_no_mark, read_no_square, read_none}
 use Rattle.fen.proofs.men.read_men.Goals as goal
 
