@@ -109,11 +109,23 @@ class Mending(unittest.TestCase):
             "Stipulation #2\nOption Castling h1",
             "Stipulation #2\nOption not SetPlay",
             "Stipulation h#3 not",
+            "Stipulation h#.5",
+            "Stipulation h#2;5",
+            "Stipulation h#2:5",
+            "Stipulation h#2 White",
+            "Stipulation h#2\nOption White",
+            "Stipulation h#2\nOption NoCastling a1 White:",
+            "Stipulation #2\nCondition White Circe",
+            "Stipulation #2\nCondition Circe Black",
+            "Stipulation #2\nCondition Isardam",
+            "Stipulation #2\nOption MaxSolutions -1",
         ):
             with self.subTest(wrong):
                 made = mend(text_of(PIECES, wrong))
                 self.assertEqual(made.text, text_of(PIECES, wrong))
                 self.assertEqual((made.mended, made.left), (0, 1))
+        text = text_of(PIECES, "Stipulation h#2", "Option White")
+        self.assertIn(b"WhiteToPlay", run_here.companion("pops-explain", text=text).output)
         made = mend(text_of(PIECES, "Stipulation h#3 not Circe"))
         self.assertEqual((made.text, made.mended), (text_of(PIECES, "Stipulation h#3 not Circe"), 0))
 

@@ -13,7 +13,8 @@ from pops_companions.input.words import TEXT_WORDS, named
 
 _SIGNS: dict[str, str] = DATA["signs"]
 _SIGN = "[" + re.escape("".join(_SIGNS)) + "]"
-_BETWEEN_DIGITS = re.compile(f"[0-9]{_SIGN}+[0-9]")
+# (`h#.5` isn't h#5)
+_OF_A_NUMBER = re.compile(f"[0-9]{_SIGN}+[0-9]|[#=][.,:;][0-9]")
 _COMMENT = re.compile(r"(#(?![0-9=])|%|//|/\*|\*|;|--|<!--|\{|!|\")")
 _FEN = re.compile(r"(?:[kqrbnpKQRBNP1-8]{1,8}/){7}[kqrbnpKQRBNP1-8]{1,8}")
 _HALVES = re.compile(rb"^(?:\xff\xfe|\xfe\xff)|^[ -~]\x00|^\x00[ -~]")
@@ -90,13 +91,13 @@ def without_signs(word: str) -> str:
 def signs(case: Case) -> Optional[Explanation]:
     """Punctuation that belongs to the word, since blanks alone part words."""
     inside = re.findall(_SIGN, case.plain)
-    # (`#=2` may be either)
-    if not inside or re.match("[sh]?(?:#=|=#)", case.plain, re.IGNORECASE):
+    # (`#=2` may be either, and -1 isn't 1)
+    if not inside or re.match("[sh]?(?:#=|=#)|-[0-9]", case.plain, re.IGNORECASE):
         return None
     stripped = without_signs(case.plain)
     parted = " ".join(re.sub(_SIGN, " ", case.plain).split())
     # (without the comma `h#1,5.` would be h#15)
-    joined = [] if _BETWEEN_DIGITS.search(case.plain) else [re.sub(_SIGN, "", case.plain)]
+    joined = [] if _OF_A_NUMBER.search(case.plain) else [re.sub(_SIGN, "", case.plain)]
     mended = next((it for it in (stripped, parted, *joined) if case.fits(it)), None)
     if mended is None:
         return None
@@ -231,7 +232,8 @@ def _nearness(word: str, name: str) -> float:
     """Returns how many letters of the word have to be changed to make it a short form of the name.
     """
     small = name.lower()
-    if sorted(word) == sorted(small):
+    # (read backwards Madrasi is another condition, Isardam)
+    if sorted(word) == sorted(small) and word != "".join(reversed(small)):
         return 1
     ends = range(max(3, len(word) - 1), min(len(small), len(word) + 1) + 1)
     whole = _distance(word, small)
