@@ -57,6 +57,8 @@ class Mending(unittest.TestCase):
             ("Pieces White Kg6\u00a0Ra1 Black Kg8", PIECES),
             ("Pieces White Kg6 R a1 Black Kg8", PIECES),
             ("Pieces White Kg6 Ra1a1 Black Kg8", PIECES),
+            ("Pieces White Kg6 Ra1-a2 Black Kg8", "Pieces White Kg6 Ra1a2 Black Kg8"),
+            ("Pieces White Kg6 Ra1,d1 Black Kg8", "Pieces White Kg6 Ra1d1 Black Kg8"),
             ("Pieces Kg6 Ra1 Black Kg8", "Pieces Kg6 Ra1 Black Kg8"),
             ("Pieces White Kg6 Ra1 Blakc Kg8", PIECES),
             ("White: Kg6 Ra1; Black: Kg8", PIECES),
@@ -119,6 +121,17 @@ class Mending(unittest.TestCase):
             "Stipulation #2\nCondition Circe Black",
             "Stipulation #2\nCondition Isardam",
             "Stipulation #2\nOption MaxSolutions -1",
+            "Stipulation #2\nOption !SetPlay",
+            "Stipulation #2\n;Condition Circe",
+            "Stipulation #2\n//Condition Circe",
+            "Stipulation #2 -- Circe",
+            "Stipulation #2 // Circe",
+            "Stipulation #2\nCondition -Circe",
+            "Stipulation #2\nCondition CircéP",
+            "Stipulation #2\nPieces White Pa2-h2",
+            "Stipulation #2\nPieces White Pa2..h2",
+            "Stipulation #2\nPieces White Pa2–c2",
+            "Stipulation #2\nPieces White Rb1->c1",
         ):
             with self.subTest(wrong):
                 made = mend(text_of(PIECES, wrong))
