@@ -15,7 +15,7 @@ _SIGNS: dict[str, str] = DATA["signs"]
 _SIGN = "[" + re.escape("".join(_SIGNS)) + "]"
 # (`h#.5` isn't h#5)
 _OF_A_NUMBER = re.compile(f"[0-9]{_SIGN}+[0-9]|[#=][.,:;][0-9]")
-_FROM_TO = re.compile("([a-h])([1-8])([-–—.…>=→]+)([a-h])([1-8])", re.IGNORECASE)
+_FROM_TO = re.compile("([a-h])([1-8])([-–—.…>→]+)([a-h])([1-8])", re.IGNORECASE)
 _COMMENT = re.compile(r"(#(?![0-9=])|%|//|/\*|\*|;|--|<!--|\{|!|\")")
 _FEN = re.compile(r"(?:[kqrbnpKQRBNP1-8]{1,8}/){7}[kqrbnpKQRBNP1-8]{1,8}")
 _HALVES = re.compile(rb"^(?:\xff\xfe|\xfe\xff)|^[ -~]\x00|^\x00[ -~]")
@@ -242,7 +242,7 @@ def _names_more(word: str, name: str) -> bool:
     """Returns whether a word may be another condition that begins or ends as this one, as
     CirceParrain."""
     small, plain = name.lower(), characters.without_accents(word)
-    if name not in CONDITIONS or plain in (small, f"{small}s"):
+    if name not in CONDITIONS or plain in (small, f"{small}s", small + small[-1]):
         return False
     return plain.startswith(small) or plain.endswith(small)
 
