@@ -156,8 +156,8 @@ def read_problems(text: str) -> Reading:
 def joined(problems: Iterable[Problem], with_gaps: bool = True) -> Iterator[Exported]:
     """Yields the problems with the twins that pops-import made of one, as one again.
 
-    They stay apart where an import of the joined problem wouldn't give them back. `with_gaps` are
-    those of which one was left out; Popeye gives its twins no letters.
+    They stay apart where an import of the joined problem wouldn't give them back, and, without
+    `with_gaps`, after a twin that was left out: Popeye gives its twins no letters.
     """
     run: list[Problem] = []
     for problem in problems:
