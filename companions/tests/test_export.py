@@ -126,6 +126,19 @@ class Twins(unittest.TestCase):
         self.assertEqual(found["twins"], {"b": "Add white Qa1", "c": "Rotate 90"})
         self.assertNotIn("comments", found)
 
+    def test_a_twin_that_was_left_out(self) -> None:
+        """In YAML the others keep their letters; in Popeye they would lose them."""
+        twins = b"Twin Move a1 b2\nTwin Condition Koeko\nTwin Move a1 c1\nTwin Remove a1 Add White Qa1\nEndProblem"
+        text = run_here.companion("pops-import", text=TWINS.partition(b"Twin")[0] + twins).output
+        self.assertNotIn(b"pair c)", text)
+        made = exported("yaml", text=text)
+        (found,) = nodes(made)
+        self.assertEqual(list(found["twins"]), ["b", "d", "e"])
+        self.assertEqual(found["twins"]["d"], "Move a1 c1")
+        self.assertEqual(found["comments"], ['a note: "one" \\ two'])
+        for form in (made, exported("popeye", text=text)):
+            self.assertEqual(same(form), same(text.decode()))
+
     def test_a_missing_twin_ends_the_problem(self) -> None:
         problems = read_problems(self.text.decode()).problems
         self.assertEqual([len(one.twins) for one in joined(problems)], [3])

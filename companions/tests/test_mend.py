@@ -57,6 +57,8 @@ class Mending(unittest.TestCase):
             ("Pieces White Kg6\u00a0Ra1 Black Kg8", PIECES),
             ("Pieces White Kg6 R a1 Black Kg8", PIECES),
             ("Pieces White Kg6 Ra1a1 Black Kg8", PIECES),
+            ("Pieces White Kg6 Ra1-a2 Black Kg8", "Pieces White Kg6 Ra1a2 Black Kg8"),
+            ("Pieces White Kg6 Ra1,d1 Black Kg8", "Pieces White Kg6 Ra1d1 Black Kg8"),
             ("Pieces Kg6 Ra1 Black Kg8", "Pieces Kg6 Ra1 Black Kg8"),
             ("Pieces White Kg6 Ra1 Blakc Kg8", PIECES),
             ("White: Kg6 Ra1; Black: Kg8", PIECES),
@@ -109,11 +111,34 @@ class Mending(unittest.TestCase):
             "Stipulation #2\nOption Castling h1",
             "Stipulation #2\nOption not SetPlay",
             "Stipulation h#3 not",
+            "Stipulation h#.5",
+            "Stipulation h#2;5",
+            "Stipulation h#2:5",
+            "Stipulation h#2 White",
+            "Stipulation h#2\nOption White",
+            "Stipulation h#2\nOption NoCastling a1 White:",
+            "Stipulation #2\nCondition White Circe",
+            "Stipulation #2\nCondition Circe Black",
+            "Stipulation #2\nCondition Isardam",
+            "Stipulation #2\nOption MaxSolutions -1",
+            "Stipulation #2\nOption !SetPlay",
+            "Stipulation #2\n;Condition Circe",
+            "Stipulation #2\n//Condition Circe",
+            "Stipulation #2 -- Circe",
+            "Stipulation #2 // Circe",
+            "Stipulation #2\nCondition -Circe",
+            "Stipulation #2\nCondition CircéP",
+            "Stipulation #2\nPieces White Pa2-h2",
+            "Stipulation #2\nPieces White Pa2..h2",
+            "Stipulation #2\nPieces White Pa2–c2",
+            "Stipulation #2\nPieces White Rb1->c1",
         ):
             with self.subTest(wrong):
                 made = mend(text_of(PIECES, wrong))
                 self.assertEqual(made.text, text_of(PIECES, wrong))
                 self.assertEqual((made.mended, made.left), (0, 1))
+        text = text_of(PIECES, "Stipulation h#2", "Option White")
+        self.assertIn(b"WhiteToPlay", run_here.companion("pops-explain", text=text).output)
         made = mend(text_of(PIECES, "Stipulation h#3 not Circe"))
         self.assertEqual((made.text, made.mended), (text_of(PIECES, "Stipulation h#3 not Circe"), 0))
 

@@ -95,12 +95,13 @@ def main(words: list[str]) -> Status:
         raise CommandError(Status.FAULTY, message) from None
     for one in reading.left_out:
         print(f"{NAME}: {name}, {one.text}", file=sys.stderr)
-    apart = settings.apart
-    problems = list(map(Exported, reading.problems) if apart else joined(reading.problems))
+    is_yaml = settings.to == "yaml"
+    one_by_one = map(Exported, reading.problems)
+    problems = list(one_by_one if settings.apart else joined(reading.problems, is_yaml))
     items = items_of(settings)
     refuse_other_report(problems, items, settings)
     if problems:
-        if settings.to == "yaml":
+        if is_yaml:
             written = "".join(yaml_of(problems, items))
         else:
             written = text_of_problems(one.lines() for one in problems)

@@ -19,6 +19,7 @@ from pops_companions.input.pieces import Piece, cut
 from pops_companions.input.reading import (
     CASTLING_SQUARES,
     COMMANDS,
+    CONDITIONS,
     OPTIONS,
     FaultKind,
     Reading,
@@ -59,6 +60,9 @@ _DENIED = re.compile(
     rb"(?i)(?<![a-z])(?:not|no|none|or|off|false|without|except|nicht|keine?|ohne|oder|aus|pas|non|sans|ou)(?![a-z])"
     rb"|[=:][ \t]*0"
 )
+# A sign that begins a comment, or denies, right before a word.
+_SIGN_FIRST = re.compile(rb"(?:[;!*]|//|/\*|--?)[A-Za-z]")
+_SIGN_OF_NOT = re.compile(rb"[!-][A-Za-z]")
 _BLACK = re.compile(rb"(?i)(?<![a-z])(?:black|schwarz|noirs?)(?![a-z])")
 _BYTE_ORDER_MARK = "\ufeff".encode("utf-8")
 MOST_FAULTS = 50
@@ -137,11 +141,24 @@ def _is_unsure(text: bytes, reading: Reading, edit: Edit) -> bool:
     before, after = text[line:start], text[stop : len(text) if end < 0 else end]
     if reading.section is Section.STIPULATION and _BLACK.search(before + b" " + after):
         return True
-    own = _DENIED.search(text[start:stop])
+    own_bytes = text[start:stop]
+    is_command = reading.section is not Section.PIECES
+    may_deny = is_command and _SIGN_OF_NOT.match(own_bytes) is not None
+    if _SIGN_FIRST.match(own_bytes) and (may_deny or not before.strip()):
+        return True
+    if edit.text.startswith(b"Remark ") and before.strip() and _names_a_rule(own_bytes + after):
+        return True
+    own = _DENIED.search(own_bytes)
     # (`No Board` becomes NoBoard)
     if own is not None and not edit.text.lower().startswith(own[0].lower()):
         return True
     return _DENIED.search(before) is not None or _DENIED.search(after) is not None
+
+
+def _names_a_rule(text: bytes) -> bool:
+    """Returns whether a condition or an option is named, as in `h#2 -- Circe`."""
+    words = re.findall(rb"[A-Za-z]+", text)
+    return any(named(word, (*CONDITIONS, *OPTIONS)) is not None for word in words)
 
 
 def _left(text: bytes, reading: Reading) -> int:

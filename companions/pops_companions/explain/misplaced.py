@@ -26,6 +26,7 @@ from pops_companions.input.reading import (
 from pops_companions.input.words import LONGEST_WORD, Span, named
 
 _COLLECTION = re.compile(DATA["collection"].encode("ascii"))
+_SQUARE = re.compile(rb"[a-hA-H][1-8]")
 _FILES = tuple((head.encode("latin-1"), what) for head, what in DATA["files"])
 
 
@@ -123,6 +124,8 @@ def _wrong_section(case: Case) -> Optional[Explanation]:
     """Explains a word of pops that belongs to another section than the one at hand."""
     section, word = case.reading.section, case.word.bytes
     home = _home_of(word)
+    if home is not None and home[0] is Section.PIECES and not _is_before_a_man(case):
+        return _white_to_play(case)
     if home is not None and home[0] is not section:
         return _belongs(case, sentence(home[1]), home[0])
     if section is not Section.PIECES and is_man(word):
@@ -138,8 +141,24 @@ def _wrong_section_with_signs(case: Case) -> Optional[Explanation]:
     home = _home_of(bare.encode("utf-8"))
     if bare == case.plain or home is None or home[0] is case.reading.section:
         return None
+    if home[0] is Section.PIECES and not _is_before_a_man(case):
+        return None
     whole = f"{home[0].value} {bare}"
     return case.tells("belongs_with_signs", what=sentence(home[1]), whole=whole)
+
+
+def _is_before_a_man(case: Case) -> bool:
+    """Returns whether a square follows: `h#2 White` and `White Circe` name no men."""
+    return case.after is not None and _SQUARE.search(case.after.bytes) is not None
+
+
+def _white_to_play(case: Case) -> Optional[Explanation]:
+    """Explains Popeye's short form of WhiteToPlay."""
+    found = unread("WhiteToPlay")
+    if case.reading.section is not Section.OPTION or not named(case.word.bytes, ["White"]):
+        return None
+    assert found is not None
+    return case.tells("unread_short", what=found.what, name=found.name, instead=found.instead)
 
 
 def _home_of(word: bytes) -> Optional[tuple[Section, str]]:

@@ -13,7 +13,9 @@ from pops_companions.input.words import TEXT_WORDS, named
 
 _SIGNS: dict[str, str] = DATA["signs"]
 _SIGN = "[" + re.escape("".join(_SIGNS)) + "]"
-_BETWEEN_DIGITS = re.compile(f"[0-9]{_SIGN}+[0-9]")
+# (`h#.5` isn't h#5)
+_OF_A_NUMBER = re.compile(f"[0-9]{_SIGN}+[0-9]|[#=][.,:;][0-9]")
+_FROM_TO = re.compile("([a-h])([1-8])([-–—.…>→]+)([a-h])([1-8])", re.IGNORECASE)
 _COMMENT = re.compile(r"(#(?![0-9=])|%|//|/\*|\*|;|--|<!--|\{|!|\")")
 _FEN = re.compile(r"(?:[kqrbnpKQRBNP1-8]{1,8}/){7}[kqrbnpKQRBNP1-8]{1,8}")
 _HALVES = re.compile(rb"^(?:\xff\xfe|\xfe\xff)|^[ -~]\x00|^\x00[ -~]")
@@ -90,13 +92,15 @@ def without_signs(word: str) -> str:
 def signs(case: Case) -> Optional[Explanation]:
     """Punctuation that belongs to the word, since blanks alone part words."""
     inside = re.findall(_SIGN, case.plain)
-    # (`#=2` may be either)
-    if not inside or re.match("[sh]?(?:#=|=#)", case.plain, re.IGNORECASE):
+    # (`#=2` may be either, and -1 isn't 1)
+    if not inside or re.match("[sh]?(?:#=|=#)|-[0-9]", case.plain, re.IGNORECASE):
+        return None
+    if _is_range(case.plain.lower()):
         return None
     stripped = without_signs(case.plain)
     parted = " ".join(re.sub(_SIGN, " ", case.plain).split())
     # (without the comma `h#1,5.` would be h#15)
-    joined = [] if _BETWEEN_DIGITS.search(case.plain) else [re.sub(_SIGN, "", case.plain)]
+    joined = [] if _OF_A_NUMBER.search(case.plain) else [re.sub(_SIGN, "", case.plain)]
     mended = next((it for it in (stripped, parted, *joined) if case.fits(it)), None)
     if mended is None:
         return None
@@ -109,6 +113,18 @@ def signs(case: Case) -> Optional[Explanation]:
         return case.tells("sign", kind=kind, mended=mended)
     kinds_said = kind + ("es" if kind.endswith("sh") else "s")
     return case.tells("sign_often", kinds=kinds_said, mended=mended)
+
+
+def _is_range(word: str) -> bool:
+    """Returns whether a word may name all squares of a line, as `Pa2-h2`, or a move, as `Ra1->b1`."""
+    found = _FROM_TO.search(word)
+    if found is None or found[3] == ".":
+        return False
+    if found[3] not in ("-", "–", "—"):
+        return True
+    files = "abcdefgh".find(found[1]) - "abcdefgh".find(found[4])
+    ranks = int(found[2]) - int(found[5])
+    return (files == 0 or ranks == 0) and abs(files + ranks) > 1
 
 
 def parted(case: Case) -> Optional[Explanation]:
@@ -223,15 +239,20 @@ def _denies(word: str, name: str) -> bool:
 
 
 def _names_more(word: str, name: str) -> bool:
-    """Returns whether a word may be another condition that begins as this one, as CirceParrain."""
-    return name in CONDITIONS and word.startswith(name.lower()) and word != f"{name.lower()}s"
+    """Returns whether a word may be another condition that begins or ends as this one, as
+    CirceParrain."""
+    small, plain = name.lower(), characters.without_accents(word)
+    if name not in CONDITIONS or plain in (small, f"{small}s", small + small[-1]):
+        return False
+    return plain.startswith(small) or plain.endswith(small)
 
 
 def _nearness(word: str, name: str) -> float:
     """Returns how many letters of the word have to be changed to make it a short form of the name.
     """
     small = name.lower()
-    if sorted(word) == sorted(small):
+    # (read backwards Madrasi is another condition, Isardam)
+    if sorted(word) == sorted(small) and word != "".join(reversed(small)):
         return 1
     ends = range(max(3, len(word) - 1), min(len(small), len(word) + 1) + 1)
     whole = _distance(word, small)

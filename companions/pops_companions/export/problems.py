@@ -153,26 +153,27 @@ def read_problems(text: str) -> Reading:
     return reading
 
 
-def joined(problems: Iterable[Problem]) -> Iterator[Exported]:
+def joined(problems: Iterable[Problem], with_gaps: bool = True) -> Iterator[Exported]:
     """Yields the problems with the twins that pops-import made of one, as one again.
 
-    They stay apart where an import of the joined problem wouldn't give them back.
+    They stay apart where an import of the joined problem wouldn't give them back, and, without
+    `with_gaps`, after a twin that was left out: Popeye gives its twins no letters.
     """
     run: list[Problem] = []
     for problem in problems:
-        if run and not _continues(run, problem):
-            yield from _joined_run(run)
+        if run and not _continues(run, problem, with_gaps):
+            yield from _joined_run(run, with_gaps)
             run = []
         run.append(problem)
-    yield from _joined_run(run)
+    yield from _joined_run(run, with_gaps)
 
 
-def _continues(run: list[Problem], problem: Problem) -> bool:
+def _continues(run: list[Problem], problem: Problem, with_gaps: bool) -> bool:
     first_title, first = label_and_title(run[0].title)
     _, last = label_and_title(run[-1].title)
     title, label = label_and_title(problem.title)
     return (
-        label.text in _next_labels(first, last)
+        (label.text in _next_labels(first, last) or with_gaps and _is_later(first, last, label))
         and (title or "", problem.author, problem.origins)
         == (first_title or "", run[0].author, run[0].origins)
         and problem.number == run[-1].number + 1
@@ -189,10 +190,18 @@ def _next_labels(first: Label, last: Label) -> list[str]:
     return labels
 
 
-def _joined_run(run: list[Problem]) -> Iterator[Exported]:
+def _is_later(first: Label, last: Label, label: Label) -> bool:
+    """Returns whether a label is that of a later twin, also after one that was left out."""
+    is_duplex = last.is_duplex or label.is_duplex
+    return first.text == _FIRST_LABEL and not is_duplex and label.number > last.number
+
+
+def _joined_run(run: list[Problem], with_gaps: bool) -> Iterator[Exported]:
     whole = _whole(run)
     if whole is not None and _gives_back(whole, run):
         yield whole
+    elif with_gaps:
+        yield from joined(run, False)
     else:
         yield from map(Exported, run)
 
@@ -228,5 +237,12 @@ def _whole(run: list[Problem]) -> Optional[Exported]:
 
 def _gives_back(whole: Exported, run: list[Problem]) -> bool:
     """Returns whether an import of the whole makes the same problems."""
-    reading = read_problems(text_of_problems([whole.lines()]))
+    lines = list(whole.problem.lines())
+    number = 1
+    for twin in whole.twins:
+        _, label = label_and_title(f"{twin.letter})")
+        # (a twin without a change has a letter, and is left out)
+        lines += ["Twin"] * (label.number - number - 1) + [f"Twin {twin.changes}"]
+        number = label.number
+    reading = read_problems(text_of_problems([lines]))
     return [it.posed for it in reading.problems] == [it.posed for it in run]
