@@ -2,6 +2,7 @@
 
 import tempfile
 import unittest
+from collections.abc import Iterator
 from pathlib import Path
 
 from pops_companions.chess.attacks import Men
@@ -46,6 +47,17 @@ class Mates(unittest.TestCase):
     def test_no_names_with_fairy_men(self) -> None:
         self.assertIsNone(mate_of(men("White Kb6 Rh8 Gh1 Black Ka8"), Colour.BLACK))
         self.assertIsNone(mate_of(men("White Kb6 Rh8"), Colour.BLACK))
+
+    def test_none_is_looked_at_after_one_that_is_not_pure(self) -> None:
+        seen: list[str] = []
+
+        def found() -> Iterator[Mate]:
+            for text in ("White Kb6 Rh8 Black Ka8", "White Kb6 Rh8 Rh7 Black Ka8", "White Kg6 Ra8 Black Kh8"):
+                seen.append(text)
+                yield mate(text)
+
+        self.assertEqual(keywords_of(found()), [])
+        self.assertEqual(len(seen), 2)
 
     def test_keywords(self) -> None:
         left, right, up = (

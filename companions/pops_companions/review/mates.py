@@ -65,27 +65,32 @@ def _field(king: Square) -> Iterator[Square]:
             yield square
 
 
-def mates_of(men: Men, lines: Iterable[HelpLine], mated: Colour) -> list[Mate]:
-    """Returns the mates that lines of help play end in; none of a line of other men."""
-    found: list[Mate] = []
+def mates_of(men: Men, lines: Iterable[HelpLine], mated: Colour) -> Iterator[Mate]:
+    """Yields the mates that lines of help play end in; none of a line of other men."""
     for line in lines:
+        if line.moves[-1].mark is not Mark.MATE:
+            continue
         last = men
         for move in line.moves:
             last = after(last, move) if move.origin in last else {}
-        mate = mate_of(last, mated) if line.moves[-1].mark is Mark.MATE else None
+        mate = mate_of(last, mated)
         if mate is not None:
-            found.append(mate)
-    return found
+            yield mate
 
 
-def keywords_of(mates: list[Mate]) -> list[str]:
+def keywords_of(mates: Iterable[Mate]) -> list[str]:
     """Returns what all mates are, as `model mates`, and whether two are the same picture moved.
 
-    Mates that aren't pure have no names, and make no echoes.
+    Mates that aren't pure have no names, and make no echoes: after one, no other is looked at.
     """
-    if not mates:
+    pure: list[Mate] = []
+    for mate in mates:
+        if not mate.name:
+            return []
+        pure.append(mate)
+    if not pure:
         return []
-    names = {mate.name for mate in mates}
+    names = {mate.name for mate in pure}
     found = []
     for name, wanted in (
         ("ideal mates", {"ideal"}),
@@ -95,10 +100,8 @@ def keywords_of(mates: list[Mate]) -> list[str]:
         if names <= wanted:
             found.append(name)
             break
-    else:
-        return []
     places: dict[tuple[tuple[int, int, str], ...], set[tuple[Square, Picture]]] = {}
-    for mate in mates:
+    for mate in pure:
         first = min(map(_sorted, _turned(mate.picture)))
         places.setdefault(first, set()).add((mate.king, mate.picture))
     echoes = [it for it in places.values() if len(it) > 1]
