@@ -57,13 +57,13 @@ _BARE = re.compile(rb"(?i)^[ \t]*(?:sti|con|opt)[a-z]*[ \t]+$")
 _ITS_NUMBER = re.compile(rb"[ \t]+[0-9]+(?!\S)")
 # Words by which a line may say something else than its other words do.
 _DENIED = re.compile(
-    rb"(?i)(?<![a-z])(?:not|no|none|or|off|false|without|except|nicht|keine?|ohne|oder|aus|pas|non|sans|ou)(?![a-z])"
+    rb"(?i)(?:^|[^a-z])(not|no|none|or|off|false|without|except|nicht|keine?|ohne|oder|aus|pas|non|sans|ou)(?![a-z])"
     rb"|[=:][ \t]*0"
 )
 # A sign that begins a comment, or denies, right before a word.
 _SIGN_FIRST = re.compile(rb"(?:[;!*]|//|/\*|--?)[A-Za-z]")
 _SIGN_OF_NOT = re.compile(rb"[!-][A-Za-z]")
-_BLACK = re.compile(rb"(?i)(?<![a-z])(?:black|schwarz|noirs?)(?![a-z])")
+_BLACK = re.compile(rb"(?i)(?:^|[^a-z])(?:black|schwarz|noirs?)(?![a-z])")
 _BYTE_ORDER_MARK = "\ufeff".encode("utf-8")
 MOST_FAULTS = 50
 # What may only be missing because a word before was passed over.
@@ -150,7 +150,7 @@ def _is_unsure(text: bytes, reading: Reading, edit: Edit) -> bool:
         return True
     own = _DENIED.search(own_bytes)
     # (`No Board` becomes NoBoard)
-    if own is not None and not edit.text.lower().startswith(own[0].lower()):
+    if own is not None and not edit.text.lower().startswith((own[1] or own[0]).lower()):
         return True
     return _DENIED.search(before) is not None or _DENIED.search(after) is not None
 
