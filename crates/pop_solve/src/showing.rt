@@ -24,6 +24,7 @@ use pop_stipulation::{Goal, MOST_FRAMES, MOST_HALF_MOVES};
 
 /// Takes back the move of a frame.
 #[tactic(auto, using(chess_rules::proofs::LegalMoves::may_be_made))]
+#[inline(always)]
 fn take_back<R: Rules>(frame: &Frame<R>, board: &mut Board)
     requires came { CameFrom R.rule frame.now board.old }
     ensures before { (p : Position) → CameFromAt R.rule frame.now board.old p → board.new ≡ p }

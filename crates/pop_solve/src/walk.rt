@@ -385,6 +385,7 @@ fn next_of<R: Rules>(
 
 /// Takes back the move of a closed frame, unless it is the lowest.
 #[tactic(auto, using(chess_rules::proofs::LegalMoves::may_be_made))]
+#[inline(always)]
 pub fn step_back<R: Rules>(depth: usize, top: Frame<R>, board: &mut Board)
     requires { 0 < depth → CameFrom R.rule top board.old }
     ensures lowest { depth ≡ 0 → board.new ≡ board.old }

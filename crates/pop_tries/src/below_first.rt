@@ -127,6 +127,7 @@ fn begin_threats<R: Rules, const N: usize>(
 
 /// Walks to the next node below a first move, and returns its event. After the last node returns `None`: then
 /// no frame is left, and the board has the position where the walk started.
+#[inline(always)]
 fn next_node<R: Rules, const N: usize>(
     task: &Task,
     first: &First<R>,
