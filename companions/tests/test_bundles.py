@@ -159,9 +159,11 @@ class Solved(unittest.TestCase):
     def test_a_bundle_that_takes_long_gives_the_rest_back(self) -> None:
         """Its first problem goes on, and ends only once others of the bundle are solved elsewhere."""
         slow = self.script(
-            f"text=$(cat)\ncase $text in\n*Slow*) until [ -e {self.room}/after ]; do sleep 0.1; done ;;\n"
-            f"*After*) : > {self.room}/after ;; esac\n"
-            f"printf '%s' \"$text\" | '{support.pops()}' \"$@\""
+            f"text=$(cat)\nprintf '%s' \"$text\" | '{support.pops()}' \"$@\" > {self.room}/out.$$\n"
+            f"case $text in\n*Slow*) sed '/title: Slow/,$d' {self.room}/out.$$\n"
+            f"until [ -e {self.room}/after ]; do sleep 0.1; done\n"
+            f"sed -n '/title: Slow/,$p' {self.room}/out.$$; exit ;;\n"
+            f"*After*) : > {self.room}/after ;; esac\ncat {self.room}/out.$$"
         )
         text = input_of(f"Title Slow\n{MATE}", *[f"Title After\n{MATE}"] * 80)
         before = [f"Title Before\n{MATE}"] * 200
