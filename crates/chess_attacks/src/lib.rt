@@ -5,21 +5,15 @@
 //!
 //! ```rust
 //! use chess_attacks::{Orthodox, Rules, in_check};
-//! use chess_core::{Board, Colour, Diagram, Kind, Man, Square};
+//! use chess_core::{Board, Colour, Square};
 //!
 //! // White Kg6 Ra8, Black Kg8.
-//! let mut diagram = Diagram::new();
-//! for (square, colour, kind) in [
-//!     (Square::G6, Colour::White, Kind::King),
-//!     (Square::A8, Colour::White, Kind::Rook),
-//!     (Square::G8, Colour::Black, Kind::King),
-//! ] {
-//!     let _ = diagram.put(square, Man { colour, kind });
-//! }
-//! if diagram.is_well_formed() {
-//!     let board = Board::of(&diagram);
-//!     assert!(rt; in_check::<Orthodox>(&board, Colour::Black));
-//!     assert!(rt; Orthodox::attacked(&board, Square::F8, Colour::White));
+//! if let Ok(diagram) = fen::read(b"R5k1/8/6K1/8/8/8/8/8 w - -") {
+//!     if diagram.is_well_formed() {
+//!         let board = Board::of(&diagram);
+//!         assert!(rt; in_check::<Orthodox>(&board, Colour::Black));
+//!         assert!(rt; Orthodox::attacked(&board, Square::F8, Colour::White));
+//!     }
 //! }
 //! ```
 //!

@@ -5,28 +5,22 @@
 //!
 //! ```rust
 //! use chess_attacks::lines::occupied;
-//! use chess_core::{Board, Colour, Diagram, Kind, Man, Square};
+//! use chess_core::{Board, Colour, Square};
 //! use chess_flights::attackers::attackers_on;
 //! use chess_flights::free_steps::free_steps;
 //! use chess_flights::guards::leapt_squares;
 //! use chess_rules::Orthodox;
 //!
 //! // White Kg6 Ra1, Black Kg8, White to move.
-//! let mut diagram = Diagram::new();
-//! for (square, colour, kind) in [
-//!     (Square::G6, Colour::White, Kind::King),
-//!     (Square::A1, Colour::White, Kind::Rook),
-//!     (Square::G8, Colour::Black, Kind::King),
-//! ] {
-//!     let _ = diagram.put(square, Man { colour, kind });
-//! }
-//! if diagram.is_well_formed() {
-//!     let board = Board::of(&diagram);
-//!     let steps = free_steps::<Orthodox>(&board, Square::G8);
-//!     let white = attackers_on(&board, Colour::White);
-//!     let guarded = leapt_squares(occupied(&board), &white, steps);
-//!     // White's king guards f7, g7 and h7: f8 and h8 are left.
-//!     assert!(rt; steps & !guarded == 1 << 61 | 1 << 63);
+//! if let Ok(diagram) = fen::read(b"6k1/8/6K1/8/8/8/8/R7 w - -") {
+//!     if diagram.is_well_formed() {
+//!         let board = Board::of(&diagram);
+//!         let steps = free_steps::<Orthodox>(&board, Square::G8);
+//!         let white = attackers_on(&board, Colour::White);
+//!         let guarded = leapt_squares(occupied(&board), &white, steps);
+//!         // White's king guards f7, g7 and h7: f8 and h8 are left.
+//!         assert!(rt; steps & !guarded == 1 << 61 | 1 << 63);
+//!     }
 //! }
 //! ```
 //!

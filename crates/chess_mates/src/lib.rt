@@ -4,30 +4,24 @@
 //! For example, in a test with the parameter `rt: HostRuntime`:
 //!
 //! ```rust
-//! use chess_core::{Board, Colour, Diagram, Kind, Man, Move, Square};
+//! use chess_core::{Board, Move, Square};
 //! use chess_mates::MateCursor;
 //! use chess_rules::Orthodox;
 //!
 //! // White Kg6 Ra1, Black Kg8, White to move.
-//! let mut diagram = Diagram::new();
-//! for (square, colour, kind) in [
-//!     (Square::G6, Colour::White, Kind::King),
-//!     (Square::A1, Colour::White, Kind::Rook),
-//!     (Square::G8, Colour::Black, Kind::King),
-//! ] {
-//!     let _ = diagram.put(square, Man { colour, kind });
-//! }
-//! if diagram.is_well_formed() {
-//!     let mut board = Board::of(&diagram);
-//!     let mut mates = MateCursor::<Orthodox>::of(&board);
-//!     let mate = Move {
-//!         from: Square::A1,
-//!         to: Square::A8,
-//!         promo: None,
-//!     };
-//!     // Ra1-a8 is the only mate.
-//!     assert!(rt; mates.next(&mut board) == Some(mate));
-//!     assert!(rt; mates.next(&mut board).is_none());
+//! if let Ok(diagram) = fen::read(b"6k1/8/6K1/8/8/8/8/R7 w - -") {
+//!     if diagram.is_well_formed() {
+//!         let mut board = Board::of(&diagram);
+//!         let mut mates = MateCursor::<Orthodox>::of(&board);
+//!         let mate = Move {
+//!             from: Square::A1,
+//!             to: Square::A8,
+//!             promo: None,
+//!         };
+//!         // Ra1-a8 is the only mate.
+//!         assert!(rt; mates.next(&mut board) == Some(mate));
+//!         assert!(rt; mates.next(&mut board).is_none());
+//!     }
 //! }
 //! ```
 //!

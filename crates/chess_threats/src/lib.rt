@@ -4,28 +4,21 @@
 //! For example, in a test with the parameter `rt: HostRuntime`:
 //!
 //! ```rust
-//! use chess_core::{Board, Colour, Diagram, Kind, Man, Move, Square};
+//! use chess_core::{Board, Move, Square};
 //! use chess_rules::Orthodox;
 //! use chess_threats::Threats;
 //!
 //! // White Kg6 Ra1, Black Kg8, Black to move.
-//! let mut diagram = Diagram::new();
-//! diagram.turn = Colour::Black;
-//! for (square, colour, kind) in [
-//!     (Square::G6, Colour::White, Kind::King),
-//!     (Square::A1, Colour::White, Kind::Rook),
-//!     (Square::G8, Colour::Black, Kind::King),
-//! ] {
-//!     let _ = diagram.put(square, Man { colour, kind });
-//! }
-//! if diagram.is_well_formed() {
-//!     let board = Board::of(&diagram);
-//!     let king = Square::G8;
-//!     let mut threats = Threats::of::<Orthodox>(&board, king);
-//!     let step = |to| Move { from: king, to, promo: None };
-//!     // Ra1-a8 mates after Kh8, and nothing mates after Kf8.
-//!     assert!(rt; !threats.rule_out_mate::<Orthodox>(&board, step(Square::H8)));
-//!     assert!(rt; threats.rule_out_mate::<Orthodox>(&board, step(Square::F8)));
+//! if let Ok(diagram) = fen::read(b"6k1/8/6K1/8/8/8/8/R7 b - -") {
+//!     if diagram.is_well_formed() {
+//!         let board = Board::of(&diagram);
+//!         let king = Square::G8;
+//!         let mut threats = Threats::of::<Orthodox>(&board, king);
+//!         let step = |to| Move { from: king, to, promo: None };
+//!         // Ra1-a8 mates after Kh8, and nothing mates after Kf8.
+//!         assert!(rt; !threats.rule_out_mate::<Orthodox>(&board, step(Square::H8)));
+//!         assert!(rt; threats.rule_out_mate::<Orthodox>(&board, step(Square::F8)));
+//!     }
 //! }
 //! ```
 //!

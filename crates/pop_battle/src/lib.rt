@@ -3,7 +3,7 @@
 //!
 //! ```rust
 //! use arrayvec::ArrayVec;
-//! use chess_core::{Board, Colour, Diagram, Kind, Man, Square};
+//! use chess_core::Board;
 //! use chess_rules::Orthodox;
 //! use pop_battle::aim::Aim;
 //! use pop_battle::frame::Frame;
@@ -13,21 +13,15 @@
 //! use pop_stipulation::{Battle, Goal};
 //!
 //! // White Kg6 Ra1, Black Kg8: White mates in one half-move.
-//! let mut diagram = Diagram::new();
-//! for (square, colour, kind) in [
-//!     (Square::G6, Colour::White, Kind::King),
-//!     (Square::A1, Colour::White, Kind::Rook),
-//!     (Square::G8, Colour::Black, Kind::King),
-//! ] {
-//!     let _ = diagram.put(square, Man { colour, kind });
-//! }
-//! if diagram.is_well_formed() {
-//!     let mut board = Board::of(&diagram);
-//!     let mut frames = ArrayVec::<Frame<Orthodox>, 2>::new();
-//!     let mut state = SearchState::with(Killers::none());
-//!     let aim = Aim { battle: Battle::Direct, goal: Goal::Mate };
-//!     let mates = value_of::<Orthodox, 2>(aim, 1, &mut board, &mut frames, &mut state);
-//!     assert!(rt; mates);
+//! if let Ok(diagram) = fen::read(b"6k1/8/6K1/8/8/8/8/R7 w - -") {
+//!     if diagram.is_well_formed() {
+//!         let mut board = Board::of(&diagram);
+//!         let mut frames = ArrayVec::<Frame<Orthodox>, 2>::new();
+//!         let mut state = SearchState::with(Killers::none());
+//!         let aim = Aim { battle: Battle::Direct, goal: Goal::Mate };
+//!         let mates = value_of::<Orthodox, 2>(aim, 1, &mut board, &mut frames, &mut state);
+//!         assert!(rt; mates);
+//!     }
 //! }
 //! ```
 //!
