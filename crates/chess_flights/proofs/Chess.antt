@@ -9,8 +9,8 @@ pub use Rattle.chess_flights.specs.ties.Checks.{enemy}
 unfoldable pub use Rattle.chess_flights.specs.ties.Checks.{may_check_from}
 pub use Rattle.chess_flights.specs.ties.Flights.{AreOpen, AreSteps, IsSeenFrom, occupancy_lifted, occupancy_with, IsQuietTo, IsSafe, is_flight_at, occupancy_stepped}
 unfoldable pub use Rattle.chess_flights.specs.ties.Flights.{has_flight, is_open, is_flight}
-pub use Rattle.chess_flights.specs.ties.Mates.{is_mating}
-unfoldable pub use Rattle.chess_flights.specs.ties.Mates.{mates, mates_after}
+pub use Rattle.chess_flights.specs.ties.Mates.{is_mating, mates_after}
+unfoldable pub use Rattle.chess_flights.specs.ties.Mates.{mates}
 pub use Rattle.chess_attacks.proofs.Bits.{off_left, off_right, on_left, on_right, word_has, off_zero}
 pub use Rattle.chess_attacks.proofs.Tests.{any_kept, implied}
 pub use Rattle.chess_rules.proofs.legality.Exposing.{king_is_after, king_stays_king, IsSimple, captures_arrival, check_is}
@@ -18,7 +18,7 @@ pub use Rattle.chess_rules.proofs.legality.Seeing.{king_stands, there_now, gone_
 pub use Rattle.chess_rules.proofs.legality.Blocking.{arriving_colour, king_is, man_there, moved_plainly, not_attacked, other_differs, other_twice, simple_after, unreborn_after, IsCovered, IsShift, covered_parts, frees, gone_shift, line_before, not_parted, stood, unreached}
 pub use Rattle.chess_rules.proofs.legality.StayingInCheck.{king_there}
 pub use Rattle.chess_rules.proofs.LegalMoves.{may_be_made}
-pub use Rattle.chess_rules.proofs.listing_moves.Places.{moves_after-end, moves_after-here, moves_after-start}
+pub use Rattle.chess_rules.proofs.listing_moves.Places.{met_after-end, met_after-here, met_after-none, moves_after-start}
 pub use Rattle.chess_rules.proofs.listing_moves.Targeting.{every_square_on, false_by, no_pawn_arrives}
 pub use Rattle.chess_rules.proofs.listing_moves.Walks.{on_first}
 pub use Rattle.chess_rules.proofs.making_moves.Fits.{arrived, arrived_other, arriving_king, can_move, capture_of_piece, castle_of, corner_stays, king_no_step, no_capture, pawn_is_no_king, taken}

@@ -1,8 +1,11 @@
--- The moves that mate, by number.
-use Rattle.chess_flights.proofs.Chess.{NoneMeet, Move, Position, RuleSet, [], all_triples, and_left, and_right, arith, cases_Bool, false, first_of_and, in_check, is_legal, is_legal-idle, is_mate, is_mating, is_pseudo_legal, may_be_made, maker, mates, mates_after, moves_after-end, moves_after-here, moves_after-start, not-true, other, position_after, position_after_by, refl, rules, second_of_and, sym, triple_at, true, ℕ, ◌+◌, ◌<◌, ◌∙◌, ◌∷◌, ◌≡◌, ◌≤◌, Bool, IsWellFormed, List, list_all, moves, moves_are_the_legal_moves}
-use Rattle.chess_rules.proofs.listing_moves.Filtering.{wanted-none}
+-- The moves that mate.
+use Rattle.chess_flights.proofs.Chess.{Move, Position, RuleSet, [], and_left, and_right, arith, cases_Bool, false, in_check, is_legal, is_legal-idle, is_mate, is_mating, is_pseudo_legal, may_be_made, maker, mates, mates_after, moves_after-start, not-true, other, position_after, position_after_by, refl, rules, true, ℕ, ◌∷◌, ◌≡◌, Bool, IsWellFormed, List, list_all, moves, moves_are_the_legal_moves}
 use Rattle.chess_rules.proofs.listing_moves.Members.{in_cases, none_in_nil}
+use Rattle.chess_rules.specs.Legal.{triples}
+use Rattle.chess_rules.specs.ties.Places.{moves_after, moves_between}
+unfoldable use Rattle.chess_rules.specs.ties.Places.{met_after, met_between}
 use Rattle.std.specs.List.{Contains}
+use Rattle.std.specs.Prelude.{drop, filter, take, ◌-◌}
 
 -- where one move doesn't mate not all do
 fails_in : (test : Move → Bool) (ms : List Move) (m : Move) → Contains ms m → test m ≡ false → list_all test ms ≡ false
@@ -19,16 +22,21 @@ pub not_mating : (rule : RuleSet) (p : Position) (m : Move) → is_pseudo_legal 
 unfolding mates
 not_mating rule p m h = and_left _ _ (is_legal-idle rule p m h)
 
--- from the end on there are none
-pub mates_after-end : (rule : RuleSet) (p : Position) (n : ℕ) → all_triples ≤ n → mates_after rule p n ≡ []
-unfolding mates_after
-mates_after-end rule p n ge = search (rules, moves_after-end)
+-- the moves of a list that are legal and mate are its legal moves that mate
+mating_of : (rule : RuleSet) (p : Position) (ms : List Move) → filter (mates rule p) ms ≡ filter (is_mating rule p) (filter (is_legal rule p) ms)
+unfolding mates
+mating_of rule p [] = refl
+mating_of rule p (m ∷ ms) = search (rules, mating_of rule p ms)
 
--- over a range without mates
-pub mates_after-none : (rule : RuleSet) (p : Position) (a b : ℕ) → (b < all_triples → a ≤ b) → b ≤ all_triples → NoneMeet (mates rule p) a b
-    → mates_after rule p a ≡ mates_after rule p b
-unfolding mates_after mates
-mates_after-none rule p a b low high h = wanted-none rule p (is_mating rule p) a b low high h
+-- the mating moves after a cursor are the legal moves after it that mate
+pub mates_after-are : (rule : RuleSet) (p : Position) (n : ℕ) → mates_after rule p n ≡ filter (is_mating rule p) (moves_after rule p n)
+unfolding met_after
+mates_after-are rule p n = mating_of rule p (drop n triples)
+
+-- the same of those between two cursors
+pub mates_between-are : (rule : RuleSet) (p : Position) (a b : ℕ) → met_between (mates rule p) a b ≡ filter (is_mating rule p) (moves_between rule p a b)
+unfolding met_between
+mates_between-are rule p a b = mating_of rule p (take (b - a) (drop a triples))
 
 -- the other side is to move after a move
 pub turn_after : (rule : RuleSet) (p : Position) (m : Move) → is_pseudo_legal rule p m ≡ true → (position_after rule p m).turn ≡ other p.turn
@@ -46,12 +54,6 @@ pub quiet : (rule : RuleSet) (p : Position) (m : Move) → is_legal rule p m ≡
     → is_mating rule p m ≡ false
 unfolding mates
 quiet rule p m lawful calm = grind (arith, no_mate_quietly rule p m (λ h. calm))
-
--- the first move that mates from a place on, by its number
-pub mates_numbered : (rule : RuleSet) (p : Position) (start n : ℕ) → n < all_triples → mates_after rule p n ≡ mates_after rule p start
-    → mates rule p (triple_at n) ≡ true → mates_after rule p start ≡ (triple_at n ∷ mates_after rule p (n + 1))
-unfolding mates_after mates
-mates_numbered rule p start n lt same h = sym same ∙ search (rules, first_of_and, moves_after-here, second_of_and)
 
 -- for positions in which each legal move mates
 pub ruleset quietly = (may_be_made, moves_after-start, not-true, quiet)

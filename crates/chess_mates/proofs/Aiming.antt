@@ -1,5 +1,5 @@
 -- Aimed legal moves: walking from candidate to candidate skips all others.
-use Rattle.chess_mates.proofs.Chess.{Man, Move, Position, Some, and_left, arith, bit_at, cases_Bool, false, first_of_and, is_fairy, king_square, man_on, may_check_from, moves_after-here, off_second, off_zero, on_first, other, other_twice, second_of_and, word_has, ℕ, ◌<◌, ◌==◌, ◌≡◌}
+use Rattle.chess_mates.proofs.Chess.{Man, Move, Position, Some, and_left, arith, bit_at, cases_Bool, false, first_of_and, is_fairy, king_square, man_on, may_check_from, met_after-here, off_second, off_zero, on_first, other, other_twice, second_of_and, word_has, ℕ, ◌<◌, ◌==◌, ◌≡◌}
 use Rattle.chess_attacks.specs.ties.Lines.{AreReached}
 use Rattle.chess_mates.specs.ties.Aims.{aims_at_king}
 use Rattle.chess_rules.proofs.Chess.{second_fails}
@@ -16,4 +16,4 @@ never_aimed p m x k w here king small reached plain off = grind (arith, here, ki
 pub ruleset aimed_candidates = (and_left, cases_Bool, off_second, off_zero, on_first, second_fails, word_has)
 
 -- for the next move
-pub ruleset next_aimed = (first_of_and, moves_after-here, place_of_none, place_of_triple, second_of_and, none_kept_after, wanted-none)
+pub ruleset next_aimed = (first_of_and, met_after-here, place_of_none, place_of_triple, second_of_and, none_kept_after, wanted-none)

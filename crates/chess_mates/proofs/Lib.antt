@@ -6,7 +6,7 @@ pub mod Checking
 pub mod Excluded
 pub mod FarMen
 pub mod Flightless
-pub mod MatesBetween
+pub mod NextMate
 pub mod Parrying
 pub mod Promoting
 pub mod QuietSteps

@@ -13,7 +13,7 @@ use chess_attacks::unblocked::unblocked_reach;
 use chess_attacks::words::contains;
 use chess_core::{Board, Man, Move, Square, Squares};
 use chess_rules::{
-    LegalCursor, LegalityMasks, MoveTest, Moves, TRIPLES, TargetCache, move_at, next_found,
+    LegalCursor, LegalityMasks, MoveTest, Moves, TRIPLES, TargetCache, move_at, next_met,
 };
 
 // Returns the squares from which the man on `from`, if there is one, would attack the enemy king on the
@@ -86,8 +86,6 @@ impl MoveTest for Aimed {
 
     ghost test = { λ rule p. is_legal_and rule p (aims_at_king p) };
 
-    ghost found = { λ rule p. is_legal_and rule p (aims_at_king p) };
-
     ghost fits = { λ s rule p. IsKnownIn rule p s.known };
 
     #[tactic(auto, using(chess_rules::proofs::listing_moves::Filtering::wanted_origins))]
@@ -104,8 +102,8 @@ impl MoveTest for Aimed {
         self.known.candidates::<R>(board, from) & squares
     }
 
-    fn is_found<R: Rules>(&self, board: &mut Board, m: Move) -> bool {
-        self.known.is_found::<R>(board, m) && aims_at_king(board, &m)
+    fn meets<R: Rules>(&self, board: &mut Board, m: Move) -> bool {
+        self.known.meets::<R>(board, m) && aims_at_king(board, &m)
     }
 
     ghost idle = { λ rule p m h. is_legal_and-idle rule p (aims_at_king p) m h };
@@ -129,14 +127,14 @@ pub fn next_aimed<R: Rules>(moves: &mut LegalCursor<R>, board: &mut Board) -> Op
     ensures board { board.new ≡ board.old }
 {
     let aimed = Aimed {
-        known: moves.known(),
+        known: *moves.test(),
     };
     let mut kept = TargetCache {
         origin: None,
         squares: 0,
     };
     let start = moves.place().number();
-    let number = next_found::<R, Aimed>(board, &aimed, &mut kept, start, TRIPLES);
+    let number = next_met::<R, Aimed>(board, &aimed, &mut kept, start, TRIPLES);
     if number < TRIPLES {
         moves.go_to(Moves::at(number + 1));
         return Some(move_at(number));

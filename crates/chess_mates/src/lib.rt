@@ -5,14 +5,14 @@
 //!
 //! ```rust
 //! use chess_core::{Board, Move, Square};
-//! use chess_mates::MateCursor;
+//! use chess_mates::mate_cursor;
 //! use chess_rules::Orthodox;
 //!
 //! // White Kg6 Ra1, Black Kg8, White to move.
 //! if let Ok(diagram) = fen::read(b"6k1/8/6K1/8/8/8/8/R7 w - -") {
 //!     if diagram.is_well_formed() {
 //!         let mut board = Board::of(&diagram);
-//!         let mut mates = MateCursor::<Orthodox>::of(&board);
+//!         let mut mates = mate_cursor::<Orthodox>(&board);
 //!         let mate = Move {
 //!             from: Square::A1,
 //!             to: Square::A8,
@@ -40,4 +40,4 @@ mod standing_flights;
 
 pub use crate::aims::{aims_at_king, next_aimed};
 pub use crate::every_move::every_move_mates;
-pub use crate::mating_moves::{MateCursor, next_mate};
+pub use crate::mating_moves::{MateClues, MateCursor, mate_cursor, next_mate};

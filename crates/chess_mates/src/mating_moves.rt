@@ -1,5 +1,5 @@
 //! The mating moves of one position. Most other moves are skipped without being played.
-ghost use Rattle.std.specs.Prelude.{◌≡◌, ℕ, ◌≤◌, ◌<◌, ◌∷◌, [], ◌&&◌, IfSome, MatchOption, None, Some, ◌==◌, false, not, true};
+ghost use Rattle.std.specs.Prelude.{◌≡◌, ◌<◌, ◌∷◌, [], ◌&&◌, IfSome, MatchOption, ◌==◌, false, not, true};
 ghost use Rattle.chess_core.specs.Position.{other};
 ghost use Rattle.chess_core.specs.WellFormed.{IsWellFormed};
 ghost use Rattle.chess_attacks.specs.Attacks.{in_check};
@@ -9,11 +9,11 @@ ghost use Rattle.chess_mates.specs.ties.Parries.{AreParries};
 ghost use Rattle.chess_rules.specs.Legal.{is_legal, is_mate, is_nil, is_pseudo_legal, moves};
 ghost use Rattle.chess_core.specs.declared.man.Move.{Move};
 ghost use Rattle.std.specs.Int.{bit_at};
-ghost use Rattle.chess_mates.specs.ties.MatingPlaces.{AreMateClues, IsMatingPlaceIn, IsNextMate, mates_between};
+ghost use Rattle.chess_mates.specs.ties.MatingPlaces.{AreMateClues, IsMatingPlaceIn, IsNextMate};
 ghost use Rattle.chess_flights.specs.ties.Mates.{mates, mates_after};
-ghost use Rattle.chess_rules.specs.ties.Places.{NoneMeet, all_triples, place_of, cursor_onto, triple_at};
+ghost use Rattle.chess_rules.specs.ties.Places.{place_of};
 ghost use Rattle.chess_rules.specs.Play.{position_after};
-ghost use Rattle.chess_rules.specs.ties.Targets.{AreCandidates, IsTargetCacheOf, AreOrigins, IsAimed};
+ghost use Rattle.chess_rules.specs.ties.Targets.{AreCandidates, AreOrigins, IsAimed};
 
 use crate::checks::{CheckSquares, check_squares, may_check, near_check_targets};
 use crate::flights_after::{Flights, flights_after};
@@ -23,144 +23,36 @@ use crate::standing_flights::{StandingFlights, standing_flights};
 use chess_attacks::{Rules, in_check};
 use chess_core::{Board, Colour, Move, Square, Squares};
 use chess_rules::{
-    MoveTest, Moves, TRIPLES, TargetCache, arrivals, has_legal_move, is_pseudo_legal, move_at,
-    next_found, others_have_move, play, unplay,
+    Cursor, MoveTest, Moves, arrivals, has_legal_move, is_pseudo_legal, others_have_move, play,
+    unplay,
 };
-use std::marker::{Model, PhantomData};
 
 /// What shows that a move doesn't mate: the squares from which a move may give check, and the flights of
 /// the enemy king.
 #[derive(Clone, Copy)]
-pub(crate) struct MateClues {
+pub struct MateClues {
     checks: CheckSquares,
     flights: StandingFlights,
 }
 
-/// A cursor over the mating moves of one position. It keeps the position's clues and the candidate squares
-/// of its current origin.
-#[derive_where(Clone, Copy)]
-pub struct MateCursor<R> {
-    number: u16,
-    clues: MateClues,
-    targets: TargetCache,
-    rules: PhantomData<R>,
-}
+/// A cursor over the mating moves of one position.
+pub type MateCursor<R> = Cursor<R, MateClues>;
 
-impl<R> Model for MateCursor<R> {
-    ghost use Rattle.chess_mates.specs.ties.MatingPlaces.{MatingPlace};
-
-    ghost Value = { MatingPlace };
-
-    ghost view = { λ m. record { place = m.number; clues = m.clues; kept = m.targets } };
-
-    ghost inverse = { λ v. record {
-      number = v.place;
-      clues = v.clues;
-      targets = v.kept;
-      rules = record {};
-    } };
-}
-
-impl<R: Rules> MateCursor<R> {
-    /// Returns the cursor before the first triple, for the board's position.
-    #[inline(always)]
-    pub fn of(board: &Board) -> MateCursor<R>
-        ensures start { result.place ≡ 0 }
-        ensures place { IsMatingPlaceIn R.rule board.now result }
-    {
-        MateCursor {
-            number: 0,
-            clues: MateClues {
-                checks: check_squares(board, board.turn().other()),
-                flights: standing_flights::<R>(board),
-            },
-            targets: TargetCache {
-                origin: None,
-                squares: 0,
-            },
-            rules: PhantomData,
-        }
-    }
-
-    /// Returns the cursor's place, without what the cursor keeps for its position.
-    pub fn place(&self) -> Moves<R>
-        ensures { result ≡ self.now.place }
-    {
-        Moves::at(self.number)
-    }
-
-    /// Moves the cursor to another place in the order of moves of its position.
-    pub fn go_to(&mut self, place: Moves<R>)
-        ensures { self.new ≡ record self.old { place = place } }
-    {
-        self.number = place.number();
-    }
-
-    /// Returns the next legal move after the cursor that mates, and moves the cursor to it. After the
-    /// last one it returns `None` and moves the cursor to the end. The cursor must belong to the board's
-    /// position. The board is unchanged.
-    #[tactic(auto, using(crate::proofs::MatesBetween::next_mates), unfolding(chess_flights::specs::ties::Mates::mates, chess_rules::specs::ties::Places::place_of))]
-    pub fn next(&mut self, board: &mut Board) -> Option<Move>
-        requires well_formed { IsWellFormed board.old }
-        requires place { IsMatingPlaceIn R.rule board.old self.old }
-        ensures place { self.new ≡ record self.old {
-          place = place_of result;
-          kept = self.new.kept;
-        } }
-        ensures within { IsMatingPlaceIn R.rule board.old self.new }
-        ensures rest { MatchOption result (mates_after R.rule board.old self.old.place ≡ [])
-            (λ m. mates_after R.rule board.old self.old.place
-            ≡ m ∷ mates_after R.rule board.old self.new.place) }
-        ensures next { IfSome result (λ m. IsNextMate R.rule board.old self.old.place self.new.place
-            m) }
-        ensures mates { IfSome result (λ m. mates R.rule board.old m ≡ true) }
-        ensures legal { IfSome result (λ m. is_legal R.rule board.old m ≡ true) }
-        ensures onward { IfSome result (λ m. self.old.place < self.new.place) }
-        ensures board { board.new ≡ board.old }
-    {
-        let number = next_mating::<R>(board, &self.clues, &mut self.targets, self.number, TRIPLES);
-        if number < TRIPLES {
-            self.number = number + 1;
-            return Some(move_at(number));
-        }
-        self.number = TRIPLES;
-        None
-    }
-
-    /// Returns the next legal move between the cursor and `end` that mates, and moves the cursor to it.
-    /// If there is none it returns `None` and the cursor stays. The cursor must belong to the board's
-    /// position. The board is unchanged.
-    #[tactic(auto, using(crate::proofs::MatesBetween::until_mates), unfolding(chess_flights::specs::ties::Mates::mates))]
-    pub fn next_until(&mut self, end: Moves<R>, board: &mut Board) -> Option<Move>
-        requires well_formed { IsWellFormed board.old }
-        requires place { IsMatingPlaceIn R.rule board.old self.old }
-        ensures place { self.new ≡ record self.old {
-          place = cursor_onto result self.old.place;
-          kept = self.new.kept;
-        } }
-        ensures within { IsMatingPlaceIn R.rule board.old self.new }
-        ensures rest { MatchOption result (mates_between R.rule board.old self.old.place end ≡ [])
-            (λ m. mates_between R.rule board.old self.old.place end
-            ≡ m ∷ mates_between R.rule board.old self.new.place end) }
-        ensures mates { IfSome result (λ m. mates R.rule board.old m ≡ true) }
-        ensures legal { IfSome result (λ m. is_legal R.rule board.old m ≡ true) }
-        ensures board { board.new ≡ board.old }
-    {
-        let last = end.number().min(TRIPLES);
-        if self.number >= last {
-            return None;
-        }
-        let number = next_mating::<R>(board, &self.clues, &mut self.targets, self.number, last);
-        if number < last {
-            self.number = number + 1;
-            return Some(move_at(number));
-        }
-        None
-    }
+/// Returns the cursor over the mating moves of the board's position, before the first triple.
+#[inline(always)]
+pub fn mate_cursor<R: Rules>(board: &Board) -> MateCursor<R>
+    ensures start { result.place ≡ 0 }
+    ensures place { IsMatingPlaceIn R.rule board.now result }
+{
+    Cursor::over(MateClues {
+        checks: check_squares(board, board.turn().other()),
+        flights: standing_flights::<R>(board),
+    })
 }
 
 /// Returns the next legal move after `place` that mates, and moves `place` to it. After the last one it
 /// returns `None` and moves `place` to the end. The board is unchanged.
+#[tactic(auto, using(crate::proofs::NextMate::next_mates))]
 pub fn next_mate<R: Rules>(place: &mut Moves<R>, board: &mut Board) -> Option<Move>
     requires { IsWellFormed board.old }
     ensures place { place.new ≡ place_of result }
@@ -171,34 +63,11 @@ pub fn next_mate<R: Rules>(place: &mut Moves<R>, board: &mut Board) -> Option<Mo
     ensures legal { IfSome result (λ m. is_legal R.rule board.old m ≡ true) }
     ensures board { board.new ≡ board.old }
 {
-    let mut moves = MateCursor::<R>::of(board);
+    let mut moves = mate_cursor::<R>(board);
     moves.go_to(*place);
     let found = moves.next(board);
     *place = moves.place();
     found
-}
-
-// Returns the number of the first mating move from triple `start` up to but not including `end`; `end` if
-// there is none.
-pub(crate) fn next_mating<R: Rules>(
-    board: &mut Board,
-    clues: &MateClues,
-    kept: &mut TargetCache,
-    start: u16,
-    end: u16,
-) -> u16
-    requires well_formed { IsWellFormed board.old }
-    requires clues { AreMateClues R.rule board.old clues.now }
-    requires kept { IsTargetCacheOf R.rule board.old (mates R.rule board.old) kept.old }
-    requires end { end ≤ all_triples }
-    ensures low { result < end → start ≤ result }
-    ensures high { result ≤ end }
-    ensures none { NoneMeet (mates R.rule board.old) start result }
-    ensures mates { result < end → mates R.rule board.old (triple_at result) ≡ true }
-    ensures kept { IsTargetCacheOf R.rule board.old (mates R.rule board.old) kept.new }
-    ensures board { board.new ≡ board.old }
-{
-    next_found::<R, MateClues>(board, clues, kept, start, end)
 }
 
 impl MoveTest for MateClues {
@@ -207,8 +76,6 @@ impl MoveTest for MateClues {
     ghost use Rattle.chess_mates.specs.ties.Idle.{mates-idle};
 
     ghost test = { mates };
-
-    ghost found = { mates };
 
     ghost fits = { λ clues rule p. AreMateClues rule p clues };
 
@@ -220,7 +87,7 @@ impl MoveTest for MateClues {
         candidates::<R>(board, self, from)
     }
 
-    fn is_found<R: Rules>(&self, board: &mut Board, m: Move) -> bool {
+    fn meets<R: Rules>(&self, board: &mut Board, m: Move) -> bool {
         is_mating::<R>(board, &self.checks, m)
     }
 

@@ -27,8 +27,8 @@ pub use Rattle.chess_attacks.specs.RuleSet.{captures_are_reborn, circe}
 pub use Rattle.chess_rules.specs.declared.legality.blockers.RiderLines.TheVariants.{Diagonal, Straight}
 pub use Rattle.chess_rules.specs.ties.Evasions.{AreEvasions, AreEvasionsFrom, has_fairy_lines_of, is_evasion, IsNoEvasion, may_be_paralysed, may_paralyse_new_kind}
 pub use Rattle.chess_rules.specs.ties.Idle.{is_legal-idle, is_legal_and-idle}
-pub use Rattle.chess_rules.specs.ties.Places.{NoneMeet, HasNoMoveFrom, NamesMove, IsPlaceIn, all_triples, per_arrival, per_origin, promotion_at}
-unfoldable pub use Rattle.chess_rules.specs.ties.Places.{first_after, moves_after, moves_between, place_of, triple_at}
+pub use Rattle.chess_rules.specs.ties.Places.{CursorPlace, NoneMeet, HasNoMoveFrom, NamesMove, IsCursorIn, IsNextMet, IsPlaceIn, all_triples, first_after, moves_after, moves_between, per_arrival, per_origin, promotion_at}
+unfoldable pub use Rattle.chess_rules.specs.ties.Places.{first_met, met_after, met_between, place_of, triple_at}
 pub use Rattle.chess_rules.specs.ties.Playing.{CanCastle, CanMove}
 pub use Rattle.chess_rules.specs.ties.Blockers.{has_fairy_lines, is_fairy, AreRides, is_checker_at, is_on_fairy_line_at, is_line_rider, may_expose_at, rider_along, steps_along}
 unfoldable pub use Rattle.chess_rules.specs.ties.Blockers.{has_fairy, is_rider_beyond, is_checker, is_on_fairy_line, is_plain, is_blocking, may_expose, may_be_hurdle, cannot_expose}

@@ -1,5 +1,6 @@
 //! Lists the legal moves in order, counts them and filters them.
 pub(crate) mod counting;
+pub(crate) mod cursor;
 pub(crate) mod legal_moves;
 pub(crate) mod move_test;
 pub(crate) mod moves;

@@ -6,7 +6,7 @@ use crate::plain::{MOVES, Plain, Rule};
 use crate::probe::{is_same, shows};
 use arrayvec::ArrayVec;
 use chess_core::{Board, Colour, Move, Square};
-use chess_mates::{MateCursor, next_mate};
+use chess_mates::{mate_cursor, next_mate};
 use chess_rules::{LegalCursor, Moves, Rules, has_legal_move, in_check, is_mate, play, unplay};
 
 // What the chess crates are compared on.
@@ -154,7 +154,7 @@ fn gives_mating_moves<R: Rules>(board: &mut Board, choices: &[Choice]) -> bool
     requires { IsWellFormed board.old }
     ensures { board.new ≡ board.old }
 {
-    let mut place = MateCursor::<R>::of(board);
+    let mut place = mate_cursor::<R>(board);
     for choice in choices {
         if choice.mates && place.next(board) != Some(choice.by) {
             return false;
@@ -221,7 +221,7 @@ fn gives_mates_until<R: Rules>(
     ensures { board.new ≡ board.old }
 {
     let end = place_after::<R>(board, last);
-    let mut place = MateCursor::<R>::of(board);
+    let mut place = mate_cursor::<R>(board);
     place.go_to(place_after::<R>(board, skipped));
     for (number, choice) in choices.iter().enumerate() {
         let between = number >= skipped && number < last;

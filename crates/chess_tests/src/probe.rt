@@ -7,7 +7,7 @@ use crate::plain::{self, Plain, Rule, bit};
 use crate::setup::{move_of, moves_of, posed};
 use arrayvec::ArrayVec;
 use chess_core::{Board, Colour, Diagram, Kind, Move, Square};
-use chess_mates::MateCursor;
+use chess_mates::mate_cursor;
 use chess_rules::{Circe, Madrasi, Moves, Orthodox, Rules, is_mate, play, unplay};
 use chess_threats::quiet_steps::QuietSteps;
 use chess_threats::threats::Threats;
@@ -188,7 +188,7 @@ fn mates_under<R: Rules>(diagram: &Diagram) -> plain::Moves
     requires { IsWellFormed (position_of diagram.now) }
 {
     let mut board = Board::of(diagram);
-    let mut place = MateCursor::<R>::of(&board);
+    let mut place = mate_cursor::<R>(&board);
     let mut moves = ArrayVec::new();
     while let Some(m) = place.next(&mut board) {
         let _fits = moves.try_push(m);

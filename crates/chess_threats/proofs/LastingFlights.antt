@@ -13,7 +13,8 @@ use Rattle.chess_rules.specs.ties.Targets.{may_arrive}
 use Rattle.chess_flights.proofs.Promotions.{last_rank_on}
 use Rattle.chess_flights.proofs.Bitboards.{off_denied, on_both}
 use Rattle.chess_flights.proofs.Fleeing.{IsKingOn, king_waits, no_mate_with_flight, step_to}
-use Rattle.chess_flights.proofs.Mating.{mates_after-end, mates_after-none, not_mating, turn_after}
+use Rattle.chess_rules.proofs.listing_moves.Places.{met_after-end, met_after-none}
+use Rattle.chess_flights.proofs.Mating.{not_mating, turn_after}
 use Rattle.chess_flights.proofs.Standing.{arrival_small, has_one, not_mine, stood}
 
 -- for words that are joined: the first has what it reached
@@ -264,4 +265,4 @@ module _ (rule : RuleSet) (p : Position) (m : Move) (x : Man) (k w : ℕ) (well 
 
   -- no reply mates, whatever is played
   pub no_mate_after : mates_after rule q 0 ≡ []
-  no_mate_after = search (rules, mates_after-none rule q 0 all_triples, none_mates, mates_after-end)
+  no_mate_after = search (rules, met_after-none (mates rule q) 0 all_triples, none_mates, met_after-end)

@@ -6,7 +6,8 @@ use Rattle.chess_flights.proofs.Hurdles.{later, later_but}
 use Rattle.chess_flights.proofs.Bitboards.{on_both, none_at}
 use Rattle.chess_flights.proofs.KingsApart.{kings_apart}
 use Rattle.chess_flights.proofs.Fleeing.{IsKingOn, no_king_free, no_mate_with_flight, step_to}
-use Rattle.chess_flights.proofs.Mating.{mates_after-end, mates_after-none, no_mate_quietly, not_mating, turn_after}
+use Rattle.chess_rules.proofs.listing_moves.Places.{met_after-end, met_after-none}
+use Rattle.chess_flights.proofs.Mating.{no_mate_quietly, not_mating, turn_after}
 use Rattle.chess_threats.proofs.QuietCastling.{castles_quietly}
 use Rattle.chess_flights.specs.ties.Approaches.{MayBecome}
 
@@ -564,10 +565,10 @@ module _ (rule : RuleSet) (p : Position) (m : Move) (x : Man) (v : KingAttack) (
   -- for each way of the defender
   pub no_mate_after : mates_after rule q 0 ≡ []
   no_mate_after =
-      mates_after-none rule q 0 all_triples (λ lt. omega arith) (omega arith) (record {
+      met_after-none (mates rule q) 0 all_triples (λ lt. omega arith) (omega arith) (record {
         fails = λ j lo hi. search (rules, cases_Bool, unmated, arrival_small, not_mating);
       })
-      ∙ mates_after-end rule q all_triples (omega arith)
+      ∙ met_after-end (mates rule q) all_triples (omega arith)
 
 -- for one square and its word
 pub ruleset one_square = (eq-eqb, eqb-true, off_second, off_zero, word_has)

@@ -1,5 +1,5 @@
 -- The contracts of the calls to the chess crates, in the terms of the search.
-use Rattle.pop_battle.proofs.Words.{Battle, Bool, Goal, List, MatchOption, Mate, Move, Option, Position, RuleSet, [], arith, can_move, chess, cut_mates, cut_moves, false, filter, is_for_mate, is_goal_reached, is_mate, is_mating, is_nil, is_some, is_stalemate, length, length-append, list_any, mates_after, mates_between, moves, moves_after, moves_between, nat_tests, not, refl, rules, sum_by, sum_by-cons, true, value, walk_count, ℕ, ◌++◌, ◌&&◌, ◌-◌, ◌<◌, ◌∷◌, ◌≡◌, ◌≤◌}
+use Rattle.pop_battle.proofs.Words.{Battle, Bool, Goal, List, MatchOption, Mate, Move, Option, Position, RuleSet, [], arith, can_move, chess, after_cut, cut_moves, false, filter, is_for_mate, is_goal_reached, is_mate, is_mating, is_nil, is_some, is_stalemate, length, length-append, list_any, mates, mates_after, mates_after-are, mates_between, met_after, moves, moves_after, moves_between, nat_tests, not, refl, rules, sum_by, sum_by-cons, true, value, walk_count, ℕ, ◌++◌, ◌&&◌, ◌-◌, ◌<◌, ◌∷◌, ◌≡◌, ◌≤◌}
 use Rattle.pop_battle.specs.Game.{some_move as some_good}
 
 -- there is a legal move exactly where the list of moves isn't empty
@@ -8,7 +8,7 @@ some_move goal rule p = grind arith
 
 -- before all triples all moves are to come
 pub after_start : (rule : RuleSet) (p : Position) → moves_after rule p 0 ≡ moves rule p
-unfolding moves_after moves
+unfolding met_after moves
 after_start rule p = refl
 
 -- a goal for which `is_for_mate` holds is mate
@@ -31,8 +31,7 @@ module _ (rule : RuleSet) (p : Position) where
   none_joined (x ∷ xs) ys = refl
 
   some_mates : (b : ℕ) → some_good (chess Mate rule) (is_mate rule) p ≡ not (is_nil (mates_between rule p 0 b ++ mates_after rule p b))
-  unfolding mates_after
-  some_mates b = grind (arith, any_mating (moves rule p), after_start rule p, cut_mates rule p 0 b (omega arith))
+  some_mates b = grind (arith, any_mating (moves rule p), after_start rule p, mates_after-are rule p 0, after_cut (mates rule p) 0 b (omega arith))
 
   -- a mate found after the killer mates
   pub mate_after : (b next : ℕ) (o : Option Move) → MatchOption o (mates_after rule p b ≡ []) (λ m. mates_after rule p b ≡ m ∷ mates_after rule p next)

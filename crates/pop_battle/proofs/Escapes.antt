@@ -21,15 +21,14 @@ module _ {M : Type 0} (m : M) (ys : List M) where
 
 -- where no move mates
 unmated : (rule : RuleSet) (q : Position) → not (is_nil (mates_after rule q 0)) ≡ false → value Direct (chess Mate rule) 1 q ≡ false
-unfolding mates_after
-unmated rule q none = value-mates Direct (chess Mate rule) q refl ∙ any_mating rule q (moves rule q) ∙ rw (← after_start rule q) none
+unmated rule q none = value-mates Direct (chess Mate rule) q refl ∙ any_mating rule q (moves rule q) ∙ rw (← after_start rule q, ← mates_after-are rule q 0) none
 
 module _ (rule : RuleSet) (p : Position) (well : IsWellFormed p) (e : SomeFails rule p (allows_mate rule p)) where
   abbrev before : ℕ
   before = place_of (Some e.move) - 1
 
   cut : moves rule p ≡ moves_between rule p 0 before ++ e.move ∷ moves_after rule p (place_of (Some e.move))
-  cut = sym (after_start rule p) ∙ after_cut rule p 0 before (omega arith)
+  cut = sym (after_start rule p) ∙ after_cut (is_legal rule p) 0 before (omega arith)
       ∙ ap (λ ms. moves_between rule p 0 before ++ ms) (after_back rule p e.move well e.legal)
 
   many : 1 ≤ length (moves rule p)

@@ -16,8 +16,7 @@ none_mates test (m ∷ ms) none = grind arith
 
 -- Black needn't mate where no move mates
 pub no_mates : (rule : RuleSet) (q : Position) → mates_after rule q 0 ≡ [] → value Selfmate (chess Mate rule) 1 q ≡ false
-unfolding mates_after
-no_mates rule q none = rw (value-forced Selfmate (chess Mate rule) q refl) (none_mates (is_mating rule q) (moves rule q) (rw (← after_start rule q) none))
+no_mates rule q none = rw (value-forced Selfmate (chess Mate rule) q refl) (none_mates (is_mating rule q) (moves rule q) (rw (← after_start rule q, ← mates_after-are rule q 0) none))
 
 -- for `forces_mate`: where Black needn't mate
 pub ruleset unforced = (one_quiet, no_mates)

@@ -1,5 +1,5 @@
 -- The moves of a position, stage by stage, are all its moves in another order.
-use Rattle.pop_battle.proofs.Words.{Aimed, Bool, Earlier, Killer, List, Move, Order, Others, Position, RuleSet, [], all_moves_of, ap, append-nil, arith, belongs, between-here, between-none, between-past, between-skip, cases_Bool, cases_lt, comes_early, cond, eqb, false, filter, filter_agree, inl, inr, is_at, moves_ahead, moves_after, moves_after-end, moves_after-here, moves_after-skip, moves_between, moves_here, moves_later, nat_tests, not, place_of_triple, refl, rules, suc, sym, true, zero, ℕ, ◌&&◌, ◌||◌, ◌++◌, ◌+◌, ◌-◌, ◌<◌, ◌∙◌, ◌∷◌, ◌≡◌, ◌≤◌, append_assoc, all_triples, legal_moves}
+use Rattle.pop_battle.proofs.Words.{Aimed, Bool, Earlier, Killer, List, Move, Order, Others, Position, RuleSet, [], all_moves_of, ap, append-nil, arith, belongs, between-here, between-none, between-past, between-skip, cases_Bool, cases_lt, comes_early, cond, eqb, false, filter, filter_agree, inl, inr, is_at, moves_ahead, moves_after, met_after-end, met_after-here, met_after-skip, moves_between, moves_here, moves_later, nat_tests, not, place_of_triple, refl, rules, suc, sym, true, zero, ℕ, ◌&&◌, ◌||◌, ◌++◌, ◌+◌, ◌-◌, ◌<◌, ◌∙◌, ◌∷◌, ◌≡◌, ◌≤◌, append_assoc, all_triples, legal_moves}
 use Rattle.chess_mates.specs.ties.Aims.{aims_at_king}
 use Rattle.pop_battle.specs.declared.frame.Early.TheVariants.{AimedMoves, NoMoves}
 use Rattle.pop_battle.proofs.Boards.{after_start}
@@ -33,7 +33,7 @@ filter-none f none [] = refl
 filter-none f none (m ∷ ms) = rw (none m) (filter-none f none ms)
 
 -- the moves after a cursor, one cursor after another
-ruleset places = (cases_lt, cases_Bool, moves_after-end, moves_after-here, moves_after-skip, place_of_triple)
+ruleset places = (cases_lt, cases_Bool, met_after-end, met_after-here, met_after-skip, place_of_triple)
 
 -- the moves at one place
 module _ (rule : RuleSet) (p : Position) (k : ℕ) where
@@ -48,7 +48,7 @@ module _ (rule : RuleSet) (p : Position) (k : ℕ) where
       skip a (off a (omega arith) (omega (arith, e))) ∙ skip_all n (a + 1) b (omega (arith, e)) (λ i lo hi. off i (omega (arith, lo)) hi)
 
   here_alone : filter (is_at k) (moves_after rule p (k - 1)) ≡ moves_between rule p (k - 1) k
-  here_alone = search (rules, places, between-past, between-here, between-skip, between-none, skip_all all_triples k (k + all_triples), moves_after-end)
+  here_alone = search (rules, places, between-past, between-here, between-skip, between-none, skip_all all_triples k (k + all_triples), met_after-end)
 
   one_place : moves_between rule p (k - 1) k ≡ filter (is_at k) (legal_moves rule p)
   one_place = search (rules, ← after_start, skip_all (k - 1) 0 (k - 1), here_alone)

@@ -10,10 +10,10 @@ pub use Rattle.chess_core.specs.Position.{Position}
 pub use Rattle.chess_core.specs.declared.man.Move.{Move}
 pub use Rattle.chess_core.specs.WellFormed.{IsWellFormed}
 pub use Rattle.chess_rules.proofs.listing_moves.Between.{between-here, between-none, between-past, between-skip, cut_moves, after_cut}
-pub use Rattle.chess_mates.proofs.MatesBetween.{cut_mates}
+pub use Rattle.chess_flights.proofs.Mating.{mates_after-are}
 pub use Rattle.chess_rules.proofs.LegalMoves.{may_be_made}
 pub use Rattle.chess_rules.proofs.listing_moves.Members.{from_map, from_range}
-pub use Rattle.chess_rules.proofs.listing_moves.Places.{moves_after-end, moves_after-here, moves_after-skip, place_of_triple, triples_numbered}
+pub use Rattle.chess_rules.proofs.listing_moves.Places.{met_after-end, met_after-here, met_after-skip, place_of_triple, triples_numbered}
 pub use Rattle.chess_rules.proofs.making_moves.Stays.{after_well_formed}
 pub use Rattle.chess_rules.specs.Legal.{is_nil, moves as legal_moves}
 unfoldable pub use Rattle.chess_rules.specs.Legal.{is_legal, is_mate, is_stalemate, moves}
@@ -21,12 +21,13 @@ pub use Rattle.chess_core.specs.Undo.{Undo}
 unfoldable pub use Rattle.chess_rules.specs.Play.{undo_of}
 pub use Rattle.chess_attacks.specs.RuleSet.{RuleSet}
 pub use Rattle.chess_rules.specs.ties.Places.{IsPlaceIn, LegalPlace, all_triples, place_of, triple_at}
-unfoldable pub use Rattle.chess_rules.specs.ties.Places.{moves_after, moves_between}
+pub use Rattle.chess_rules.specs.ties.Places.{moves_after, moves_between}
+unfoldable pub use Rattle.chess_rules.specs.ties.Places.{met_after}
 pub use Rattle.chess_rules.specs.ties.Filtering.{IsFirstKept}
 pub use Rattle.chess_mates.specs.ties.MatingPlaces.{MatingPlace, mates_between}
 pub use Rattle.chess_flights.specs.ties.Mates.{is_mating}
 pub use Rattle.chess_flights.specs.ties.QuietSteps.{must_reply_with_mate}
-unfoldable pub use Rattle.chess_flights.specs.ties.Mates.{mates_after}
+pub use Rattle.chess_flights.specs.ties.Mates.{mates_after}
 pub use Rattle.pop_stipulation.specs.declared.stipulation.Goal.{Goal}
 pub use Rattle.pop_stipulation.specs.declared.stipulation.Goal.TheVariants.{Mate}
 pub use Rattle.pop_battle.specs.Chess.{chess, is_goal_reached}

@@ -15,7 +15,7 @@ ghost use Rattle.pop_battle.specs.ties.Calls.{IsOnMate};
 ghost use Rattle.pop_battle.specs.ties.Marks.{is_for_mate};
 
 use chess_core::{Board, Diagram, Man, Move, Square};
-use chess_mates::MateCursor;
+use chess_mates::mate_cursor;
 use chess_rules::{
     LegalCursor, Moves, Rules, Undo, has_legal_move, in_check, is_castling, is_mate, is_stalemate,
 };
@@ -104,7 +104,7 @@ pub(crate) fn find_mate<R: Rules>(killer: Moves<R>, board: &mut Board) -> Option
     ensures place { IfSome result (λ place. IsOnMate R.rule board.old place) }
 {
     let before = killer.previous();
-    let mut moves = MateCursor::<R>::of(board);
+    let mut moves = mate_cursor::<R>(board);
     moves.go_to(before);
     if moves.next(board).is_some() {
         return Some(moves.place());

@@ -108,7 +108,7 @@ module _ (rule : RuleSet) (problem : Posed) (phase : Phase) (n : ℕ) (frames : 
 
   -- the last move doesn't mate where each path ends with it
   come-fails : is_for_mate problem.stipulation.goal ≡ true → seeks_last plan.battle ≡ true → left ≡ 0 → is_mate rule q ≡ false → come ≡ []
-  unfolding shown_paths position moves_after
+  unfolding shown_paths position met_after
   come-fails for last none misses =
       rw none (ap (map (λ line. path old ++ line)) (skipped rule plan board root 1 last (for_mate _ for) m [] misses))
 

@@ -54,10 +54,10 @@ module _ (rule : RuleSet) (plan : Plan) where
   module _ (help : plan.battle ≡ None) (for : plan.goal ≡ Mate) where
     -- where no move mates no path is left
     mateless : (P : Position) (fuel : ℕ) → mates_after rule P 0 ≡ [] → shown_paths plan (chess plan.goal rule) false fuel 1 P (legal_moves rule P) ≡ []
-    unfolding mates_after shown_paths
+    unfolding shown_paths
     mateless P fuel none =
         rw (← append-nil (legal_moves rule P)) (skipped-over (shown_paths plan (chess plan.goal rule) false fuel 1 P) (is_mating rule P)
-        (skipped P false fuel (rw help refl) for) (legal_moves rule P) [] (rw (← after_start rule P) none) ∙ search rules)
+        (skipped P false fuel (rw help refl) for) (legal_moves rule P) [] (rw (← after_start rule P, ← mates_after-are rule P 0) none) ∙ search rules)
 
     pub is_decided : (P : Position) (low : Bool) (fuel : ℕ) (m : Move) (ms : List Move) → allows_mate rule P m ≡ false
         → shown_paths plan (chess plan.goal rule) low fuel 2 P (m ∷ ms) ≡ shown_paths plan (chess plan.goal rule) low fuel 2 P ms

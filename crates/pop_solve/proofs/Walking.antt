@@ -1,6 +1,6 @@
 -- The outcomes of a step, with frames listed from the bottom up, as the code holds them, and what its calls
 -- return.
-use Rattle.pop_solve.proofs.Words.{None, Some, all_triples, AreKnown, Bool, CameFrom, CameFromAt, Frame, GoesTo, IfSome, IsNextMate, IsNextOf, IsPlaceIn, IsRoomy, IsWalking, LegalPlace, List, MatchOption, Mate, Option, Plan, Position, RuleSet, [], ap, append-nil, arith, chess, eqb, false, is_followed, is_emitted, walk_length, inl, inr, is_legal, length, length-append, length-reverse, get_or, take, mates_after, nat_tests, moves_after, moves_after-end, position, refl, reverse, reverse-append, rules, seeks_last, suc, sym, true, undo_of, ℕ, ◌++◌, ◌+◌, ◌-◌, ◌<◌, ◌∙◌, ◌∷◌, ◌≡◌, ◌≤◌, ◌⊎◌, Move, position_after, opened_frame, nil_from_length}
+use Rattle.pop_solve.proofs.Words.{None, Some, all_triples, AreKnown, Bool, CameFrom, CameFromAt, Frame, GoesTo, IfSome, IsNextMate, IsNextOf, IsPlaceIn, IsRoomy, IsWalking, LegalPlace, List, MatchOption, Mate, Option, Plan, Position, RuleSet, [], ap, append-nil, arith, chess, eqb, false, is_followed, is_emitted, walk_length, inl, inr, is_legal, length, length-append, length-reverse, get_or, take, mates_after, nat_tests, moves_after, met_after-end, position, refl, reverse, reverse-append, rules, seeks_last, suc, sym, true, undo_of, ℕ, ◌++◌, ◌+◌, ◌-◌, ◌<◌, ◌∙◌, ◌∷◌, ◌≡◌, ◌≤◌, ◌⊎◌, Move, position_after, opened_frame, nil_from_length}
 use Rattle.std.proofs.lemmas.List.{same_from_push, take_all, take_more}
 use Rattle.pop_battle.specs.ties.Frames.{learned, moved}
 use Rattle.chess_reach.specs.Lines.{HoldsEnds}
@@ -160,9 +160,8 @@ pub next_mating : (rule : RuleSet) (plan : Plan) (left : ℕ) (p : Position) (pl
     → seeks_last plan.battle ≡ true → left ≡ 1 → after ≡ before
     → MatchOption o (mates_after rule p place ≡ []) (λ m. mates_after rule p place ≡ m ∷ mates_after rule p next)
     → IfSome o (IsNextMate rule p place next) → IfSome o (λ m. is_legal rule p m ≡ true) → IsNextOf rule plan left p place next before after o
-unfolding mates_after
 next_mating rule plan left p place next before after o for last single e rest mates legal =
-    grind (arith, moves_after-end rule p all_triples (omega arith), append-nil)
+    grind (arith, mates_after-are rule p place, met_after-end (is_legal rule p) all_triples (omega arith), append-nil)
 
 -- a frame is closed, whatever is walked
 module _ (rule : RuleSet) (h : ℕ) (top : Frame) (old new : List Frame) (taken : old ≡ new ++ top ∷ []) where

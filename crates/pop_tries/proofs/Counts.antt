@@ -35,7 +35,7 @@ module _ (rule : RuleSet) (p : Position) (test : Move → Bool) where
   meeting_after a = length (filter test (moves_after rule p a))
 
   cut_after : (a b : ℕ) → a ≤ b → meeting_after a ≡ meeting a b + meeting_after b
-  cut_after a b le = rw (after_cut rule p a b le, filter-append test (moves_between rule p a b) (moves_after rule p b))
+  cut_after a b le = rw (after_cut (is_legal rule p) a b le, filter-append test (moves_between rule p a b) (moves_after rule p b))
       (length-append (filter test (moves_between rule p a b)) (filter test (moves_after rule p b)))
 
   two_in_order : (a b : ℕ) → a < b → meeting (a - 1) a ≡ 1 → meeting (b - 1) b ≡ 1 → 2 ≤ length (filter test (legal_moves rule p))

@@ -1,7 +1,7 @@
 -- Moves kept by their places: a loop over the moves of a position that notes them, and tests of each.
 use Rattle.pop_tries.proofs.Words.{Battle, Bool, Contains, Direct, Goal, IsWellFormed, List, Move, Position, RuleSet, Selfmate, [], chess, false, false≢true, filter, in_cases, in_filter, inl, inr, keeps_win, legal_moves, list_any, none_in_nil, not, position_after, refl, subst, true, ℕ, ◌&&◌, ◌||◌, ◌∷◌, ◌≡◌, ◌⊎◌}
 unfoldable use Rattle.pop_tries.proofs.Words.{is_lost}
-unfoldable use Rattle.chess_flights.specs.ties.Mates.{mates_after}
+use Rattle.chess_flights.specs.ties.Mates.{mates_after}
 use Rattle.chess_flights.specs.ties.Mates.{is_mating}
 use Rattle.pop_battle.specs.ties.Marks.{is_for_mate}
 use Rattle.pop_battle.specs.ties.Values.{attacker_to_move}
@@ -90,8 +90,7 @@ held_along all old new m before after e held put kept k c = elim (held k c) [
 module _ (rule : RuleSet) (p : Position) where
   -- before the first move all mating moves come later
   pub mates_at_start : (place : ℕ) → place ≡ 0 → mates_after rule p place ≡ filter (is_mating rule p) (legal_moves rule p)
-  unfolding mates_after
-  mates_at_start place e = rw (e, after_start rule p) refl
+  mates_at_start place e = rw (e, mates_after-are rule p 0, after_start rule p) refl
 
   -- after the last one none comes
   pub mates_held : (set : MoveSet) (place : ℕ) → mates_after rule p place ≡ []

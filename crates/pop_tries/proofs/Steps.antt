@@ -8,7 +8,8 @@ use Rattle.std.specs.Prelude.{None, Option}
 use Rattle.std.proofs.lemmas.List.FromFn.{length-map-range_with_len}
 use Rattle.chess_rules.proofs.listing_moves.Places.{triples_numbered}
 use Rattle.chess_rules.specs.ties.Places.{all_triples, triple_at}
-unfoldable use Rattle.chess_rules.specs.ties.Places.{moves_after}
+use Rattle.chess_rules.specs.ties.Places.{moves_after}
+unfoldable use Rattle.chess_rules.specs.ties.Places.{met_after}
 use Rattle.pop_tries.specs.declared.first_moves.Group.{Group}
 use Rattle.pop_tries.specs.declared.first_moves.Group.TheVariants.{Keys, Tries}
 use Rattle.pop_tries.specs.declared.stage.Firsts.{Firsts}
@@ -39,7 +40,7 @@ count_triples : length triples ≡ all_triples
 count_triples = ap length triples_numbered ∙ length-map-range_with_len triple_at 0 all_triples
 
 few_moves : (rule : RuleSet) (p : Position) → length (moves_after rule p 0) ≤ all_triples
-unfolding moves_after
+unfolding met_after
 few_moves rule p = omega (arith, short_filter (is_legal rule p) triples, count_triples)
 
 module _ (rule : RuleSet) (task : Task) where

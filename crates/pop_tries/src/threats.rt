@@ -23,7 +23,7 @@ use crate::move_set::MoveSet;
 use chess_core::board::Board;
 use chess_core::man::Move;
 use chess_core::square::Square;
-use chess_mates::MateCursor;
+use chess_mates::mate_cursor;
 use chess_rules::{Moves, Rules, in_check, play, unplay};
 use pop_battle::chess::{is_for_mate, next_move, reaches_goal, turn_over};
 use pop_battle::value::value_of;
@@ -176,7 +176,7 @@ fn mating_moves<R: Rules>(board: &mut Board) -> Winners
         (moves R.rule board.old)) [] }
     ensures unchanged { board.new ≡ board.old }
 {
-    let mut mates = MateCursor::<R>::of(board);
+    let mut mates = mate_cursor::<R>(board);
     let mut moves = MoveSet::none();
     let mut places = FewPlaces::Empty;
     while let Some(by) = mates.next(board) {

@@ -2,8 +2,8 @@
 use Rattle.std.proofs.lemmas.List.Sums.{count_by-le-length, length-filter}
 use Rattle.std.specs.Int.Count.{ones_step}
 use Rattle.std.specs.Prelude.{count_ones}
-use Rattle.chess_rules.proofs.Chess.{AreCandidates, AreLegal, Bool, NoneMeet, HasNoMoveFrom, Move, None, Pawn, Position, RuleSet, all_triples, ap, arith, bit_at, bit_at-lt, cases_Bool, cases_eq, cases_lt, differs, false, from_bool, inl, inr, is_legal, is_legal-idle, is_man, length, length-append, length-take, man_on, moves_between, ones-le, meets_on, per_arrival, per_origin, pow_mono, promotion_at, refl, rules, shr-shr, shr_below, suc, sym, triple_at, true, zero, ℕ, ◌%◌, ◌&&◌, ◌*◌, ◌+◌, ◌-◌, ◌/◌, ◌<◌, ◌==◌, ◌^◌, ◌∙◌, ◌≡◌, ◌≤◌}
-use Rattle.chess_rules.proofs.listing_moves.Between.{between-here, between-none, between-none-is_legal, between-past, between-skip, between_cut}
+use Rattle.chess_rules.proofs.Chess.{AreCandidates, AreLegal, Bool, NoneMeet, HasNoMoveFrom, Move, None, Pawn, Position, RuleSet, all_triples, ap, arith, bit_at, bit_at-lt, cases_Bool, cases_eq, cases_lt, differs, false, from_bool, inl, inr, is_legal, is_legal-idle, is_man, length, length-append, length-take, man_on, moves_between, ones-le, meets_on, per_arrival, per_origin, pow_mono, promotion_at, refl, rules, shr-shr, shr_below, suc, sym, triple_at, true, zero, ℕ, ◌%◌, ◌&&◌, ◌*◌, ◌+◌, ◌-◌, ◌/◌, ◌<◌, ◌==◌, ◌^◌, ◌∙◌, ◌≡◌, ◌≤◌, met_between}
+use Rattle.chess_rules.proofs.listing_moves.Between.{between-here, between-none, between-over, between-past, between-skip, between_cut}
 use Rattle.chess_rules.proofs.listing_moves.Targeting.{arrival_from, named_by, no_promotion_here, some_named}
 use Rattle.chess_rules.proofs.listing_moves.Walks.{IsWalked, none-from, none-plain, none-to, triple_of, walk_before}
 use Rattle.chess_attacks.proofs.Bits.{off_zero}
@@ -47,19 +47,19 @@ module _ (rule : RuleSet) (p : Position) where
 
   -- no more than there are triples
   pub few_between : (a e : ℕ) → between a e ≤ e - a
-  unfolding moves_between
+  unfolding met_between
   few_between a e = search (rules, length-filter, count_by-le-length, length-take)
 
   count_cut : (a b e : ℕ) → a ≤ b → b ≤ e → between a e ≡ between a b + between b e
-  count_cut a b e lo hi = ap length (between_cut rule p a b e lo hi) ∙ length-append (moves_between rule p a b) (moves_between rule p b e)
+  count_cut a b e lo hi = ap length (between_cut (is_legal rule p) a b e lo hi) ∙ length-append (moves_between rule p a b) (moves_between rule p b e)
 
   -- no move lies between a cursor and one that isn't after it
   pub none_left : (a e : ℕ) → e ≤ a → between a e ≡ 0
-  none_left a e le = ap length (between-none rule p a e le)
+  none_left a e le = ap length (between-none (is_legal rule p) a e le)
 
   -- over a range without moves the count stays
   count_over : (a b e : ℕ) → a ≤ b → b ≤ all_triples → NoneMeet (is_legal rule p) a b → between a e ≡ between b e
-  count_over a b e lo hi none = ap length (between-none-is_legal rule p a b e (λ less. lo) hi none)
+  count_over a b e lo hi none = ap length (between-over (is_legal rule p) a b e (λ less. lo) hi none)
 
   -- where no move was taken yet
   pub counted_none : (start rest count : ℕ) → IsWalked (is_legal rule p) start rest → count ≡ 0 → IsCounted rule p start rest count
@@ -82,7 +82,7 @@ module _ (rule : RuleSet) (p : Position) where
     counted_to a more =
         let before = walk_before (is_legal rule p) h.reached rest s n h.walked next.first (omega (arith, next.small)) (omega (arith, first)) in
         let free : NoneMeet (is_legal rule p) h.reached (n + z) = record { fails = λ k lo hi. grind (arith, same, cases_lt k n, before.fails k) } in
-        grind (arith, same, h.low, h.counted, count_cut start h.reached (n + a), between-none-is_legal rule p h.reached (n + z) (n + a), free, next.small)
+        grind (arith, same, h.low, h.counted, count_cut start h.reached (n + a), between-over (is_legal rule p) h.reached (n + z) (n + a), free, next.small)
 
     -- past it
     pub counted_on : (k : ℕ) → k ≡ between (per_origin * s + z) (per_origin * s + per_origin) → IsCounted rule p start left (count + k)

@@ -2,13 +2,13 @@
 use Rattle.chess_rules.proofs.Chess.{AreCandidates, AreLegal, AreOrigins, AreKeptSquares, Bool, NoneMeet, IsFirstKept, Move, None, Position, RuleSet, SomeFails, [], all_triples, and_le_l, and_left, ap, append-nil, append_assoc, append_cancel_right, arith, bit_and, bit_at, bit_at-trailing_zeros, bit_at_and, bit_not, cases_Bool, cases_lt, eq-eqb, eqb-true, false, filter, filter-append, is_legal, is_legal_and, length, moves_after, moves_between, meets_on, refl, rules, second_fails, sym, trailing_zeros, triple_at, true, w64, ℕ, ◌++◌, ◌+◌, ◌<◌, ◌==◌, ◌^◌, ◌∙◌, ◌∷◌, ◌≡◌, ◌≤◌}
 use Rattle.std.proofs.lemmas.Nat.Bits.{bit_at_not}
 use Rattle.chess_rules.proofs.listing_moves.Between.{after_cut, between-past}
-use Rattle.chess_rules.proofs.listing_moves.Places.{moves_after-end, moves_after-here, moves_after-skip, over, place_of_none, place_of_triple}
+use Rattle.chess_rules.proofs.listing_moves.Places.{met_after-end, met_after-here, met_after-skip, over, place_of_none, place_of_triple}
 use Rattle.chess_rules.proofs.listing_moves.Targeting.{false_by}
 use Rattle.chess_rules.proofs.listing_moves.Walks.{off_second, on_first}
 
 -- for callers with a cursor that has moved on, or is at the end
 pub moved_on : (rule : RuleSet) (p : Position) (a b : ℕ) → (b < all_triples → a ≤ b) → moves_after rule p a ≡ moves_between rule p a b ++ moves_after rule p b
-moved_on rule p a b on = grind (arith, cases_lt, after_cut, between-past, moves_after-end)
+moved_on rule p a b on = grind (arith, cases_lt, after_cut, between-past, met_after-end)
 
 module _ (rule : RuleSet) (p : Position) (test : Move → Bool) where
   -- the squares, out of those where a legal move may go, that a filter keeps
@@ -52,24 +52,24 @@ module _ (rule : RuleSet) (p : Position) (test : Move → Bool) where
 
   wanted-skip : (n : ℕ) → n < all_triples → is_legal_and rule p test (triple_at n) ≡ false
       → filter test (moves_after rule p n) ≡ filter test (moves_after rule p (n + 1))
-  wanted-skip n lt h = search (rules, second_fails, moves_after-here, moves_after-skip)
+  wanted-skip n lt h = search (rules, second_fails, met_after-here, met_after-skip)
 
   -- over a range without a wanted move the moves that meet the test stay the same
   pub wanted-none : (a b : ℕ) → (b < all_triples → a ≤ b) → b ≤ all_triples → NoneMeet (is_legal_and rule p test) a b
       → filter test (moves_after rule p a) ≡ filter test (moves_after rule p b)
   wanted-none =
-      over (λ n. filter test (moves_after rule p n)) (is_legal_and rule p test) wanted-skip [] (λ n ge. ap (filter test) (moves_after-end rule p n ge))
+      over (λ n. filter test (moves_after rule p n)) (is_legal_and rule p test) wanted-skip [] (λ n ge. ap (filter test) (met_after-end (is_legal rule p) n ge))
 
   -- up to a legal move, by its number
   pub kept_numbered : (a n c : ℕ) → a ≤ n → n < all_triples → c ≡ length (moves_between rule p a n) → NoneMeet (is_legal_and rule p test) a n
       → is_legal rule p (triple_at n) ≡ true → IsFirstKept rule p test a (n + 1) c (triple_at n)
   kept_numbered a n c le lt count none h =
-      let cut = after_cut rule p a n le in
+      let cut = after_cut (is_legal rule p) a n le in
       record {
         over = moves_between rule p a n;
         counted = count;
         skipped = append_cancel_right (moves_between rule p a (n + 1)) (moves_between rule p a n ++ triple_at n ∷ []) (moves_after rule p (n + 1))
-            (grind (arith, append_assoc, after_cut, moves_after-here));
+            (grind (arith, append_assoc, after_cut, met_after-here));
         none = append_cancel_right (filter test (moves_between rule p a n)) [] (filter test (moves_after rule p n))
             (sym (filter-append test (moves_between rule p a n) (moves_after rule p n)) ∙ ap (filter test) (sym cut)
             ∙ wanted-none a n (λ _. le) (omega (arith, lt)) none);
@@ -77,12 +77,12 @@ module _ (rule : RuleSet) (p : Position) (test : Move → Bool) where
 
   -- if the walk reaches the end, no move after the cursor meets the test
   pub none_kept_after : (a b : ℕ) → all_triples ≤ b → b ≤ all_triples → NoneMeet (is_legal_and rule p test) a b → filter test (moves_after rule p a) ≡ []
-  none_kept_after a b ge le none = grind (arith, moves_after-end, wanted-none)
+  none_kept_after a b ge le none = grind (arith, met_after-end, wanted-none)
 
 -- all moves after a cursor come before the end
 pub counted_after : (rule : RuleSet) (p : Position) (a b c : ℕ) → all_triples ≤ b → b ≤ all_triples → c ≡ length (moves_between rule p a b)
     → c ≡ length (moves_after rule p a)
-counted_after rule p a b c ge le count = grind (arith, moved_on rule p a b, moves_after-end rule p b ge, append-nil (moves_between rule p a b))
+counted_after rule p a b c ge le count = grind (arith, moved_on rule p a b, met_after-end (is_legal rule p) b ge, append-nil (moves_between rule p a b))
 
 -- for the next legal move that a filter keeps
 pub ruleset next_kept = (counted_after, moved_on, place_of_none, place_of_triple, none_kept_after, kept_numbered)

@@ -1,6 +1,6 @@
 -- Legal moves of men other than the king.
 use Rattle.chess_rules.proofs.Chess.{AreCandidates, AreOrigins, NoneMeet, IsAimed, IsWellFormed, King, Move, Position, RuleSet, all_triples, and_left, and_right, ap, arith, bit_and, bit_at, bit_not, cases_Bool, cases_lt, false, filter, first_of_and, is_legal, is_nil, is_of_others, is_legal_and, le-ltb, lt-ltb, moves, moves_after, nat_lt, not, rules, second_of_and, squares_not, squares_of, triple_at, true, w64, word_has, ℕ, ◌<◌, ◌==◌, ◌≡◌, ◌≤◌}
-use Rattle.chess_rules.proofs.listing_moves.Places.{moves_after-here, moves_after-start}
+use Rattle.chess_rules.proofs.listing_moves.Places.{met_after-here, moves_after-start}
 use Rattle.chess_rules.proofs.listing_moves.Filtering.{none_kept_after, wanted-none}
 use Rattle.chess_rules.proofs.listing_moves.Walks.{off_second}
 use Rattle.chess_attacks.proofs.rays.OnSquares.{on_board}
@@ -24,7 +24,7 @@ module _ (rule : RuleSet) (p : Position) where
 
   one_left : (n : ℕ) → n < all_triples → is_legal_and rule p (is_of_others p) (triple_at n) ≡ true
       → is_nil (filter (is_of_others p) (moves_after rule p n)) ≡ false
-  one_left n lt h = search (rules, moves_after-here, first_of_and, second_of_and)
+  one_left n lt h = search (rules, met_after-here, first_of_and, second_of_and)
 
   -- the move that is found first, by its number
   pub others_found : (n : ℕ) → n ≤ all_triples → NoneMeet (is_legal_and rule p (is_of_others p)) 0 n

@@ -22,9 +22,8 @@ pub struct TargetCache {
     pub squares: Squares,
 }
 
-/// A test of the moves of a position, with what helps to find the moves that meet it. Moves that fail `test`
-/// may be found too: `found` is the test that each found move certainly meets. `fits` says to which positions
-/// the test belongs.
+/// A test of the moves of a position, with what helps to find the moves that meet it. `fits` says to which
+/// positions the test belongs.
 pub trait MoveTest {
     ghost use Rattle.std.specs.Prelude.{Bool, ◌≡◌, true, false};
     ghost use Rattle.chess_core.specs.Position.{Position};
@@ -33,8 +32,6 @@ pub trait MoveTest {
     ghost use Rattle.chess_rules.specs.Legal.{is_pseudo_legal};
 
     ghost test: { RuleSet → Position → Move → Bool };
-
-    ghost found: { RuleSet → Position → Move → Bool };
 
     ghost fits: { Self → RuleSet → Position → Type 0 };
 
@@ -50,14 +47,12 @@ pub trait MoveTest {
         requires fits { fits self.now R.rule board.now }
         ensures { AreCandidates R.rule board.now (test R.rule board.now) from result };
 
-    /// Returns whether the move is found: `true` for each move that meets the test, and perhaps for others.
-    /// The board is unchanged.
-    fn is_found<R: Rules>(&self, board: &mut Board, m: Move) -> bool
+    /// Returns whether the move meets the test. The board is unchanged.
+    fn meets<R: Rules>(&self, board: &mut Board, m: Move) -> bool
         requires well_formed { IsWellFormed board.old }
         requires aimed { IsAimed R.rule board.old m }
         requires fits { fits self.now R.rule board.old }
-        ensures found { result ≡ true → found R.rule board.old m ≡ true }
-        ensures skipped { result ≡ false → test R.rule board.old m ≡ false }
+        ensures answer { result ≡ test R.rule board.old m }
         ensures board { board.new ≡ board.old };
 
     ghost idle: { (rule : RuleSet) (p : Position) (m : Move) → is_pseudo_legal rule p m ≡ false
@@ -86,7 +81,7 @@ fn keep<R: Rules, S: MoveTest>(
     }
 }
 
-// Returns the first triple of the pawn on `from` that goes to one of the squares and is found, from `start`
+// Returns the first triple of the pawn on `from` that goes to one of the squares and meets the test, from `start`
 // up to but not including `end`; `end` if there is none. Triples are counted from the first with this
 // origin. The board is unchanged. Inlined: a call costs more than it saves.
 #[inline(always)]
@@ -108,8 +103,8 @@ fn next_of_pawn<R: Rules, S: MoveTest>(
     ensures high { result ≤ end }
     ensures none { NoneMeet (meets_on squares (S.test R.rule board.old))
         (per_origin * from + start) (per_origin * from + result) }
-    ensures found { result < end
-        → S.found R.rule board.old (triple_at (per_origin * from + result)) ≡ true }
+    ensures meets { result < end
+        → S.test R.rule board.old (triple_at (per_origin * from + result)) ≡ true }
     ensures inside { result < end
         → (bit_at squares (triple_at (per_origin * from + result)).to == 1) ≡ true }
     ensures board { board.new ≡ board.old }
@@ -117,7 +112,7 @@ fn next_of_pawn<R: Rules, S: MoveTest>(
     let first = u16::from(from.index()) * PER_ORIGIN;
     let mut at = next_from(board, from, squares, start);
     while at < end {
-        if move_test.is_found::<R>(board, move_at(first + at)) {
+        if move_test.meets::<R>(board, move_at(first + at)) {
             return at;
         }
         at = next_from(board, from, squares, at + 1);
@@ -125,7 +120,7 @@ fn next_of_pawn<R: Rules, S: MoveTest>(
     end
 }
 
-// Returns the first triple of the piece on `from` that goes to one of the squares and is found, from
+// Returns the first triple of the piece on `from` that goes to one of the squares and meets the test, from
 // `start` up to but not including `end`; `end` if there is none. Pieces don't promote, so each square has
 // one triple. Triples are counted from the first with this origin. The board is unchanged. Inlined: a call
 // costs more than it saves.
@@ -150,8 +145,8 @@ fn next_of_piece<R: Rules, S: MoveTest>(
     ensures high { result ≤ end }
     ensures none { NoneMeet (meets_on squares (S.test R.rule board.old))
         (per_origin * from + start) (per_origin * from + result) }
-    ensures found { result < end
-        → S.found R.rule board.old (triple_at (per_origin * from + result)) ≡ true }
+    ensures meets { result < end
+        → S.test R.rule board.old (triple_at (per_origin * from + result)) ≡ true }
     ensures inside { result < end
         → (bit_at squares (triple_at (per_origin * from + result)).to == 1) ≡ true }
     ensures board { board.new ≡ board.old }
@@ -167,14 +162,14 @@ fn next_of_piece<R: Rules, S: MoveTest>(
             to,
             promo: None,
         };
-        if move_test.is_found::<R>(board, m) {
+        if move_test.meets::<R>(board, m) {
             return number;
         }
     }
     end
 }
 
-// Returns the first triple of the man on `from` that goes to one of the squares and is found, from `start`
+// Returns the first triple of the man on `from` that goes to one of the squares and meets the test, from `start`
 // up to but not including `end`; `end` if there is none. Triples are counted from the first with this
 // origin. The board is unchanged. Inlined: a call costs more than it saves.
 #[inline(always)]
@@ -197,8 +192,8 @@ pub(crate) fn next_of_man<R: Rules, S: MoveTest>(
     ensures high { result ≤ end }
     ensures none { NoneMeet (meets_on squares (S.test R.rule board.old))
         (per_origin * from + start) (per_origin * from + result) }
-    ensures found { result < end
-        → S.found R.rule board.old (triple_at (per_origin * from + result)) ≡ true }
+    ensures meets { result < end
+        → S.test R.rule board.old (triple_at (per_origin * from + result)) ≡ true }
     ensures inside { result < end
         → (bit_at squares (triple_at (per_origin * from + result)).to == 1) ≡ true }
     ensures board { board.new ≡ board.old }
@@ -213,9 +208,9 @@ pub(crate) fn next_of_man<R: Rules, S: MoveTest>(
     }
 }
 
-/// Returns the number of the first found move from triple `start` up to but not including `end`; `end` if
-/// there is none. `kept` carries the candidates of one origin from call to call. The board is unchanged.
-pub fn next_found<R: Rules, S: MoveTest>(
+/// Returns the number of the first move that meets the test, from triple `start` up to but not including `end`;
+/// `end` if there is none. `kept` carries the candidates of one origin from call to call. The board is unchanged.
+pub fn next_met<R: Rules, S: MoveTest>(
     board: &mut Board,
     move_test: &S,
     kept: &mut TargetCache,
@@ -229,7 +224,7 @@ pub fn next_found<R: Rules, S: MoveTest>(
     ensures low { result < end → start ≤ result }
     ensures high { result ≤ end }
     ensures none { NoneMeet (S.test R.rule board.old) start result }
-    ensures found { result < end → S.found R.rule board.old (triple_at result) ≡ true }
+    ensures meets { result < end → S.test R.rule board.old (triple_at result) ≡ true }
     ensures kept { IsTargetCacheOf R.rule board.old (S.test R.rule board.old) kept.new }
     ensures board { board.new ≡ board.old }
 {

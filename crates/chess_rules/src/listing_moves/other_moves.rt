@@ -7,8 +7,8 @@ ghost use Rattle.chess_rules.specs.ties.Filtering.{is_of_others, is_legal_and};
 ghost use Rattle.chess_rules.specs.ties.Targets.{AreCandidates, AreOrigins, IsAimed};
 
 use crate::legality::legal::is_legal;
-use crate::listing_moves::legal_moves::{LegalCursor, LegalityMasks, candidates, own_origins};
-use crate::listing_moves::move_test::{MoveTest, TargetCache, next_found};
+use crate::listing_moves::legal_moves::{LegalityMasks, candidates, legality_masks, own_origins};
+use crate::listing_moves::move_test::{MoveTest, TargetCache, next_met};
 use crate::listing_moves::triples::TRIPLES;
 use chess_attacks::Rules;
 use chess_attacks::words::contains;
@@ -27,8 +27,6 @@ impl MoveTest for Others {
 
     ghost test = { λ rule p. is_legal_and rule p (is_of_others p) };
 
-    ghost found = { λ rule p. is_legal_and rule p (is_of_others p) };
-
     ghost fits = { λ s rule p. IsKnownIn rule p s.known };
 
     fn origins<R: Rules>(&self, board: &Board) -> Squares {
@@ -39,7 +37,7 @@ impl MoveTest for Others {
         candidates_of_others::<R>(board, self.known, from)
     }
 
-    fn is_found<R: Rules>(&self, board: &mut Board, m: Move) -> bool {
+    fn meets<R: Rules>(&self, board: &mut Board, m: Move) -> bool {
         is_legal_of_others::<R>(board, self.known, m)
     }
 
@@ -88,11 +86,11 @@ pub fn others_have_move<R: Rules>(board: &mut Board) -> bool
     ensures board { board.new ≡ board.old }
 {
     let others = Others {
-        known: LegalCursor::<R>::of(board).known(),
+        known: legality_masks::<R>(board),
     };
     let mut kept = TargetCache {
         origin: None,
         squares: 0,
     };
-    next_found::<R, Others>(board, &others, &mut kept, 0, TRIPLES) < TRIPLES
+    next_met::<R, Others>(board, &others, &mut kept, 0, TRIPLES) < TRIPLES
 }

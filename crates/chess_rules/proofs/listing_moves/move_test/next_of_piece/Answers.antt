@@ -8,8 +8,8 @@ returns-then-number-end-clause-none g c =
     none-plain _ _ _ (g.met.S.MoveTest.idle g.R.Rules.rule c.args.board.now) _ _ _ _ _ _ c.requires.squares c.requires.no_pawn c.loop-to.invariant.none.holds
     c.in-Some.ensures.taken.first (omega (arith, c.from-number.ensures, c.index.ensures.value)) (omega (arith, c.in-Some.ensures.taken.small))
 
-pub returns-then-is_found-clause-none : goal.returns-then-is_found-clause-none
-returns-then-is_found-clause-none g c =
+pub returns-then-meets-clause-none : goal.returns-then-meets-clause-none
+returns-then-meets-clause-none g c =
     none-plain _ _ _ (g.met.S.MoveTest.idle g.R.Rules.rule c.args.board.now) _ _ _ _ _ _ c.requires.squares c.requires.no_pawn c.loop-to.invariant.none.holds
     c.in-Some.ensures.taken.first (omega (arith, c.from-number.ensures, c.index.ensures.value)) (omega (arith, c.in-Some.ensures.taken.small))
 

@@ -1,6 +1,6 @@
 use Rattle.chess_rules.proofs.Chess.{arith, rules, ◌∙◌}
 use Rattle.chess_rules.proofs.listing_moves.Walks.{none-to, walk_begins, walk_on, walk_to}
-use Rattle.chess_rules.proofs.listing_moves.move_test.next_found.Goals as goal
+use Rattle.chess_rules.proofs.listing_moves.move_test.next_met.Goals as goal
 
 pub loop-from-init : goal.loop-from-init
 loop-from-init g c = search (rules, walk_begins)

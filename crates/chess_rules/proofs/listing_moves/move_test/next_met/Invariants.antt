@@ -1,6 +1,6 @@
 use Rattle.chess_rules.proofs.Chess.{IsTargetCacheOf, ◌≡◌}
 use Rattle.chess_rules.proofs.listing_moves.Walks.{IsWalked}
-use Rattle.chess_rules.proofs.listing_moves.move_test.next_found.Given as goal
+use Rattle.chess_rules.proofs.listing_moves.move_test.next_met.Given as goal
 
 abbrev pub invariant-loop-from : goal.invariant-loop-from
 invariant-loop-from g l = record {

@@ -1,6 +1,6 @@
 use Rattle.chess_rules.proofs.listing_moves.Filtering.{next_kept}
 use Rattle.chess_attacks.proofs.Basics.{arith}
-use Rattle.chess_rules.proofs.listing_moves.legal_moves.LegalCursor.next_kept.Goals as goal
+use Rattle.chess_rules.proofs.listing_moves.legal_moves.Cursor+R+LegalityMasks.next_kept.Goals as goal
 
 pub returns-clause-skipped : goal.returns-clause-skipped
 returns-clause-skipped g c = grind (arith, next_kept)
