@@ -7,7 +7,7 @@ from pathlib import Path
 
 CRATES = [
     "chess_core", "chess_attacks", "chess_rules", "chess_flights", "chess_mates", "chess_threats",
-    "pop_text", "pop_stipulation", "pop_input", "pop_events", "pop_battle", "pop_solve",
+    "pop_text", "pop_stipulation", "pop_input", "pop_events", "pop_battle", "pop_walk", "pop_solve",
     "pop_print", "run_settings", "pop_run",
 ]
 STAND_INS = ["arrayvec", "memchr", "itoa"]

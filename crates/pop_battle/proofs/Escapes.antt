@@ -1,5 +1,5 @@
 -- A defence after which no reply mates decides a direct mate with two half-moves left.
-use Rattle.pop_battle.proofs.Words.{Bool, Direct, HasCounted, IsWellFormed, List, Mate, Position, RuleSet, Some, [], ap, arith, after_cut, can_move, chess, false, is_nil, length, length-append, list_all, least_of, mates_after, min, moves, moves_after, moves_between, nat_tests, not, place_of, position_after, refl, smallest_below, smallest_tree, sym, true, value, walk_count, ℕ, ◌+◌, ◌++◌, ◌-◌, ◌^◌, ◌∙◌, ◌∷◌, ◌≡◌, ◌≤◌, joined_value}
+use Rattle.pop_battle.proofs.Words.{Bool, Direct, HasCounted, IsWellFormed, List, Mate, Position, RuleSet, Some, [], ap, arith, after_cut, can_move, chess, false, is_nil, length, length-append, list_all, least_of, mates_after, min, moves, moves_after, moves_between, nat_tests, not, place_of, position_after, refl, smallest_below, smallest_tree, sym, true, value, walk_count, ℕ, ◌+◌, ◌++◌, ◌-◌, ◌^◌, ◌∙◌, ◌∷◌, ◌≡◌, ◌≤◌, joined_value, mates_after-are, is_legal}
 use Rattle.pop_battle.proofs.Boards.{any_mating, after_start, each_one, unreached}
 use Rattle.pop_battle.proofs.Skipping.{after_back}
 use Rattle.pop_battle.proofs.SmallestTrees.{tree-one, trees-start}

@@ -1,5 +1,5 @@
 -- The last half-moves, for mate, tried without frames: their value, and how many positions count.
-use Rattle.pop_battle.proofs.Words.{AreRemoved, Battle, Bool, Direct, HasCounted, IfSome, Killer, LegalPlace, List, Mate, Move, None, Option, Order, SkipsMoves, Position, RuleSet, Selfmate, Some, [], arith, can_move, chess, cond, eqb, false, filter, is_goal_reached, is_legal, is_mating, is_some, joined_value, length, list_all, list_any, mates_after, min, moves, moves_ahead, moves_after, must_reply_with_mate, nat_tests, not, position_after, refl, rules, attacker_to_move, smallest_below, smallest_tree, true, value, walk_count, ℕ, ◌&&◌, ◌++◌, ◌+◌, ◌-◌, ◌<◌, ◌^◌, ◌∷◌, ◌≡◌, ◌≤◌, suc, sym, walk_among, ◌∙◌, Aim}
+use Rattle.pop_battle.proofs.Words.{AreRemoved, Battle, Bool, Direct, HasCounted, IfSome, Killer, LegalPlace, List, Mate, Move, None, Option, Order, SkipsMoves, Position, RuleSet, Selfmate, Some, [], arith, can_move, chess, cond, eqb, false, filter, is_goal_reached, is_legal, is_mating, is_some, joined_value, length, list_all, list_any, mates_after, min, moves, moves_ahead, moves_after, must_reply_with_mate, nat_tests, not, position_after, refl, rules, attacker_to_move, smallest_below, smallest_tree, true, value, walk_count, ℕ, ◌&&◌, ◌++◌, ◌+◌, ◌-◌, ◌<◌, ◌^◌, ◌∷◌, ◌≡◌, ◌≤◌, suc, sym, walk_among, ◌∙◌, Aim, mates_after-are}
 use Rattle.pop_battle.proofs.Boards.{after_start, each_one, unreached, walk_count-some}
 use Rattle.pop_battle.proofs.SmallestTrees.{tree-one, trees-end, trees-next, trees-start}
 use Rattle.pop_battle.proofs.Tests.{any-start, fewest-start, first, rest-start, walk-next, walk_count-start}

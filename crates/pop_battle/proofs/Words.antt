@@ -27,7 +27,7 @@ pub use Rattle.chess_rules.specs.ties.Filtering.{IsFirstKept}
 pub use Rattle.chess_mates.specs.ties.MatingPlaces.{MatingPlace, mates_between}
 pub use Rattle.chess_flights.specs.ties.Mates.{is_mating}
 pub use Rattle.chess_flights.specs.ties.QuietSteps.{must_reply_with_mate}
-pub use Rattle.chess_flights.specs.ties.Mates.{mates_after}
+pub use Rattle.chess_flights.specs.ties.Mates.{mates, mates_after}
 pub use Rattle.pop_stipulation.specs.declared.stipulation.Goal.{Goal}
 pub use Rattle.pop_stipulation.specs.declared.stipulation.Goal.TheVariants.{Mate}
 pub use Rattle.pop_battle.specs.Chess.{chess, is_goal_reached}

@@ -26,7 +26,7 @@
 //! ```
 //!
 //! `value` is the interface; `aim`, `frame`, `search_state` and `killers` are its types. `chess` serves
-//! `pop_solve` and `pop_parts` too. No call allocates.
+//! `pop_walk` and `pop_parts` too. No call allocates.
 #![tactic(auto)]
 
 pub mod aim;

@@ -3,11 +3,11 @@ use Rattle.pop_parts.proofs.Words.{Frame, IsLinked, IsPartOpened, IsSound, List,
 use Rattle.pop_parts.proofs.Parts.{part_cut}
 use Rattle.pop_parts.specs.ties.Beginnings.{IsSeeking}
 use Rattle.pop_parts.specs.ties.PartsSeen.{are_legal}
-use Rattle.pop_solve.proofs.Counting.{counts-if}
-use Rattle.pop_solve.specs.ties.Counts.{Counts, exactly, least_if, untried_at}
-use Rattle.pop_solve.proofs.Solved.{IsCutInto}
-use Rattle.pop_solve.proofs.Walking.{popped}
-use Rattle.pop_solve.specs.ties.Beginnings.{IsBeginning, paths_by}
+use Rattle.pop_walk.proofs.Counting.{counts-if}
+use Rattle.pop_walk.specs.ties.Counts.{Counts, exactly, least_if, untried_at}
+use Rattle.pop_walk.proofs.Solved.{IsCutInto}
+use Rattle.pop_walk.proofs.Walking.{popped}
+use Rattle.pop_walk.specs.ties.Beginnings.{IsBeginning, paths_by}
 
 -- the moves to the lowest frame, and to the one at k
 pub front-none : (frames : List Frame) → [] ≡ path (reverse (take 1 frames))

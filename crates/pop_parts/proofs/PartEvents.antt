@@ -2,8 +2,8 @@
 use Rattle.pop_parts.proofs.Words.{BareEvent, Frame, Gives, IsAtPathOf, IsPartOpened, part_walk, false, List, MatchOption, Move, None, Option, Phase, Posed, Position, RuleSet, Some, Stage, [], ap, drop, event_of, is_unstopped, left_of, play_start, refl, slice_get, true, ℕ, ◌&&◌, ◌≡◌}
 use Rattle.pop_events.specs.declared.event.Event.{Event}
 use Rattle.std.specs.Option.{option_map}
-use Rattle.pop_solve.proofs.Counting.{counts_then-if}
-use Rattle.pop_solve.specs.ties.Counts.{CountsOn, exactly, searches_all, untried_at}
+use Rattle.pop_walk.proofs.Counting.{counts_then-if}
+use Rattle.pop_walk.specs.ties.Counts.{CountsOn, exactly, searches_all, untried_at}
 
 module _ (rule : RuleSet) (problem : Posed) (old new : List BareEvent) (board : Position) (depth : ℕ) where
   -- the first event still to come, or none

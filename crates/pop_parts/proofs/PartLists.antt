@@ -4,7 +4,7 @@ use Rattle.std.proofs.lemmas.List.Folds.{flat_map-map}
 use Rattle.std.proofs.lemmas.Simd.{map-map}
 use Rattle.chess_core.specs.Move.{same_move}
 use Rattle.chess_rules.proofs.listing_moves.Members.{pairs_first, pairs_later}
-use Rattle.pop_solve.proofs.Trees.{flat-same}
+use Rattle.pop_walk.proofs.Trees.{flat-same}
 
 -- lists joined
 module _ {A B : Type 0} where

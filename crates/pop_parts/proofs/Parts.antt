@@ -4,8 +4,8 @@ use Rattle.pop_stipulation.specs.declared.stipulation.Battle.{Battle}
 use Rattle.pop_events.specs.declared.event.Phase.TheVariants.{Play, Set}
 use Rattle.std.proofs.lemmas.Simd.{map-map}
 use Rattle.pop_parts.proofs.PartLists.{front-lines, filter-map, map-each, root-part}
-use Rattle.pop_solve.proofs.Solved.{IsCutInto, halves-form, lines-cut, set-cut, set_by, tree-cut, tree_by}
-use Rattle.pop_solve.proofs.Trees.{shown_paths-moves}
+use Rattle.pop_walk.proofs.Solved.{IsCutInto, halves-form, lines-cut, set-cut, set_by, tree-cut, tree_by}
+use Rattle.pop_walk.proofs.Trees.{shown_paths-moves}
 use Rattle.pop_parts.specs.ties.PartsSeen.{are_legal}
 
 module _ (rule : RuleSet) (problem : Posed) where

@@ -3,7 +3,7 @@ use Rattle.pop_parts.proofs.Words.{AllPairs, Bool, Contains, IsPlayable, IsSound
 use Rattle.pop_stipulation.specs.declared.stipulation.Battle.{Battle}
 use Rattle.pop_events.specs.declared.event.Phase.TheVariants.{Play, Set}
 use Rattle.std.proofs.lemmas.List.Folds.{flat_map-map}
-use Rattle.pop_solve.proofs.HelpPlay.{from_lines}
+use Rattle.pop_walk.proofs.HelpPlay.{from_lines}
 use Rattle.pop_parts.proofs.PartLists.{beginnings-lines, beginnings-one, beginnings-play, beginnings-stand, each-own, flat-in, in-beginnings, map-flat}
 use Rattle.pop_parts.proofs.Parts.{battle-by, battle-part, battle-solutions, help-part, lines-following}
 

@@ -1,15 +1,15 @@
 -- The walk over first moves: what a step leaves of the lists still to come.
-unfoldable use Rattle.pop_solve.specs.ties.Walk.{AreEnds}
+unfoldable use Rattle.pop_walk.specs.ties.Walk.{AreEnds}
 use Rattle.pop_parts.proofs.Words.{AreKnown, CameFrom, CameFromAt, Frame, IfSome, IsLinked, IsPlaceIn, IsRoomy, IsWalking, IsWellFormed, LegalPlace, List, Move, None, Option, Position, RuleSet, Some, Undo, [], after_well_formed, ap, append-nil, append_assoc, arith, beginnings, chess, drop, is_legal, may_be_made, is_some, length, length-append, length-reverse, map, map-append, map-id, min, moves_after, nil_from_length, path, position, position_after, refl, reverse, rules, slice_get, suc, sym, true, undo_of, walk_work, zero, ℕ, ◌++◌, ◌+◌, ◌-◌, ◌<◌, ◌^◌, ◌∙◌, ◌∷◌, ◌≡◌, ◌≢◌, ◌≤◌}
 use Rattle.std.proofs.Math.Seq.{drop-nil}
 use Rattle.pop_stipulation.specs.declared.stipulation.Goal.{Goal}
 use Rattle.pop_battle.proofs.Boards.{after_start}
-use Rattle.pop_solve.proofs.Outcomes.{CameFrom-deep, walking-close, walking-learned, walking-moved}
+use Rattle.pop_walk.proofs.Outcomes.{CameFrom-deep, walking-close, walking-learned, walking-moved}
 use Rattle.pop_battle.specs.ties.Frames.{learned, moved, opened_frame}
-use Rattle.pop_solve.proofs.Walking.{popped}
-use Rattle.pop_solve.proofs.ToCome.{map-path, steps-start, work_after-next}
+use Rattle.pop_walk.proofs.Walking.{popped}
+use Rattle.pop_walk.proofs.ToCome.{map-path, steps-start, work_after-next}
 use Rattle.pop_parts.specs.ties.Beginnings.{FindsNumbered, IsSeeking, Seeks, beginnings_by, beginnings_to_come}
-use Rattle.pop_solve.specs.ties.Beginnings.{are_idle}
+use Rattle.pop_walk.specs.ties.Beginnings.{are_idle}
 
 deeper : (L : List Move) (m : Move) (xs ys rest : List (List Move))
     → map (λ line. L ++ line) (map (λ line. m ∷ line) xs ++ ys) ++ rest ≡ map (λ line. (L ++ m ∷ []) ++ line) xs ++ (map (λ line. L ++ line) ys ++ rest)

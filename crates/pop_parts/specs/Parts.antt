@@ -5,7 +5,7 @@ use Rattle.chess_attacks.specs.RuleSet.{RuleSet}
 use Rattle.pop_text.specs.Words.{Input}
 use Rattle.pop_input.specs.Blocks.{Entry, Sound, Faulty}
 use Rattle.pop_input.specs.Posed.{Posed, rule_of}
-use Rattle.pop_solve.specs.Events.{Path, event_of, is_impossible_phase}
+use Rattle.pop_walk.specs.Events.{Path, event_of, is_impossible_phase}
 use Rattle.pop_parts.specs.PhaseParts.{parts, part_events}
 use Rattle.pop_events.specs.declared.event.Phase.{Phase}
 use Rattle.pop_events.specs.declared.event.Phase.TheVariants.{Set, Play}

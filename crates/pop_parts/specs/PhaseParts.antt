@@ -7,7 +7,7 @@ use Rattle.chess_attacks.specs.RuleSet.{RuleSet}
 use Rattle.pop_input.specs.Posed.{Posed}
 use Rattle.pop_stipulation.specs.Stipulations.{is_help}
 use Rattle.pop_battle.specs.Chess.{chess}
-use Rattle.pop_solve.specs.Events.{BareEvent, Path, Solution, is_impossible_phase, path_event, phase_half_moves, phase_start, solutions, total}
+use Rattle.pop_walk.specs.Events.{BareEvent, Path, Solution, is_impossible_phase, path_event, phase_half_moves, phase_start, solutions, total}
 use Rattle.pop_battle.specs.Game.{Game}
 use Rattle.pop_events.specs.declared.event.Phase.{Phase}
 

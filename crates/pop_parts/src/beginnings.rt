@@ -6,11 +6,11 @@ ghost use Rattle.chess_rules.specs.Legal.{is_legal};
 ghost use Rattle.pop_stipulation.specs.declared.stipulation.Goal.{Goal};
 ghost use Rattle.pop_input.specs.Posed.{IsSound, rule_of};
 ghost use Rattle.pop_stipulation.specs.Stipulations.{half_moves};
-ghost use Rattle.pop_solve.specs.Events.{is_impossible_phase, phase_half_moves as half_moves_of_phase, phase_start, play_start};
+ghost use Rattle.pop_walk.specs.Events.{is_impossible_phase, phase_half_moves as half_moves_of_phase, phase_start, play_start};
 ghost use Rattle.pop_parts.specs.PhaseParts.{beginnings, part_depth as depth_of_parts, part_numbered, parts};
 ghost use Rattle.pop_parts.specs.ties.Beginnings.{beginnings_to_come, FindsNumbered, IsSeeking, Seeks};
 ghost use Rattle.pop_battle.specs.ties.Frames.{opened_frame};
-ghost use Rattle.pop_solve.specs.ties.Walk.{Position, chess, path};
+ghost use Rattle.pop_walk.specs.ties.Walk.{Position, chess, path};
 
 use arrayvec::ArrayVec;
 use chess_core::{Board, Move};
@@ -19,8 +19,8 @@ use pop_battle::chess::next_move;
 use pop_battle::frame::{Frame, MoveStage, Order};
 use pop_events::Phase;
 use pop_input::{MOST_FRAMES, Problem};
-use pop_solve::phases::{phase_half_moves, set_up};
-use pop_solve::walk::step_back;
+use pop_walk::phases::{phase_half_moves, set_up};
+use pop_walk::walk::step_back;
 
 /// Returns the number of moves that distinguish the parts of a phase: in help play `depth`, but at most
 /// the half-moves of the phase; otherwise one.

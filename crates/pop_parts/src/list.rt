@@ -3,7 +3,7 @@ ghost use Rattle.std.specs.Prelude.{◌≡◌, ◌<◌, ◌≤◌, ◌+◌, ◌+
 ghost use Rattle.pop_text.specs.Bytes.{greatest_count};
 ghost use Rattle.pop_input.specs.Blocks.{Sound as SoundEntry};
 ghost use Rattle.pop_input.specs.Posed.{rule_of};
-ghost use Rattle.pop_solve.specs.Events.{is_impossible_phase as barred};
+ghost use Rattle.pop_walk.specs.Events.{is_impossible_phase as barred};
 ghost use Rattle.pop_run.specs.Run.{FailsOnce, ReadsUpTo, has_grown, input_met, taken_of};
 ghost use Rattle.pop_parts.specs.Parts.{count_of, count_text, parts_line, set_text, reported_count};
 ghost use Rattle.pop_parts.specs.Runs.{Lists};

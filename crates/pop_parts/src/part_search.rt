@@ -1,7 +1,7 @@
 //! The search of one part of a phase.
 ghost use Rattle.std.specs.Prelude.{◌≡◌, ◌<◌, [], ◌∷◌, ◌++◌, reverse};
 ghost use Rattle.arrayvec.specs.ArrayVec.{array_vec_len};
-ghost use Rattle.pop_solve.specs.ties.Walk.{path};
+ghost use Rattle.pop_walk.specs.ties.Walk.{path};
 
 use crate::remaining_parts::RemainingParts;
 use arrayvec::ArrayVec;
@@ -12,8 +12,8 @@ use pop_battle::killers::Killers;
 use pop_battle::search_state::SearchState;
 use pop_events::{Event, Phase};
 use pop_input::{MOST_FRAMES, Problem};
-use pop_solve::beginning::begin_after;
-use pop_solve::phases::{Stage, advance};
+use pop_walk::beginning::begin_after;
+use pop_walk::phases::{Stage, advance};
 use std::marker::Model;
 
 /// Returns the moves that lead to the top frame, followed by `by`.
@@ -51,7 +51,7 @@ impl<R: Rules, const N: usize> Model for PartSearch<R, N> {
     ghost use Rattle.arrayvec.specs.ArrayVec.{array_vec_len};
     ghost use Rattle.pop_input.specs.Posed.{IsSound};
     ghost use Rattle.pop_stipulation.specs.Stipulations.{half_moves};
-    ghost use Rattle.pop_solve.specs.ties.Phases.{left_of, HoldsAtStage};
+    ghost use Rattle.pop_walk.specs.ties.Phases.{left_of, HoldsAtStage};
     ghost use Rattle.pop_parts.specs.ties.PartsSeen.{PartSeen, IsPartOpened};
 
     ghost Value = { PartSeen R };
@@ -82,12 +82,12 @@ impl<R: Rules, const N: usize> PartSearch<R, N> {
     ghost use Rattle.std.specs.Option.{option_map};
     ghost use Rattle.pop_input.specs.Posed.{rule_of};
     ghost use Rattle.pop_stipulation.specs.Stipulations.{half_moves, is_help};
-    ghost use Rattle.pop_solve.specs.Events.{event_of, phase_half_moves as half_moves_of_phase, phase_start, play_start};
+    ghost use Rattle.pop_walk.specs.Events.{event_of, phase_half_moves as half_moves_of_phase, phase_start, play_start};
     ghost use Rattle.pop_parts.specs.ties.Beginnings.{IsSeeking};
-    ghost use Rattle.pop_solve.specs.ties.Walk.{path};
+    ghost use Rattle.pop_walk.specs.ties.Walk.{path};
     ghost use Rattle.pop_parts.specs.PhaseParts.{part_events, part_numbered};
     ghost use Rattle.pop_parts.specs.ties.PartsSeen.{part_walk};
-    ghost use Rattle.pop_solve.specs.ties.Seen.{IsAtPathOf};
+    ghost use Rattle.pop_walk.specs.ties.Seen.{IsAtPathOf};
 
     /// Returns a search of the part with this number, counted from 1 in the order of moves; `None` if the
     /// phase has fewer parts. `depth` moves, 1 or more, distinguish the parts of help play. `N` must be

@@ -29,7 +29,7 @@ impl<R: Rules, const N: usize> Model for RemainingParts<R, N> {
     ghost use Rattle.pop_stipulation.specs.Stipulations.{half_moves};
     ghost use Rattle.pop_parts.specs.ties.PartsSeen.{RemainingSeen};
     ghost use Rattle.pop_parts.specs.ties.Beginnings.{beginnings_to_come, IsBetweenParts};
-    ghost use Rattle.pop_solve.specs.Events.{phase_start};
+    ghost use Rattle.pop_walk.specs.Events.{phase_start};
 
     ghost Value = { RemainingSeen };
 

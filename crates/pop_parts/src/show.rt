@@ -5,7 +5,7 @@ ghost use Rattle.pop_text.specs.Bytes.{Writes, count_after, greatest_count};
 ghost use Rattle.pop_input.specs.FaultKinds.{is_device_failure};
 ghost use Rattle.pop_parts.specs.declared.request.Outcome.TheVariants.{FaultyItem, InputFailed, NoItem};
 ghost use Rattle.pop_input.specs.Posed.{rule_of};
-ghost use Rattle.pop_solve.specs.Events.{event_of};
+ghost use Rattle.pop_walk.specs.Events.{event_of};
 ghost use Rattle.pop_print.specs.Events.{event_text};
 ghost use Rattle.pop_run.specs.Run.{FailsOnce, has_grown, input_met, taken_of};
 ghost use Rattle.pop_parts.specs.Parts.{has_parts as has_the_parts, has_phase as has_the_phase, outcome_at, outcome_in, part_text, parts_requested, text_at, text_in};

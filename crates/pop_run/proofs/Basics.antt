@@ -7,8 +7,8 @@ pub use Rattle.std.specs.Prelude.{IfErr, IfOk, is_err, slice_get, string_bytes}
 pub use Rattle.pop_input.specs.Blocks.{Entry, entries_of}
 pub use Rattle.pop_input.specs.ties.ReaderState.{Reads, ReaderState, entries_left, work_left}
 pub use Rattle.pop_print.specs.Events.{event_text}
-pub use Rattle.pop_solve.specs.Events.{event_of, events}
-unfoldable pub use Rattle.pop_solve.specs.Events.{events_of}
+pub use Rattle.pop_walk.specs.Events.{event_of, events}
+unfoldable pub use Rattle.pop_walk.specs.Events.{events_of}
 pub use Rattle.pop_text.proofs.Appending.{appends_kept, appends_none, appends_then, begins_later, begins_longer, writes_then}
 pub use Rattle.pop_text.proofs.Using.{consumes_then, failures_then}
 pub use Rattle.pop_text.specs.Bytes.{Appends, Begins, Consumes, Writes}

@@ -5,7 +5,7 @@ use Rattle.pop_text.specs.Words.{Input, words_of}
 use Rattle.pop_input.specs.Blocks.{Entry, Sound as SoundEntry, Faulty as FaultyEntry, entries_of}
 use Rattle.pop_input.specs.FaultKinds.{is_device_failure}
 use Rattle.pop_input.specs.Posed.{Posed}
-use Rattle.pop_solve.specs.Events.{events_of}
+use Rattle.pop_walk.specs.Events.{events_of}
 use Rattle.pop_print.specs.Events.{event_text}
 use Rattle.pop_print.specs.Faults.{fault_text}
 use Rattle.pop_print.specs.Heads.{head_text}

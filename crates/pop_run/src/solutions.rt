@@ -3,7 +3,7 @@ ghost use Rattle.std.specs.Prelude.{◌≡◌, ◌<◌};
 ghost use Rattle.std.specs.List.{flat_map};
 ghost use Rattle.pop_text.specs.Bytes.{Writes, count_after, greatest_count};
 ghost use Rattle.pop_input.specs.Posed.{rule_of};
-ghost use Rattle.pop_solve.specs.Events.{events, events_of};
+ghost use Rattle.pop_walk.specs.Events.{events, events_of};
 ghost use Rattle.pop_print.specs.Events.{event_text};
 
 use crate::play_writer::PlayWriter;

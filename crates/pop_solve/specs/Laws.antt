@@ -4,7 +4,7 @@ use Rattle.std.specs.List.{AllPairs, flat_map}
 use Rattle.chess_attacks.specs.RuleSet.{RuleSet}
 use Rattle.pop_input.specs.Posed.{Posed}
 use Rattle.pop_events.specs.declared.event.Phase.{Phase}
-use Rattle.pop_solve.specs.Events.{Path, solutions}
+use Rattle.pop_walk.specs.Events.{Path, solutions}
 
 -- the paths that a phase shows: all paths of its first solutions, up to the limit
 abbrev pub paths_shown : RuleSet → Posed → Phase → List Path

@@ -23,21 +23,13 @@
 //! assert!(rt; keys == 1);
 //! ```
 //!
-//! The items re-exported at the root are the interface. The other public modules serve `pop_parts`, which
-//! begins the search of a phase after given moves (`beginning`) and lets `phases` walk it, and `pop_tries`,
-//! which walks what follows a first move (`walk`, `showing`). No call allocates.
+//! The items re-exported at the root are the interface. `pop_walk` has the walk through the phases, which
+//! `pop_parts` and `pop_tries` share. No call allocates.
 #![tactic(auto)]
 
-pub mod beginning;
-mod guess;
 pub mod laws;
-pub mod phases;
-pub mod plan;
 pub mod pruned_search;
-mod reach;
 pub mod search;
-pub mod showing;
-pub mod walk;
 
 pub use laws::no_path_comes_twice;
 pub use pop_battle::frame::Frame;

@@ -1,5 +1,4 @@
 //! The search that prunes: an iterator over the events of a problem, as `Search`, for less work.
-use crate::phases::{Stage, advance, first_phase};
 use arrayvec::ArrayVec;
 use chess_core::Board;
 use chess_rules::Rules;
@@ -8,6 +7,7 @@ use pop_battle::killers::Killers;
 use pop_battle::search_state::SearchState;
 use pop_events::Event;
 use pop_input::Problem;
+use pop_walk::phases::{Stage, advance, first_phase};
 use std::marker::Model;
 
 /// A search that returns the same events as `Search`, with the same board and frames, but in help play doesn't
@@ -28,10 +28,10 @@ impl<R: Rules, const N: usize> Model for PrunedSearch<R, N> {
     ghost use Rattle.arrayvec.specs.ArrayVec.{array_vec_len};
     ghost use Rattle.pop_input.specs.Posed.{IsSound};
     ghost use Rattle.pop_stipulation.specs.Stipulations.{half_moves};
-    ghost use Rattle.pop_solve.specs.Events.{events};
-    ghost use Rattle.pop_solve.specs.ties.Seen.{Seen};
-    ghost use Rattle.pop_solve.specs.ties.Counts.{IsOpened};
-    ghost use Rattle.pop_solve.specs.ties.Phases.{left_of, HoldsAtStage, IsCountedUpTo};
+    ghost use Rattle.pop_walk.specs.Events.{events};
+    ghost use Rattle.pop_walk.specs.ties.Seen.{Seen};
+    ghost use Rattle.pop_walk.specs.ties.Counts.{IsOpened};
+    ghost use Rattle.pop_walk.specs.ties.Phases.{left_of, HoldsAtStage, IsCountedUpTo};
 
     ghost Value = { Seen };
 
@@ -57,15 +57,15 @@ impl<R: Rules, const N: usize> PrunedSearch<R, N> {
     ghost use Rattle.std.specs.Option.{option_map};
     ghost use Rattle.pop_input.specs.Posed.{rule_of};
     ghost use Rattle.pop_stipulation.specs.Stipulations.{half_moves, is_help};
-    ghost use Rattle.pop_solve.specs.Events.{events, event_of, play_start};
-    ghost use Rattle.pop_solve.specs.Walks.{is_never_stopped, is_walked_once, whole_walk};
-    ghost use Rattle.pop_solve.specs.ties.Counts.{fewest_tried};
-    ghost use Rattle.pop_solve.specs.ties.Seen.{IsAtPathOf};
+    ghost use Rattle.pop_walk.specs.Events.{events, event_of, play_start};
+    ghost use Rattle.pop_walk.specs.Walks.{is_never_stopped, is_walked_once, whole_walk};
+    ghost use Rattle.pop_walk.specs.ties.Counts.{fewest_tried};
+    ghost use Rattle.pop_walk.specs.ties.Seen.{IsAtPathOf};
 
     /// Returns a search before its first event: its board has the play's first position, and no frame is in
     /// use. `N` must be more than the half-moves of the play, and `R` must be the rules of the problem's
     /// condition.
-    #[tactic(auto, using(crate::proofs::Sound::ways_to_play), unfolding(crate::specs::ties::Counts::least_if, crate::specs::ties::Counts::untried_at, crate::specs::ties::Phases::HoldsAtStage, crate::specs::ties::Phases::left_of))]
+    #[tactic(auto, using(pop_walk::proofs::Sound::ways_to_play), unfolding(pop_walk::specs::ties::Counts::least_if, pop_walk::specs::ties::Counts::untried_at, pop_walk::specs::ties::Phases::HoldsAtStage, pop_walk::specs::ties::Phases::left_of))]
     pub fn new(problem: &Problem) -> Self
         requires room { half_moves problem.now.stipulation < N }
         requires rule { R.rule ≡ rule_of problem.now.condition }
@@ -118,7 +118,7 @@ impl<R: Rules, const N: usize> PrunedSearch<R, N> {
 
     /// Returns the number of frames in use, at most `N`. After a line or node it is one more than its
     /// path has moves.
-    #[tactic(auto, using(crate::proofs::Events::roomy), unfolding(crate::specs::ties::Phases::HoldsAtStage))]
+    #[tactic(auto, using(pop_walk::proofs::Events::roomy), unfolding(pop_walk::specs::ties::Phases::HoldsAtStage))]
     pub fn depth(&self) -> usize
         ensures depth { result ≡ self.now.depth }
         ensures most { result ≤ half_moves self.now.problem.stipulation + 1 }

@@ -9,9 +9,9 @@ use Rattle.pop_battle.specs.Chess.{set_start}
 use Rattle.pop_stipulation.specs.declared.stipulation.Goal.TheVariants.{Mate, Stalemate}
 use Rattle.std.proofs.Common.{min, ◌%◌, ◌/◌}
 use Rattle.pop_battle.specs.ties.Values.{attacker_to_move}
-use Rattle.pop_solve.proofs.Battles.{value-self_wins, value-wins}
-use Rattle.pop_solve.proofs.Solved.{halves-form}
-use Rattle.pop_solve.proofs.Trees.{halves, keeps-value}
+use Rattle.pop_walk.proofs.Battles.{value-self_wins, value-wins}
+use Rattle.pop_walk.proofs.Solved.{halves-form}
+use Rattle.pop_walk.proofs.Trees.{halves, keeps-value}
 use Rattle.pop_tries.specs.declared.contest.Contest.{Contest}
 use Rattle.pop_tries.proofs.theorems.Refutations.{counted_by_replies, counted_once, key_has_no_refutation, no_key_is_a_try, no_refutation_is_key}
 use Rattle.pop_tries.specs.ties.Contests.{IsContest, IsThreatLength, game_in, moves_of}

@@ -1,6 +1,7 @@
 -- Moves kept by their places: a loop over the moves of a position that notes them, and tests of each.
 use Rattle.pop_tries.proofs.Words.{Battle, Bool, Contains, Direct, Goal, IsWellFormed, List, Move, Position, RuleSet, Selfmate, [], chess, false, false≢true, filter, in_cases, in_filter, inl, inr, keeps_win, legal_moves, list_any, none_in_nil, not, position_after, refl, subst, true, ℕ, ◌&&◌, ◌||◌, ◌∷◌, ◌≡◌, ◌⊎◌}
 unfoldable use Rattle.pop_tries.proofs.Words.{is_lost}
+use Rattle.chess_flights.proofs.Mating.{mates_after-are}
 use Rattle.chess_flights.specs.ties.Mates.{mates_after}
 use Rattle.chess_flights.specs.ties.Mates.{is_mating}
 use Rattle.pop_battle.specs.ties.Marks.{is_for_mate}

@@ -6,10 +6,10 @@ use Rattle.chess_core.specs.Undo.{Undo}
 use Rattle.chess_rules.specs.ties.Games.{RestoresPosition, WasPlayed}
 use Rattle.pop_battle.specs.ties.Frames.{CameBy, Frame}
 use Rattle.pop_events.specs.Shown.{Shown, shown_move}
-use Rattle.pop_solve.proofs.Events.{room-length}
-use Rattle.pop_solve.proofs.Sound.{in_range}
-use Rattle.pop_solve.specs.Events.{last_shown}
-use Rattle.pop_solve.specs.ties.Walk.{IsRoomy}
+use Rattle.pop_walk.proofs.Events.{room-length}
+use Rattle.pop_walk.proofs.Sound.{in_range}
+use Rattle.pop_walk.specs.Events.{last_shown}
+use Rattle.pop_walk.specs.ties.Walk.{IsRoomy}
 use Rattle.pop_tries.specs.Shown.{shown_below_first, try_event_of}
 use Rattle.pop_tries.specs.declared.desk.Desk.{Desk}
 use Rattle.pop_tries.specs.declared.contest.Contest.{Contest}

@@ -1,25 +1,25 @@
 -- How a search for tries begins, and its steps in set play.
-unfoldable use Rattle.pop_solve.specs.ties.Walk.{AreEnds}
+unfoldable use Rattle.pop_walk.specs.ties.Walk.{AreEnds}
 use Rattle.pop_tries.proofs.Words.{IsSound, List, Posed, Position, RuleSet, Set, [], ap, arith, false, flat_map, length, length-append, refl, rules, set_event, take, true, ℕ, ◌++◌, ◌∙◌, ◌∷◌, ◌≡◌, ◌≤◌}
 unfoldable use Rattle.pop_tries.proofs.Words.{phase_events}
 use Rattle.pop_battle.specs.ties.Frames.{Frame}
 use Rattle.pop_battle.proofs.Words.{append_assoc}
-use Rattle.pop_solve.specs.Events.{BareEvent, impossible, is_impossible_phase, opening, phase_count, phase_start, solutions}
-use Rattle.pop_solve.specs.declared.phases.Scope.TheVariants.{Part}
-use Rattle.pop_solve.specs.declared.phases.Stage.{Stage}
-use Rattle.pop_solve.specs.declared.phases.Stage.TheVariants.{After, NotPossible, Before, First, Within as WithinPhase}
-use Rattle.pop_solve.specs.ties.Phases.{beginning_count, kept_paths, phase_paths}
-unfoldable use Rattle.pop_solve.specs.ties.Phases.{HoldsAtStage, left_of as set_play_left}
-use Rattle.pop_solve.specs.ties.Plans.{walk_of}
-use Rattle.pop_solve.specs.declared.phases.Walk.{Walk}
-use Rattle.pop_solve.specs.ties.Walk.{IsWalking}
-unfoldable use Rattle.pop_solve.specs.ties.Walk.{IsRoomy}
+use Rattle.pop_walk.specs.Events.{BareEvent, impossible, is_impossible_phase, opening, phase_count, phase_start, solutions}
+use Rattle.pop_walk.specs.declared.phases.Scope.TheVariants.{Part}
+use Rattle.pop_walk.specs.declared.phases.Stage.{Stage}
+use Rattle.pop_walk.specs.declared.phases.Stage.TheVariants.{After, NotPossible, Before, First, Within as WithinPhase}
+use Rattle.pop_walk.specs.ties.Phases.{beginning_count, kept_paths, phase_paths}
+unfoldable use Rattle.pop_walk.specs.ties.Phases.{HoldsAtStage, left_of as set_play_left}
+use Rattle.pop_walk.specs.ties.Plans.{walk_of}
+use Rattle.pop_walk.specs.declared.phases.Walk.{Walk}
+use Rattle.pop_walk.specs.ties.Walk.{IsWalking}
+unfoldable use Rattle.pop_walk.specs.ties.Walk.{IsRoomy}
 unfoldable use Rattle.pop_battle.specs.ties.Frames.{AreKnown, IsLinked, position}
 use Rattle.pop_battle.proofs.Boards.{after_start}
 use Rattle.chess_rules.specs.ties.Places.{moves_after}
-use Rattle.pop_solve.proofs.Solved.{IsCutInto, root-solutions}
-use Rattle.pop_solve.proofs.Sound.{start_sound}
-use Rattle.pop_solve.specs.Events.{phase_half_moves}
+use Rattle.pop_walk.proofs.Solved.{IsCutInto, root-solutions}
+use Rattle.pop_walk.proofs.Sound.{start_sound}
+use Rattle.pop_walk.specs.Events.{phase_half_moves}
 use Rattle.std.specs.Prelude.{None}
 use Rattle.pop_tries.proofs.Words.{IsWellFormed}
 use Rattle.pop_stipulation.specs.Stipulations.{is_help}

@@ -5,11 +5,11 @@ use Rattle.pop_battle.specs.ties.Frames.{Frame}
 unfoldable use Rattle.pop_battle.specs.ties.Frames.{position}
 use Rattle.pop_battle.specs.ties.Values.{value}
 use Rattle.pop_battle.proofs.Boards.{after_start}
-use Rattle.pop_solve.specs.declared.plan.Plan.{Plan}
-use Rattle.pop_solve.specs.ties.Plans.{plan_of}
-use Rattle.pop_solve.specs.ties.Walk.{IsWalking, Steps, walk_length}
-unfoldable use Rattle.pop_solve.specs.ties.Walk.{to_come}
-use Rattle.pop_solve.proofs.Kept.{to_come-root}
+use Rattle.pop_walk.specs.declared.plan.Plan.{Plan}
+use Rattle.pop_walk.specs.ties.Plans.{plan_of}
+use Rattle.pop_walk.specs.ties.Walk.{IsWalking, Steps, walk_length}
+unfoldable use Rattle.pop_walk.specs.ties.Walk.{to_come}
+use Rattle.pop_walk.proofs.Kept.{to_come-root}
 use Rattle.std.proofs.lemmas.List.{nil_from_length}
 use Rattle.chess_rules.specs.ties.Places.{moves_after}
 use Rattle.pop_tries.specs.ties.Contests.{IsContest}

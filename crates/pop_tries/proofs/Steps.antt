@@ -2,7 +2,7 @@
 use Rattle.pop_tries.proofs.Words.{Bool, List, Move, Posed, Position, RuleSet, [], ap, arith, below, false, false≢true, filter, flat_map, key_events, length, map, nat_tests, play_start, refl, suc, take, true, zero, ℕ, ◌+◌, ◌-◌, ◌∙◌, ◌∷◌, ◌≡◌, ◌≤◌}
 use Rattle.pop_battle.proofs.Boards.{after_start}
 use Rattle.pop_battle.proofs.Words.{append-nil, append_assoc}
-use Rattle.pop_solve.proofs.Trees.{flat-same}
+use Rattle.pop_walk.proofs.Trees.{flat-same}
 use Rattle.chess_core.specs.Undo.{Undo}
 use Rattle.std.specs.Prelude.{None, Option}
 use Rattle.std.proofs.lemmas.List.FromFn.{length-map-range_with_len}

@@ -7,7 +7,7 @@ use Rattle.chess_rules.specs.ties.Places.{moves_after}
 use Rattle.pop_battle.specs.Chess.{set_start}
 use Rattle.pop_battle.proofs.Boards.{after_start}
 use Rattle.pop_battle.specs.ties.Frames.{Frame}
-use Rattle.pop_solve.specs.Events.{last_shown}
+use Rattle.pop_walk.specs.Events.{last_shown}
 use Rattle.pop_stipulation.specs.declared.stipulation.Goal.{Goal}
 use Rattle.std.specs.Prelude.{Option, reverse}
 use Rattle.pop_tries.specs.Tries.{reply_nodes}
@@ -20,7 +20,7 @@ use Rattle.pop_tries.specs.ties.FirstMoves.{is_shown}
 use Rattle.pop_tries.specs.ties.Searching.{after_first, below_and_after, contest_of, refutations_after, replies_after, shown_after, walk_left}
 unfoldable use Rattle.pop_tries.specs.ties.Searching.{left_of}
 use Rattle.pop_tries.specs.ties.Starts.{ShowsBelow}
-use Rattle.pop_solve.specs.ties.Plans.{plan_of}
+use Rattle.pop_walk.specs.ties.Plans.{plan_of}
 use Rattle.pop_tries.proofs.Starts.{replies_come, threats_come}
 use Rattle.pop_tries.proofs.theorems.Threats.{has_threat_is}
 

@@ -4,9 +4,9 @@ use Rattle.std.proofs.Common.{◌*◌, ◌/◌}
 use Rattle.pop_battle.specs.Chess.{set_start}
 use Rattle.pop_battle.specs.ties.Values.{attacker_to_move}
 unfoldable use Rattle.pop_battle.specs.ties.Values.{value}
-unfoldable use Rattle.pop_solve.specs.ties.Walk.{shown_length, walk_length}
-use Rattle.pop_solve.proofs.GoingOn.{walk_length-most}
-use Rattle.pop_solve.proofs.Trees.{attacker_to_move-step, halves, least_moves-halves}
+unfoldable use Rattle.pop_walk.specs.ties.Walk.{shown_length, walk_length}
+use Rattle.pop_walk.proofs.GoingOn.{walk_length-most}
+use Rattle.pop_walk.proofs.Trees.{attacker_to_move-step, halves, least_moves-halves}
 use Rattle.pop_tries.specs.declared.contest.Contest.{Contest}
 use Rattle.pop_tries.specs.ties.Contests.{IsContest, IsThreatLength, game_in}
 use Rattle.pop_tries.proofs.Contests.{long, no_win_at_goal, no_win_in_short, passed_by_value}

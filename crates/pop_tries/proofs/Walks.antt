@@ -3,10 +3,10 @@ use Rattle.pop_tries.proofs.Words.{Battle, Bool, Game, List, Some, arith, below_
 use Rattle.std.proofs.Common.{◌*◌}
 unfoldable use Rattle.pop_battle.specs.ties.Values.{value}
 use Rattle.pop_battle.specs.ties.Values.{attacker_to_move}
-use Rattle.pop_solve.specs.declared.plan.Plan.{Plan}
-unfoldable use Rattle.pop_solve.specs.ties.Walk.{is_followed, shown_length, shown_paths, walk_length}
-use Rattle.pop_solve.proofs.GoingOn.{walk_length-most}
-use Rattle.pop_solve.proofs.Trees.{as_nodes, by_test, flat-same, halves, nodes_below-set, shown_paths-zero}
+use Rattle.pop_walk.specs.declared.plan.Plan.{Plan}
+unfoldable use Rattle.pop_walk.specs.ties.Walk.{is_followed, shown_length, shown_paths, walk_length}
+use Rattle.pop_walk.proofs.GoingOn.{walk_length-most}
+use Rattle.pop_walk.proofs.Trees.{as_nodes, by_test, flat-same, halves, nodes_below-set, shown_paths-zero}
 use Rattle.pop_tries.proofs.ThreatLengths.{halves-white, walked_length}
 
 module _ {P M : Type 0} (game : Game P M) (plan : Plan) (battle : Battle) (fought : plan.battle ≡ Some battle) where

@@ -13,8 +13,8 @@ use Rattle.pop_stipulation.specs.Stipulations.{battle_of, half_moves}
 use Rattle.pop_stipulation.specs.declared.stipulation.Battle.{Battle}
 use Rattle.pop_events.specs.declared.event.Phase.TheVariants.{Set}
 use Rattle.pop_input.specs.Posed.{Posed}
-use Rattle.pop_solve.specs.Events.{BareEvent, game_of, phase_events, play_start}
-use Rattle.pop_solve.specs.Tree.{keeps_win}
+use Rattle.pop_walk.specs.Events.{BareEvent, game_of, phase_events, play_start}
+use Rattle.pop_walk.specs.Tree.{keeps_win}
 use Rattle.pop_tries.specs.Tries.{Below, Passing, below_first, is_try, shown_refutations}
 
 -- chess with passing: a side passes as set play begins, with no en passant square

@@ -12,8 +12,8 @@ use Rattle.pop_battle.specs.Game.{Game, can_move}
 use Rattle.pop_stipulation.specs.declared.stipulation.Battle.{Battle}
 use Rattle.pop_stipulation.specs.declared.stipulation.Battle.TheVariants.{Direct}
 use Rattle.pop_input.specs.Posed.{Posed}
-use Rattle.pop_solve.specs.Events.{game_of, play_start}
-use Rattle.pop_solve.specs.Tree.{keeps_win}
+use Rattle.pop_walk.specs.Events.{game_of, play_start}
+use Rattle.pop_walk.specs.Tree.{keeps_win}
 use Rattle.pop_stipulation.specs.declared.stipulation.Goal.{Goal}
 use Rattle.pop_stipulation.specs.declared.stipulation.Goal.TheVariants.{Mate}
 use Rattle.pop_tries.specs.Tries.{Passing, is_defence, is_try, refutations}

@@ -7,7 +7,7 @@ use Rattle.chess_rules.specs.Play.{position_after}
 use Rattle.pop_battle.specs.Chess.{set_start}
 use Rattle.pop_events.specs.Shown.{shown_move}
 use Rattle.pop_input.specs.Posed.{Posed}
-use Rattle.pop_solve.specs.Events.{event_of, last_shown, play_start}
+use Rattle.pop_walk.specs.Events.{event_of, last_shown, play_start}
 use Rattle.pop_stipulation.specs.declared.stipulation.Goal.{Goal}
 use Rattle.pop_tries.specs.Tries.{Below, but, check, refutation, reply, stalemate, threat, threatened, zugzwang}
 use Rattle.pop_tries.specs.Events.{BareTryEvent, attempt, below, key, key_total, keys, no_tries, set_event, tries, try_total}

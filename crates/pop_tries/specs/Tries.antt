@@ -8,7 +8,7 @@
 use Rattle.pop_stipulation.specs.declared.stipulation.Battle.{Battle}
 use Rattle.pop_stipulation.specs.declared.stipulation.Battle.TheVariants.{Direct, Selfmate}
 use Rattle.pop_battle.specs.Game.{Game, can_move}
-use Rattle.pop_solve.specs.Tree.{best_moves, continuations, is_in_set_play, keeps_win, least_moves, node, wins_in}
+use Rattle.pop_walk.specs.Tree.{best_moves, continuations, is_in_set_play, keeps_win, least_moves, node, wins_in}
 use Rattle.std.specs.Prelude.{ℕ, ◌-◌, nat_le, Bool, true, false, not, ◌&&◌, ◌||◌, if◌then◌else◌, List, [], ◌∷◌, ◌++◌, map, length}
 use Rattle.std.specs.List.{filter, flat_map, list_any}
 

@@ -1,8 +1,8 @@
 //! Walks over what is shown below the replies to a first move, and below its threats.
 ghost use Rattle.std.specs.Prelude.{◌≡◌, ◌<◌, ◌≤◌, ◌+◌, [], length, reverse};
 ghost use Rattle.chess_core.specs.WellFormed.{IsWellFormed};
-ghost use Rattle.pop_solve.specs.Events.{last_shown};
-ghost use Rattle.pop_solve.specs.ties.Walk.{IsEnded, IsWalking, path};
+ghost use Rattle.pop_walk.specs.Events.{last_shown};
+ghost use Rattle.pop_walk.specs.ties.Walk.{IsEnded, IsWalking, path};
 ghost use Rattle.pop_tries.specs.ties.Starts.{base_position, ShowsBelow, ShowsNext};
 
 use crate::desk::Desk;
@@ -12,9 +12,9 @@ use chess_rules::{Moves, Rules};
 use pop_battle::frame::Frame;
 use pop_events::Shown;
 use pop_input::{MOST_FRAMES, Problem};
-use pop_solve::plan::Plan;
-use pop_solve::showing::last_shown;
-use pop_solve::walk::{step, walk_length};
+use pop_walk::plan::Plan;
+use pop_walk::showing::last_shown;
+use pop_walk::walk::{step, walk_length};
 
 /// Where a walk below a first move starts.
 #[derive(Clone, Copy)]

@@ -5,13 +5,13 @@ ghost use Rattle.chess_rules.specs.Legal.{is_legal};
 ghost use Rattle.chess_rules.specs.Play.{position_after, undo_of};
 ghost use Rattle.pop_events.specs.Shown.{shown_move};
 ghost use Rattle.pop_input.specs.Posed.{IsSound};
-ghost use Rattle.pop_solve.specs.ties.Plans.{plan_of};
-ghost use Rattle.pop_solve.specs.ties.Walk.{IsWalking};
+ghost use Rattle.pop_walk.specs.ties.Plans.{plan_of};
+ghost use Rattle.pop_walk.specs.ties.Walk.{IsWalking};
 ghost use Rattle.pop_tries.specs.ties.Starts.{base_position, ShowsBelow};
 ghost use Rattle.chess_core.specs.Position.{Position};
 ghost use Rattle.pop_battle.specs.Game.{can_move};
 ghost use Rattle.pop_battle.specs.ties.Frames.{CameBy};
-ghost use Rattle.pop_solve.specs.Events.{game_of};
+ghost use Rattle.pop_walk.specs.Events.{game_of};
 ghost use Rattle.pop_stipulation.specs.Stipulations.{half_moves};
 ghost use Rattle.pop_events.specs.declared.try_event.TryEvent.TheVariants.{Node};
 ghost use Rattle.pop_tries.specs.declared.stage.TriesStage.TheVariants.{BelowReply, But, Faced, FirstMove, Refutation, Reply, Stalemate, Threats};
@@ -29,7 +29,7 @@ use chess_core::man::Move;
 use chess_core::square::Square;
 use chess_rules::{Moves, Rules, Undo, has_legal_move, in_check, play, unplay};
 use pop_events::TryEvent;
-use pop_solve::plan::Plan;
+use pop_walk::plan::Plan;
 
 /// Takes a first move back. Returns the next stage.
 #[tactic(auto, using(chess_rules::proofs::LegalMoves::may_be_made))]

@@ -2,7 +2,7 @@
 ghost use Rattle.std.specs.Prelude.{◌≡◌, ℕ, List, None, Some, is_some, true};
 ghost use Rattle.chess_core.specs.Position.{Position};
 ghost use Rattle.pop_battle.specs.ties.Frames.{CameBy, Frame as Level};
-ghost use Rattle.pop_solve.specs.Events.{play_start};
+ghost use Rattle.pop_walk.specs.Events.{play_start};
 ghost use Rattle.pop_tries.specs.Shown.{try_event_of};
 ghost use Rattle.pop_tries.specs.declared.first_moves.Group.TheVariants.{Keys, Tries};
 ghost use Rattle.pop_tries.specs.declared.stage.TriesStage.TheVariants.{Beginning, Faced, FirstMove};

@@ -3,7 +3,7 @@ ghost use Rattle.std.specs.Prelude.{◌≡◌, ◌+◌, ◌-◌, ◌≤◌, filt
 ghost use Rattle.chess_core.specs.WellFormed.{IsWellFormed};
 ghost use Rattle.chess_rules.specs.Legal.{is_legal, moves};
 ghost use Rattle.chess_rules.specs.ties.Places.{moves_between, place_of};
-ghost use Rattle.pop_solve.specs.Tree.{is_in_set_play, keeps_win};
+ghost use Rattle.pop_walk.specs.Tree.{is_in_set_play, keeps_win};
 ghost use Rattle.pop_tries.specs.Events.{chess_passing};
 ghost use Rattle.pop_tries.specs.Tries.{is_try, refutations};
 ghost use Rattle.pop_tries.specs.ties.Contests.{IsReady, Keeps, game_in};

@@ -9,8 +9,8 @@ use crate::stage::{Step, Task, TriesStage};
 use chess_rules::{Moves, Rules};
 use pop_battle::frame::Frame;
 use pop_events::{Event, Phase, TryEvent};
-use pop_solve::phases::{Scope, Stage, Walk, advance, phase_half_moves, set_up};
-use pop_solve::plan::Plan;
+use pop_walk::phases::{Scope, Stage, Walk, advance, phase_half_moves, set_up};
+use pop_walk::plan::Plan;
 
 /// Begins set play, or finds that it isn't possible.
 #[tactic(auto, unfolding(crate::specs::ties::Searching::HoldsAt, crate::specs::ties::Searching::rank))]

@@ -15,9 +15,9 @@ use chess_core::square::Square;
 use chess_rules::{Moves, Rules, Undo};
 use pop_events::TryEvent;
 use pop_input::problem::Problem;
-use pop_solve::phases::Stage;
-use pop_solve::plan::Plan;
 use pop_stipulation::Battle;
+use pop_walk::phases::Stage;
+use pop_walk::plan::Plan;
 use std::alloc::AllocError;
 
 /// The greatest number of refutations of a try that can be asked for (own).

@@ -9,7 +9,7 @@ ghost use Rattle.chess_rules.specs.Legal.{is_legal, moves};
 ghost use Rattle.chess_rules.specs.Play.{position_after};
 ghost use Rattle.pop_battle.specs.Chess.{set_start};
 ghost use Rattle.pop_stipulation.specs.Stipulations.{half_moves};
-ghost use Rattle.pop_solve.specs.Tree.{keeps_win, wins_in};
+ghost use Rattle.pop_walk.specs.Tree.{keeps_win, wins_in};
 ghost use Rattle.pop_tries.specs.Events.{chess_passing};
 ghost use Rattle.pop_tries.specs.Tries.{has_threat, is_defence, works};
 ghost use Rattle.pop_tries.specs.ties.Contests.{wins_within, AreThreats, IsLength, IsReady, IsThreat, HoldsThreats, Keeps, game_in, moves_of};
@@ -27,8 +27,8 @@ use chess_mates::mate_cursor;
 use chess_rules::{Moves, Rules, in_check, play, unplay};
 use pop_battle::chess::{is_for_mate, next_move, reaches_goal, turn_over};
 use pop_battle::value::value_of;
-use pop_solve::plan::Plan;
-use pop_solve::walk::walk_length;
+use pop_walk::plan::Plan;
+use pop_walk::walk::walk_length;
 
 /// White's threats after a first move.
 #[derive(Clone, Copy)]

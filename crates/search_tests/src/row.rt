@@ -50,7 +50,7 @@ pub(crate) fn add_event(event: &Event, text: &mut ArrayVec<u8, 4096>) {
 }
 
 /// Returns the number of half-moves of a problem.
-#[tactic(auto, using(pop_solve::proofs::Sound::in_range))]
+#[tactic(auto, using(pop_walk::proofs::Sound::in_range))]
 pub(crate) fn half_moves(problem: &Problem) -> usize
     ensures value { result ≡ half_moves problem.now.stipulation }
     ensures most { result ≤ 32 }

@@ -6,7 +6,7 @@ use Rattle.std.proofs.lemmas.List.Sums.{length-filter}
 use Rattle.pop_parts.proofs.PartLists.{first-of-firsts}
 use Rattle.pop_parts.proofs.PartsJoined.{joined, once, parts-are, parts-stand}
 use Rattle.chess_rules.proofs.theorems.Moves.{never_precedes_itself}
-use Rattle.pop_solve.proofs.theorems.HelpLines.{IsLegalLine, playable_is_legal}
+use Rattle.pop_walk.proofs.theorems.HelpLines.{IsLegalLine, playable_is_legal}
 
 module _ (rule : RuleSet) (problem : Posed) (phase : Phase) (depth : ℕ) where
   -- The parts of a phase come in lexicographic order of the moves.

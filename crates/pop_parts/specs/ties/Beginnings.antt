@@ -13,11 +13,11 @@ use Rattle.pop_input.specs.Posed.{Posed}
 use Rattle.pop_stipulation.specs.Stipulations.{is_help}
 use Rattle.pop_events.specs.declared.event.Phase.{Phase}
 use Rattle.pop_battle.specs.Chess.{chess}
-use Rattle.pop_solve.specs.Events.{Path, phase_half_moves, phase_start}
+use Rattle.pop_walk.specs.Events.{Path, phase_half_moves, phase_start}
 use Rattle.pop_parts.specs.PhaseParts.{beginnings}
 use Rattle.pop_battle.specs.ties.Frames.{Frame, position}
-use Rattle.pop_solve.specs.ties.Beginnings.{are_idle}
-use Rattle.pop_solve.specs.ties.Walk.{IsWalking, path, walk_work}
+use Rattle.pop_walk.specs.ties.Beginnings.{are_idle}
+use Rattle.pop_walk.specs.ties.Walk.{IsWalking, path, walk_work}
 
 -- the lists of moves from p that begin with one of these moves and have k moves after it
 unfoldable pub beginnings_by : Goal → RuleSet → ℕ → Position → List Move → List Path

@@ -5,7 +5,7 @@ use Rattle.pop_input.specs.declared.item.Item.{Item}
 use Rattle.pop_input.specs.declared.item.Item.TheVariants.{Sound, Faulty, End}
 use Rattle.chess_attacks.specs.RuleSet.{RuleSet}
 use Rattle.pop_input.specs.Posed.{Posed}
-use Rattle.pop_solve.specs.Events.{Path}
+use Rattle.pop_walk.specs.Events.{Path}
 use Rattle.pop_events.specs.declared.event.Phase.{Phase}
 use Rattle.pop_run.specs.Report.{reports_device_failure}
 use Rattle.pop_parts.specs.Parts.{part_text}

@@ -7,9 +7,9 @@ use Rattle.chess_rules.specs.Play.{position_after}
 use Rattle.chess_attacks.specs.RuleSet.{RuleSet}
 use Rattle.pop_input.specs.Posed.{Posed}
 use Rattle.pop_stipulation.specs.Stipulations.{is_help}
-use Rattle.pop_solve.specs.Events.{BareEvent, Path, phase_half_moves, phase_start}
-use Rattle.pop_solve.specs.declared.phases.Stage.{Stage}
-use Rattle.pop_solve.specs.ties.Counts.{Counts, exactly, least_if, untried_at}
+use Rattle.pop_walk.specs.Events.{BareEvent, Path, phase_half_moves, phase_start}
+use Rattle.pop_walk.specs.declared.phases.Stage.{Stage}
+use Rattle.pop_walk.specs.ties.Counts.{Counts, exactly, least_if, untried_at}
 use Rattle.pop_battle.specs.ties.Frames.{Frame}
 use Rattle.pop_battle.specs.Game.{path_end}
 use Rattle.pop_events.specs.declared.event.Phase.{Phase}

@@ -1,7 +1,7 @@
 -- The keys and tries of a problem, under every set of rules: their order, that with many refutations each
 -- first move is a key or a try, and that no event comes twice.
 use Rattle.pop_tries.proofs.Words.{AllPairs, AllPairs-filter, Battle, Below, Bool, Contains, Contains-append_left, Goal, Some, battle_of, half_moves, eqb, ◌-◌, IsWellFormed, List, Move, Play, Posed, Position, Precedes, RuleSet, [], after_well_formed, ap, arith, attempt, attempt_events, below, can_move, chess, chess_passing, cond, false, false≢true, filter, flat_map, from_filter, from_flat_map, from_map, game_of, in_cases, in_filter, inl, inr, is_defence, may_be_made, is_try, keeps_win, key, key_events, key_moves, key_total, keys, legal_moves, length, length-map, map, moves_are_the_legal_moves, moves_differ, moves_in_order, none_in_nil, pairs_flat_map, pairs_front, pairs_map, pairs_nil, pairs_of, play_events, play_start, position_after, refl, refutations, set_event, shown_below, shown_refutations, subst, sym, take, take-append-drop, drop, tries, true, try_moves, try_total, no_tries, BareTryEvent, ℕ, ◌++◌, ◌∙◌, ◌∷◌, ◌≡◌, ◌≢◌, ◌≤◌, ◌⊎◌}
-unfoldable use Rattle.pop_solve.proofs.Words.{solutions}
+unfoldable use Rattle.pop_walk.proofs.Words.{solutions}
 use Rattle.pop_tries.proofs.theorems.Refutations.{each_is_key_or_try, no_key_is_a_try, refutations_are, tries_are}
 use Rattle.pop_tries.proofs.theorems.Shown.{Rising, nothing_below_comes_twice, one, rising}
 use Rattle.pop_tries.proofs.theorems.Threats.{refutations_are_defences}

@@ -3,10 +3,10 @@
 use Rattle.pop_tries.proofs.Words.{AllPairs, Battle, Below, Bool, can_move, stalemate, Contains, Game, List, Passing, [], ap, arith, below_first, below_reply, best_moves, Contains-append_cases, in_cases, but, check, cond, faced, false, filter_agree, flat_map, from_map, has_threat, in_map, inl, inr, is_defence, is_in_set_play, map, none_in_nil, pairs_append, pairs_later, pairs_map, pairs_of, pairs_weaker, refl, refutation, refutations, reply, reply_nodes, set_tree, shown_refutations, shown_replies, suc, sym, subst, threat, threat_nodes, threatened, threats, true, zugzwang, AllPairs-filter, node, ℕ, ◌&&◌, ◌++◌, ◌-◌, ◌↔◌, ◌∙◌, ◌∷◌, ◌≡◌, ◌≢◌, ◌≤◌}
 use Rattle.pop_battle.proofs.Words.{append_assoc}
 use Rattle.pop_tries.proofs.Words.{pairs_nil, ◌+◌}
-use Rattle.pop_solve.proofs.Nodes.{HoldsOfTrees, deeper_are, in_order, roots_are, set_tree_paths, singles_hold, trees_hold, unless}
-unfoldable use Rattle.pop_solve.proofs.Nodes.{below_set}
-use Rattle.pop_solve.proofs.theorems.Lists.{StandsBefore, never_before_itself}
-use Rattle.pop_solve.proofs.theorems.Trees.{IsBest, continuations_are}
+use Rattle.pop_walk.proofs.Nodes.{HoldsOfTrees, deeper_are, in_order, roots_are, set_tree_paths, singles_hold, trees_hold, unless}
+unfoldable use Rattle.pop_walk.proofs.Nodes.{below_set}
+use Rattle.pop_walk.proofs.theorems.Lists.{StandsBefore, never_before_itself}
+use Rattle.pop_walk.proofs.theorems.Trees.{IsBest, continuations_are}
 use Rattle.pop_tries.proofs.theorems.Threats.{each_is_defence_where_nothing_threatens, is_best}
 
 -- the end of a list in order is in order

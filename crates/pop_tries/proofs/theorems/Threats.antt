@@ -1,8 +1,8 @@
 -- Threats and the defences against them, for any game.
 use Rattle.pop_tries.proofs.Words.{Battle, Bool, Contains, Direct, Game, Passing, Selfmate, and_parts, ap, arith, best_moves, cases_lt, false, false≢true, from_filter, has_threat, in_filter, inl, inr, is_defence, is_in_set_play, keeps_win, least_moves, list_any, none_in_nil, not, refl, refutations, rules, subst, sym, threats, true, wins_in, works, ℕ, ◌-◌, ◌||◌, ◌↔◌, ◌∙◌, ◌≡◌, ◌≤◌}
-use Rattle.pop_solve.proofs.Nodes.{any_from_element, element_from_any}
-use Rattle.pop_solve.proofs.theorems.Lengths.{least_is_one, no_win_in_none, wins_by_a_move, wins_exactly_from_least, wins_in_more}
-use Rattle.pop_solve.proofs.theorems.Trees.{IsBest, some_best_where_won}
+use Rattle.pop_walk.proofs.Nodes.{any_from_element, element_from_any}
+use Rattle.pop_walk.proofs.theorems.Lengths.{least_is_one, no_win_in_none, wins_by_a_move, wins_exactly_from_least, wins_in_more}
+use Rattle.pop_walk.proofs.theorems.Trees.{IsBest, some_best_where_won}
 use Rattle.pop_tries.proofs.theorems.Refutations.{refutations_are}
 
 -- a first move leads to q

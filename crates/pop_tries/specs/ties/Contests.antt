@@ -9,12 +9,12 @@ use Rattle.pop_battle.specs.Chess.{chess, set_start}
 use Rattle.pop_battle.specs.Game.{Game}
 use Rattle.pop_stipulation.specs.Stipulations.{battle_of, half_moves}
 use Rattle.pop_battle.specs.ties.Values.{attacker_to_move}
-use Rattle.pop_solve.specs.Tree.{least_moves}
+use Rattle.pop_walk.specs.Tree.{least_moves}
 use Rattle.pop_tries.specs.Events.{chess_passing}
 use Rattle.pop_tries.specs.Tries.{has_threat}
 use Rattle.chess_rules.specs.Legal.{moves}
 use Rattle.chess_rules.specs.Play.{position_after}
-use Rattle.pop_solve.specs.Tree.{keeps_win}
+use Rattle.pop_walk.specs.Tree.{keeps_win}
 use Rattle.pop_tries.specs.declared.contest.Contest.{Contest}
 use Rattle.pop_tries.specs.declared.desk.Desk.{Desk}
 use Rattle.pop_tries.specs.declared.threats.Threat.{Threat}

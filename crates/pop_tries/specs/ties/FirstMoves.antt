@@ -10,7 +10,7 @@ use Rattle.chess_rules.specs.Legal.{is_legal, is_stalemate}
 use Rattle.chess_core.specs.Undo.{Undo}
 use Rattle.chess_rules.specs.Play.{position_after, undo_of}
 use Rattle.chess_rules.specs.ties.Places.{moves_after}
-use Rattle.pop_solve.specs.Tree.{is_in_set_play, keeps_win}
+use Rattle.pop_walk.specs.Tree.{is_in_set_play, keeps_win}
 use Rattle.pop_stipulation.specs.declared.stipulation.Battle.{Battle}
 use Rattle.pop_stipulation.specs.declared.stipulation.Battle.TheVariants.{Direct, Selfmate}
 use Rattle.pop_stipulation.specs.declared.stipulation.Goal.{Goal}

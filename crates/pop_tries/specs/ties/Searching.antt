@@ -15,11 +15,11 @@ use Rattle.pop_battle.specs.ties.Frames.{CameBy, Frame}
 use Rattle.pop_events.specs.Shown.{Shown}
 use Rattle.pop_events.specs.declared.event.Phase.TheVariants.{Set}
 use Rattle.pop_input.specs.Posed.{IsSound, Posed}
-use Rattle.pop_solve.specs.Events.{game_of, impossible, phase_events, play_start}
-use Rattle.pop_solve.specs.Tree.{node}
-use Rattle.pop_solve.specs.ties.Phases.{HoldsAtStage, left_of as set_play_left}
-use Rattle.pop_solve.specs.ties.Plans.{plan_of}
-use Rattle.pop_solve.specs.ties.Walk.{IsWalking, to_come}
+use Rattle.pop_walk.specs.Events.{game_of, impossible, phase_events, play_start}
+use Rattle.pop_walk.specs.Tree.{node}
+use Rattle.pop_walk.specs.ties.Phases.{HoldsAtStage, left_of as set_play_left}
+use Rattle.pop_walk.specs.ties.Plans.{plan_of}
+use Rattle.pop_walk.specs.ties.Walk.{IsWalking, to_come}
 use Rattle.pop_tries.specs.Tries.{Below, below_reply, refutation, reply, shown_refutations, stalemate, threatened}
 use Rattle.pop_tries.specs.Events.{BareTryEvent, attempt, below, events_of_tries, key, key_total, keys, no_tries, play_events, set_event, shown_below, tries, try_total}
 use Rattle.pop_tries.specs.Shown.{try_event_of}

@@ -9,9 +9,9 @@ use Rattle.pop_stipulation.specs.declared.stipulation.Battle.{Battle}
 use Rattle.pop_battle.specs.ties.Frames.{Frame}
 use Rattle.pop_battle.specs.ties.Values.{attacker_to_move, value}
 use Rattle.pop_input.specs.Posed.{Posed}
-use Rattle.pop_solve.specs.Events.{play_start}
-use Rattle.pop_solve.specs.declared.plan.Plan.{Plan}
-use Rattle.pop_solve.specs.ties.Walk.{IsEnded, path, to_come}
+use Rattle.pop_walk.specs.Events.{play_start}
+use Rattle.pop_walk.specs.declared.plan.Plan.{Plan}
+use Rattle.pop_walk.specs.ties.Walk.{IsEnded, path, to_come}
 use Rattle.pop_tries.specs.Tries.{Below, below_reply, reply, threatened}
 use Rattle.pop_tries.specs.declared.below.Base.{Base}
 use Rattle.pop_tries.specs.declared.below.Base.TheVariants.{Passed, Reply}

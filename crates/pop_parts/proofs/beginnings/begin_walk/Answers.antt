@@ -1,6 +1,6 @@
 use Rattle.pop_parts.proofs.Words.{phase_start, refl, rules, start_sound, ◌≡◌}
 use Rattle.pop_parts.proofs.Seeking as seeking
-use Rattle.pop_solve.proofs.Walking as walking
+use Rattle.pop_walk.proofs.Walking as walking
 use Rattle.pop_parts.proofs.beginnings.begin_walk.Goals as goal
 
 pub returns-clause-seeking : goal.returns-clause-seeking

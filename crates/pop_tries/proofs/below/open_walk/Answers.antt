@@ -1,9 +1,9 @@
-unfoldable use Rattle.pop_solve.specs.ties.Walk.{AreEnds}
+unfoldable use Rattle.pop_walk.specs.ties.Walk.{AreEnds}
 use Rattle.pop_tries.proofs.Words.{rules}
 unfoldable use Rattle.pop_battle.specs.ties.Frames.{AreKnown, IsLinked, position}
-unfoldable use Rattle.pop_solve.specs.ties.Walk.{IsRoomy}
-use Rattle.pop_solve.proofs.GoingOn.{walk_length-most}
-use Rattle.pop_solve.proofs.Walking.{reverse-push}
+unfoldable use Rattle.pop_walk.specs.ties.Walk.{IsRoomy}
+use Rattle.pop_walk.proofs.GoingOn.{walk_length-most}
+use Rattle.pop_walk.proofs.Walking.{reverse-push}
 use Rattle.pop_tries.proofs.Starts.{shows_below}
 use Rattle.pop_tries.proofs.below.open_walk.Goals as goal
 

@@ -1,7 +1,7 @@
 use Rattle.pop_tries.proofs.Words.{arith}
 use Rattle.std.specs.Prelude.{reverse}
 use Rattle.std.proofs.lemmas.List.{length-reverse}
-use Rattle.pop_solve.proofs.Paths.{path-length}
+use Rattle.pop_walk.proofs.Paths.{path-length}
 use Rattle.pop_tries.proofs.below.shown_node.Goals as goal
 
 pub returns-clause-depth : goal.returns-clause-depth

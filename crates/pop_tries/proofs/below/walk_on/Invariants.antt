@@ -1,6 +1,6 @@
 use Rattle.pop_tries.proofs.Words.{◌≡◌}
 use Rattle.std.specs.Prelude.{reverse}
-use Rattle.pop_solve.specs.ties.Walk.{IsWalking, to_come, walk_work}
+use Rattle.pop_walk.specs.ties.Walk.{IsWalking, to_come, walk_work}
 use Rattle.pop_tries.specs.ties.Starts.{base_position}
 use Rattle.pop_tries.proofs.below.walk_on.Given as goal
 

@@ -1,7 +1,7 @@
 use Rattle.pop_tries.proofs.Words.{ap, arith, length, ◌≤◌}
 use Rattle.std.specs.Prelude.{reverse}
-use Rattle.pop_solve.specs.ties.Walk.{path}
-use Rattle.pop_solve.proofs.Paths.{path-length}
+use Rattle.pop_walk.specs.ties.Walk.{path}
+use Rattle.pop_walk.proofs.Paths.{path-length}
 use Rattle.pop_tries.specs.declared.below.WalkBelow.{WalkBelow}
 use Rattle.pop_tries.proofs.GoesBelow as goes
 use Rattle.pop_tries.proofs.below_first.next_node.Goals as goal

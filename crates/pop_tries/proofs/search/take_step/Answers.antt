@@ -2,7 +2,7 @@ use Rattle.pop_tries.proofs.Words.{no_tries, play_start, refl, set_event}
 unfoldable use Rattle.pop_tries.specs.ties.Searching.{HoldsAt, left_of}
 use Rattle.pop_tries.specs.ties.Searching.{contest_of}
 use Rattle.pop_tries.proofs.Candidates.{unknown_keys}
-use Rattle.pop_solve.specs.Events.{impossible}
+use Rattle.pop_walk.specs.Events.{impossible}
 use Rattle.pop_tries.proofs.Goings.{with_event}
 use Rattle.pop_tries.proofs.search.take_step.Goals as goal
 

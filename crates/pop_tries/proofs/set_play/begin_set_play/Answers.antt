@@ -1,6 +1,6 @@
 use Rattle.pop_tries.proofs.Words.{Set, arith, false, refl, rules, set_event, true, ◌≡◌}
-use Rattle.pop_solve.specs.Events.{is_impossible_phase, opening, phase_start, play_start}
-unfoldable use Rattle.pop_solve.specs.ties.Phases.{HoldsAtStage}
+use Rattle.pop_walk.specs.Events.{is_impossible_phase, opening, phase_start, play_start}
+unfoldable use Rattle.pop_walk.specs.ties.Phases.{HoldsAtStage}
 unfoldable use Rattle.pop_tries.specs.ties.Searching.{HoldsAt}
 use Rattle.pop_tries.proofs.Goings.{with_event}
 use Rattle.pop_tries.proofs.SetPlay.{left_barred, left_begun, paths_begin, walk_begins}

@@ -1,6 +1,6 @@
-use Rattle.pop_solve.proofs.Words.{arith, rules}
-use Rattle.pop_solve.proofs.Events as events
-use Rattle.pop_solve.proofs.Opened as opened
+use Rattle.pop_walk.proofs.Words.{arith, rules}
+use Rattle.pop_walk.proofs.Events as events
+use Rattle.pop_walk.proofs.Opened as opened
 use Rattle.pop_solve.proofs.pruned_search.PrunedSearch.next.Goals as goal
 
 pub invariant_of-self : goal.invariant_of-self

@@ -1,5 +1,5 @@
-use Rattle.pop_solve.proofs.Words.{rules, true}
-use Rattle.pop_solve.proofs.Opened as opened
+use Rattle.pop_walk.proofs.Words.{rules, true}
+use Rattle.pop_walk.proofs.Opened as opened
 use Rattle.pop_solve.proofs.pruned_search.PrunedSearch.opened.Goals as goal
 
 pub returns-clause-most : goal.returns-clause-most

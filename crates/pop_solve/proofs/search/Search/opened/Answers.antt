@@ -1,5 +1,5 @@
-use Rattle.pop_solve.proofs.Words.{false, refl, rules}
-use Rattle.pop_solve.proofs.Opened as opened
+use Rattle.pop_walk.proofs.Words.{false, refl, rules}
+use Rattle.pop_walk.proofs.Opened as opened
 use Rattle.pop_solve.proofs.search.Search.opened.Goals as goal
 
 pub returns-clause-most : goal.returns-clause-most

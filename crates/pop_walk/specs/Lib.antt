@@ -1,0 +1,4 @@
+pub mod Tree
+pub mod Events
+pub mod Walks
+pub mod ties
