@@ -1,16 +1,9 @@
-//! The moves that decided tests, and the threats of one position.
+//! The moves that decided tests.
 ghost use Rattle.std.specs.List.{copy_within, repeat};
-ghost use Rattle.std.specs.Prelude.{[], ◌<◌, ◌==◌, ◌∷◌, ◌≡◌, if◌then◌else◌, IfSome, slice_index_or, slice_set, true};
-ghost use Rattle.chess_core.specs.WellFormed.{IsWellFormed};
-ghost use Rattle.chess_rules.specs.Legal.{is_legal};
-ghost use Rattle.chess_rules.specs.Play.{position_after};
-ghost use Rattle.chess_flights.specs.ties.Mates.{mates_after};
-ghost use Rattle.chess_threats.specs.ties.Threats.{AreThreatsOf};
+ghost use Rattle.std.specs.Prelude.{[], ◌<◌, ◌==◌, ◌∷◌, ◌≡◌, if◌then◌else◌, slice_index_or, slice_set};
 ghost use Rattle.pop_stipulation.specs.declared.stipulation.Battle.TheVariants.{Direct};
 
-use chess_core::{Board, Move};
 use chess_rules::{Moves, Rules};
-use chess_threats::Threats;
 use pop_stipulation::{Battle, MOST_HALF_MOVES};
 
 /// For each number of half-moves below `MOST_HALF_MOVES`, the last two moves that decided a position with that many
@@ -21,7 +14,6 @@ use pop_stipulation::{Battle, MOST_HALF_MOVES};
 pub struct Killers<R: Rules> {
     places: [Moves<R>; MOST_HALF_MOVES],
     earlier: [Moves<R>; MOST_HALF_MOVES],
-    pub threats: Option<Threats>,
 }
 
 impl<R: Rules> Killers<R> {
@@ -33,7 +25,6 @@ impl<R: Rules> Killers<R> {
         Killers {
             places: [Moves::start(); MOST_HALF_MOVES],
             earlier: [Moves::start(); MOST_HALF_MOVES],
-            threats: None,
         }
     }
 
@@ -82,49 +73,5 @@ impl<R: Rules> Killers<R> {
             }
             self.places[left] = place;
         }
-    }
-
-    /// Computes the threats in the board's position and keeps them; keeps none if the side to
-    /// move has no king.
-    pub fn renew_threats(&mut self, board: &Board)
-        requires well_formed { IsWellFormed board.now }
-        ensures { IfSome self.new.threats (λ t. AreThreatsOf R.rule board.now t) }
-    {
-        let Some(king) = board.king_of(board.turn()) else {
-            self.threats = None;
-            return;
-        };
-        match &mut self.threats {
-            Some(threats) => threats.recompute::<R>(board, king),
-            None => self.threats = Some(Threats::of::<R>(board, king)),
-        }
-    }
-
-    /// Makes sure that the threats, if any are kept, belong to the board's position.
-    pub fn compute_threats(&mut self, board: &Board)
-        requires well_formed { IsWellFormed board.now }
-        ensures { IfSome self.new.threats (λ t. AreThreatsOf R.rule board.now t) }
-    {
-        if let Some(threats) = &self.threats {
-            if threats.are_of::<R>(board) {
-                return;
-            }
-        }
-        self.renew_threats(board);
-    }
-
-    /// Returns whether the threats in the board's position rule out that a reply to this move mates;
-    /// `false` proves nothing. Keeps the threats for the position's other moves.
-    pub fn rule_out_mate(&mut self, board: &Board, m: Move) -> bool
-        requires well_formed { IsWellFormed board.now }
-        requires legal { is_legal R.rule board.now m ≡ true }
-        ensures { result ≡ true
-            → mates_after R.rule (position_after R.rule board.now m) 0 ≡ [] }
-    {
-        self.compute_threats(board);
-        let Some(threats) = &mut self.threats else {
-            return false;
-        };
-        threats.rule_out_mate::<R>(board, m)
     }
 }

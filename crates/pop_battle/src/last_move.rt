@@ -14,7 +14,7 @@ ghost use Rattle.pop_battle.specs.ties.Skipping.{IsNextKept};
 ghost use Rattle.pop_battle.specs.ties.Values.{joined_value, value};
 
 use crate::chess::is_reached_without_move;
-use crate::killers::Killers;
+use crate::kept_threats::KeptThreats;
 use crate::search_state::SearchState;
 use chess_core::{Board, Move};
 use chess_mates::every_move_mates;
@@ -29,7 +29,7 @@ fn forces_mate<R: Rules>(
     steps: QuietSteps,
     by: Move,
     board: &mut Board,
-    killers: &mut Killers<R>,
+    threats: &mut KeptThreats,
 ) -> bool
     requires well_formed { IsWellFormed board.old }
     requires legal { is_legal R.rule board.old by ≡ true }
@@ -37,7 +37,7 @@ fn forces_mate<R: Rules>(
     ensures value { result ≡ value Selfmate (chess Mate R.rule) 1
         (position_after R.rule board.old by) }
 {
-    if steps.follow::<R>(board, by) || killers.rule_out_mate(board, by) {
+    if steps.follow::<R>(board, by) || threats.rule_out_mate::<R>(board, by) {
         return false;
     }
     let undo = play::<R>(board, by);
@@ -76,7 +76,7 @@ fn next_unquiet<R: Rules>(
 fn some_forces_mate<R: Rules>(
     mut moves: LegalCursor<R>,
     board: &mut Board,
-    killers: &mut Killers<R>,
+    threats: &mut KeptThreats,
     counted: &mut u64,
 ) -> bool
     requires well_formed { IsWellFormed board.old }
@@ -93,7 +93,7 @@ fn some_forces_mate<R: Rules>(
     let mut steps = QuietSteps::of(board);
     while let Some(by) = next_unquiet::<R>(&mut steps, &mut moves, board, counted) {
         *counted = counted.saturating_add(1);
-        if forces_mate::<R>(steps, by, board, killers) {
+        if forces_mate::<R>(steps, by, board, threats) {
             return true;
         }
     }
@@ -112,7 +112,7 @@ pub(crate) fn value_of_last_move<R: Rules>(
 {
     let moves = LegalCursor::<R>::of(board);
     let mut counted = 0;
-    let forced = some_forces_mate::<R>(moves, board, &mut search_state.killers, &mut counted);
+    let forced = some_forces_mate::<R>(moves, board, &mut search_state.threats, &mut counted);
     if counted == 0 {
         return is_reached_without_move::<R>(Goal::Mate, board);
     }

@@ -25,13 +25,14 @@
 //! }
 //! ```
 //!
-//! `value` is the interface; `aim`, `frame`, `search_state` and `killers` are its types. `chess` serves
-//! `pop_walk` and `pop_parts` too. No call allocates.
+//! `value` is the interface; `aim`, `frame`, `search_state`, `killers` and `kept_threats` are its types.
+//! `chess` serves `pop_walk` and `pop_parts` too. No call allocates.
 #![tactic(auto)]
 
 pub mod aim;
 pub mod chess;
 pub mod frame;
+pub mod kept_threats;
 pub mod killers;
 mod last_defence;
 mod last_move;

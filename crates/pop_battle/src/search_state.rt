@@ -1,14 +1,16 @@
 //! What a search remembers from position to position.
 ghost use Rattle.std.specs.Prelude.{◌≡◌};
 
+use crate::kept_threats::KeptThreats;
 use crate::killers::Killers;
 use chess_rules::Rules;
 
-/// What a search remembers: the moves that decided tests, and the number of positions that it has tried, up
-/// to the greatest u64.
+/// What a search remembers: the moves that decided tests, the threats of one position, and the number of
+/// positions that it has tried, up to the greatest u64.
 #[derive(Drop)]
 pub struct SearchState<R: Rules> {
     pub killers: Killers<R>,
+    pub threats: KeptThreats,
     pub opened: u64,
 }
 
@@ -18,6 +20,10 @@ impl<R: Rules> SearchState<R> {
         ensures killers { result.killers ≡ killers }
         ensures opened { result.opened ≡ 0 }
     {
-        SearchState { killers, opened: 0 }
+        SearchState {
+            killers,
+            threats: KeptThreats::none(),
+            opened: 0,
+        }
     }
 }

@@ -1,6 +1,6 @@
 -- How the search of a phase after a beginning of moves begins.
 unfoldable use Rattle.pop_walk.specs.ties.Walk.{AreEnds}
-use Rattle.pop_walk.proofs.Words.{AreKnown, Bool, Frame, Game, HoldsAtStage, First, IsLinked, IsRoomy, IsWalking, List, Move, Part, Phase, Plan, Posed, Position, RuleSet, Stage, Within, [], after_well_formed, ap, append-nil, arith, eqb, events_along, false, false≢true, game_of, inl, inr, is_emitted, is_followed, is_for_mate, is_help, is_legal, is_mate, may_be_made, left_of, legal_moves, length, map, moves_after, nat_tests, opened_frame, path, phase_half_moves, phase_paths, phase_start, plan_of, position, position_after, refl, reverse, rules, seeks_last, shown_paths, sym, to_come, to_open, true, undo_of, walk_count, walk_length, walk_of, ℕ, ◌++◌, ◌+◌, ◌-◌, ◌<◌, ◌∙◌, ◌∷◌, ◌≡◌, ◌≤◌, met_after}
+use Rattle.pop_walk.proofs.Words.{AreKnown, Bool, Frame, Game, HoldsAtStage, First, IsLinked, IsRoomy, IsWalking, List, Move, Part, Phase, Plan, Posed, Position, RuleSet, Stage, Within, [], after_well_formed, ap, append-nil, arith, eqb, events_along, false, false≢true, game_of, inl, inr, is_emitted, is_followed, is_for_mate, is_help, is_legal, is_mate, may_be_made, left_of, legal_moves, length, map, nat_tests, opened_frame, path, phase_half_moves, phase_paths, phase_start, plan_of, position, position_after, refl, reverse, rules, seeks_last, shown_paths, sym, to_come, to_open, true, undo_of, walk_count, walk_length, walk_of, ℕ, ◌++◌, ◌+◌, ◌-◌, ◌<◌, ◌∙◌, ◌∷◌, ◌≡◌, ◌≤◌, met_after}
 use Rattle.pop_battle.proofs.Boards.{after_start, for_mate}
 use Rattle.pop_walk.proofs.GoingOn.{cases, ended-reached, follows-help, walk_length-help, walk_length-most}
 use Rattle.pop_walk.proofs.Counting.{at_most_one, counts-help, open-close, walk_count-start}

@@ -1,5 +1,5 @@
 -- Where the king ends when the last move of its side is made.
-use Rattle.pop_walk.proofs.Words.{Goal, inl, inr, ◌+◌, IsWellFormed, List, Move, None, Option, Position, RuleSet, Some, [], after_well_formed, arith, cond, eqb, false, false≢true, is_legal, may_be_made, length, nat_tests, position_after, refl, rules, sym, true, ℕ, ◌<◌, ◌≢◌, ◌∙◌, ◌∷◌, ◌≡◌}
+use Rattle.pop_walk.proofs.Words.{Goal, inl, inr, ◌+◌, IsWellFormed, List, Move, Option, Position, RuleSet, Some, [], after_well_formed, arith, cond, eqb, false≢true, is_legal, may_be_made, length, nat_tests, position_after, refl, sym, true, ℕ, ◌∙◌, ◌∷◌, ◌≡◌}
 use Rattle.std.specs.Int.{bit_at}
 use Rattle.chess_core.specs.Position.{is_man, king_square, man_on, other}
 use Rattle.chess_core.specs.declared.man.Colour.{Colour}

@@ -1,5 +1,5 @@
 -- Where no line reaches the goal, the walk has no path.
-use Rattle.pop_walk.proofs.Words.{Bool, IfSome, ◌⊎◌, ◌+◌, Contains, Goal, List, inl, inr, Mate, Move, None, Option, Plan, Position, RuleSet, Some, [], ap, arith, chess, cond, eqb, false, false≢true, first_in, from_filter, is_emitted, is_goal_reached, is_legal, later_in, map, nat_tests, position_after, refl, rules, shown_paths, suc, sym, true, zero, ℕ, ◌++◌, ◌<◌, ◌^◌, ◌-◌, ◌∙◌, ◌∷◌, ◌≡◌}
+use Rattle.pop_walk.proofs.Words.{Bool, IfSome, ◌⊎◌, ◌+◌, Contains, Goal, List, inl, inr, Mate, Move, None, Option, Plan, Position, RuleSet, Some, [], arith, chess, eqb, false, false≢true, first_in, from_filter, is_emitted, is_goal_reached, is_legal, later_in, nat_tests, position_after, refl, shown_paths, suc, sym, true, zero, ℕ, ◌<◌, ◌^◌, ◌-◌, ◌∙◌, ◌∷◌, ◌≡◌}
 use Rattle.std.proofs.lemmas.Nat.Bits.{bit_at_ones, bit_at-trailing_zeros, bit_at-zero}
 use Rattle.std.specs.Int.{w64}
 use Rattle.chess_core.specs.Position.{king_square}

@@ -4,7 +4,7 @@ use Rattle.pop_walk.proofs.Words.{None, Some, all_triples, AreKnown, Bool, CameF
 use Rattle.std.proofs.lemmas.List.{same_from_push, take_all, take_more}
 use Rattle.pop_battle.specs.ties.Frames.{learned, moved}
 use Rattle.chess_reach.specs.Lines.{HoldsEnds}
-use Rattle.pop_walk.specs.ties.Walk.{AreEndsAfter, KeepsEnds, MovesOn, ending}
+use Rattle.pop_walk.specs.ties.Walk.{AreEndsAfter, KeepsEnds, MovesOn}
 use Rattle.pop_walk.proofs.GoingOn.{cases, follows-help, walk_length-help}
 unfoldable use Rattle.pop_walk.specs.ties.Walk.{AreEnds}
 use Rattle.pop_battle.specs.declared.frame.LineEnds.{LineEnds}

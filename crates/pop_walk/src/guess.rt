@@ -49,6 +49,7 @@ fn cost_of_test<R: Rules>(
     let SearchState {
         killers: found,
         opened,
+        ..
     } = search_state;
     *killers = found;
     (wins, opened)

@@ -339,12 +339,12 @@ fn next_matable<R: Rules>(
     // For the proof: the count is below 2^64.
     let _counted = search_state.opened;
     if known.is_none() {
-        search_state.killers.renew_threats(board);
+        search_state.threats.renew::<R>(board);
     } else {
-        search_state.killers.compute_threats(board);
+        search_state.threats.update::<R>(board);
     }
     let opened = &mut search_state.opened;
-    match &mut search_state.killers.threats {
+    match &mut search_state.threats.last {
         Some(threats) => next_risky::<R>(threats, known, place, board, opened),
         None => next_move::<R>(known, place, board),
     }

@@ -1,4 +1,3 @@
-use Rattle.pop_walk.proofs.Words.{rules}
 use Rattle.pop_walk.proofs.OutOfReach.{known_holds}
 use Rattle.pop_walk.proofs.reach.line_ends_after.Goals as goal
 
