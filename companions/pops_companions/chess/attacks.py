@@ -1,8 +1,5 @@
 """Finds the men that attack a square, and so the men that give check."""
 
-from collections.abc import Iterable, Iterator
-from typing import Optional
-
 from pops_companions.chess.men import Colour, Kind, Man, Square
 
 Step = tuple[int, int]
@@ -40,41 +37,41 @@ def _paralysed(men: Men, square: Square) -> bool:
 
 
 def _reaches(men: Men, origin: Square, target: Square) -> bool:
-    return target in _reached(men, origin)
-
-
-def _reached(men: Men, origin: Square) -> Iterator[Square]:
-    """Yields the squares on which a man could capture, whether it may or not."""
+    """Returns whether a man could capture on a square, whether it may or not."""
     man = men[origin]
+    step = (target.file - origin.file, target.rank - origin.rank)
     if man.kind is Kind.PAWN:
-        rank = 1 if man.colour is Colour.WHITE else -1
-        yield from _squares(_at(origin, (file, rank)) for file in (-1, 1))
-    elif man.kind in _LEAPERS:
-        yield from _squares(_at(origin, step) for step in _LEAPERS[man.kind])
-    elif man.kind is Kind.GRASSHOPPER:
-        for step in _LINES + _DIAGONALS:
-            hurdle = [origin, *_ride(men, origin, step)][-1]
-            if hurdle in men and hurdle != origin:
-                yield from _squares([_at(hurdle, step)])
-    else:
-        for step in _RIDERS[man.kind]:
-            yield from _ride(men, origin, step)
+        return step[1] == (1 if man.colour is Colour.WHITE else -1) and abs(step[0]) == 1
+    if man.kind in _LEAPERS:
+        return step in _LEAPERS[man.kind]
+    shortest = _shortest(step)
+    if man.kind is not Kind.GRASSHOPPER:
+        return shortest in _RIDERS[man.kind] and _is_clear(men, origin, shortest, target)
+    hurdle = Square(target.file - shortest[0], target.rank - shortest[1])
+    return (
+        shortest in _LINES + _DIAGONALS
+        and hurdle != origin
+        and hurdle in men
+        and _is_clear(men, origin, shortest, hurdle)
+    )
 
 
-def _ride(men: Men, origin: Square, step: Step) -> Iterator[Square]:
-    """Yields the squares of a line up to the first man, or to the edge."""
-    square = _at(origin, step)
-    while square is not None:
-        yield square
-        if square in men:
-            return
-        square = _at(square, step)
+def _shortest(step: Step) -> Step:
+    """Returns the step of a line, a diagonal or a knight whose repetition makes a step; where there
+    is none, the step itself.
+    """
+    far, near = max(abs(step[0]), abs(step[1])), min(abs(step[0]), abs(step[1]))
+    times = near if far == 2 * near else far
+    if far == 0 or near not in (0, times):
+        return step
+    return (step[0] // times, step[1] // times)
 
 
-def _at(square: Square, step: Step) -> Optional[Square]:
-    file, rank = square.file + step[0], square.rank + step[1]
-    return Square(file, rank) if 1 <= file <= 8 and 1 <= rank <= 8 else None
-
-
-def _squares(found: Iterable[Optional[Square]]) -> Iterator[Square]:
-    return (square for square in found if square is not None)
+def _is_clear(men: Men, origin: Square, step: Step, target: Square) -> bool:
+    """Returns whether no man stands between two squares, which repetition of a step joins."""
+    file, rank = origin.file + step[0], origin.rank + step[1]
+    while (file, rank) != (target.file, target.rank):
+        if Square(file, rank) in men:
+            return False
+        file, rank = file + step[0], rank + step[1]
+    return True
