@@ -248,6 +248,20 @@ class Mending(unittest.TestCase):
                 made = mend(text)
                 self.assertEqual((made.mended, made.left, made.text), (0, 1, text))
 
+    def test_a_line_is_corrected_whole_or_left(self) -> None:
+        """What is said beside a slip may change what the line poses."""
+        for line in (
+            *("Stipulation h#2 2.1.1.1 zeroposition", "Stipulation mate in 2 duplex"),
+            *("Option Variatons Duplex", "Option SetPlay: Quodlibet", "Condition Cirse Parrain"),
+            *("Stipulation 2# Condition Koeko", "Pieces White: Kg6 Ra1 royal Qb2 Black Kg8"),
+        ):
+            with self.subTest(line):
+                men = () if line.startswith("Pieces") else (PIECES,)
+                text = text_of("Titel A", *men, "Stipulation #2", line)
+                made = mend(text)
+                self.assertEqual(made.text, text.replace(b"Titel", b"Title"))
+                self.assertEqual((made.mended, made.left), (1, 1))
+
     def test_no_that_belongs_to_an_option_is_joined(self) -> None:
         made = mend(text_of(PIECES, "Stipulation #1", "Option No Board"))
         self.assertEqual(made.text, text_of(PIECES, "Stipulation #1", "Option NoBoard"))

@@ -2,11 +2,13 @@
 
 import re
 from dataclasses import dataclass
+from typing import Optional
 
-from pops_companions.explain.mending import MOST_FAULTS, edit_for
+from pops_companions.explain.mending import MOST_FAULTS, Edit, edit_for
 from pops_companions.explain.near import Near
 from pops_companions.input.pieces import last_block
-from pops_companions.input.words import named, short_forms
+from pops_companions.input.reading import Reading
+from pops_companions.input.words import Span, named, short_forms
 
 _NEXT = b"NextProblem"
 _BEGIN_AFTER = re.compile(rb"(?i)\s+(?:" + short_forms("BeginProblem") + rb")(?!\S)")
@@ -22,7 +24,7 @@ class Mended:
 
 
 def mend(text: bytes) -> Mended:
-    """Mends all faults of a text as far as their explanations say how.
+    """Mends all faults of a text as far as their explanations say how; a line is mended whole or left.
 
     A block after the first EndProblem is joined once those before it are mended.
     """
@@ -30,6 +32,38 @@ def mend(text: bytes) -> Mended:
     while mender.mend_next():
         pass
     return mender.made
+
+
+@dataclass
+class _Line:
+    """The line of a fault, which is mended whole or not at all: where it is, with what is mended of
+    it, what it was before, and how many of its faults are mended."""
+
+    span: Span
+    was: bytes
+    mended: int = 0
+
+    @classmethod
+    def of(cls, text: bytes, reading: Reading) -> "_Line":
+        """Returns the line of a reading's fault, which for a fault at the end has nothing in it."""
+        at = Span(len(text), len(text)) if reading.at is None else reading.word.span
+        start, end = text.rfind(b"\n", 0, at.start) + 1, text.find(b"\n", at.stop)
+        span = Span(start if reading.at is not None else at.start, len(text) if end < 0 else end)
+        return cls(span, text[span.start : span.stop])
+
+    def has(self, reading: Reading) -> bool:
+        """Returns whether the fault of a reading is in the line."""
+        return reading.at is not None and self.span.start <= reading.word.start < self.span.stop
+
+    def note(self, edit: Edit) -> None:
+        """Notes a mend of the line, or of what stands before it."""
+        by = len(edit.text) - (edit.span.stop - edit.span.start)
+        is_before = edit.span.start < self.span.start
+        self.span = Span(self.span.start + (by if is_before else 0), self.span.stop + by)
+        self.mended += 1
+
+    def restored(self, text: bytes) -> bytes:
+        return text[: self.span.start] + self.was + text[self.span.stop :]
 
 
 class _Mender:
@@ -67,8 +101,9 @@ class _Mender:
         return True
 
     def _mend(self, near: Near) -> None:
-        """Mends the faults of a problem."""
+        """Mends the faults of a problem, up to one that can't be mended. Its line stays as it was."""
         mended = 0
+        line: Optional[_Line] = None
         while mended < MOST_FAULTS:
             reading = near.read()
             if reading is None or reading.number is None:
@@ -77,11 +112,18 @@ class _Mender:
                 # What is said of the first problem and of the end is said of the whole text.
                 near.widen(b"".join(self._done), self._number)
                 self._done.clear()
+                line = None
                 continue
             edit = edit_for(near.text, near.number, reading)
             if edit is None:
                 self.made.left += 1
+                if line is not None and line.has(reading):
+                    near.text = line.restored(near.text)
+                    self.made.mended -= line.mended
                 return
+            if line is None or not line.has(reading):
+                line = _Line.of(near.text, reading)
+            line.note(edit)
             near.text = edit.of(near.text)
             self.made.mended += 1
             mended += 1
