@@ -118,3 +118,11 @@ class Command(unittest.TestCase):
         )
         self.assertEqual(solved("").status, 1)
         self.assertEqual(solved("", "/no/such.inp").status, 3)
+
+    def test_what_pops_finds_faulty(self) -> None:
+        """The problems after it are solved."""
+        in_check = "Pieces White Kg6 Ra8 Black Kg8\nStipulation #2\n"
+        outcome = solved(f"{MORPHY}NextProblem\n{in_check}NextProblem\n{MORPHY[13:]}EndProblem\n")
+        self.assertEqual(outcome.status, 1)
+        self.assertEqual(outcome.error, "popeye-py: problem 2: left out: side not to move is in check\n")
+        self.assertEqual(outcome.output.count(b"solution finished."), 2)

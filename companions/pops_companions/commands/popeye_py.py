@@ -20,7 +20,7 @@ from pops_companions.import_.words import Unreadable
 from pops_companions.input.writing import text_of_problems
 from pops_companions.many.program import LOOKED_FOR, MissingError, RunError
 from pops_companions.many.tries_program import TRIES_LOOKED_FOR
-from pops_companions.report.items import Node, Phase, SoundItem
+from pops_companions.report.items import FaultyItem, Node, Phase, SoundItem
 from pops_companions.report.tries import FirstMove, TriesItem
 from pops_companions.show.titles import printable, shown, text_of
 
@@ -65,6 +65,10 @@ def arguments(words: list[str]) -> Settings:
     return parser.parse_args(words, Settings())
 
 
+class FaultFound(Exception):
+    """pops finds a problem faulty."""
+
+
 class Solver:
     """The programs, and the time that a problem has."""
 
@@ -77,11 +81,13 @@ class Solver:
         return Engine(self._settings.pops_tries, True, min(refutations, _MOST_REFUTATIONS))
 
     def lines(self, draft: Draft, one: Posed) -> Iterator[str]:
-        """Yields the lines of a problem: head, solutions, how it ended."""
+        """Yields the lines of a problem: head, solutions, how it ended. FaultFound where it has none."""
         begun = time.monotonic()
         text = text_of_problems([_with_all_shown(one.lines)])
         tries = self._run(self._tries_engine(draft.options.refutations), text, begun)
         item = tries.items[0] if tries.items else None
+        if isinstance(item, FaultyItem):
+            raise FaultFound(item.fault.text)
         if not isinstance(item, TriesItem):
             raise RunError("pops-tries shows nothing of the problem")
         yield from _head(one.label, item)
@@ -165,13 +171,15 @@ def drafts_of(file: Optional[str]) -> list[Draft]:
 
 def write(solver: Solver, draft: Draft, one: Posed) -> Status:
     """Writes a problem with its solutions, or says on standard error why it has none."""
-    if one.faults:
-        why = "; ".join(fault.text for fault in one.faults)
+    try:
+        if one.faults:
+            raise FaultFound("; ".join(fault.text for fault in one.faults))
+        for line in solver.lines(draft, one):
+            print(printable(line))
+    except FaultFound as why:
         name = f"problem {draft.number} {one.label}".rstrip()
         print(f"{NAME}: {name}: left out: {why}", file=sys.stderr)
         return Status.FAULTY
-    for line in solver.lines(draft, one):
-        print(printable(line))
     return Status.GOOD if solver.is_whole else Status.FAULTY
 
 
