@@ -46,11 +46,14 @@ function posedText(drafts) {
   return { text: lines.length ? companions.textOfProblems(lines) : null, lost };
 }
 
+/** @param {string} text */
+const withoutMark = text => text.replace(/^\ufeff/, '');
+
 /**
  * Returns whether a text is one of another program.
  * @param {string} text
  */
-export const isOfAnother = text => OF_YAML.test(text) || isOfPopeye(text);
+export const isOfAnother = text => OF_YAML.test(text) || isOfPopeye(withoutMark(text));
 
 /**
  * Reads the problems of a text of another program.
@@ -68,7 +71,7 @@ function draftsOf(text) {
  * @returns {{ text: string | null, lost: string[], asksForTries: boolean, refutations: number } | null}
  */
 export function imported(given) {
-  const text = given.replace(/^\ufeff/, '');
+  const text = withoutMark(given);
   if (!isOfAnother(text)) return null;
   const drafts = draftsOf(text);
   const words = new Set(wordsOf(text).map(it => it.word));

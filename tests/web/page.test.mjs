@@ -486,6 +486,18 @@ test('faults: corrected by a click, which switches tries on if an option asked f
   showMost();
 });
 
+test('faults: a text typed after a byte order mark is corrected by a click, and one of Popeye converted', () => {
+  const report = 'problem 1\nline 1: fault 1: BeginProblem expected\n\n';
+  const pressed = name => element('tree').querySelectorAll('button').find(it => it.textContent === name);
+  begin(`\ufeff${TEXT}`, report);
+  assert.equal(pressed('Convert the whole text'), undefined);
+  pressed('Correct it').onclick();
+  assert.equal(textNow(), TEXT);
+  begin('\ufeffAnfangProblem\nSteine Weiss Kg6 Ta1 Schwarz Kg8\nForderung #1\nEndeProblem\n', report);
+  pressed('Convert the whole text').onclick();
+  assert.equal(textNow(), TEXT);
+});
+
 test('files: a text of Popeye pasted into the text box is converted, also with a byte order mark', () => {
   const popeye = '\ufeffAnfangProblem\nSteine Weiss Kg6 Ta1 Schwarz Kg8\nForderung #1\nEndeProblem\n';
   begin('');

@@ -74,7 +74,7 @@ function tryToConvert(text) {
     for (const act of own.waiting.splice(0)) if (answer) act();
   };
   if (text.length >= LONG_TEXT || !isOfAnother(text)) end(false);
-  else doChore('import', { text }, made => end(Boolean(made.text)), () => end(false));
+  else doChore('import', { text }, made => end(Boolean(made?.text)), () => end(false));
 }
 
 function convertButton() {
