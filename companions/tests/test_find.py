@@ -53,6 +53,33 @@ def plays_of(report: bytes) -> dict[int, str]:
     return {number: play for number, play in found if play is not None}
 
 
+def date_of(origin: str) -> str:
+    return Entry("some.pop", 1, "", "", origin, "#2", "", board(MORPHY), None).date
+
+
+class Dates(unittest.TestCase):
+    def test_as_composers_write_them(self) -> None:
+        for origin, wanted in (
+            ("The Problemist, 1977-08", "1977-08"),
+            ("New York Clipper, 1856-06-28", "1856-06-28"),
+            ("Die Schwalbe 8/1977", "1977-08"),
+            ("1. Preis, Deutsche Schachzeitung 15.8.1977", "1977-08-15"),
+            ("Schach VIII/1977", "1977-08"),
+            ("Die Schwalbe, 15. März 1977", "1977-03-15"),
+            ("Thèmes 64, août 1977", "1977-08"),
+            ("Chess Life & Review, December 1979", "1979-12"),
+        ):
+            with self.subTest(origin):
+                self.assertEqual(date_of(origin), wanted)
+
+    def test_numbers_that_are_no_months(self) -> None:
+        others = ("feenschach 1985/86", "45/1985", "WCCT V 1985", "40.5.1985", "Era 1985, 1. Preis")
+        for origin in others:
+            with self.subTest(origin):
+                self.assertEqual(date_of(origin), "1985")
+        self.assertEqual(date_of("Die Schwalbe 12345"), "")
+
+
 class Positions(unittest.TestCase):
     def test_boards_and_men(self) -> None:
         text = board(MORPHY)

@@ -8,8 +8,8 @@ from typing import Optional
 
 from pops_companions.chess.men import Colour, Kind, Man, Square
 from pops_companions.export.problems import Problem, read_problems
-from pops_companions.export.yaml_fields import source_of
 from pops_companions.find.boards import board_of, men_of
+from pops_companions.find.dates import date_of
 from pops_companions.import_.words import Unreadable
 from pops_companions.report.items import HelpLine, Node, PhaseKind, SoundItem
 from pops_companions.report.moves import Mark
@@ -22,7 +22,6 @@ _REPORT = re.compile(rb"problem [1-9][0-9]*\r?\n")
 _MAN = re.compile("([KQRBSPGNkqrbspgn])((?:[a-h][1-8])+)")
 _FILES = str.maketrans("abcdefgh", "hgfedcba")
 _KEYWORD = re.compile(r"keywords?: (.+)", re.IGNORECASE)
-_YEAR = re.compile(r"\b(?:1[4-9]|20)\d\d\b")
 _SQUARE = re.compile("[a-h](?=[1-8])")
 
 
@@ -59,11 +58,7 @@ class Entry:
     @property
     def date(self) -> str:
         """The date of its origin, as `1977-08`; empty where there is none."""
-        parted = source_of(self.origin, [])
-        if parted is not None and parted[0].date:
-            return parted[0].date
-        year = _YEAR.search(self.origin)
-        return "" if year is None else year[0]
+        return date_of(self.origin)
 
     @property
     def name(self) -> str:

@@ -1,0 +1,44 @@
+"""The date in an origin: `1977-08`, `15.8.1977`, `8/1977`, `VIII/1977`, `August 1977`."""
+
+import re
+
+from pops_companions.import_.origins import MONTHS
+
+_OTHER_MONTHS = (
+    "Januar Februar März April Mai Juni Juli August September Oktober November Dezember",
+    "janvier février mars avril mai juin juillet août septembre octobre novembre décembre",
+)
+_ROMAN = "I II III IV V VI VII VIII IX X XI XII".split()
+_MONTHS = [MONTHS, *(names.split() for names in _OTHER_MONTHS)]
+_NUMBERS = {
+    name.casefold(): number
+    for names in (*_MONTHS, _ROMAN)
+    for number, name in enumerate(names, start=1)
+}
+_NAMES = "|".join(name for names in _MONTHS for name in names)
+_YEAR = r"(?P<year>(?:1[4-9]|20)\d\d)\b"
+# (a Roman number before a blank and a year is a tourney's)
+_DATES = (
+    rf"\b{_YEAR}-(?P<month>\d\d)(?:-(?P<day>\d\d))?\b",
+    rf"\b(?:(?P<day>\d\d?)\. ?)?(?P<month>\d\d?|{'|'.join(_ROMAN)})[./] ?{_YEAR}",
+    rf"\b(?:(?P<day>\d\d?)\.? )?(?P<month>{_NAMES}) {_YEAR}",
+    rf"\b{_YEAR}",
+)
+_LAST_DAY = 31
+
+
+def date_of(origin: str) -> str:
+    """Returns an origin's date, as `1977-08-15`, `1977-08` or `1977`; empty where there is none."""
+    found = (re.search(date, origin, re.IGNORECASE) for date in _DATES)
+    dates = (_dated(**one.groupdict()) for one in found if one is not None)
+    return next(filter(None, dates), "")
+
+
+def _dated(year: str, month: str = "", day: str = "") -> str:
+    """Returns a date of its parts; empty for a month or day that is none."""
+    if not month:
+        return year
+    number = _NUMBERS.get(month.casefold()) or int(month)
+    if not 1 <= number <= len(MONTHS) or not 1 <= int(day or 1) <= _LAST_DAY:
+        return ""
+    return f"{year}-{number:02}" + (f"-{int(day):02}" if day else "")
