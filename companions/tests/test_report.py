@@ -152,6 +152,32 @@ class Moves(unittest.TestCase):
                 self.assertEqual([move.half for move in solution.moves], halves)
                 self.assertIs(solution.moves[-1].side, Colour.WHITE)
 
+    def test_a_move_of_help_lines_is_read_once(self) -> None:
+        again, passant = "1.Kh8-g8 Ra1-b1 2.Kg8-h8 Rb1-b8#", "1.e4*d3 ep. Ra1-b1 2.Kg8-h8 Rb1-b8#"
+        lines = [again, passant, again, passant, again.replace("Kg8-h8", "Kg8-f8")]
+        found = solutions("h#2", *lines, count=len(lines))
+        self.assertEqual([it.text for it in found], lines)
+        moves = [it.moves for it in found if isinstance(it, HelpLine)]
+        self.assertEqual([[it.text for it in line] for line in moves[:2]], [
+            ["Kh8-g8", "Ra1-b1", "Kg8-h8", "Rb1-b8#"],
+            ["e4*d3 ep.", "Ra1-b1", "Kg8-h8", "Rb1-b8#"],
+        ])
+        for place, move in enumerate(moves[0]):
+            self.assertIs(move, moves[2][place])
+        self.assertEqual(moves[1], moves[3])
+
+    def test_known_moves_are_of_their_half_move(self) -> None:
+        play = "play\n1.Kh8-g8 Ra1-b1\n1.Kh8-g8 Ra1-b1\nsolutions: 2\n"
+        other = "set\n1...Ra1-b1\n1...Ra1-b1\nsolutions: 2\n" + play
+        for report in (f"problem 1\nh#1\n{play}\nproblem 2\nh#1\n{other}\n", f"problem 1\nh#1\n{other}\n"):
+            halves = [
+                [move.half for line in phase.solutions if isinstance(line, HelpLine) for move in line.moves]
+                for item in read(report)
+                if isinstance(item, SoundItem)
+                for phase in item.phases or ()
+            ]
+            self.assertLessEqual({tuple(it) for it in halves}, {(1, 2, 1, 2), (2, 2)})
+
     def test_tree_of_a_battle(self) -> None:
         first, second = nodes_of(
             "#3", "1.Ra1-a2", "  1...Kb8-c8", "    2.Ra2-a8#", "  1...Kb8-a8", "1.Ra1-a3", count=2
@@ -202,6 +228,18 @@ class Refusals(unittest.TestCase):
                 with self.assertRaises(ReportError) as refused:
                     read(battle.replace(old, new, 1))
                 self.assertEqual(refused.exception.line, line)
+
+    def test_known_moves_elsewhere_are_refused(self) -> None:
+        known = "1.Kh8-g8 Ra1-a8"
+        for line in (
+            "1.Kh8-g8 1.Kh8-g8",
+            "Ra1-a8 1.Kh8-g8",
+            "1.Kh8-g8",
+            "1.Kh8-g8 Ra1-a8 ",
+            "1.Kh8-g8 Ra1-a8 2.Kh8-g8",
+        ):
+            with self.subTest(line), self.assertRaises(ReportError):
+                solutions("h#1", known, known, line, count=3)
 
     def test_help_lines_of_another_length_are_refused(self) -> None:
         for line in (

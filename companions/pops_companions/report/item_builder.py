@@ -132,6 +132,11 @@ class ItemBuilder:
         assert self._growing is not None
         return self._growing.add_known(source, start, known)
 
+    def take_known_line(self, line: items.HelpLine) -> None:
+        """Takes a line of help play of the phase at hand, as its event would say it."""
+        assert self._growing is not None
+        self._growing.add_line(line)
+
     @property
     def phase_so_far(self) -> tuple[int, int]:
         """How many solutions the phase at hand has, and how deep the next node can be."""

@@ -201,11 +201,14 @@ class ReportReader(LineReader):
         # What lines of battle play say, for each first half-move.
         self._known: dict[int, KnownNodes] = {}
         self._known_here: KnownNodes = {}
+        # The moves of lines of help play by their words, for each place, for each first half-move.
+        self._known_moves: dict[int, list[dict[str, PlayedMove]]] = {}
 
     def feed_builder(self, data: bytes, builder: ItemBuilder) -> Iterator[items.AnyItem]:
         """Takes some bytes as `feed` does, and yields the items that end in them.
 
-        Lines of battle play that were read before make no events: a tree repeats its lines.
+        Lines of battle play that were read before make no events, nor do lines of help play whose
+        moves were: a report repeats them.
         """
         lines_left = self._whole_lines(data)
         at = 0
@@ -221,13 +224,38 @@ class ReportReader(LineReader):
             at += 1
 
     def _take_known(self, lines_left: list[bytes], at: int, builder: ItemBuilder) -> int:
-        """Takes the nodes that are known, from a line on; returns how many."""
-        if self._state != self._solution or self._stipulation.play is Play.HELP:
+        """Takes the solutions that are known, from a line on; returns how many lines."""
+        if self._state != self._solution:
             return 0
-        taken = builder.take_known(lines_left, at, self._known_here)
+        if self._stipulation.play is Play.HELP:
+            taken = self._take_known_lines(lines_left, at, builder)
+        else:
+            taken = builder.take_known(lines_left, at, self._known_here)
         self._line += taken
         self._count, self._deepest = builder.phase_so_far
         return taken
+
+    def _take_known_lines(self, lines_left: list[bytes], at: int, builder: ItemBuilder) -> int:
+        """Takes the lines of help play whose moves are known; returns how many."""
+        known = self._known_moves_here
+        for place in range(at, len(lines_left)):
+            text = lines_left[place].decode("latin-1")
+            words = text.split(" ")
+            if len(words) != len(known):
+                return place - at
+            try:
+                moves = tuple([here[word] for here, word in zip(known, words)])
+            except KeyError:
+                return place - at
+            builder.take_known_line(items.HelpLine(text, moves))
+        return len(lines_left) - at
+
+    @property
+    def _known_moves_here(self) -> list[dict[str, PlayedMove]]:
+        """The known moves for each place of a line of the phase at hand."""
+        known = self._known_moves.setdefault(self._first_half, [])
+        known.extend({} for _ in range(self._halves - len(known)))
+        return known[: self._halves]
 
     def _begin(self, stipulation: Stipulation) -> None:
         self._stipulation = stipulation
@@ -289,9 +317,14 @@ class ReportReader(LineReader):
     def _first_half(self) -> int:
         return self._stipulation.first_half + (1 if self._kind is items.PhaseKind.SET else 0)
 
+    @property
+    def _halves(self) -> int:
+        """How many half-moves a line of help play has."""
+        return self._stipulation.first_half + self._stipulation.half_moves - self._first_half
+
     def _help_line(self, line: bytes) -> items.HelpLine:
         text = line.decode("latin-1")
-        halves = self._stipulation.first_half + self._stipulation.half_moves - self._first_half
+        halves = self._halves
         place = 0
         moves: list[PlayedMove] = []
         for half in range(self._first_half, self._first_half + halves):
@@ -306,7 +339,16 @@ class ReportReader(LineReader):
             place = found[1]
         if place != len(text) or not moves or len(moves) != halves:
             raise self.refused(f"a line of {halves} half-moves", line)
+        self._note_moves(text.split(" "), moves)
         return items.HelpLine(text, tuple(moves))
+
+    def _note_moves(self, words: list[str], moves: list[PlayedMove]) -> None:
+        """Notes the moves of a line by its words. (`e5*d6 ep.` is two words.)"""
+        if len(words) != len(moves):
+            return
+        for known, word, move in zip(self._known_moves_here, words, moves):
+            if len(known) < _MOST_KNOWN:
+                known[word] = move
 
     def _node(self, line: bytes, place: events.Place, least: int) -> events.NodeEvent:
         """Returns the node of a line, whose level is from `least` to one more than the level before."""
