@@ -19,6 +19,8 @@ _OF_FORMULAS = ("=", "+", "-", "@")
 _ENDS_OF_CELLS = ("\t", "\r", "\n")
 # What parts cells for some reader: the semicolon where the comma is in numbers.
 _PARTING = re.compile('[,;\t\r\n\u2028\u2029"]')
+# Parts cells for a reader that takes no comma for an end: to it a quote after a comma is none.
+_OTHER_PARTING = ";"
 
 COLUMNS = (
     "number",
@@ -85,11 +87,17 @@ def csv_line(values: "tuple[object, ...]") -> str:
 
 
 def _cell(value: object) -> str:
-    """Returns a cell; a text that a spreadsheet would compute has an apostrophe in front."""
+    """Returns a cell; a text that a spreadsheet would compute has an apostrophe in front, so has the
+    text after a semicolon.
+    """
     text = "" if value is None else str(value)
-    if isinstance(value, str) and _is_formula(text):
-        text = f"'{text}"
+    if isinstance(value, str):
+        text = _OTHER_PARTING.join(map(_uncomputed, text.split(_OTHER_PARTING)))
     return '"{}"'.format(text.replace('"', '""')) if _PARTING.search(text) else text
+
+
+def _uncomputed(text: str) -> str:
+    return f"'{text}" if _is_formula(text) else text
 
 
 def _is_formula(text: str) -> bool:
