@@ -29,7 +29,7 @@ _READ: set[tuple[int, int]] = set()
 # What Python says where the system lets it start no thread.
 _NO_THREAD = "can't start new thread"
 # An option whose value is `--`.
-_BARE = re.compile("(?:--[a-z-]+=|-[a-z])--")
+_BARE = re.compile("(?:--?[a-z-]+=|-[a-z])--")
 # Longer waits are no waits: without a limit a run takes as long as it likes.
 MOST_SECONDS = 2_000_000
 MOST_JOBS = 1000
