@@ -1,5 +1,6 @@
 """pops-judge: one sheet of a collection; runs that are stopped, and a program of tries."""
 
+import fcntl
 import os
 import re
 import signal
@@ -181,6 +182,16 @@ class Judging(unittest.TestCase):
         self.assertEqual(outcome.status, 2)
         self.assertIn("sheet.html.work is of another text: remove it", outcome.error)
         self.assertTrue(work.is_dir())
+
+    def test_a_folder_in_use_is_left_to_its_run(self) -> None:
+        work = self.unfinished()
+        handle = os.open(work, os.O_RDONLY)
+        fcntl.flock(handle, fcntl.LOCK_EX)
+        outcome = self.judged("--resume")
+        self.assertEqual(outcome.status, 2)
+        self.assertIn("sheet.html.work is in use by another run", outcome.error)
+        os.close(handle)
+        self.assertEqual(self.judged("--resume").status, 0)
 
     def test_a_folder_of_others_is_neither_read_nor_removed(self) -> None:
         work, other = self.room / "sheet.html.work", self.room / "other"

@@ -119,6 +119,16 @@ class Command(unittest.TestCase):
         self.assertEqual(solved("").status, 1)
         self.assertEqual(solved("", "/no/such.inp").status, 3)
 
+    def test_a_program_that_writes_no_report(self) -> None:
+        with tempfile.TemporaryDirectory() as room:
+            program = Path(room) / "pops"
+            program.write_text("#!/bin/sh\necho nothing\n")
+            program.chmod(0o755)
+            text = f"{MORPHY}EndProblem\n".encode()
+            outcome = support.companion("popeye-py", "--pops", str(program), text=text)
+        self.assertEqual(outcome.status, 3)
+        self.assertEqual(outcome.error.count("\n"), 1)
+
     def test_what_pops_finds_faulty(self) -> None:
         """The problems after it are solved."""
         in_check = "Pieces White Kg6 Ra8 Black Kg8\nStipulation #2\n"

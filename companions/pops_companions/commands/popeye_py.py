@@ -21,6 +21,7 @@ from pops_companions.input.writing import text_of_problems
 from pops_companions.many.program import LOOKED_FOR, MissingError, RunError
 from pops_companions.many.tries_program import TRIES_LOOKED_FOR
 from pops_companions.report.items import FaultyItem, Node, Phase, SoundItem
+from pops_companions.report.reader import ReportError
 from pops_companions.report.tries import FirstMove, TriesItem
 from pops_companions.show.titles import printable, shown, text_of
 
@@ -194,6 +195,6 @@ def main(words: list[str]) -> Status:
             for draft in drafts_of(file)
             for one in posed(draft)
         ]
-    except (MissingError, RunError) as error:
+    except (MissingError, RunError, ReportError) as error:
         raise CommandError(Status.DEVICE, str(error)) from None
     return max(statuses, default=Status.GOOD)

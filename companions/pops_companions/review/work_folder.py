@@ -4,10 +4,12 @@ It has a file that marks it as this program's own, with a checksum of the input.
 without that mark is read, and only files with names of its own are removed.
 """
 
+import fcntl
 import hashlib
 import os
 import re
 import stat
+import weakref
 from contextlib import suppress
 from pathlib import Path
 from typing import NoReturn, Optional
@@ -23,6 +25,7 @@ _OWN = re.compile(
 )
 _FOLDER = os.O_RDONLY | os.O_DIRECTORY | os.O_NOFOLLOW
 _SUM = ".sum"
+_FOREIGN = "isn't a folder of pops-judge: remove it, or name another sheet"
 
 
 def _sum_of(text: bytes) -> bytes:
@@ -38,10 +41,11 @@ class WorkFolder:
     def begin(self, text: bytes, resume: bool) -> None:
         """Makes the folder for an input, or takes up that of a run that was stopped.
 
-        CommandError where the folder isn't this program's, or isn't of this input.
+        CommandError where the folder isn't this program's, isn't of this input, or has a run at work.
         """
-        with suppress(FileExistsError):
-            self.path.mkdir(0o700, parents=True)
+        while not self._is_held():
+            with suppress(FileExistsError):
+                self.path.mkdir(0o700, parents=True)
         self._refuse_foreign()
         mark = self.path / _MARK
         if mark.exists():
@@ -53,13 +57,32 @@ class WorkFolder:
             self.write(mark, _HEAD + _sum_of(text))
         self.write(self.path / "input.pop", text)
 
+    def _is_held(self) -> bool:
+        """Keeps other runs out of the folder until this one ends; returns whether there is one."""
+        try:
+            handle = os.open(self.path, _FOLDER)
+        except FileNotFoundError:
+            return False
+        except OSError:
+            self._refuse(_FOREIGN)
+        close = weakref.finalize(self, os.close, handle)
+        try:
+            fcntl.flock(handle, fcntl.LOCK_EX | fcntl.LOCK_NB)
+        except BlockingIOError:
+            self._refuse("is in use by another run")
+        # (the run before this one may have removed it meanwhile)
+        with suppress(FileNotFoundError):
+            if os.path.samestat(os.fstat(handle), os.lstat(self.path)):
+                return True
+        close()
+        return False
+
     def _refuse_foreign(self) -> None:
         """Refuses a folder that this program didn't make, and links in one that it made."""
-        foreign = "isn't a folder of pops-judge: remove it, or name another sheet"
         try:
             handle = os.open(self.path, _FOLDER)
         except OSError:
-            self._refuse(foreign)
+            self._refuse(_FOREIGN)
         try:
             names = os.listdir(handle)
             is_own = os.fstat(handle).st_uid == os.geteuid()
@@ -69,7 +92,7 @@ class WorkFolder:
         # (killed right after it made the folder, a run left no mark)
         is_empty = all(_OWN.fullmatch(it) and it.startswith(f"{_MARK}.") for it in names)
         if not is_own or not all(map(stat.S_ISREG, kinds)) or not (_MARK in names or is_empty):
-            self._refuse(foreign)
+            self._refuse(_FOREIGN)
 
     def _refuse(self, reason: str) -> NoReturn:
         raise CommandError(Status.USAGE, f"{self.path} {reason}")
