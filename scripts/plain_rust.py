@@ -7,7 +7,7 @@ from pathlib import Path
 
 CRATES = [
     "chess_core", "chess_attacks", "chess_rules", "chess_flights", "chess_mates", "chess_threats",
-    "pop_text", "pop_stipulation", "pop_input", "pop_events", "pop_battle", "pop_walk", "pop_solve",
+    "pop_text", "pop_stipulation", "chess_reach", "pop_input", "pop_events", "pop_battle", "pop_walk", "pop_solve",
     "pop_print", "run_settings", "pop_run",
 ]
 STAND_INS = ["arrayvec", "memchr", "itoa"]
@@ -20,7 +20,7 @@ GHOST = re.compile(
 )
 CLONE = re.compile(r"(impl(?:<[^{]*?>)? Clone for [^{]*)\{")
 DERIVED = re.compile(
-    r"#\[derive_where\(([^)]*)\)\]\n((?:\s*#\[.*\]\n|\s*//.*\n)*)\s*pub(?:\(crate\))? (?:struct|enum) (\w+)<([^>]*)>"
+    r"#\[derive_where\(([^);]*)(?:; ([^)]*))?\)\]\n((?:\s*#\[.*\]\n|\s*//.*\n)*)\s*pub(?:\(crate\))? (?:struct|enum) (\w+)<([^>]*)>"
 )
 # The macro belongs to the root of the one crate.
 MACRO = re.compile(r"#\[macro_export\]\s*macro_rules! (\w+)")
@@ -135,14 +135,15 @@ def with_plain_clones(text: str) -> str:
 def derived(text: str) -> str:
     """Writes what `derive_where` derives for each type."""
     written = []
-    for traits, _, name, parameters in DERIVED.findall(text):
+    for traits, of, _, name, parameters in DERIVED.findall(text):
         names = ", ".join(it.split(":")[0].strip() for it in parameters.split(","))
+        bounds = f" where {of}: Copy" if of else ""
         for it in (trait.strip() for trait in traits.split(",")):
             if it == "Copy":
-                written.append(f"impl<{parameters}> Copy for {name}<{names}> {{}}\n")
+                written.append(f"impl<{parameters}> Copy for {name}<{names}>{bounds} {{}}\n")
             elif it == "Clone":
                 clone = "#[inline(always)] fn clone(&self) -> Self { *self }"
-                written.append(f"impl<{parameters}> Clone for {name}<{names}> {{ {clone} }}\n")
+                written.append(f"impl<{parameters}> Clone for {name}<{names}>{bounds} {{ {clone} }}\n")
     return "".join(written)
 
 
@@ -166,6 +167,8 @@ def plain(text: str, crate: str, crates: list[str]) -> str:
     text = text.replace("crate::crate::", "crate::")
     text = re.sub(r" \+ Drop\b", "", re.sub(r": Drop\b", "", text))
     text = text.replace("fn fmt<W: fmt::Write>(", "fn fmt(").replace("fmt::Formatter<W>", "fmt::Formatter<'_>")
+    if ".write_char(" in text:
+        more += "use std::fmt::Write as _;\n"
     text = re.sub(r"#!?\[rattlefmt::skip\]\n", "", text) + more
     return re.sub(r"\n[ \t]*\n([ \t]*\n)+", "\n\n", text)
 
