@@ -62,6 +62,7 @@ class Mending(unittest.TestCase):
             ("Pieces Kg6 Ra1 Black Kg8", "Pieces Kg6 Ra1 Black Kg8"),
             ("Pieces White Kg6 Ra1 Blakc Kg8", PIECES),
             ("White: Kg6 Ra1; Black: Kg8", PIECES),
+            ("Pieces White Kg6 Ra1 Pa2, b2 c2 Black Kg8", "Pieces White Kg6 Ra1 Pa2b2c2 Black Kg8"),
         ):
             with self.subTest(wrong):
                 made = mend(text_of(wrong, "Stipulation #1"))
@@ -83,6 +84,12 @@ class Mending(unittest.TestCase):
             ("Stipulation #2 (SetPlay)", "Stipulation #2 Option SetPlay"),
             ("Stipulation #2 (3+1)", "Stipulation #2"),
             ("Stipulation #two", "Stipulation #2"),
+            ("Stipulation Mate in two moves!", "Stipulation #2"),
+            ("Stipulation h# 2½", "Stipulation h#2.5"),
+            ("Stipulation (h#2½).", "Stipulation h#2.5"),
+            ("Stipulation #2 Award 1st Prize", "Stipulation #2 Remark award: 1st Prize"),
+            ("Stipulation #2\nOption NoCastlinge1 h8", "Stipulation #2\nOption NoCastling e1 h8"),
+            ("Stipulation #2\nOption MaxSolutions 1,000", "Stipulation #2\nOption MaxSolutions 1000"),
             ("Stipulation h# 2,5", "Stipulation h#2.5"),
             ("Stipulation White to mate in 2", "Stipulation #2"),
             ("Stipulation White to play and mate in two moves", "Stipulation #2"),
@@ -132,6 +139,22 @@ class Mending(unittest.TestCase):
             "Stipulation #2\nPieces White Pa2..h2",
             "Stipulation #2\nPieces White Pa2–c2",
             "Stipulation #2\nPieces White Rb1->c1",
+            "Stipulation #2\nPieces White Rb1 c2",
+            "Stipulation #2\nPieces White Rb1 ; Pc2",
+            "Stipulation #2\nPieces White Rb1 -- Black Pc7",
+            "Stipulation #2\nPieces White Rb1 # neutral",
+            "Stipulation #2 ; duplex",
+            "Stipulation #2 ; b) Ra1 on a2",
+            "Stipulation #2 ; then #3",
+            "Stipulation h#2 // White to move",
+            "Stipulation h#2 * 2.1.1.1",
+            "Stipulation h#2 *2.1.1.1",
+            'Stipulation #2\nCondition Circe "Parrain"',
+            "Stipulation #2\nCondition Madrasi # RexInclusive",
+            "Stipulation #2\nCondition -- Circe",
+            "Stipulation #2\nOption SetPlay // Variation",
+            "Stipulation #2\nOption NoCastling a1 ; h1",
+            "Stipulation #2\nOption MaxSolutions 1,5",
         ):
             with self.subTest(wrong):
                 made = mend(text_of(PIECES, wrong))
@@ -158,6 +181,12 @@ class Mending(unittest.TestCase):
     def test_set_play_and_wanted_solutions(self) -> None:
         for wrong, right in (
             ("Stipulation h#2*", "Stipulation h#2\nOption SetPlay"),
+            ("Stipulation (h#2*),", "Stipulation h#2\nOption SetPlay"),
+            ("Stipulation h#2½*", "Stipulation h#2.5\nOption SetPlay"),
+            ("Stipulation h#2,5*", "Stipulation h#2.5\nOption SetPlay"),
+            ("Stipulation h#2 *", "Stipulation h#2 Option SetPlay"),
+            ("Stipulation #2*, Variation", "Option SetPlay\nStipulation #2 Option Variation"),
+            ("Stipulation h#2½;2.1.1.1.1", "Stipulation h#2.5\nRemark solutions 2"),
             ("Stipulation h#2 2.1.1.1", "Stipulation h#2\nRemark solutions 2"),
             ("Stipulation h#2 2.1..", "Stipulation h#2\nRemark solutions 2"),
             ("Stipulation h#2.5 3.", "Stipulation h#2.5\nRemark solutions 3"),
@@ -219,8 +248,11 @@ class Mending(unittest.TestCase):
         self.assertEqual(made.text, text_of(PIECES, "Stipulation #2\nCondition Circe"))
 
     def test_men_of_another_language_are_left(self) -> None:
-        """In German B is the pawn: to write the other letters in English would leave it a bishop."""
+        """In German B is the pawn: to write the other letters in English would leave it a bishop.
+        Which language it is needn't be known: in Czech S is the bishop."""
         for lines in (
+            ["Pieces White Kg6 Da1 Sb3 Black Kg8", "Stipulation #1"],
+            ["Pieces White Rg6 Da1 Black Rg8", "Stipulation =1"],
             ["Pieces White Kg6 Da1 La2 Bb4 Black Kg8", "Stipulation #1"],
             ["Steine Weiss Kg6 Ta1 Bb4 Schwarz Kg8", "Stipulation #1"],
         ):
@@ -233,6 +265,15 @@ class Mending(unittest.TestCase):
         made = mend(text + text_of(PIECES, "Stipulation #1,"))
         self.assertEqual((made.mended, made.left, faults(made.text)), (5, 0, 0))
         self.assertEqual(len(cut(made.text)), 3)
+
+    def test_two_problems_do_not_become_one(self) -> None:
+        text = text_of(PIECES, "Stipulation #1", "Pieces White Kg6 Ra2 Black Kg8", "Stipulation #1")
+        made = mend(text)
+        self.assertEqual((made.mended, made.left, made.text), (0, 1, text))
+
+    def test_a_text_on_one_line(self) -> None:
+        text = f"BeginProblem {PIECES} Stipulation 2# EndProblem\n"
+        self.assertEqual(mend(text.encode()).text, text.replace("2#", "#2").encode())
 
     def test_a_line_that_may_mean_another_problem_is_left(self) -> None:
         for line in (

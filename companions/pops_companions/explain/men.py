@@ -9,7 +9,7 @@ from pops_companions.chess.stipulation import Condition, Play
 from pops_companions.explain import wordings
 from pops_companions.explain.case import Case, Explanation, at, first_cause, listed, quoted
 from pops_companions.explain.characters import decoded, shown
-from pops_companions.explain.other_men import man_by_name, two_letters
+from pops_companions.explain.other_men import man_by_name, squares_alone, two_letters
 from pops_companions.explain.sentences import sentence
 from pops_companions.input.reading import (
     COLOURS,
@@ -70,7 +70,10 @@ def square_taken(case: Case) -> Explanation:
         text = sentence("square_twice_in_word", word=case.quoted, square=square.name)
         return at(text, first, placed)
     if (before.man.kind, before.man.colour) == (kind, colour):
-        text = sentence("man_given_twice", what=what, square=square.name, before=quoted(before.word))
+        opener = case.reading.opener
+        is_there = opener is not None and before.word.start < opener.start
+        which = "man_of_pieces_before" if is_there else "man_given_twice"
+        text = sentence(which, what=what, square=square.name, before=quoted(before.word))
         return at(text, first, placed)
     text = sentence(
         "square_taken",
@@ -135,6 +138,7 @@ def span_of(placed: Placed) -> Span:
 def square_missing(case: Case) -> Iterator[Optional[Explanation]]:
     """Explains fault 14 among men."""
     yield from wordings.characters_in(case)
+    yield squares_alone(case)
     yield _colour_before_man(case)
     yield _letter_alone(case)
     yield _short_command(case)

@@ -9,12 +9,12 @@ from collections.abc import Callable, Iterator, Sequence
 from dataclasses import dataclass
 from typing import NamedTuple, Optional
 
-from pops_companions.explain.case import Explanation
+from pops_companions.explain.case import Case, Explanation
 from pops_companions.explain.characters import decoded
 from pops_companions.explain.explaining import ExplainedFault, explanation
 from pops_companions.explain.fault_texts import FAULT_TEXTS
 from pops_companions.explain.near import Near, near_of
-from pops_companions.explain.vocabulary import is_unread_command
+from pops_companions.explain.vocabulary import is_unread_command, unread
 from pops_companions.input.pieces import Piece, cut
 from pops_companions.input.reading import (
     CASTLING_SQUARES,
@@ -63,7 +63,12 @@ _DENIED = re.compile(
 # A sign that begins a comment, or denies, right before a word.
 _SIGN_FIRST = re.compile(rb"(?:[;!*]|//|/\*|--?)[A-Za-z]")
 _SIGN_OF_NOT = re.compile(rb"[!-][A-Za-z]")
-_BLACK = re.compile(rb"(?i)(?:^|[^a-z])(?:black|schwarz|noirs?)(?![a-z])")
+# A side, without a man after it: `Black to move`.
+_SIDE = re.compile(
+    rb"(?i)(?:^|[^a-z])(?:white|weiss|blancs?|black|schwarz|noirs?)(?![a-z])(?![ \t:]*[a-z]?[a-h][1-8])"
+)
+# A square, or a stipulation.
+_OF_A_PROBLEM = re.compile(rb"(?i)[a-h][1-8]|[#=][1-9]")
 _BYTE_ORDER_MARK = "\ufeff".encode("utf-8")
 MOST_FAULTS = 50
 # What may only be missing because a word before was passed over.
@@ -132,21 +137,22 @@ def edit_for(
 
 def _is_unsure(text: bytes, reading: Reading, edit: Edit) -> bool:
     """Returns whether the line of an edit may mean another problem, as `#2 or #3` or `SetPlay=0`,
-    or Black to move. A stipulation says nothing of Black.
+    or Black to move. A stipulation says nothing of sides.
     """
     start, stop = edit.span.start, edit.span.stop
     if reading.at is None or b"\n" in text[start:stop]:
         return False
     line, end = text.rfind(b"\n", 0, start) + 1, text.find(b"\n", stop)
     before, after = text[line:start], text[stop : len(text) if end < 0 else end]
-    if reading.section is Section.STIPULATION and _BLACK.search(before + b" " + after):
+    if reading.section is Section.STIPULATION and _SIDE.search(before + b" " + after):
         return True
     own_bytes = text[start:stop]
     is_command = reading.section is not Section.PIECES
     may_deny = is_command and _SIGN_OF_NOT.match(own_bytes) is not None
     if _SIGN_FIRST.match(own_bytes) and (may_deny or not before.strip()):
         return True
-    if edit.text.startswith(b"Remark ") and before.strip() and _names_a_rule(own_bytes + after):
+    is_comment = edit.text.startswith(b"Remark ") and before.strip()
+    if is_comment and _says_more(Case(text, reading), after):
         return True
     own = _DENIED.search(own_bytes)
     # (`No Board` becomes NoBoard)
@@ -155,10 +161,19 @@ def _is_unsure(text: bytes, reading: Reading, edit: Edit) -> bool:
     return _DENIED.search(before) is not None or _DENIED.search(after) is not None
 
 
-def _names_a_rule(text: bytes) -> bool:
-    """Returns whether a condition or an option is named, as in `h#2 -- Circe`."""
-    words = re.findall(rb"[A-Za-z]+", text)
-    return any(named(word, (*CONDITIONS, *OPTIONS)) is not None for word in words)
+def _says_more(case: Case, comment: bytes) -> bool:
+    """Returns whether a comment may belong to what stands before it: it stands beside a condition, or
+    names a rule, a square, a stipulation or what pops would read there, as in `h#2 -- Circe`.
+    """
+    if case.reading.section is Section.CONDITION or _OF_A_PROBLEM.search(comment):
+        return True
+    words = dict.fromkeys(re.findall(rb"[A-Za-z]+", comment))
+    return any(
+        named(word, (*CONDITIONS, *OPTIONS)) is not None
+        or unread(decoded(word)) is not None
+        or case.fits(decoded(word))
+        for word in words
+    )
 
 
 def _left(text: bytes, reading: Reading) -> int:

@@ -7,8 +7,12 @@ from typing import Optional
 
 from pops_companions.explain import wanted, wordings
 from pops_companions.explain.case import Case, Explanation, at, first_cause, listed, quoted
-from pops_companions.explain.characters import decoded
-from pops_companions.explain.other_men import foreign_letter, man_by_name, two_letters
+from pops_companions.explain.other_men import (
+    foreign_letter,
+    man_by_name,
+    squares_alone,
+    two_letters,
+)
 from pops_companions.explain.sentences import DATA, sentence
 from pops_companions.explain.stipulations import looks_like_stipulation
 from pops_companions.explain.vocabulary import unread
@@ -175,22 +179,12 @@ def _belongs(case: Case, what: str, section: Section) -> Explanation:
 
 
 def _causes_among_men(case: Case) -> Iterator[Optional[Explanation]]:
-    yield _bishop_or_black(case)
+    yield squares_alone(case)
     yield _colour_letter(case)
     yield _letter_for_digit(case)
     yield man_by_name(case)
-    yield _pawn_without_letter(case)
     yield foreign_letter(case)
     yield two_letters(case)
-
-
-def _bishop_or_black(case: Case) -> Optional[Explanation]:
-    before = case.before
-    if before is None or before.bytes not in (b"B", b"b") or not squares_of(case.word.bytes):
-        return None
-    return case.tells(
-        "bishop_or_black", before.span, before=decoded(before.bytes), plain=case.plain
-    )
 
 
 def _colour_letter(case: Case) -> Optional[Explanation]:
@@ -205,15 +199,6 @@ def _letter_for_digit(case: Case) -> Optional[Explanation]:
     if mended == case.plain or not case.fits(mended):
         return None
     return case.tells("letter_for_digit", mended=mended)
-
-
-def _pawn_without_letter(case: Case) -> Optional[Explanation]:
-    if not squares_of(case.word.bytes):
-        return None
-    if case.before is not None and is_man(case.before.bytes):
-        whole = decoded(case.before.bytes) + case.plain
-        return case.tells("pawn_or_square", case.before.span, plain=case.plain, whole=whole)
-    return case.tells("pawn_without_letter", plain=case.plain)
 
 
 def _value_without_option(case: Case) -> Optional[Explanation]:

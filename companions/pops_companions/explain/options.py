@@ -24,6 +24,7 @@ from pops_companions.input.reading import (
 )
 from pops_companions.input.words import Word, named
 
+_IN_THOUSANDS = re.compile(r"[0-9]{1,3}(?:[,.'_’][0-9]{3})+")
 _SIDES = re.compile(r"white|black|w|b|[kq]{1,4}|0-0(-0)?|o-o(-o)?|-|both|yes|no", re.IGNORECASE)
 
 
@@ -50,7 +51,7 @@ def bad_number(case: Case) -> Iterator[Optional[Explanation]]:
             + (sentence("all_solutions") if not int(case.word.bytes) else "")
         )
     digits = re.sub(r"[,.'_’]", "", case.plain)
-    if digits != case.plain and case.fits(digits):
+    if _IN_THOUSANDS.fullmatch(case.plain) and case.fits(digits):
         yield case.tells("digits_only", digits=digits)
     yield wordings.signs(case)
     yield case.tells("number_wanted", option.span)

@@ -8,7 +8,7 @@ from pops_companions.explain.case import Case, Explanation, listed
 from pops_companions.explain.characters import decoded
 from pops_companions.explain.sentences import DATA, sentence
 from pops_companions.explain.vocabulary import Alphabet, alphabets_of, alphabets_with
-from pops_companions.input.reading import Section, squares_of
+from pops_companions.input.reading import Section, is_man, kind_of, squares_of
 from pops_companions.input.words import Word, named
 
 _NAMES = {kind.word: kind for kind in Kind}
@@ -28,8 +28,7 @@ def foreign_letter(case: Case) -> Optional[Explanation]:
         return None
     men = men_words(case)
     fitting = [it for it in alphabets_of("".join(letters_of(men))) if it in possible]
-    if len(fitting) == 1:
-        possible = fitting
+    possible = fitting or possible
     kinds = {_kind(alphabet, letter) for alphabet in possible}
     text = sentence("no_letter", letter=letter)
     if len(kinds) > 1:
@@ -47,11 +46,27 @@ def foreign_letter(case: Case) -> Optional[Explanation]:
         man=kind.value,
         squares=squares,
     )
-    if len(fitting) == 1:
-        others = _others(men, case.word, fitting[0])
-        if others:
-            text = sentence("other_letters", text=text, others=listed(others))
+    others = _others(men, case.word, fitting)
+    if others:
+        text = sentence("other_letters", text=text, others=listed(others))
     return case.says(text)
+
+
+def squares_alone(case: Case) -> Optional[Explanation]:
+    """Explains squares without a letter: a pawn's, or those of the man before."""
+    before = case.before
+    if not squares_of(case.word.bytes):
+        return None
+    if before is not None and before.bytes in (b"B", b"b"):
+        return case.tells(
+            "bishop_or_black", before.span, before=decoded(before.bytes), plain=case.plain
+        )
+    if before is None or not is_man(before.bytes):
+        return case.tells("pawn_without_letter", plain=case.plain)
+    whole = decoded(before.bytes) + case.plain
+    is_pawn = kind_of(before.bytes) is Kind.PAWN
+    which = "squares_parted" if is_pawn else "pawn_or_square"
+    return case.tells(which, before.span, plain=case.plain, whole=whole)
 
 
 def man_by_name(case: Case) -> Optional[Explanation]:
@@ -101,11 +116,22 @@ def letters_of(men: list[Word]) -> list[str]:
     return list(dict.fromkeys(decoded(man.bytes)[0].upper() for man in men))
 
 
-def _others(men: list[Word], faulty: Word, alphabet: Alphabet) -> list[str]:
-    """Returns what the letters of the other men mean where they mean something else in English."""
+def _others(men: list[Word], faulty: Word, alphabets: list[Alphabet]) -> list[str]:
+    """Returns what the letters of the other men mean where they mean something else in English, with
+    the languages where these differ.
+    """
     others = []
     for letter in letters_of(men):
-        kind = alphabet.kind(letter)
-        if kind is not None and kind.value != letter and letter != decoded(faulty.bytes)[0].upper():
-            others.append(sentence("letter_means", letter=letter, man=kind.value, kind=kind.word))
+        kinds = dict.fromkeys(it.kind(letter) for it in alphabets)
+        if letter == decoded(faulty.bytes)[0].upper():
+            continue
+        for kind in kinds:
+            if kind is None or kind.value == letter:
+                continue
+            means = sentence("letter_means", letter=letter, man=kind.value, kind=kind.word)
+            if len(kinds) > 1:
+                there = [it.languages for it in alphabets if it.kind(letter) is kind]
+                languages = listed([language for it in there for language in it])
+                means = sentence("letter_means_in", means=means, languages=languages)
+            others.append(means)
     return others

@@ -32,8 +32,9 @@ _A_NUMBER = "|".join(["[1-9][0-9]*(?:½| 1/2|[.,]5)?", *_NUMBERS])
 # As `mate in 2 moves`, `help mate in 2½`, `s 3`: how the play is called, and the number.
 _IN_WORDS = re.compile(
     rf"((?:help|self)[- ]?mate|[a-z]+?)[-# ]*(?:in|en)?[- ]*({_A_NUMBER})"
-    r"(?: (?:moves?|zügen?|coups?))?[.,;:]*(?= |$)"
+    r"(?: (?:moves?|zügen?|coups?))?[.,;:!]*(?= |$)"
 )
+_AROUND = re.compile(r"""^[(\["']+|[)\]"'.,;:!?]+$""")
 _MOST_WORDS = 6
 # As `#two`.
 _NUMBER_IN_WORDS = re.compile(rf"([sh]?[#=])({'|'.join(_NUMBERS)})[.,;:]*", re.IGNORECASE)
@@ -77,13 +78,19 @@ def bad(case: Case) -> Iterator[Optional[Explanation]]:
     yield case.tells("no_stipulation", forms=_FORMS)
 
 
+def _bare(word: str) -> str:
+    """Returns a word without the brackets, quotation marks and stops around it."""
+    return _AROUND.sub("", word)
+
+
 def _half(case: Case) -> Optional[Explanation]:
-    if "½" not in case.plain and not re.search(r"1/2$", case.plain):
+    word = _bare(case.plain)
+    if "½" not in word and not re.search(r"1/2$", word):
         return None
-    mended = re.sub(r"½|[- ]?1/2$", ".5", case.plain)
-    if not case.fits(mended):
-        return case.tells("half_only_help")
-    return case.tells("half", mended=mended)
+    mended = re.sub(r"½|[- ]?1/2$", ".5", word)
+    if case.fits(mended):
+        return case.tells("half", mended=mended)
+    return None if word.lower().startswith("h") else case.tells("half_only_help")
 
 
 def _sign_of_mate(case: Case) -> Optional[Explanation]:
@@ -123,7 +130,7 @@ def _without_number(case: Case) -> Optional[Explanation]:
     if not re.fullmatch("[sh]?[#=]", case.plain, re.IGNORECASE):
         return None
     if case.after is not None:
-        whole = case.plain + re.sub(",5$", ".5", decoded(case.after.bytes))
+        whole = case.plain + re.sub("(?:,5|½)$", ".5", decoded(case.after.bytes))
         if case.fits(whole):
             return case.tells("number_parted", case.after.span, whole=whole)
     return case.tells("number_missing_in_word", plain=case.plain)
@@ -151,7 +158,7 @@ def _wrong_number(case: Case, stipulation: str) -> Optional[Explanation]:
 
 
 def _star(case: Case) -> Optional[Explanation]:
-    found = re.fullmatch(r"(.*?)\*+(.*)", case.plain)
+    found = re.fullmatch(r"(.*?)\*+(.*)", re.sub(",5(?=\\*)|½", ".5", _bare(case.plain)))
     if found is None or not case.fits(found[1] + found[2]):
         return None
     if re.search("[0-9]$", found[1]) and found[2]:

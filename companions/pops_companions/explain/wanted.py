@@ -12,7 +12,7 @@ from pops_companions.input.reading import Section
 
 # As 2.1.1.1, 2.1.., 3.1;1.1 and 0.2.1.1; not 2 alone.
 _COUNTS = re.compile(r"\(?[0-9]{1,3}(?:[.,;]+[0-9]{1,3})*[.,;]*\)?[.,;]*")
-_HALF = re.compile(r"^(h[#=][0-9]+),5(?![0-9]|\.[0-9])", re.IGNORECASE)
+_HALF = re.compile(r"^(h[#=][0-9]+)(?:,5(?![0-9]|\.[0-9])|½)", re.IGNORECASE)
 _OR_HALF = re.compile("[0-9][,;:]5$")
 _OF_MEN = re.compile(r"\(?[0-9]{1,2}(?:\+[0-9]{1,2}){1,2}\)?[.,;]*")
 _JOINED = re.compile(r"(.+?)[;:,(\[/]+([0-9]+(?:[.,;][0-9]+)*)[.,;]*[)\]]?")

@@ -8,7 +8,7 @@ from pops_companions.explain import characters
 from pops_companions.explain.case import NAMES, Case, Explanation
 from pops_companions.explain.sentences import DATA, sentence
 from pops_companions.explain.vocabulary import foreign, unread
-from pops_companions.input.reading import CONDITIONS
+from pops_companions.input.reading import CONDITIONS, Section, squares_of
 from pops_companions.input.words import TEXT_WORDS, named
 
 _SIGNS: dict[str, str] = DATA["signs"]
@@ -74,7 +74,17 @@ def comment(case: Case) -> Optional[Explanation]:
     # (a second goal alone, as in `=2 #`, is no comment)
     if case.plain == "#" and len(case.rest_of_line(2)) < 2:
         return None
+    if found[1] == "*" and _is_beside_stipulation(case):
+        return case.tells("star_apart") if case.plain.strip("*") == "" else None
     return case.tells("comment", first=found[1])
+
+
+def _is_beside_stipulation(case: Case) -> bool:
+    """Returns whether a word is in a stipulation's line, where a star means set play."""
+    opener = case.reading.opener
+    if opener is None or case.reading.section is not Section.STIPULATION:
+        return False
+    return opener.line == case.word.line
 
 
 def position(case: Case) -> Optional[Explanation]:
@@ -94,6 +104,8 @@ def signs(case: Case) -> Optional[Explanation]:
     inside = re.findall(_SIGN, case.plain)
     # (`#=2` may be either, and -1 isn't 1)
     if not inside or re.match("[sh]?(?:#=|=#)|-[0-9]", case.plain, re.IGNORECASE):
+        return None
+    if "*" in inside and case.reading.section is Section.STIPULATION:
         return None
     if _is_range(case.plain.lower()):
         return None
@@ -135,7 +147,8 @@ def parted(case: Case) -> Optional[Explanation]:
         if case.fits(whole) and _is_name(whole):
             return case.tells("parted", case.after.span, whole=whole)
     before = case.span_before
-    if before is not None:
+    # (`SetPlay ; Variation` may have a comment)
+    if before is not None and _COMMENT.match(word) is None:
         whole = without_signs(characters.decoded(case.text[before.start : before.stop]) + word)
         if _is_name(whole):
             return case.tells("parted", before, whole=whole)
@@ -153,7 +166,8 @@ def joined(case: Case) -> Optional[Explanation]:
         return case.tells("texts_joined")
     for place in range(len(word) - 1, 0, -1):
         first, second = word[:place], word[place:]
-        if second.islower() and (len(second) < 3 or named(first.encode("utf-8"), TEXT_WORDS)):
+        is_short = len(second) < 3 and not squares_of(second.encode("utf-8"))
+        if second.islower() and (is_short or named(first.encode("utf-8"), TEXT_WORDS)):
             continue
         if case.fits(f"{first} {second}"):
             return case.tells("joined", first=first, second=second)
