@@ -63,6 +63,7 @@ class Mending(unittest.TestCase):
             ("Pieces White Kg6 Ra1 Blakc Kg8", PIECES),
             ("White: Kg6 Ra1; Black: Kg8", PIECES),
             ("Pieces White Kg6 Ra1 Pa2, b2 c2 Black Kg8", "Pieces White Kg6 Ra1 Pa2b2c2 Black Kg8"),
+            ("Pieces White Kg6 R a1 h1 Black Kg8", "Pieces White Kg6 Ra1h1 Black Kg8"),
         ):
             with self.subTest(wrong):
                 made = mend(text_of(wrong, "Stipulation #1"))
@@ -92,6 +93,7 @@ class Mending(unittest.TestCase):
             ("Stipulation #2\nOption MaxSolutions 1,000", "Stipulation #2\nOption MaxSolutions 1000"),
             ("Stipulation h# 2,5", "Stipulation h#2.5"),
             ("Stipulation White to mate in 2", "Stipulation #2"),
+            ("Stipulation White to play and helpmate in 2.5", "Stipulation h#2.5"),
             ("Stipulation White to play and mate in two moves", "Stipulation #2"),
             ("Stipulation #2 (set play)", "Stipulation #2 Option setplay"),
             ("Stipulation #2\nOr A journal", "Stipulation #2\nOrigin A journal"),
@@ -140,6 +142,8 @@ class Mending(unittest.TestCase):
             "Stipulation #2\nPieces White Pa2–c2",
             "Stipulation #2\nPieces White Rb1->c1",
             "Stipulation #2\nPieces White Rb1 c2",
+            "Stipulation #2\nPieces White Pa2,..,d2",
+            "Stipulation White to play and helpmate in 2",
             "Stipulation #2\nPieces White Rb1 ; Pc2",
             "Stipulation #2\nPieces White Rb1 -- Black Pc7",
             "Stipulation #2\nPieces White Rb1 # neutral",
@@ -267,9 +271,15 @@ class Mending(unittest.TestCase):
         self.assertEqual(len(cut(made.text)), 3)
 
     def test_two_problems_do_not_become_one(self) -> None:
-        text = text_of(PIECES, "Stipulation #1", "Pieces White Kg6 Ra2 Black Kg8", "Stipulation #1")
-        made = mend(text)
-        self.assertEqual((made.mended, made.left, made.text), (0, 1, text))
+        one, other = "Pieces White Kg6 Ra2 Black Kg8", "Pieces White Ra5 Black Pa7"
+        for lines in (
+            (PIECES, "Stipulation #1", one, "Stipulation #1"),
+            ("Stipulation #1", PIECES, "Stipulation #1", one),
+            ("Pieces White Rb5 Black Pb7", "Stipulation =1", other, "Stipulation =1"),
+        ):
+            with self.subTest(lines):
+                made = mend(text_of(*lines))
+                self.assertEqual((made.mended, made.left, made.text), (0, 1, text_of(*lines)))
 
     def test_a_text_on_one_line(self) -> None:
         text = f"BeginProblem {PIECES} Stipulation 2# EndProblem\n"

@@ -54,8 +54,8 @@ def foreign_letter(case: Case) -> Optional[Explanation]:
 
 def squares_alone(case: Case) -> Optional[Explanation]:
     """Explains squares without a letter: a pawn's, or those of the man before."""
-    before = case.before
-    if not squares_of(case.word.bytes):
+    before, squares = case.before, squares_of(case.word.bytes)
+    if not squares:
         return None
     if before is not None and before.bytes in (b"B", b"b"):
         return case.tells(
@@ -64,8 +64,9 @@ def squares_alone(case: Case) -> Optional[Explanation]:
     if before is None or not is_man(before.bytes):
         return case.tells("pawn_without_letter", plain=case.plain)
     whole = decoded(before.bytes) + case.plain
-    is_pawn = kind_of(before.bytes) is Kind.PAWN
-    which = "squares_parted" if is_pawn else "pawn_or_square"
+    kind, is_no_pawn = kind_of(before.bytes), any(it.rank in (1, 8) for it in squares)
+    is_of_it = kind is Kind.PAWN or is_no_pawn and kind is not Kind.KING
+    which = "squares_parted" if is_of_it else "pawn_or_square"
     return case.tells(which, before.span, plain=case.plain, whole=whole)
 
 

@@ -240,6 +240,9 @@ def _said_in_words(case: Case, words: Sequence[Word], begin: int = 0) -> Optiona
     sign = None if found is None else _WORDS.get(re.sub("[- ]", "", found[1]))
     if found is not None and sign is not None:
         number = re.sub("(?:½| 1/2|[.,]5)$", ".5", found[2])
+        # (White begins a help mate only with half a move more)
+        if begin and sign.startswith("h") and not number.endswith(".5"):
+            return None
         whole = sign + _NUMBERS.get(number, number)
         if not case.fits(whole):
             return _wrong_number(case, whole)
@@ -261,7 +264,9 @@ def _causes_of_a_second(case: Case, given: Word) -> Iterator[Optional[Explanatio
     if not looks_like_stipulation(case.plain):
         yield wordings.comment(case)
         yield wordings.signs(case)
-    if case.word.bytes.lower() == given.bytes.lower():
+    # (with two Pieces they may be two problems)
+    pieces = [it for it in case.reading.words if named(it.bytes, [Section.PIECES.value])]
+    if case.word.bytes.lower() == given.bytes.lower() and len(pieces) < 2:
         text = sentence("stipulation_twice", given=quoted(given))
         yield case.says(text, given.span)
     yield case.tells("second_stipulation", given.span, given=quoted(given))

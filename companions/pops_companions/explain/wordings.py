@@ -15,7 +15,7 @@ _SIGNS: dict[str, str] = DATA["signs"]
 _SIGN = "[" + re.escape("".join(_SIGNS)) + "]"
 # (`h#.5` isn't h#5)
 _OF_A_NUMBER = re.compile(f"[0-9]{_SIGN}+[0-9]|[#=][.,:;][0-9]")
-_FROM_TO = re.compile("([a-h])([1-8])([-–—.…>→]+)([a-h])([1-8])", re.IGNORECASE)
+_FROM_TO = re.compile("([a-h])([1-8])([-–—.,…>→]+)([a-h])([1-8])", re.IGNORECASE)
 _COMMENT = re.compile(r"(#(?![0-9=])|%|//|/\*|\*|;|--|<!--|\{|!|\")")
 _FEN = re.compile(r"(?:[kqrbnpKQRBNP1-8]{1,8}/){7}[kqrbnpKQRBNP1-8]{1,8}")
 _HALVES = re.compile(rb"^(?:\xff\xfe|\xfe\xff)|^[ -~]\x00|^\x00[ -~]")
@@ -130,7 +130,7 @@ def signs(case: Case) -> Optional[Explanation]:
 def _is_range(word: str) -> bool:
     """Returns whether a word may name all squares of a line, as `Pa2-h2`, or a move, as `Ra1->b1`."""
     found = _FROM_TO.search(word)
-    if found is None or found[3] == ".":
+    if found is None or found[3] in (".", ","):
         return False
     if found[3] not in ("-", "–", "—"):
         return True
