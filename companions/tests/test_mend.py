@@ -305,6 +305,7 @@ class Mending(unittest.TestCase):
             *("Stipulation h#2 2.1.1.1 zeroposition", "Stipulation mate in 2 duplex"),
             *("Option Variatons Duplex", "Option SetPlay: Quodlibet", "Condition Cirse Parrain"),
             *("Stipulation 2# Condition Koeko", "Pieces White: Kg6 Ra1 royal Qb2 Black Kg8"),
+            "Pieces White Kg6 bQa8 Ra1 Black Kg8",
         ):
             with self.subTest(line):
                 men = () if line.startswith("Pieces") else (PIECES,)

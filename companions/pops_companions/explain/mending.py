@@ -18,12 +18,14 @@ from pops_companions.explain.vocabulary import is_unread_command, unread
 from pops_companions.input.pieces import Piece, cut
 from pops_companions.input.reading import (
     CASTLING_SQUARES,
+    COLOURS,
     COMMANDS,
     CONDITIONS,
     OPTIONS,
     FaultKind,
     Reading,
     Section,
+    is_man,
     read_piece,
     squares_of,
 )
@@ -151,6 +153,8 @@ def _is_unsure(text: bytes, reading: Reading, edit: Edit) -> bool:
     may_deny = is_command and _SIGN_OF_NOT.match(own_bytes) is not None
     if _SIGN_FIRST.match(own_bytes) and (may_deny or not before.strip()):
         return True
+    if _takes_men_over(reading, edit):
+        return True
     is_comment = edit.text.startswith(b"Remark ") and before.strip()
     if is_comment and _says_more(Case(text, reading), after):
         return True
@@ -159,6 +163,18 @@ def _is_unsure(text: bytes, reading: Reading, edit: Edit) -> bool:
     if own is not None and not edit.text.lower().startswith((own[1] or own[0]).lower()):
         return True
     return _DENIED.search(before) is not None or _DENIED.search(after) is not None
+
+
+def _takes_men_over(reading: Reading, edit: Edit) -> bool:
+    """Returns whether a colour written before one man would hold for the men after it, and is named for
+    others, as in `White Kg6 bQa8 Ra1 Black Kg8`.
+    """
+    colour = named(edit.text.split(b" ")[0], COLOURS)
+    if colour is None or reading.section is not Section.PIECES:
+        return False
+    words = [it.bytes for it in reading.words if it.start >= edit.span.stop]
+    is_before_man = bool(words) and b" " in edit.text and is_man(words[0])
+    return is_before_man and any(named(word, [colour], 1) is not None for word in words[1:])
 
 
 def _says_more(case: Case, comment: bytes) -> bool:

@@ -53,7 +53,7 @@ def foreign_letter(case: Case) -> Optional[Explanation]:
 
 
 def squares_alone(case: Case) -> Optional[Explanation]:
-    """Explains squares without a letter: a pawn's, or those of the man before."""
+    """Explains squares without a letter: of a pawn, or of the man before."""
     before, squares = case.before, squares_of(case.word.bytes)
     if not squares:
         return None
