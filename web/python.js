@@ -141,8 +141,18 @@ export const py = (() => {
 
     findall(text, from = 0) { return [...this.finditer(text, from)].map(it => it.all[it.all.length > 1 ? 1 : 0]); }
     sub(made, text) {
-      const said = typeof made === 'string' ? made.replaceAll('$', '$$$$').replace(/\\(?:g<)?([0-9])>?/g, (_, group) => (group === '0' ? '$&' : `$${group}`)) : made;
+      if (typeof made === 'function') return this.subBy(made, text);
+      const said = made.replaceAll('$', '$$$$').replace(/\\(?:g<)?([0-9])>?/g, (_, group) => (group === '0' ? '$&' : `$${group}`));
       return text.replace(this.made.all ??= new RegExp(this.text, `g${this.flags}`), said);
+    }
+
+    subBy(made, text) {
+      let [said, end] = ['', 0];
+      for (const found of this.finditer(text)) {
+        said += text.slice(end, found.start()) + made(found);
+        end = found.end();
+      }
+      return said + text.slice(end);
     }
   }
 

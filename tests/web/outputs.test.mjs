@@ -89,6 +89,12 @@ test('outputs: YAML of what an import kept has its keys again', () => {
   assert.equal(yamlOf(imported(given).text, []).text, given);
 });
 
+test('outputs: the other side of a duplex has its solutions in YAML as they are played on the diagram', () => {
+  const { text } = imported('BeginProblem\nTitle Both\nPieces White Kh1 Rb7 Pg2h2 Black Kh8 Rb2 Pg7h7\nStipulation h#1\nCondition Circe\nOption Duplex\nEndProblem\n');
+  const items = itemsOf('problem 1\nh#1 Circe\nplay\nsolutions: 0\n\nproblem 2\nh#1 Circe\nplay\n1.Rb2-a2 Rb7*b8[+bSb8]#\nsolutions: 1\n\n');
+  assert.match(yamlOf(text, items).text, /duplex\n\n {2}1\.Rb7-a7 Rb2\*b1\[\+wSb1\] #/);
+});
+
 test('outputs: a faulty problem in LaTeX is a box, and letters that plain LaTeX lacks are known', () => {
   const made = latexOf('BeginProblem\nTitle A&B\nAuthor Loyd, Samuel\nPieces White Kg6 Rz1 Black Kg8\nStipulation #1\nEndProblem\n',
     itemsOf('problem 1\nline 4: fault 14: square expected\n\n'));
