@@ -38,12 +38,49 @@ function yamlLines(document) {
   return document.split('\n').filter(line => !line.startsWith('%')).map(line => ({ indent: line.length - line.trimStart().length, text: withoutComment(line).trim(), raw: line }));
 }
 
+// What an escape in double quotes stands for; another one stays as it is written.
+/** @type {Record<string, string>} */
+const ESCAPES = {
+  0: '\0', a: '\x07', b: '\b', t: '\t', '\t': '\t', n: '\n', v: '\v', f: '\f', r: '\r', e: '\x1b', ' ': ' ', '"': '"', '/': '/', '\\': '\\',
+  N: '\x85', _: '\xa0', L: '\u2028', P: '\u2029',
+};
+const ESCAPE = /\\(?:x([\da-fA-F]{2})|u([\da-fA-F]{4})|U(00(?:0[\da-fA-F]|10)[\da-fA-F]{4})|([^]))/g;
+// A text in quotes that its line doesn't end, and the line that does.
+const OPEN = /^(?:"(?:[^"\\]|\\.|\\$)*|'(?:[^']|'')*)$/;
+/** @type {Record<string, RegExp>} */
+const CLOSED = { '"': /^((?:[^"\\]|\\.)*)"\s*(?:#.*)?$/, "'": /^((?:[^']|'')*)'\s*(?:#.*)?$/ };
+const ESCAPED_END = /(?:^|[^\\])(?:\\\\)*\\$/;
+
 /** @param {string} text */
 function scalar(text) {
-  if (/^".*"$/.test(text)) return text.slice(1, -1).replace(/\\(["\\])/g, '$1');
-  if (/^'.*'$/.test(text)) return text.slice(1, -1).replaceAll("''", "'");
+  if (/^"[^]*"$/.test(text)) {
+    return text.slice(1, -1).replace(ESCAPE, (said, two, four, eight, sign) => (sign ? ESCAPES[sign] ?? said : String.fromCodePoint(parseInt(two ?? four ?? eight, 16))));
+  }
+  if (/^'[^]*'$/.test(text)) return text.slice(1, -1).replaceAll("''", "'");
   if (/^[&*!|>%@`]/.test(text)) throw new YamlError(text);
   return text;
+}
+
+/**
+ * Joins the lines of a scalar by blanks, where lines are empty by line ends; where a line ends in an escape, by nothing.
+ * @param {string[]} lines
+ * @param {string} sign the scalar's quotes
+ */
+function folded(lines, sign) {
+  const parts = [lines[0]];
+  let empty = 0;
+  lines.slice(1).forEach((line, at) => {
+    if (!line && at < lines.length - 2) {
+      empty++;
+      return;
+    }
+    const last = parts.length - 1;
+    const isEscaped = sign === '"' && ESCAPED_END.test(parts[last]);
+    if (isEscaped) parts[last] = parts[last].slice(0, -1);
+    parts.push((empty || isEscaped ? '\n'.repeat(empty) : ' ') + line);
+    empty = 0;
+  });
+  return parts.join('');
 }
 
 /**
@@ -125,10 +162,47 @@ class YamlReader {
   value(text, indent) {
     if (/^[|>]/.test(text)) return this.block(indent);
     if (/^[[{]/.test(text)) return flow(this.toEnd(text, text[0] === '[' ? ']' : '}'));
-    if (text) return scalar(text);
+    if (/^["']/.test(text)) return scalar(this.quoted(text));
+    if (text) return scalar(this.plain(text, indent));
     const next = this.line;
     if (!next || next.indent < indent || (next.indent === indent && !next.text.startsWith('-'))) return null;
     return next.text.startsWith('-') ? this.list(next.indent) : this.mapping(next.indent);
+  }
+
+  /**
+   * Returns a text in quotes, with the lines below up to the one that ends it. The line's own text may lack what follows a #.
+   * @param {string} text
+   */
+  quoted(text) {
+    const { raw, text: whole } = this.lines[this.at - 1];
+    const first = raw.slice(raw.indexOf(whole) + whole.length - text.length).trimEnd();
+    if (!OPEN.test(first)) return text;
+    const lines = [first];
+    for (let end = null; !end;) {
+      const next = this.lines[this.at++];
+      if (!next) throw new YamlError('the text ends too early');
+      end = CLOSED[text[0]].exec(next.raw.trim());
+      lines.push(end ? end[1] : next.raw.trim());
+    }
+    return folded(lines, text[0]) + text[0];
+  }
+
+  /**
+   * Returns a text without quotes, with the lines below that are indented more.
+   * @param {string} text
+   * @param {number} indent
+   */
+  plain(text, indent) {
+    const lines = [text];
+    for (let at = this.at; this.lines[at] && (!this.lines[at].raw.trim() || this.lines[at].indent > indent); at++) {
+      const { raw, text: own } = this.lines[at];
+      if (raw.trim() && !own) break;
+      if (/:(?:\s|$)/.test(own)) throw new YamlError(own);
+      lines.push(own);
+      if (own) this.at = at + 1;
+    }
+    while (!lines[lines.length - 1]) lines.pop();
+    return folded(lines, '');
   }
 
   /** @param {string} text @param {string} sign */

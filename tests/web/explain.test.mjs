@@ -102,6 +102,17 @@ test('yaml: documents, their keys and lists', () => {
   assert.deepEqual([[...first], first.get('d'), second.get('f'), third], [['b', 'd'], 'e', 'g', 'h:i']);
 });
 
+test('yaml: escapes, and texts of several lines, as PyYAML writes them', () => {
+  const read = text => documents(text)[0].node().get('a');
+  assert.equal(read('a: "Benk\\u0151, P\\xE1l\\tis\\ \\U0001F600 \\Die\\ \\"Schwalbe\\""\n'), 'Benkő, Pál\tis 😀 \\Die "Schwalbe"');
+  assert.equal(read('a: "1.Qa1 #\\n   \\"b\\" #\\n\\\n  \\  2.Qa8\n  #\\\\\\n\n\n  c"  # d\nb: c\n'), '1.Qa1 #\n   "b" #\n  2.Qa8 #\\\n\nc');
+  assert.equal(read("a: 'b: # it''s\n\n\n  c\n  \"d'\nb: c\n"), 'b: # it\'s\n\nc "d');
+  assert.equal(read("a: 'b\n\n  '\nc: d\n"), 'b\n');
+  assert.deepEqual(read('a:\n- b\n  c\n\n  d\n- e\n\nf: g\n'), ['b c\nd', 'e']);
+  assert.deepEqual(read('a:\n  - b: c\n      d # e\n    f: "g\n      h"\n')[0].get('b'), 'c d');
+  for (const wrong of ['a: b\n  c: d\n', 'a: "b\n', "a: 'b\nc: d\n"]) assert.throws(() => read(wrong), wrong);
+});
+
 test('twins: groups, remarks and changes', () => {
   const problem = (title, men, asked, remark) => [`Title ${title}`, ...(remark ? [`Remark ${remark}`] : []), `Pieces White ${men}`, `Stipulation ${asked}`].join('\n');
   const twins = (...problems) => {
