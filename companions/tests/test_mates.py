@@ -95,7 +95,8 @@ class Programs(unittest.TestCase):
         problem = "Pieces White Kg6 Ra1 Black Kh8\nStipulation h#1\n"
         self.text.write_text(
             f"BeginProblem\nOrigin Die Schwalbe, August 1977\nRemark keywords: Letztform\n{problem}"
-            f"NextProblem\nOrigin Chess Monthly 1860\n{problem.replace('Ra1', 'Ra1 Sb1')}EndProblem\n"
+            f"NextProblem\nOrigin Шахматы 1860\n{problem.replace('Ra1', 'Ra1 Sb1')}EndProblem\n",
+            "utf-8",
         )
         self.report = self.room / "some.report"
         self.report.write_bytes(support.run([support.pops(), str(self.text)]).output)
@@ -126,17 +127,20 @@ class Programs(unittest.TestCase):
             (("--keyword", "letztform"), ["1"]),
             (("--source", "schwalbe"), ["1"]),
             (("--source", "1860"), ["2"]),
+            (("--source", "шахматы"), ["2"]),
             (("--date", "1977"), ["1"]),
             (("--date", "1977-08"), ["1"]),
+            (("--date", "8/1977"), ["1"]),
             (("--date", "1977-09"), []),
             (("--date", "1860..1977"), ["1", "2"]),
             (("--date", "1861..1977-07"), []),
-            (("--date", "1850..1899", "--source", "Monthly"), ["2"]),
+            (("--date", "1850..August 1899", "--source", "ШАХ"), ["2"]),
         ):
             with self.subTest(asked):
                 self.assertEqual(self.numbers(*asked), wanted)
-        wrong = run_here.companion("pops-find", str(self.room / "some.db"), "--date", "soon")
-        self.assertEqual(wrong.status, 2)
+        for date in ("soon", "1860-1977", "about 1860", "1860..1977..1978"):
+            wrong = run_here.companion("pops-find", str(self.room / "some.db"), "--date", date)
+            self.assertEqual(wrong.status, 2)
 
     def test_a_fragment(self) -> None:
         """Anywhere on the board, mirrored, turned or with colours reversed, also with other men."""

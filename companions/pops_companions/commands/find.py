@@ -13,6 +13,7 @@ from pops_companions import command
 from pops_companions.command import CommandError, Status
 from pops_companions.find.boards import board_of
 from pops_companions.find.collection import Collection, CollectionError, Found, Wanted
+from pops_companions.find.dates import whole_date
 from pops_companions.find.entries import EntriesError, Entry, entries_of, items_of, men_in
 from pops_companions.find.showing import Answer, as_page, as_text
 from pops_companions.review.naming import counted
@@ -24,7 +25,7 @@ _WORDS = (
     *("author", "title", "source", "date", "keyword", "stipulation", "condition"),
     *("men", "count", "fragment"),
 )
-_DATES = re.compile(r"(\d{4}(?:-\d\d(?:-\d\d)?)?)(?:\.\.(\d{4}(?:-\d\d(?:-\d\d)?)?))?")
+_DATE = re.compile(r"\d{4}(?:-\d\d(?:-\d\d)?)?")
 
 
 class Settings(argparse.Namespace):
@@ -162,10 +163,10 @@ def dates_of(
     """Returns the first and the last date."""
     if text is None:
         return None
-    parts = _DATES.fullmatch(text)
-    if parts is None:
-        parser.error("--date needs a date, as 1977 or 1977-08, or two, as 1950..1959")
-    return parts[1], parts[2] or parts[1]
+    dates = [one if _DATE.fullmatch(one) else whole_date(one) for one in text.split("..")]
+    if not all(dates) or len(dates) > 2:
+        parser.error("--date needs a date, as 1977, 1977-08 or 8/1977, or two, as 1950..1959")
+    return dates[0], dates[-1]
 
 
 def kept_name(file: str) -> str:

@@ -117,6 +117,7 @@ class Collection:
         mode = "rwc" if new else "rw" if os.access(path, os.W_OK) else "ro"
         try:
             self._data = sqlite3.connect(f"{_uri(path)}?mode={mode}", uri=True)
+            self._data.create_function("folded", 1, _folded)
             if new:
                 self._data.execute("BEGIN IMMEDIATE")
                 if not self._tables():
@@ -313,11 +314,11 @@ def _conditions(wanted: Wanted) -> tuple[list[str], list[str]]:
         ("origin", wanted.source),
     ):
         if text:
-            conditions.append(f"{column} LIKE ? ESCAPE '\\'")
+            conditions.append(_alike(column))
             values.append(f"%{_escaped(text)}%")
     if wanted.keyword:
         keywords = _with_narrower(wanted.keyword)
-        alike = ["keywords LIKE ? ESCAPE '\\'"] * len(keywords)
+        alike = [_alike("keywords")] * len(keywords)
         conditions.append(f"({' OR '.join(alike)})")
         values += [f"%{_escaped(text)}%" for text in keywords]
     for column, text in (("stipulation", wanted.stipulation), ("condition", wanted.condition)):
@@ -329,6 +330,15 @@ def _conditions(wanted: Wanted) -> tuple[list[str], list[str]]:
             conditions.append(f"substr(board, {place}, 1) = ?")
             values.append(wanted.men[square].letter)
     return conditions, values
+
+
+def _alike(column: str) -> str:
+    return f"folded({column}) LIKE folded(?) ESCAPE '\\'"
+
+
+def _folded(text: object) -> str:
+    """Returns a text in small letters of all languages: SQLite's LIKE only knows English ones."""
+    return str(text).casefold()
 
 
 def _with_narrower(keyword: str) -> list[str]:

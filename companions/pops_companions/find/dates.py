@@ -1,6 +1,8 @@
 """The date in an origin: `1977-08`, `15.8.1977`, `8/1977`, `VIII/1977`, `August 1977`."""
 
 import re
+from collections.abc import Iterable
+from typing import Optional
 
 from pops_companions.import_.origins import MONTHS
 
@@ -29,7 +31,15 @@ _LAST_DAY = 31
 
 def date_of(origin: str) -> str:
     """Returns an origin's date, as `1977-08-15`, `1977-08` or `1977`; empty where there is none."""
-    found = (re.search(date, origin, re.IGNORECASE) for date in _DATES)
+    return _first(re.search(date, origin, re.IGNORECASE) for date in _DATES)
+
+
+def whole_date(text: str) -> str:
+    """Returns the date that a text is, as `date_of` does; empty for another text."""
+    return _first(re.fullmatch(date, text, re.IGNORECASE) for date in _DATES)
+
+
+def _first(found: Iterable[Optional["re.Match[str]"]]) -> str:
     dates = (_dated(**one.groupdict()) for one in found if one is not None)
     return next(filter(None, dates), "")
 
