@@ -509,6 +509,16 @@ class Forms(Case):
         outcome = self.made(text.replace("ǿ".encode(), "ſɓ".encode()), "--to", "latex")
         self.assertIn("latex and pdflatex lack ſ ɓ: lualatex sets them", outcome.error)
 
+    def test_dates_in_languages(self) -> None:
+        """A date that pops-import wrote is in the language; other texts stay."""
+        for code, date in (("en", "6 August 1977"), ("de", "6. August 1977"), ("fr", "6 août 1977")):
+            text = b"BeginProblem\nOrigin Jas, 6 August 1977\nPieces White Kg6 Ra1 Black Kg8\n"
+            told = self.sheet(text + b"Stipulation #1\nEndProblem\n", "--language", code)
+            self.assertIn(f">Jas, {date}<", told.output.decode())
+        text = text.replace(b"6 August 1977", b"August 1977, no. 3")
+        told = self.sheet(text + b"Stipulation #1\nEndProblem\n", "--language", "de")
+        self.assertIn(">Jas, August 1977, no. 3<", told.output.decode())
+
     def test_conditions_in_languages(self) -> None:
         circe = OF_THE_MANUAL.replace(b"#2\n", b"#2\nCondition Circe\n")
         for code, name in (("en", "Circe"), ("de", "Circe"), ("fr", "Circé")):

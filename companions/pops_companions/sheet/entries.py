@@ -7,6 +7,7 @@ from typing import Optional
 
 from pops_companions.chess.attacks import Men
 from pops_companions.chess.men import Square
+from pops_companions.import_.origins import MONTHS
 from pops_companions.input.given import GivenProblem
 from pops_companions.input.pieces import cut
 from pops_companions.input.reading import FaultKind, read_piece
@@ -23,6 +24,8 @@ from pops_companions.show.twins import Group, Twin
 
 # Why a problem has no solution that a report lacks.
 NOT_IN_REPORT = "not in the report"
+# What pops-import makes of a date: `6 August 1977`.
+_DATE = re.compile(rf"(?:([0-9]{{1,2}}) )?\b({'|'.join(MONTHS)}) ([0-9]{{4}})$")
 # What pops-import makes of an award: `Award 1st Prize`, `award: 1st Prize`,
 # `award.distinction: 1st Prize`.
 _AWARD = re.compile(r"award(?:\.([\w.]+))?:? +(.+)|distinction: +(.+)", re.IGNORECASE)
@@ -109,7 +112,7 @@ class Sheet:
             group,
             tuple(persons(author)),
             "" if group.title is None else printable(group.title),
-            "" if origin is None else self._text(origin),
+            "" if origin is None else self._dated(self._text(origin)),
             "" if given is None else self._award(given),
             WORDS[self.language.code].asked(_asked(group)),
             self.boards.get(group.first.number),
@@ -118,6 +121,13 @@ class Sheet:
 
     def _text(self, text: bytes) -> str:
         return printable(shown(text, self.encoding))
+
+    def _dated(self, source: str) -> str:
+        """Writes the date of a source, as pops-import has it, in the language of the sheet."""
+        date = _DATE.search(source)
+        if date is None:
+            return source
+        return source[: date.start()] + self.language.date(date[1], MONTHS.index(date[2]), date[3])
 
     def _award(self, given: GivenProblem) -> str:
         """Returns the award that Remarks name; the distinction comes first."""

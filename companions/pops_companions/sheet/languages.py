@@ -1,7 +1,7 @@
 """Letters of the men and words of a solution, in the languages of a sheet."""
 
 from collections.abc import Mapping
-from typing import NamedTuple
+from typing import NamedTuple, Optional
 
 from pops_companions.chess.men import Colour, Kind
 from pops_companions.stored import stored
@@ -16,7 +16,8 @@ FIGURES: Mapping[Kind, str] = dict(zip(Kind, "♔♕♖♗♘♙"))
 class Language(NamedTuple):
     """A language: its code, letters in the order of Kind, letters of the colours, and words.
 
-    `sides` are White and Black in a list of men, `no_men` says that a side has none.
+    `sides` are White and Black in a list of men, `no_men` says that a side has none. `day` is how a
+    day is written before its month.
     """
 
     code: str
@@ -37,11 +38,18 @@ class Language(NamedTuple):
     authors: str
     grasshopper: str
     nightrider: str
+    day: str
+    months: str
 
     @property
     def fairy_men(self) -> Mapping[Kind, str]:
         """The names of the fairy men."""
         return {Kind.GRASSHOPPER: self.grasshopper, Kind.NIGHTRIDER: self.nightrider}
+
+    def date(self, day: Optional[str], month: int, year: str) -> str:
+        """Writes a date; months count from 0."""
+        before = "" if day is None else self.day.format(day=day)
+        return f"{before}{self.months.split()[month]} {year}"
 
     def man(self, kind: Kind) -> str:
         return self.letters[list(Kind).index(kind)]
