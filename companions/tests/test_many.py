@@ -13,7 +13,9 @@ from unittest import mock
 
 from pops_companions.input.pieces import Rest, cut, rest_of
 from pops_companions.many.cutting import Pieces
+from pops_companions.many.journal import Journal
 from pops_companions.many.progress import Progress, duration
+from pops_companions.many.tasks import Result, Source, Task
 from tests import made_inputs, support
 from tests.six_problems import SIX, SixProblems
 
@@ -242,6 +244,19 @@ class Interruptions(SixProblems):
         self.journal.write_bytes(bytes(journal))
         self.assertEqual(self.many(support.pops(), "--resume"), (0, b"", ""))
         self.assertEqual(self.report.read_bytes(), self.wanted)
+
+    def test_a_journal_in_which_two_records_have_one_task(self) -> None:
+        """The first one counts; what only the second one has is solved again."""
+        source = Source(None, b"")
+        journal = Journal(str(self.journal), b"run", False, 4, None)
+        for place in (0, 1):
+            text = b"problem 1\n\nproblem 2\n\n"
+            journal.keep(Result(Task(place, source, None), 0, text, None, 2))
+        journal.close(True)
+        again = Journal(str(self.journal), b"run", True, 4, None)
+        self.addCleanup(again.close, True)
+        self.assertEqual([again.is_finished(place) for place in range(4)], [True, True, False, False])
+        self.assertEqual(list(again.kept), [0])
 
     def test_another_runs_journal_is_refused(self) -> None:
         self.many(self.stand_in("kill -9 $$"))

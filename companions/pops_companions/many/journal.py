@@ -167,9 +167,13 @@ class Journal:
         """
         if place + kept.tasks > self._tasks or kept.status > UNFINISHED:
             return False
+        places = range(place, place + kept.tasks)
+        if not self._finished.isdisjoint(places):
+            # (a journal that somebody changed: a task is finished once)
+            return True
         self.kept[place] = kept
         if kept.seconds is None:
-            self._finished.update(range(place, place + kept.tasks))
+            self._finished.update(places)
             for of_task in range(place + 1, place + kept.tasks):
                 self.kept.pop(of_task, None)
         return True
