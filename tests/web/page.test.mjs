@@ -778,6 +778,16 @@ test('beside: whether a long text can be converted is tried once, by a worker', 
   assert.equal(doChore('import', { text: TEXT }, () => {}, () => {}), true);
 });
 
+test('after a key in a long text the problem at the cursor is looked for in slices', async () => {
+  const long = `${TEXT.replace('EndProblem', 'NextProblem')}${'a '.repeat(1 << 21)}`;
+  begin(TEXT);
+  Object.assign(element('text'), { value: long, selectionStart: long.length });
+  element('text').onkeyup();
+  assert.equal(blocksOf.knows(long), false);
+  while (state.number !== 2) await new Promise(end => setTimeout(end, 1));
+  begin(TEXT);
+});
+
 // (the last one: it leaves a long text among those for undo)
 test('a long text that is pasted is read in slices', () => {
   const long = `BeginProblem\n${'a '.repeat(1 << 21)}`;

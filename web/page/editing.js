@@ -3,9 +3,9 @@
 import { element } from '../elements.js';
 import { isOfAnother } from '../importing.js';
 import { changed, countOf, exchanged, impossibleCounts, readFen } from '../position.js';
-import { LONG_TEXT } from '../slices.js';
+import { inSlices, LONG_TEXT } from '../slices.js';
 import {
-  blockAt, blocksOf, fenOfBlock, lineOf, menOf, NEW_PROBLEM, tailOf, withFen, withField, withLine, withMen, withoutLines, withTail,
+  blockAt, blocksOf, fenOfBlock, lineOf, menOf, NEW_PROBLEM, readText, tailOf, withFen, withField, withLine, withMen, withoutLines, withTail,
 } from '../text.js';
 import { say } from '../words.js';
 import { doChore } from './beside.js';
@@ -18,6 +18,8 @@ import { leave } from './walk.js';
 const TYPING_PAUSE = 500;
 /** @type {ReturnType<typeof setTimeout> | undefined} runs out when a pause in typing is long enough for a step of undo */
 let typing;
+/** Ends the reading for an earlier click or key. */
+let endPlacing = () => {};
 
 /**
  * Sets the text and shows everything again.
@@ -48,9 +50,17 @@ export function typed() {
   unmarkFaults();
 }
 
-/** Shows the problem at the cursor on the board. */
+/** Shows the problem at the cursor on the board; in a long text that was changed, when it is read. */
 export function placed() {
-  const number = blockAt(textNow(), element('text').selectionStart)?.number ?? 1;
+  endPlacing();
+  const text = textNow();
+  endPlacing = inSlices(text.length, readText(text), () => showPlaced(text));
+}
+
+/** @param {string} text the text at the click or key */
+function showPlaced(text) {
+  if (textNow() !== text) return;
+  const number = blockAt(text, element('text').selectionStart)?.number ?? 1;
   if (number === state.number) return;
   state.choose(number);
   state.follow();
