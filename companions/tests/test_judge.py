@@ -261,6 +261,24 @@ class Judging(unittest.TestCase):
         self.assertEqual(self.judged("--resume", "--pops-tries", tries), (0, outcome.output, ""))
         self.assertIn("1.Ra8#!", self.articles()[0].words)
 
+    def test_what_isnt_a_whole_text_of_tries_is_told_and_isnt_kept(self) -> None:
+        tries = self.script("tries", f"cat > /dev/null\nprintf '{TRIES_OF_ONE}'\n")
+        head = "cat > /dev/null\nprintf 'problem 1"
+        said = "problem 1: pops-tries ended with status 0: its tries and threats are missing"
+        cases = (
+            ("exit 0\n", 6, said),
+            (f"{head}\\n#1\\nplay\\n'\n", 6, said),
+            (f"{head}\\n%0100d\\n\\n'\n", 3, "problem 1: the output of"),
+        )
+        for text, status, error in cases:
+            with self.subTest(text):
+                outcome = self.judged("--pops-tries", self.script("cut", text))
+                self.assertEqual(outcome.status, status)
+                self.assertIn(error, outcome.error)
+                again = self.judged("--resume", "--pops-tries", tries)
+                self.assertEqual((again.status, again.error), (0, ""))
+                self.assertIn("1.Ra8#!", self.articles()[0].words)
+
     def test_tries_where_the_program_is(self) -> None:
         tries = self.script("tries", f"cat > /dev/null\nprintf '{TRIES_OF_ONE}'\n")
         outcome = self.judged("--pops-tries", tries)

@@ -7,6 +7,7 @@ from pathlib import Path
 from typing import Optional
 
 from pops_companions.many.program import FAULTY, SOUND, MissingError, RunError, Runs
+from pops_companions.many.tasks import is_whole
 
 TRIES_LOOKED_FOR = (
     "the program pops-tries (default: $POPS_TRIES, the one next to pops, the one on the PATH)"
@@ -44,7 +45,7 @@ class TriesProgram(Runs):
         """Returns what it writes of a problem; None where its time was over. RunError where it failed.
         """
         run = self.outcome([], problem, self._seconds)
-        if run.status in (SOUND, FAULTY):
+        if run.status in (SOUND, FAULTY) and is_whole(run.output):
             return run.output
         if not run.in_time:
             return None

@@ -172,7 +172,7 @@ class Work:
         """
         number, problem = wanted
         path = self.folder.path / f"tries-{number}.txt"
-        text = self.folder.kept(path)
+        text = kept = self.folder.kept(path)
         if text is None:
             try:
                 text = program.text_of(problem)
@@ -183,8 +183,11 @@ class Work:
             if text is None:
                 self.is_finished = False
                 return None
+        name = f"problem {number}: the output of {self._runs.tries}"
+        item = next(iter(tries_of_text(name, text).values()), None)
+        # (what can't be read isn't kept)
+        if kept is None:
             self.folder.keep(path, text)
-        item = next(iter(tries_of_text(str(path), text).values()), None)
         return None if item is None else replace(item, number=number)
 
     def end(self) -> bool:
