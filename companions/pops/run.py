@@ -37,6 +37,9 @@ class Ending(Enum):
     FAILED = "the program failed"
 
 
+# The bytes on standard error that end a program, and how many of them are passed on.
+_MOST_ERRORS = 1 << 26
+_MOST_SAID = 1 << 12
 # These end a run although the program has written more.
 _AT_ONCE = (Ending.CANCELLED, Ending.BYTES, Ending.SOLUTIONS)
 
@@ -72,6 +75,7 @@ class Solver(Runs):
     def begin(self, text: bytes, errors: IO[bytes]) -> ChildProcess:
         """Starts it on a text. RunError where it can't be started."""
         child = self._started([], PIPE, errors)
+        child.limit_files(_MOST_ERRORS)
         child.feed(text)
         return child
 
@@ -204,7 +208,7 @@ class Run:
                 return None
             self._ending = Ending.FAILED
             self._errors.seek(0)
-            return self._solver.reason(status, self._errors.read())
+            return self._solver.reason(status, self._errors.read(_MOST_SAID))
 
     def _events_of(self, piece: bytes) -> Iterator[events.Event]:
         """Yields what a piece of the text says, as far as the limits let it."""

@@ -9,6 +9,7 @@ import threading
 import unittest
 from collections.abc import Iterable
 from pathlib import Path
+from unittest import mock
 
 import pops
 from pops_companions.report import lines
@@ -202,6 +203,15 @@ class Runs(unittest.TestCase):
                 next(run)
         with self.assertRaises(pops.MissingError):
             pops.Engine("/no/such/program")
+
+    def test_a_program_that_says_too_much(self) -> None:
+        with tempfile.TemporaryDirectory() as room:
+            program = Path(room, "pops")
+            program.write_text("#!/bin/sh\ncat > /dev/null\nexec head -c 100000 /dev/zero >&2\n")
+            program.chmod(0o755)
+            with mock.patch("pops.run._MOST_ERRORS", 1 << 16):
+                with self.assertRaisesRegex(pops.RunError, "^pops was ended by signal 25$"):
+                    list(pops.Engine(str(program)).solve(PAIR))
 
     def test_version(self) -> None:
         number = (support.REPOSITORY / "VERSION").read_text().split()[0]

@@ -100,9 +100,15 @@ class ChildProcess:
 
     def limit(self, seconds: float) -> None:
         """Limits the processor time, so that the program ends even if nobody can end it."""
-        most = math.ceil(seconds) + _SECONDS_MORE
+        self._limit(resource.RLIMIT_CPU, math.ceil(seconds) + _SECONDS_MORE)
+
+    def limit_files(self, most: int) -> None:
+        """Limits the bytes of a file that the program writes: one more ends it."""
+        self._limit(resource.RLIMIT_FSIZE, most)
+
+    def _limit(self, kind: int, most: int) -> None:
         try:
-            resource.prlimit(self.run.pid, resource.RLIMIT_CPU, (most, most))
+            resource.prlimit(self.run.pid, kind, (most, most))
         except (OSError, ValueError, OverflowError):
             # It has ended, or has less already.
             pass
