@@ -260,6 +260,15 @@ class Command(unittest.TestCase):
             self.assertEqual((outcome.status, outcome.error), (0, ""))
             self.assertIn(b"pops-explain", outcome.output)
 
+    def test_a_program_that_writes_no_report(self) -> None:
+        with tempfile.TemporaryDirectory() as room:
+            program = Path(room, "pops")
+            program.write_text("#!/bin/sh\ncat > /dev/null\necho a line of others\n")
+            program.chmod(0o755)
+            outcome = support.companion("pops-explain", "--pops", str(program), text=b"BeginProblem\n")
+        self.assertEqual(outcome.status, 3)
+        self.assertIn("found 'a line of others'", outcome.error)
+
 
 class Json(unittest.TestCase):
     TEXT = (

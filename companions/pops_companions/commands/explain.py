@@ -102,7 +102,7 @@ def checked(text: bytes, named: Optional[str]) -> bytes:
         return Engine(named).check(text).result.text
     except MissingError as error:
         raise CommandError(Status.DEVICE, f"{error}; or give REPORT") from None
-    except RunError as error:
+    except (RunError, ReportError) as error:
         raise CommandError(Status.DEVICE, str(error)) from None
 
 
