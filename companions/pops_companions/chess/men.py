@@ -49,8 +49,10 @@ class Man:
     @staticmethod
     def of_letter(letter: str) -> "Man":
         """Returns the man of a printed board's letter. ValueError for any other letter."""
-        colour = Colour.WHITE if letter.isupper() else Colour.BLACK
-        return Man(colour, Kind(letter.upper()))
+        man = _MEN.get(letter)
+        if man is None:
+            raise ValueError(f"not a man: {letter!r}")
+        return man
 
 
 @dataclass(frozen=True)
@@ -80,6 +82,8 @@ class Square:
     @staticmethod
     def of_diagram() -> "Iterator[Square]":
         """Yields all squares as a diagram shows them: rank 8 first, each rank from a to h."""
-        for rank in range(8, 0, -1):
-            for file in range(1, 9):
-                yield Square(file, rank)
+        yield from _DIAGRAM
+
+
+_MEN = {man.letter: man for man in (Man(colour, kind) for colour in Colour for kind in Kind)}
+_DIAGRAM = [Square(file, rank) for rank in range(8, 0, -1) for file in range(1, 9)]
