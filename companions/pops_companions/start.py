@@ -27,12 +27,27 @@ class Companion:
             _end(f"cannot begin: {error}", _FAILED)
 
     def _run(self) -> None:
-        from importlib import import_module
+        # (with too little memory, modules of Python write what they couldn't load)
+        errors, sys.stderr = sys.stderr, _Unheard()  # type: ignore[assignment]
+        try:
+            from importlib import import_module
 
-        from pops_companions import command
+            from pops_companions import command
 
-        loaded = import_module(f"pops_companions.commands.{self._module}")
+            loaded = import_module(f"pops_companions.commands.{self._module}")
+        finally:
+            sys.stderr = errors
         command.run(loaded.NAME, loaded.main)
+
+
+class _Unheard:
+    """A stream that drops what is written to it."""
+
+    def write(self, text: str) -> int:
+        return len(text)
+
+    def flush(self) -> None:
+        pass
 
 
 def _end(message: str, status: int) -> None:

@@ -200,6 +200,18 @@ class Ends(unittest.TestCase):
         )
         self.assertEqual(outcome, (6, b"", "pops-judge: stopped\n"))
 
+    def test_what_modules_say_of_a_shortage_is_dropped(self) -> None:
+        outcome = self.ended(
+            "def lack(*_):\n"
+            "    sys.stderr.write('code for hash blake2b was not found\\n')\n"
+            "    raise MemoryError\n"
+            "sys.meta_path.insert(0, type('Lacking', (), {'find_spec': staticmethod(lack)}))\n"
+            "sys.argv = ['/a/pops-judge']\n"
+            "start.judge()",
+            "from pops_companions import start",
+        )
+        self.assertEqual(outcome, (4, b"", "pops-judge: out of memory\n"))
+
     def test_a_part_that_is_missing(self) -> None:
         outcome = self.ended(
             "from pops_companions import start\n"
