@@ -4,14 +4,10 @@ import re
 from collections.abc import Iterable
 from typing import Optional
 
-from pops_companions.import_.origins import MONTHS
+from pops_companions.sheet.languages import LANGUAGES
 
-_OTHER_MONTHS = (
-    "Januar Februar März April Mai Juni Juli August September Oktober November Dezember",
-    "janvier février mars avril mai juin juillet août septembre octobre novembre décembre",
-)
 _ROMAN = "I II III IV V VI VII VIII IX X XI XII".split()
-_MONTHS = [MONTHS, *(names.split() for names in _OTHER_MONTHS)]
+_MONTHS = [language.months.split() for language in LANGUAGES.values()]
 _NUMBERS = {
     name.casefold(): number
     for names in (*_MONTHS, _ROMAN)
@@ -49,6 +45,6 @@ def _dated(year: str, month: str = "", day: str = "") -> str:
     if not month:
         return year
     number = _NUMBERS.get(month.casefold()) or int(month)
-    if not 1 <= number <= len(MONTHS) or not 1 <= int(day or 1) <= _LAST_DAY:
+    if not 1 <= number <= len(_ROMAN) or not 1 <= int(day or 1) <= _LAST_DAY:
         return ""
     return f"{year}-{number:02}" + (f"-{int(day):02}" if day else "")
