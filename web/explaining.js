@@ -127,7 +127,7 @@ function piecesOf(text, { from, to }, marks) {
 }
 
 /** @param {string} word */
-export const optionOf = word => (companions.unread(word) ?? companions.unread(companions.foreign(word)?.english ?? ''))?.name;
+const optionOf = word => (companions.unread(word) ?? companions.unread(companions.foreign(word)?.english ?? ''))?.name;
 
 /**
  * Returns the most refutations of a try by the options of a text, `Try` and `Defence N`; 0 if none says so.

@@ -11,6 +11,7 @@ Python that has no translation here ends with status 1 and names its line: it is
 import ast
 import json
 import os
+import re
 import sys
 from collections.abc import Iterable, Iterator
 from typing import NamedTuple, Optional, Union
@@ -30,6 +31,7 @@ PARTS = {
     "pops_companions.explain.vocabulary": ("foreign", "unread"),
     "pops_companions.export.problems": ("Exported", "joined", "read_problems"),
     "pops_companions.export.yaml_form": ("yaml_of",),
+    "pops_companions.import_.options": ("option_left_out",),
     "pops_companions.import_.popeye": ("begins", "read_popeye"),
     "pops_companions.import_.posing": ("posed",),
     "pops_companions.import_.yaml_problems": ("read_yaml",),
@@ -452,7 +454,8 @@ class Writer:
                 said = self.arguments(node, None)
                 return f"py.{function.attr}({self.value(function.value)}{', ' if said else ''}{said})"
             owner = self.value(function.value)
-            if not (owner.startswith("py.") or function.attr in METHODS_ALIKE or self.has_member(function.attr)):
+            is_module = re.fullmatch(r"py\.\w+", owner) is not None
+            if not (is_module or function.attr in METHODS_ALIKE or self.has_member(function.attr)):
                 raise self.fail(node, f"the method {function.attr}")
             return f"{owner}.{function.attr}({self.arguments(node, self.method(function.attr))})"
         return f"{self.value(function)}({self.arguments(node, None)})"
@@ -645,7 +648,7 @@ class Writer:
         for it in node.body:
             if isinstance(it, ast.FunctionDef):
                 said += self.member(it)
-            elif isinstance(it, ast.Assign) and is_enum:
+            elif isinstance(it, ast.Assign) and is_enum and names_in(it.targets[0]) != ["__hash__"]:
                 members.append(f"{names_in(it.targets[0])[0]}: {self.value(it.value)}")
         after = [f"py.members({name}, {{ {', '.join(members)} }});"] if is_enum else []
         return [f"class {name}{f' extends {base}' if base else ''} {{", *indented(said), "}", *after]

@@ -1,6 +1,6 @@
 // @ts-check
-// Turns texts of other programs into problems of pops, as pops-import does: inputs of Popeye, collections in YAML.
-import { explanationOf, faultsOf, optionOf } from './explaining.js';
+// Turns texts of other programs into problems of pops, as pops-import does: inputs of Popeye, collections in YAML or JSON.
+import { explanationOf, faultsOf } from './explaining.js';
 import { sayFaultKind, sayReason } from './names.js';
 import { companions } from './out/companions.js';
 import { wordsOf } from './text.js';
@@ -50,10 +50,16 @@ function posedText(drafts) {
 const withoutMark = text => text.replace(/^\ufeff/, '');
 
 /**
+ * Returns whether a text is a collection in YAML or JSON.
+ * @param {string} text
+ */
+const isCollection = text => OF_YAML.test(text) || (/^[[{]/.test(text.trimStart()) && /"algebraic"\s*:/.test(text));
+
+/**
  * Returns whether a text is one of another program.
  * @param {string} text
  */
-export const isOfAnother = text => OF_YAML.test(text) || isOfPopeye(withoutMark(text));
+export const isOfAnother = text => isCollection(text) || isOfPopeye(withoutMark(text));
 
 /**
  * Reads the problems of a text of another program.
@@ -61,7 +67,7 @@ export const isOfAnother = text => OF_YAML.test(text) || isOfPopeye(withoutMark(
  */
 function draftsOf(text) {
   const lines = text.replaceAll('\r\n', '\n');
-  return OF_YAML.test(text) ? companions.readYaml(lines) : companions.readPopeye(lines);
+  return isCollection(text) ? companions.readYaml(lines) : companions.readPopeye(lines);
 }
 
 /**
@@ -74,7 +80,7 @@ export function imported(given) {
   const text = withoutMark(given);
   if (!isOfAnother(text)) return null;
   const drafts = draftsOf(text);
-  const words = new Set(wordsOf(text).map(it => it.word));
+  const leftOut = drafts.flatMap((/** @type {any} */ { notes }) => notes.map((/** @type {any} */ note) => companions.optionLeftOut(note.text)?.split(' ')[0]));
   const refutations = drafts.reduce((/** @type {number} */ most, /** @type {any} */ { options }) => Math.max(most, options.refutations), 0);
-  return { ...posedText(drafts), asksForTries: refutations > 0 || [...words].some(word => TRIES_OPTIONS.includes(optionOf(word))), refutations };
+  return { ...posedText(drafts), asksForTries: TRIES_OPTIONS.some(it => leftOut.includes(it)), refutations };
 }

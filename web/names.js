@@ -1,5 +1,5 @@
 // @ts-check
-// What a report names, in the page's language: conditions and faults as pops-sheet names them, reasons of an import, phases and totals.
+// What texts and reports name, in the page's language: conditions, dates and faults as pops-sheet names them, reasons of an import, phases and totals.
 import { partText } from './elements.js';
 import { companions } from './out/companions.js';
 import { py } from './python.js';
@@ -13,6 +13,9 @@ export const sayCondition = condition => companions.WORDS.get(language).conditio
  * @param {string} asked
  */
 export const sayAsked = asked => asked.replace(/ (Circe|Madrasi)$/, (_, condition) => ` ${sayCondition(condition)}`);
+
+/** @param {string} origin @returns {string} */
+export const sayDated = origin => companions.LANGUAGES.get(language).dated(origin);
 
 /** @param {number} number @returns {string} */
 export const sayFaultKind = number => companions.WORDS.get(language).faults.get(companions.FaultKind.of(number));

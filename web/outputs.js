@@ -2,7 +2,7 @@
 // Problems and reports in other forms, as the companions write them, by their code: JSON, pages of diagrams, drawings, YAML, LaTeX, short notation.
 import { faultsOf } from './explaining.js';
 import { faultyItem, knownItem, knownMen, knownTries } from './items.js';
-import { sayAsked, sayFault, sayReason, sayTotal } from './names.js';
+import { sayAsked, sayDated, sayFault, sayReason, sayTotal } from './names.js';
 import { companions } from './out/companions.js';
 import { ranksOf } from './position.js';
 import { py } from './python.js';
@@ -16,6 +16,7 @@ const PAGE_WORDS = {
   get sound() { return `${say('soundItem')} <small>(${say('soundMeans')})</small>`; },
   get no_board() { return say('noBoardShown'); },
   asked: sayAsked,
+  dated: sayDated,
   fault: sayFault,
   get fairy_men() { return companions.LANGUAGES.get(language).fairy_men; },
   phase: (/** @type {any} */ kind) => say(`kind-${kind.value}`),

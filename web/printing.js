@@ -2,7 +2,7 @@
 // The printed sheet: the problem on the board with its solutions, twins under one diagram.
 import { contentsOf, twinsOf } from './contents.js';
 import { element, madeWith } from './elements.js';
-import { sayTotal } from './names.js';
+import { sayDated, sayTotal } from './names.js';
 import { diagramOf } from './outputs.js';
 import { blockNow, state, textNow } from './page/state.js';
 import { countOf } from './position.js';
@@ -38,7 +38,7 @@ function printedDiagram(first) {
   below.append(printedPart('span', 'asked', first?.asked ?? ''), printedPart('span', 'count', `(${countOf(men, 'w')}+${countOf(men, 'b')})`));
   const made = document.createElement('div');
   made.append(
-    printedPart('h2', 'title', first?.title ?? ''), printedPart('p', 'author', first?.author ?? ''), printedPart('p', 'origin', origin ?? ''),
+    printedPart('h2', 'title', first?.title ?? ''), printedPart('p', 'author', first?.author ?? ''), printedPart('p', 'origin', sayDated(origin ?? '')),
     diagram, below,
   );
   return made;

@@ -223,11 +223,13 @@ export function sidesOf(men) {
  * @param {Replacement[]} parts
  */
 function replaced(text, parts) {
-  let result = text;
-  for (const { from, to, said } of [...parts].sort((one, other) => other.from - one.from)) {
-    result = result.slice(0, from) + said + result.slice(to);
+  const pieces = [];
+  let end = 0;
+  for (const { from, to, said } of [...parts].sort((one, next) => one.from - next.from)) {
+    pieces.push(text.slice(end, from), said);
+    end = to;
   }
-  return result;
+  return pieces.join('') + text.slice(end);
 }
 
 /**
@@ -317,8 +319,11 @@ export function fieldsOf(text, block) {
       const said = text.slice(word.to, end).trim();
       fields[word.command] = { parts: [{ from: word.from, to: end }], said, section: null, earlier: fields[word.command] };
     } else if (word.command && !isTextCommand(word.command)) {
-      Object.assign(state, { section: word, awaited: null, last: null });
-    } else if (!word.command && state.section) readField(word, state.section, fields, state);
+      Object.assign(state, { section: { ...word, words: 0 }, awaited: null, last: null });
+    } else if (!word.command && state.section) {
+      state.section.words++;
+      readField(word, state.section, fields, state);
+    }
   }
   return fields;
 }
@@ -326,7 +331,7 @@ export function fieldsOf(text, block) {
 /**
  * Reads one word after a command.
  * @param {Token} word
- * @param {Token} section the command
+ * @param {Section} section
  * @param {Fields} fields
  * @param {FieldState} state
  */
@@ -344,7 +349,8 @@ function readField(word, section, fields, state) {
       state.awaited = name === 'MaxSolutions' || name === 'EnPassant' ? fields[name] : null;
     } else if (last?.name === 'NoCastling' && /^([a-h][1-8])+$/i.test(word.word)) {
       last.parts.push(part);
-      last.said = `${last.said} ${word.word}`.trim();
+      // (without a look at the letters of what is joined, which would take time that grows by the square)
+      last.said += last.said ? ` ${word.word}` : word.word;
     }
   } else if ((section.command === 'stipulation' || section.command === 'condition') && !fields[section.command]) {
     fields[section.command] = { parts: [part], said: word.word, section };
@@ -360,8 +366,8 @@ export function valueOf(fields, name) {
   const found = fields[name];
   if (!found) return null;
   const said = [];
-  for (let field = /** @type {Field | undefined} */ (found); field; field = name === 'NoCastling' ? field.earlier : undefined) said.unshift(field.said);
-  return said.join(' ').trim();
+  for (let field = /** @type {Field | undefined} */ (found); field; field = name === 'NoCastling' ? field.earlier : undefined) said.push(field.said);
+  return said.reverse().join(' ').trim();
 }
 
 /** @param {string} value */
@@ -395,7 +401,7 @@ function withWord(text, block, name, value) {
   const field = fieldsOf(text, block)[name.toLowerCase()];
   const said = oneLine(value);
   if (field && said) return replaced(text, [{ ...field.parts[0], said }]);
-  if (field) return without(text, [...commandAlone(block, field), ...field.parts]);
+  if (field) return without(text, [...commandAlone(field), ...field.parts]);
   const bare = block.words.find(word => word.command === name.toLowerCase());
   if (bare && said) return replaced(text, [{ from: bare.to, to: bare.to, said: ` ${said}` }]);
   return said ? withLine(text, block, `${name} ${said}`) : text;
@@ -403,16 +409,9 @@ function withWord(text, block, name, value) {
 
 /**
  * Lists the field's command if it has no other words.
- * @param {Block} block
  * @param {Field} field
  */
-function commandAlone(block, { section, parts }) {
-  if (!section) return [];
-  const following = block.words.slice(block.words.indexOf(section) + 1);
-  const next = following.findIndex(word => word.command && !isTextCommand(word.command));
-  const own = next < 0 ? following : following.slice(0, next);
-  return own.every(word => word.command || parts.some(part => part.from === word.from)) ? [section] : [];
-}
+const commandAlone = ({ section, parts }) => (section?.words === parts.length ? [section] : []);
 
 /**
  * Sets an option and its value; removes it if the value is null.
@@ -427,7 +426,7 @@ function withOption(text, block, name, value) {
   /** @type {Span[]} */
   const gone = [];
   for (let field = /** @type {Field | undefined} */ (value === null ? found : found.earlier); field; field = field.earlier) {
-    for (const part of [field.parts, commandAlone(block, field)].flat()) gone.push(part);
+    for (const part of [field.parts, commandAlone(field)].flat()) gone.push(part);
   }
   if (value === null) return without(text, gone);
   const [own, first, ...more] = found.parts;

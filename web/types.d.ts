@@ -24,11 +24,13 @@ interface Token extends Span { word: string; command?: string; end?: number }
 interface Block { words: Token[]; from: number; start: number; end: number; number: number }
 /** The men of a problem, the parts of the text that name them, and the words that a board can't show. */
 interface MenRead { men: Men; parts: Span[]; unknown: string[] }
+/** A command, and how many words follow it. */
+interface Section extends Span { words: number; command?: string }
 /** A field of a problem: where it stands, its value, the command that it follows, and the same field before it. */
-interface Field { name?: string; parts: Span[]; said: string; section: Token | null; earlier?: Field }
+interface Field { name?: string; parts: Span[]; said: string; section: Section | null; earlier?: Field }
 type Fields = Record<string, Field>;
 /** Where a reading of fields is: the last command, the field that awaits its value, the last option. */
-interface FieldState { section: Token | null; awaited: Field | null; last: Field | null }
+interface FieldState { section: Section | null; awaited: Field | null; last: Field | null }
 
 // The report.
 

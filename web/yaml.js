@@ -1,5 +1,5 @@
 // @ts-check
-// Reads collections in YAML in the form of Olive and YACPDB, written from memory: what pops-import has of PyYAML, by the same names. It
+// Reads collections in YAML, or in JSON, in the form of Olive and YACPDB, written from memory: what pops-import has of PyYAML, by the same names. It
 // knows no lines.
 import { py } from './python.js';
 
@@ -270,10 +270,38 @@ class YamlReader {
 }
 
 /**
- * Returns the documents of a collection: each has what it holds as `node`.
+ * Returns what JSON says as a node, where numbers are texts too.
+ * @param {any} value
+ * @param {number} level
+ * @returns {any}
+ */
+function nodeOfJson(value, level) {
+  if (value === null || typeof value !== 'object') return value === null ? null : String(value);
+  refuseLevel(level);
+  if (Array.isArray(value)) return value.map(it => nodeOfJson(it, level + 1));
+  return py.dict(Object.entries(value).map(([key, it]) => [key, nodeOfJson(it, level + 1)]));
+}
+
+/**
+ * Returns what a text of JSON says; undefined for another text.
+ * @param {string} text
+ */
+function jsonIn(text) {
+  if (!/^\s*[[{]/.test(text)) return undefined;
+  try {
+    return JSON.parse(text);
+  } catch {
+    return undefined;
+  }
+}
+
+/**
+ * Returns the documents of a collection in YAML or JSON: each has what it holds as `node`.
  * @param {string} text
  */
 export function documents(text) {
+  const json = jsonIn(text);
+  if (json !== undefined) return [{ line: 1, node: () => nodeOfJson(json, 1) }];
   const all = text.replaceAll('\r\n', '\n').split(/^---.*$|^\.\.\.\s*$/m).filter(document => document.replace(/^%.*$/gm, '').trim());
   return all.map(document => ({ line: 1, node: () => nodeOf(document) }));
 }

@@ -85,7 +85,7 @@ class Solver(Runs):
 
     def reason(self, status: int, said: bytes) -> str:
         """Returns why it failed."""
-        return self._reason(status, said)
+        return self._reason(status, said, _MOST_ERRORS)
 
 
 class Run:
@@ -202,7 +202,8 @@ class Run:
         """Notes how the run ended; returns why it failed, if it did."""
         status = self._child.run.returncode
         with self._errors, self._lock:
-            if status in (SOUND, FAULTY) and self._ending not in _AT_ONCE:
+            is_whole = status in (SOUND, FAULTY) and self._reader.is_whole
+            if is_whole and self._ending not in _AT_ONCE:
                 self._ending, self._status = Ending.COMPLETE, status
             if self._ending is not None:
                 return None

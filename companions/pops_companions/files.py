@@ -2,6 +2,7 @@
 
 import os
 import stat
+import sys
 from collections.abc import Iterator
 from contextlib import contextmanager, suppress
 from enum import Enum
@@ -9,6 +10,8 @@ from typing import BinaryIO, Optional
 
 # No file and no link that is there already is opened.
 _NEW = os.O_RDWR | os.O_CREAT | os.O_EXCL | os.O_NOFOLLOW | os.O_CLOEXEC
+# Where Linux keeps the list of those who may read and write a file, beside its permissions.
+_LIST = "system.posix_acl_access"
 
 
 class Links(Enum):
@@ -39,7 +42,8 @@ def written_whole(
 ) -> Iterator[BinaryIO]:
     """Opens a file for writing that appears under its name when all is written.
 
-    If the writing fails, the file that was there stays. A new one has its owner and permissions.
+    If the writing fails, the file that was there stays. Nobody may read a new one who couldn't read
+    it: it has its owner, group, permissions and list of who may read, as far as they can be given.
     Until it is whole the file has a name that nobody can guess, or is called `unfinished`; what
     an earlier run left under that name is removed.
     """
@@ -59,7 +63,7 @@ def written_whole(
             yield file
             file.flush()
             if before is not None:
-                _give(file.fileno(), before)
+                _give(file.fileno(), real, before)
         os.replace(name, real)
     except BaseException:
         remove(name)
@@ -94,10 +98,42 @@ def _kept(real: str) -> Optional[os.stat_result]:
     return before
 
 
-def _give(handle: int, before: os.stat_result) -> None:
-    """Gives a file the owner and the permissions of the one before."""
+def _give(handle: int, real: str, before: os.stat_result) -> None:
+    """Gives a file the owner, group, list and permissions of the one before.
+
+    Without its group, another group has no rights, and others none that the group hadn't.
+    """
+    has_group = _give_owner(handle, before)
+    mode = stat.S_IMODE(before.st_mode) & 0o777
+    listed = _give_list(handle, real)
+    if not has_group:
+        # (where there is a list, the group's rights are in it)
+        mode &= 0o700 | (0 if listed else mode >> 3 & 0o007)
+    os.fchmod(handle, mode)
+
+
+def _give_owner(handle: int, before: os.stat_result) -> bool:
+    """Gives a file its owner and group, or the group alone; returns whether it has the group."""
     now = os.fstat(handle)
     if (now.st_uid, now.st_gid) != (before.st_uid, before.st_gid):
-        with suppress(OSError):
+        try:
             os.fchown(handle, before.st_uid, before.st_gid)
-    os.fchmod(handle, stat.S_IMODE(before.st_mode) & 0o777)
+        except OSError:
+            with suppress(OSError):
+                os.fchown(handle, -1, before.st_gid)
+    return os.fstat(handle).st_gid == before.st_gid
+
+
+def _give_list(handle: int, real: str) -> bool:
+    """Gives a file the list of the one before, or takes away what the folder gave; returns whether
+    there is one."""
+    if sys.platform != "linux":
+        return False
+    try:
+        listed = os.getxattr(real, _LIST)
+    except OSError:
+        with suppress(OSError):
+            os.removexattr(handle, _LIST)
+        return False
+    os.setxattr(handle, _LIST, listed)
+    return True

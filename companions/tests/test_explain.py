@@ -7,11 +7,16 @@ import re
 import tempfile
 import unittest
 from pathlib import Path
+from unittest import mock
 
 from pops_companions.explain.explaining import ExplainedFault, explain
+from pops_companions.explain.mending import further_faults
 from pops_companions.explain.showing import marked
 from pops_companions.explain.vocabulary import foreign
 from pops_companions.import_.language import foreign_words
+from pops_companions.input.pieces import cut
+from pops_companions.input.reading import Reading
+from pops_companions.input.words import Word
 from pops_companions.report.reader import read_report
 from tests import made_inputs, support
 from tests.slips import in_base, slips
@@ -50,6 +55,27 @@ class Slips(unittest.TestCase):
                     for mark in one.explanation.marks:
                         self.assertTrue(0 <= mark.start < mark.stop <= len(text))
         self.assertGreater(len(kinds), 10)
+
+
+class Costs(unittest.TestCase):
+    def test_words_are_listed_seldom(self) -> None:
+        """Not for each name that could stand in place of a word: long texts would take very long."""
+        text = b'Pieces Whi"em\n' * 100
+        calls = []
+
+        def words(reading: Reading) -> list[Word]:
+            calls.append(reading)
+            return [it for it in reading.tokens if isinstance(it, Word)]
+
+        with mock.patch.object(Reading, "words", property(words)):
+            faults = list(further_faults(text, cut(text), 1))
+        self.assertGreater(len(faults), 20)
+        self.assertLess(len(calls), 20 * len(faults))
+
+
+    def test_an_empty_problem_has_no_faults_of_the_next(self) -> None:
+        text = b"Beg " + b"Next " * 60
+        self.assertEqual(list(further_faults(text, cut(text), 2)), [])
 
 
 class Documents(unittest.TestCase):

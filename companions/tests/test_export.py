@@ -10,6 +10,7 @@ from typing import Any, NamedTuple
 
 from pops_companions.export.problems import Problem, joined, options_of, read_problems
 from pops_companions.export.yaml_form import solution_lines
+from pops_companions.import_.options import option_left_out
 from pops_companions.import_.words import Unreadable
 from pops_companions.import_.yaml_text import documents
 from pops_companions.report.items import SoundItem
@@ -139,6 +140,31 @@ class Twins(unittest.TestCase):
         for form in (made, exported("popeye", text=text)):
             self.assertEqual(same(form), same(text.decode()))
 
+    def test_twins_of_a_zero_position_are_one_problem_again(self) -> None:
+        """Also where twins change the stipulation, put a man on another, or are both sides'."""
+        problem = "Title Zero\nRemark A note\nPieces White Kg6 Ra1b2 Black Kh8\nStipulation h#2\n"
+        for own, twins in (
+            ("", ["ZeroPosition Move a1 a3", "Twin Move a1 a2", "Twin Move h8 g8"]),
+            ("", ["ZeroPosition Stipulation h#1 Condition Circe", "Twin Move a1 a2"]),
+            ("", ["ZeroPosition Stipulation h#1", "Twin Stipulation h=1"]),
+            ("", ["ZeroPosition Move a1 b2"]),
+            ("Option Duplex\n", ["ZeroPosition Move a1 b2", "Twin Rotate 90"]),
+        ):
+            with self.subTest(twins):
+                lines = "".join(f"{line}\n" for line in twins)
+                whole = f"BeginProblem\n{problem}{own}{lines}EndProblem\n"
+                given = run_here.companion("pops-import", text=whole.encode()).output
+                for form in ("popeye", "yaml"):
+                    made = exported(form, text=given)
+                    back = run_here.companion("pops-import", text=made.encode()).output
+                    self.assertEqual(back, given)
+                (found,) = nodes(made)
+                self.assertEqual([f"Twin {it}" for it in found["twins"].values()], ["Twin " + twins[0][13:], *twins[1:]])
+                self.assertEqual((list(found["twins"])[0], found["title"]), ("a", "Zero"))
+                self.assertEqual(found["comments"], ["A note"])
+                popeye = exported("popeye", text=given)
+                self.assertEqual([it for it in popeye.splitlines() if re.match("Twin|Zero", it)], twins)
+
     def test_a_missing_twin_ends_the_problem(self) -> None:
         problems = read_problems(self.text.decode()).problems
         self.assertEqual([len(one.twins) for one in joined(problems)], [3])
@@ -191,6 +217,13 @@ class Duplex(unittest.TestCase):
         self.assertEqual((found["title"], found["twins"]), ("Both sides", {"b": "Move h7 h6", "c": "Move h2 h3"}))
         headings = [line for line in found["solution"].split("\n") if ")" in line]
         self.assertEqual(headings, ["a)", "a) duplex", "b) duplex", "c) Move h2 h3"])
+
+    def test_with_a_zero_position(self) -> None:
+        text = DUPLEX.replace(b"End", b"ZeroPosition Move h7 h6\nTwin Move h2 h3\nEnd")
+        (found,) = nodes(self.both(text))
+        self.assertEqual(found["twins"], {"a": "Move h7 h6", "b": "Move h2 h3"})
+        headings = [line for line in found["solution"].split("\n") if ")" in line]
+        self.assertEqual(headings, ["a) duplex", "b) Move h2 h3"])
 
     def test_another_problem_stays_apart(self) -> None:
         """Where the second problem isn't the first with colours turned, both are as they were."""
@@ -304,6 +337,76 @@ stipulation: "h#1"
         self.assertNotIn("comments", node)
         back = run_here.companion("pops-import", text=text.encode())
         self.assertEqual(exported("yaml", text=back.output), text)
+
+    def test_a_list_of_one_stays_a_list(self) -> None:
+        yaml = b"""---
+keywords: [Grimshaw]
+awards: [1st Prize]
+judges: [{name: Roe, country: X}]
+reprints: [{name: Problem, page: 1}]
+tourney: {judge: [Roe], name: Jubilee}
+algebraic: {white: [Kg6, Ra1], black: [Kh8]}
+stipulation: "h#1"
+"""
+        given = run_here.companion("pops-import", text=yaml)
+        text = exported("yaml", text=given.output)
+        (document,), (wanted,) = documents(text), documents(yaml.decode())
+        node, own = document.node(), wanted.node()
+        assert isinstance(node, dict) and isinstance(own, dict)
+        self.assertEqual(dict(node), dict(own))
+        back = run_here.companion("pops-import", text=text.encode())
+        self.assertEqual(back.output, given.output)
+
+    def test_a_date_stays_in_its_source(self) -> None:
+        algebraic = "algebraic:\n  white: [Kg6, Ra1]\n  black: [Kh8]\nstipulation: \"h#1\"\n"
+        for lines in (
+            '  name: "Die Schwalbe"\n  problemid: 1234\n  date:\n    year: 1977\n    month: 8\n  volume: 12\n',
+            '  name: "Die Schwalbe"\n  date:\n    year: 1977\n',
+            "  date:\n    year: 1977\n    month: 8\n    day: 31\n",
+        ):
+            with self.subTest(lines):
+                text = f"---\nsource:\n{lines}{algebraic}"
+                given = run_here.companion("pops-import", text=text.encode()).output
+                self.assertRegex(given.decode(), "\nOrigin .*1977\n")
+                self.assertEqual(exported("yaml", text=given), text)
+
+    def test_a_date_that_is_corrected_stays_in_its_source(self) -> None:
+        algebraic = "algebraic:\n  white: [Kg6, Ra1]\n  black: [Kh8]\nstipulation: \"h#1\"\n"
+        name = '  name: "Die Schwalbe"\n  problemid: 1234\n'
+        before = f"---\nsource:\n{name}  date:\n    year: 1977\n    month: 8\n  volume: 12\n{algebraic}"
+        given = run_here.companion("pops-import", text=before.encode()).output
+        for date, below in (
+            (b"7 September 1978", "    year: 1978\n    month: 9\n    day: 7\n"),
+            (b"1978", "    year: 1978\n"),
+        ):
+            with self.subTest(date):
+                text = exported("yaml", text=given.replace(b"August 1977", date))
+                self.assertEqual(text, f"---\nsource:\n{name}  date:\n{below}  volume: 12\n{algebraic}")
+
+    def test_options_that_an_import_left_out_are_options_again(self) -> None:
+        yaml = b"""---
+source:
+  name: Die Schwalbe
+  problemid: 1234
+  volume: 12
+  issue: 3a
+algebraic: {white: [Kg6, Ra1], black: [Kh8]}
+stipulation: "h#1"
+options: [SetPlay, Try, Threat 1, Defence 2, Intelligent]
+twins: {b: Move a1 b1}
+"""
+        given = run_here.companion("pops-import", text=yaml).output
+        text = exported("yaml", text=given)
+        (found,) = nodes(text)
+        self.assertEqual(found["options"], ["SetPlay", "Try", "Threat 1", "Defence 2", "Intelligent"])
+        self.assertIn("  problemid: 1234\n  volume: 12\n  issue: \"3a\"\n", text)
+        self.assertNotIn("comments", found)
+        popeye = exported("popeye", text=given)
+        self.assertIn("\nOption SetPlay Try Threat 1 Defence 2 Intelligent\n", popeye)
+        for form in (text, popeye):
+            back = run_here.companion("pops-import", text=form.encode()).output
+            self.assertEqual(same(back.decode()), same(given.decode()))
+        self.assertIsNone(option_left_out("Try left out: nobody knows why"))
 
     def test_awards_dates_and_origins(self) -> None:
         problem = "Pieces White Kg6 Ra1 Black Kh8\nStipulation h#1\n"

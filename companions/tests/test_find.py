@@ -79,6 +79,32 @@ class Dates(unittest.TestCase):
                 self.assertEqual(date_of(origin), "1985")
         self.assertEqual(date_of("Die Schwalbe 12345"), "")
 
+    def test_letters_that_only_look_like_those_of_months(self) -> None:
+        """An i without a dot is no `i`, but as a capital; digits of other scripts make no date."""
+        for origin, wanted in (
+            ("Die Schwalbe, aprıl 1977", "1977"),
+            ("Die Schwalbe, APRIL 1977", "1977-04"),
+            ("Die Schwalbe, FÉVRIER 1977", "1977-02"),
+            ("Die Schwalbe ı/1977", "1977"),
+            ("Die Schwalbe VIıI/1977", "1977"),
+            ("Die Schwalbe ٨/1977", "1977"),
+            ("Die Schwalbe 19٧٧", ""),
+        ):
+            with self.subTest(origin):
+                self.assertEqual(date_of(origin), wanted)
+
+    def test_a_collection_with_them_is_searched_all_the_same(self) -> None:
+        text = "BeginProblem\nOrigin Die Schwalbe, aprıl 1977\nPieces White Kg6\nStipulation =1\nEndProblem\n"
+        with tempfile.TemporaryDirectory() as room:
+            (Path(room) / "some.pop").write_text(text, "utf-8")
+            kept = f"{room}/mine.db"
+            for words in (("--add", f"{room}/some.pop"), ("--date", "1977")):
+                self.assertEqual(run_here.companion("pops-find", kept, *words).status, 0)
+            for date in ("ı/1977", "١٩٧٧"):
+                outcome = run_here.companion("pops-find", kept, "--date", date)
+                self.assertEqual((outcome.status, outcome.output), (2, b""))
+                self.assertIn("--date needs a date", outcome.error)
+
 
 class Positions(unittest.TestCase):
     def test_boards_and_men(self) -> None:

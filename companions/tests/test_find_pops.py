@@ -206,6 +206,7 @@ class PartPrograms(Room):
         crates = self.room / "other" / "crates"
         crates.mkdir(parents=True)
         (crates.parent / "crates.txt").write_text("pops:\npops_part:\n")
+        (crates.parent / "HANDLES").write_text("Handles allowed: none.\n")
         (crates.parent / "scripts").mkdir()
         shutil.copy(support.REPOSITORY / FIND_PROGRAM, crates.parent / FIND_PROGRAM)
         other = self.program(crates / "pops_part" / "out" / "pops_part")

@@ -164,6 +164,8 @@ class Origins(unittest.TestCase):
             ([("name", "feenschach"), ("problemid", "4711"), ("year", "1977"), ("month", "8")],
              ("feenschach, 4711, August 1977", "")),
             ([("name", "A"), ("volume", "3"), ("month", "8")], ("A", "volume 3, month 8")),
+            ([("name", "A"), ("date.year", "1977"), ("date.month", "8"), ("volume", "3")],
+             ("A, August 1977", "date.year 1977, date.month 8, volume 3")),
             ([], ("", "")),
         ]  # fmt: skip
         for parts, wanted in cases:
@@ -724,6 +726,14 @@ class Databases(unittest.TestCase):
                 f"\t{name}\t2\t4\tc)\t13\n"
                 f"\t{name}\t3\t6\t\t14\n",
             )
+
+    def test_an_id_in_the_index_has_only_characters(self) -> None:
+        with tempfile.TemporaryDirectory() as room:
+            table, source = Path(room) / "index", Path(room) / "in"
+            source.write_bytes(YACPDB.replace(b"12", b'"1\\u001b[2J\\x9b2"', 1))
+            imported("--index", str(table), str(source))
+            row = table.read_bytes().split(b"\n")[1].decode("utf-8")
+            self.assertEqual(row.split("\t")[5], "1\ufffd[2J\ufffd2")
 
     def test_messages_as_json(self) -> None:
         outcome = support.companion("pops-import", "--json", text=YACPDB)

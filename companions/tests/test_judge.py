@@ -1,5 +1,6 @@
 """pops-judge: one sheet of a collection; runs that are stopped, and a program of tries."""
 
+import errno
 import fcntl
 import os
 import re
@@ -83,6 +84,13 @@ class Judging(unittest.TestCase):
         run = subprocess.run([*words, "-o", "./-sheet.html"], cwd=self.room, capture_output=True)
         self.assertEqual((run.returncode, run.stderr), (0, b""))
         self.assertEqual(self.files(), ["-sheet.html", "some.pop"])
+
+    def test_a_collection_from_standard_input(self) -> None:
+        words = ["--pops", support.pops(), "-", "-o", str(self.sheet)]
+        outcome = run_here.companion("pops-judge", *words, text=self.text.read_bytes())
+        self.assertEqual((outcome.status, outcome.error), (0, ""))
+        self.assertIn("<h1>standard input</h1>", self.sheet.read_text("utf-8"))
+        self.assertEqual(len(self.articles()), 2)
 
     def test_a_problem_that_takes_longer_is_taken_up_again(self) -> None:
         """In its time it shows two keys of one: unsound, whatever is missing."""
@@ -279,6 +287,30 @@ class Judging(unittest.TestCase):
                 self.assertEqual((again.status, again.error), (0, ""))
                 self.assertIn("1.Ra8#!", self.articles()[0].words)
 
+    def test_tries_of_another_problem_are_told_and_arent_kept(self) -> None:
+        tries = self.script("tries", f"cat > /dev/null\nprintf '{TRIES_OF_ONE}'\n")
+        men = [b".......k", *[b"........"] * 7]
+        board = b"".join(b"%d %s\\n" % (8 - place, rank) for place, rank in enumerate(men)) + b"  abcdefgh\\n"
+        for other in (
+            TRIES_OF_ONE.replace("#1", "#2"),
+            TRIES_OF_ONE.replace("#1", board.decode() + "#1"),
+        ):
+            with self.subTest(other):
+                lies = self.script("lies", f"cat > /dev/null\nprintf '{other}'\n")
+                outcome = self.judged("--pops-tries", lies)
+                self.assertEqual(outcome.status, 6)
+                self.assertIn("problem 1: pops-tries shows another problem", outcome.error)
+                again = self.judged("--resume", "--pops-tries", tries)
+                self.assertEqual((again.status, again.error), (0, ""))
+                self.assertIn("1.Ra8#!", self.articles()[0].words)
+
+    def test_a_folder_that_cannot_be_locked(self) -> None:
+        refused = OSError(errno.ENOLCK, "No locks available")
+        with mock.patch("fcntl.flock", side_effect=refused):
+            outcome = self.judged()
+        said = f"pops-judge: {self.sheet}.work can't be locked: No locks available\n"
+        self.assertEqual((outcome.status, outcome.error), (3, said))
+
     def test_tries_where_the_program_is(self) -> None:
         tries = self.script("tries", f"cat > /dev/null\nprintf '{TRIES_OF_ONE}'\n")
         outcome = self.judged("--pops-tries", tries)
@@ -300,6 +332,14 @@ class Judging(unittest.TestCase):
             self.assertIn(text, words)
         self.assertEqual(words.count("1.Qh2?"), 1)
         self.assertEqual(words.count("1.Qb2!"), 1)
+
+    def test_a_mate_in_one_has_no_tries(self) -> None:
+        """After most moves of the rook the king has one reply."""
+        self.text.write_text("BeginProblem\nPieces White Kg6 Ra1 Black Kg8\nStipulation #1\nEndProblem\n")
+        self.judged("--pops-tries", str(support.REPOSITORY / "release" / "pops-tries"))
+        self.assertEqual([row[6] for row in self.cells()], [""])
+        (article,) = self.articles()
+        self.assertNotIn("refutation", "\n".join(article.words))
 
     def cells(self) -> list[list[str]]:
         """The cells of the table's rows but the first two and the last one."""
@@ -333,6 +373,33 @@ class Judging(unittest.TestCase):
         self.assertIn("the key gives check", checks.words)
         self.assertIn("the key gives check and captures", captures.words)
         self.assertIn("1.Qxg8+!", "".join(captures.words))
+
+    def test_the_table_shows_each_threat_and_men_that_no_game_has(self) -> None:
+        """Three keys, of which one only waits, as a text of tries names them."""
+        threats = "\\n  threat\\n    2.Ra1-a8#\\n    2.Rb1-b8#\\n"
+        keys = "".join(f"1.Kf6-{it}!{threats}" for it in ("f7", "g6"))
+        play = f"play\\n1.Kf6-e6!\\n  zugzwang\\n{keys}solutions: 3\\ntries\\ntries: 0\\n\\n"
+        tries = self.script("tries", f"cat > /dev/null\nprintf 'problem 1\\n#2\\n{play}'\n")
+        pawns = "Pa2c2d2e2f2g2h2a3c3"
+        text = f"BeginProblem\nPieces White Kf6 Ra1b1 {pawns} Black Kh8\nStipulation #2\nEndProblem\n"
+        self.text.write_text(text)
+        self.judged("--pops-tries", tries)
+        self.assertEqual([row[5] for row in self.cells()], ["zugzwang, 2"])
+        page = self.sheet.read_text("utf-8")
+        self.assertIn("#2 <em>(no game: White has 9 pawns)</em></td>", page)
+
+    def test_the_table_of_a_stopped_problem(self) -> None:
+        """More than one line mates, also in fewer moves; one is wanted."""
+        men = "Pieces White Kg6 Ra1b1 Black Kh8"
+        text = f"BeginProblem\n{men}\nStipulation h#2\nOption MaxSolutions 1\nEndProblem\n"
+        self.text.write_text(text)
+        self.judged()
+        ((_, solutions, _, short, *_),) = self.cells()
+        self.assertEqual((solutions, short), ("1+", "1+"))
+        self.text.write_text(text.replace("h#2", "h#1"))
+        self.judged()
+        ((_, solutions, _, short, *_),) = self.cells()
+        self.assertEqual((solutions, short), ("1+", "0"))
 
     def test_counts_of_men_that_no_game_has(self) -> None:
         kings = {"e1": "K", "e8": "k"}
@@ -388,18 +455,26 @@ class Judging(unittest.TestCase):
         )
 
     def test_a_sheet_that_cant_be_written_is_refused_first(self) -> None:
-        """The collection itself, a link to it, a folder: nothing is solved, and nothing changes."""
+        """The collection itself, a link to it, a folder, a file in what is none, a device, a pipe:
+        nothing is solved, and nothing changes."""
         before, link = self.text.read_bytes(), self.room / "link.html"
         link.symlink_to(self.text)
+        (self.room / "nowhere").symlink_to("missing")
         folder = self.room / "folder"
         folder.mkdir()
         fails = self.script("fails", "kill -9 $$\n")
+        os.mkfifo(self.room / "pipe")
         files = self.files()
         for sheet, status, said in (
+            (os.devnull, 2, "the sheet needs the name of a file"),
+            (f"{self.room}/pipe", 2, "the sheet needs the name of a file"),
             (str(self.text), 2, "is named twice"),
             (str(link), 2, "is named twice"),
             (str(folder), 3, "Is a directory"),
             (f"{self.room}/new/", 3, "Is a directory"),
+            (f"{self.room}/nowhere/sheet.html", 3, "cannot write"),
+            (f"{self.room}/nowhere/new/sheet.html", 3, "cannot write"),
+            (f"{self.text}/sheet.html", 3, "cannot write"),
         ):
             outcome = self.judged("-o", sheet, pops=fails)
             self.assertEqual((outcome.status, outcome.output), (status, b""))

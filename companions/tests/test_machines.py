@@ -183,6 +183,16 @@ class OnMachines(unittest.TestCase):
         self.assertEqual((outcome.status, outcome.output), (0, support.run([support.pops()], text).output))
         self.assertRegex(outcome.error, r"^pops-many: machine two left out: .*\n$")
 
+    def test_a_command_whose_name_is_no_text(self) -> None:
+        folder = self.room / "\udcff"
+        folder.mkdir()
+        text = input_of(MATE.format(1))
+        (self.room / "x.pop").write_bytes(text)
+        words = ["--pops", support.pops(), "--remote-pops", support.pops(), "--sshlogin", "one"]
+        ssh = self.write("\udcff/ssh", _SSH.format(room=self.room))
+        outcome = support.companion("pops-many", *words, "--ssh", ssh, str(self.room / "x.pop"))
+        self.assertEqual(outcome, (0, support.run([support.pops()], text).output, ""))
+
     def test_the_default_command_is_ssh(self) -> None:
         """Found on the PATH; the parts of problems don't share connections, so that each can be ended."""
         self.write("ssh", _SSH.format(room=self.room))

@@ -245,6 +245,24 @@ class Interruptions(SixProblems):
         self.assertEqual(self.many(support.pops(), "--resume"), (0, b"", ""))
         self.assertEqual(self.report.read_bytes(), self.wanted)
 
+    def test_a_changed_digit_in_the_line_of_a_record_is_noticed(self) -> None:
+        self.many(self.stand_in("kill -9 $$"))
+        journal = self.journal.read_bytes()
+        changed = journal.replace(b" status 0", b" status 1", 1).replace(b" status 0", b" status 1", 1)
+        self.assertNotEqual(changed, journal)
+        self.journal.write_bytes(changed)
+        self.assertEqual(self.many(support.pops(), "--resume"), (0, b"", ""))
+        self.assertEqual(self.report.read_bytes(), self.wanted)
+
+    def test_a_journal_of_another_version_is_refused(self) -> None:
+        self.many(self.stand_in("kill -9 $$"))
+        journal = self.journal.read_bytes().replace(b"pops-many journal 2 ", b"pops-many journal 1 ")
+        self.journal.write_bytes(journal)
+        outcome = self.many(support.pops(), "--resume")
+        self.assertEqual(outcome.status, 2)
+        self.assertIn(f"{self.journal} is of another version of pops-many: remove it", outcome.error)
+        self.assertEqual(self.journal.read_bytes(), journal)
+
     def test_a_journal_in_which_two_records_have_one_task(self) -> None:
         """The first one counts; what only the second one has is solved again."""
         source = Source(None, b"")
@@ -320,6 +338,23 @@ class Command(unittest.TestCase):
             done.stderr,
             b"pops-many: --sshlogin needs GNU parallel: install Debian's package parallel\n",
         )
+
+    def test_machines_and_commands_that_are_none(self) -> None:
+        """Refused, in every locale, before anything runs."""
+        plain = {**os.environ, "LC_ALL": "C", "PYTHONUTF8": "0", "PYTHONCOERCECLOCALE": "0"}
+        for option, value, environment in (
+            ("--ssh", b"ssh '", None),
+            ("--ssh", b"ssh \\", None),
+            ("--ssh", b" ", None),
+            ("--sshlogin", b"\xff", None),
+            ("--sshlogin", b"one\ntwo", None),
+            ("--sshlogin", "é".encode(), plain),
+        ):
+            with self.subTest(option, value=value):
+                many = [sys.executable, str(support.COMPANIONS / "pops-many"), "--sshlogin", "x", option]
+                done = subprocess.run([*many, os.fsdecode(value)], input=b"", capture_output=True, env=environment)
+                self.assertEqual((done.returncode, done.stdout), (2, b""))
+                self.assertIn(f"pops-many: error: argument {option}: ".encode(), done.stderr)
 
     def test_a_terminal_shows_the_progress(self) -> None:
         words = [sys.executable, str(support.COMPANIONS / "pops-many"), "--pops", support.pops()]

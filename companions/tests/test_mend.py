@@ -55,6 +55,8 @@ class Mending(unittest.TestCase):
             ("Pieces White Kg6 Ta1 Black Kg8", PIECES),
             ("Pieces White: Kg6, Ra1, Black Kg8", PIECES),
             ("Pieces White Kg6\u00a0Ra1 Black Kg8", PIECES),
+            ("Pieces White Kg6 Ra1 \u2009 Black Kg8", "Pieces White Kg6 Ra1  Black Kg8"),
+            ("Pieces White Kg6 Ra1\u00a0h1 Black Kg8", "Pieces White Kg6 Ra1h1 Black Kg8"),
             ("Pieces White Kg6 R a1 Black Kg8", PIECES),
             ("Pieces White Kg6 Ra1a1 Black Kg8", PIECES),
             ("Pieces White Kg6 Ra1-a2 Black Kg8", "Pieces White Kg6 Ra1a2 Black Kg8"),
@@ -101,6 +103,7 @@ class Mending(unittest.TestCase):
             ("Award 1st Prize\nStipulation #2", "Remark award: 1st Prize\nStipulation #2"),
             ("Stipulation #2\n# a comment", "Stipulation #2\nRemark # a comment"),
             ("Stipulation #2\nStipulation #2", "Stipulation #2"),
+            ("Stipulation #2\nOption MaxSol 1\u202f000", "Stipulation #2\nOption MaxSol 1000"),
         ):
             with self.subTest(wrong):
                 self.assertEqual(mend(text_of(PIECES, wrong)).text, text_of(PIECES, right))
@@ -153,12 +156,37 @@ class Mending(unittest.TestCase):
             "Stipulation h#2 // White to move",
             "Stipulation h#2 * 2.1.1.1",
             "Stipulation h#2 *2.1.1.1",
+            "Stipulation h#2 2.1.1.1 *",
+            "Stipulation h#2 2 solutions *",
             'Stipulation #2\nCondition Circe "Parrain"',
             "Stipulation #2\nCondition Madrasi # RexInclusive",
             "Stipulation #2\nCondition -- Circe",
             "Stipulation #2\nOption SetPlay // Variation",
             "Stipulation #2\nOption NoCastling a1 ; h1",
             "Stipulation #2\nOption MaxSolutions 1,5",
+            "Stipulation #2\nOption MaxSolutions 1\u00a05",
+            "Stipulation h#1\u00a05",
+            "Stipulation h#1 5",
+            "Stipulation #2\nCondition Circe\u00a0Parrain",
+            *(f"Stipulation {it}" for it in ("h3", "help 2", "h#2.", "h#2..", "h#-.5", "h#1[5", "#3,2", "#*2")),
+            *(f"Stipulation {it}" for it in ("#2+", "+#2", "#2=")),
+            *("Stipulations #2", "Stipulationh #2", "Stipulatoinh #2", "Stipulations#2"),
+            *(f"Stipulation #2\n{it}" for it in ("OptionFVariation", "ConditionbMadrasi", "or Condition Circe")),
+            "Stipulation #2\nCondition - Circe",
+            *(f"Stipulation #2\nOption {it}" for it in ("~SetPlay", "MaxSolutions 1 2SetPlay")),
+            "Stipulation #2\nOption NoCastling e1 !8",
+            "Stipulation #2\nOption NoCastling e1 h8EndProblem",
+            '"pOtion Variation\nStipulation #2',
+            *(f"Stipulation #2\nPieces White {it}" for it in ("WhiteK b2", "b2", "Rh2B Black Pb7", "Bbe8")),
+            *(f"Stipulation #2\nPieces White {it}" for it in ("-Rb1", "=Rb1", "Rb1*", "Rb1/c1", "Rb1<->c1")),
+            *(f"Stipulation #2\nPieces White {it}" for it in ("Pa7rb7", "Pa7bC7", "BRb1", "Bsa4")),
+            "Stipulation #2\nPieces White Rb1,b2",
+            "Stipulation #2\nPieces White Rh2.h3;h4",
+            "Stipulation #2\nPieces White Rh2\u00a0b2",
+            "Stipulation #2\nPieces White wb2",
+            "Stipulation #2\nPieces White Wb2",
+            "Stipulation #2\nPieces White Db2",
+            "Stipulation #2\nPieces White Pb2 Black Pb7 wRb3 Pc3",
         ):
             with self.subTest(wrong):
                 made = mend(text_of(PIECES, wrong))
@@ -259,6 +287,9 @@ class Mending(unittest.TestCase):
             ["Pieces White Rg6 Da1 Black Rg8", "Stipulation =1"],
             ["Pieces White Kg6 Da1 La2 Bb4 Black Kg8", "Stipulation #1"],
             ["Steine Weiss Kg6 Ta1 Bb4 Schwarz Kg8", "Stipulation #1"],
+            ["Titel Ein Matt", "Pieces White Kg6 Bb4 Black Kg8", "Stipulation #1"],
+            ["Titre Un pat", "Pieces White Rg6 Pa2 Black Rg8", "Stipulation =1"],
+            ["Pieces White Kng6 Ra1 Black Kg8", "Stipulation #1"],
         ):
             with self.subTest(lines):
                 made = mend(text_of(*lines))
@@ -280,6 +311,24 @@ class Mending(unittest.TestCase):
             with self.subTest(lines):
                 made = mend(text_of(*lines))
                 self.assertEqual((made.mended, made.left, made.text), (0, 1, text_of(*lines)))
+
+    def test_a_problem_of_nothing_is_left_out(self) -> None:
+        """Not one with a text line: it may be of a problem that is lost."""
+        sound = (PIECES, "Stipulation #1")
+        for wrong in (
+            (*sound, "NextProblem"),
+            (*sound, "nex", "", "NextProblem"),
+            (*sound, "Next Problem"),
+            ("NextProblem", *sound),
+            (*sound, "NextProblem", "EndProblem", "BeginProblem"),
+        ):
+            with self.subTest(wrong):
+                made = mend(text_of(*wrong))
+                self.assertEqual((made.text, made.left), (text_of(*sound), 0))
+        made = mend(text_of(*sound, "NextProblem", "NextProblem", *sound))
+        self.assertEqual((made.text, made.left), (text_of(*sound, "NextProblem", *sound), 0))
+        text = text_of(*sound, "NextProblem", "Title lost", "NextProblem", *sound)
+        self.assertEqual((mend(text).text, mend(text).left), (text, 1))
 
     def test_a_text_on_one_line(self) -> None:
         text = f"BeginProblem {PIECES} Stipulation 2# EndProblem\n"

@@ -9,6 +9,7 @@ import unittest
 from pathlib import Path
 from typing import NamedTuple
 
+from pops_companions.many.tries_program import find_tries
 from tests import support
 
 PUBLISHED = Path(__file__).resolve().parent / "data" / "popeye_solutions.txt"
@@ -128,6 +129,26 @@ class Command(unittest.TestCase):
             outcome = support.companion("popeye-py", "--pops", str(program), text=text)
         self.assertEqual(outcome.status, 3)
         self.assertEqual(outcome.error.count("\n"), 1)
+
+    def test_a_program_of_tries_that_lies(self) -> None:
+        """It shows half of its text, up to the end of a line, or another problem."""
+        text = f"{MORPHY}EndProblem\n".encode()
+        program = find_tries(None, support.pops())
+        assert program is not None
+        whole = support.run([program], text.replace(b"EndProblem", b"Option Variation EndProblem")).output
+        half = whole[: whole.index(b"\n", len(whole) // 2) + 1]
+        with tempfile.TemporaryDirectory() as room:
+            liar = Path(room) / "tries"
+            for shown, why in (
+                (half, "tries ended with status 0"),
+                (whole.replace(b"pp......", b"ppp....."), "pops-tries shows another problem than pops"),
+            ):
+                (Path(room) / "shown").write_bytes(shown)
+                liar.write_text(f"#!/bin/sh\ncat > /dev/null\ncat '{room}/shown'\n")
+                liar.chmod(0o755)
+                outcome = solved(text.decode(), "--pops-tries", str(liar))
+                self.assertEqual((outcome.status, outcome.output), (3, b""))
+                self.assertEqual(outcome.error, f"popeye-py: {why}\n")
 
     def test_what_pops_finds_faulty(self) -> None:
         """The problems after it are solved."""

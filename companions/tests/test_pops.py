@@ -207,10 +207,10 @@ class Runs(unittest.TestCase):
     def test_a_program_that_says_too_much(self) -> None:
         with tempfile.TemporaryDirectory() as room:
             program = Path(room, "pops")
-            program.write_text("#!/bin/sh\ncat > /dev/null\nexec head -c 100000 /dev/zero >&2\n")
+            program.write_text("#!/bin/sh\ncat > /dev/null\nexec head -c 2000000 /dev/zero >&2\n")
             program.chmod(0o755)
-            with mock.patch("pops.run._MOST_ERRORS", 1 << 16):
-                with self.assertRaisesRegex(pops.RunError, "^pops was ended by signal 25$"):
+            with mock.patch("pops.run._MOST_ERRORS", 1 << 20):
+                with self.assertRaisesRegex(pops.RunError, "^pops was ended: it wrote more than 1 MiB$"):
                     list(pops.Engine(str(program)).solve(PAIR))
 
     def test_version(self) -> None:

@@ -16,10 +16,13 @@ from pathlib import Path
 from typing import Optional
 from unittest import mock
 
-from pops_companions.chess.men import Man, Square
+from pops_companions.chess.men import Colour, Kind, Man, Square
+from pops_companions.chess.stipulation import Condition
 from pops_companions.report.items import SoundItem
+from pops_companions.report.moves import PlayedMove
 from pops_companions.report.reader import read_report
 from pops_companions.report.tries import TriesItem, read_tries
+from pops_companions.sheet.boards import arrivals
 from pops_companions.sheet.entries import Entry, index_of
 from pops_companions.sheet.languages import LANGUAGES, marked_as
 from pops_companions.sheet.solution import Solution, TriesShown
@@ -307,15 +310,15 @@ class Lines(unittest.TestCase):
 
 
     def tries_of_a_king(self, *words: str) -> list[str]:
-        """The lines of some tries: three of the king and one of the rook with the same refutation."""
+        """The lines of some tries: all of the king and one of the rook with the same refutation."""
         but = "  but\n    1...Kh8-g8!\n"
-        moves = ("Kf7-e6", "Kf7-e7", "Kf7-e8", "Ra1-b1")
+        moves = (*(f"Kf7-{it}" for it in ("e6", "e7", "e8", "f6", "f8", "g6")), "Ra1-b1")
         same = "".join(f"1.{move}?\n  zugzwang\n{but}" for move in moves)
         text = (
             f"play\n1.Ra1-a2!\n  zugzwang\n  1...h7-h6\n    2.Ra2-a8#\nsolutions: 1\ntries\n{same}"
             f"1.Ra1-c1?\n  threat\n    2.Rc1-c8#\n{but}1.Ra1-d1?\n  zugzwang\n"
             f"  1...h7-h6\n    2.Rd1-d8#\n{but}1.Ra1-e1?\n  zugzwang\n  1...h7-h6\n    2.Re1-e8#\n"
-            f"{but}1.Ra1-f1?\n  zugzwang\n  but\n    1...h7-h6!\ntries: 8\n"
+            f"{but}1.Ra1-f1?\n  zugzwang\n  but\n    1...h7-h6!\ntries: 11\n"
         )
         shown = TriesShown(*words) if words else TriesShown.ALL
         told = lines("Kf7 Ra1 kh8 ph7", "#2", "play\n1.Ra1-a2\nsolutions: 1\n", text, shown)
@@ -346,17 +349,63 @@ class Lines(unittest.TestCase):
 
 
     def test_any_move_of_a_man_stands_for_its_largest_group(self) -> None:
-        """The queen stalemates from four squares, and from three the king gets away."""
-        stalemates = "".join(f"1.Qd1-{it}?\n  but\n    stalemate\n" for it in ("b1", "f1", "d5", "c1"))
-        others = "".join(f"1.Qd1-{it}?\n  zugzwang\n  but\n    1...Kh2-h1!\n" for it in ("c2", "d2", "e2"))
-        text = f"play\nsolutions: 0\ntries\n{others}{stalemates}tries: 7\n"
-        self.assertEqual(
-            lines("Kf2 Qd1 kh2 ph3", "#2", "play\nsolutions: 0\n", text)[1:4],
-            ["1.Qc2/Qd2/Qe2? Kh1!", "1.Q~?", "  but stalemate"],
+        """The knight stalemates from four squares, from three the king gets away, the last is the key.
+        """
+        stalemates = "".join(f"1.Sd5-{it}?\n  but\n    stalemate\n" for it in ("b4", "b6", "c3", "c7"))
+        others = "".join(f"1.Sd5-{it}?\n  zugzwang\n  but\n    1...Kh2-h1!\n" for it in ("e3", "e7", "f4"))
+        for key, solutions, wanted in (
+            ("1.Sd5-f6!\n  zugzwang\n", 1, "1.S~?"),
+            ("", 0, "1.Sb4/Sb6/Sc3/Sc7?"),
+        ):
+            with self.subTest(key):
+                text = f"play\n{key}solutions: {solutions}\ntries\n{others}{stalemates}tries: 7\n"
+                self.assertEqual(
+                    lines("Kf2 Sd5 kh2 ph3", "#2", "play\nsolutions: 0\n", text)[1:4],
+                    ["1.Se3/Se7/Sf4? Kh1!", wanted, "  but stalemate"],
+                )
+
+    def test_moves_that_check_keep_their_mark_in_a_group(self) -> None:
+        """The rook checks on the eighth rank, the knight from wherever it goes."""
+
+        def tries(man: str, *moves: str) -> str:
+            below = {True: "check", False: "zugzwang"}
+            each = "".join(
+                f"1.{man}-{it}?\n  {below['+' in it]}\n  but\n    1...Kh8-h7!\n" for it in moves
+            )
+            return f"play\nsolutions: 0\ntries\n{each}tries: {len(moves)}\n"
+
+        around = [f"{it}+" for it in ("b3", "b5", "c2", "c6", "e2", "e6", "f3", "f5")]
+        with_rook, with_knight = "Kf7 Ra4 Pa3 Pb4 kh8", "Kf7 Ba1 Sd4 kh8"
+        for men, man, moves, wanted in (
+            (with_rook, "Ra4", ["a8+", "a5", "a6", "a7"], "1.Ra8+/R~? Kh7!"),
+            (with_rook, "Ra4", ["a8+", "a5", "a6"], "1.Ra8+/Ra5/Ra6? Kh7!"),
+            (with_knight, "Sd4", around, "1.S~+? Kh7!"),
+            (with_knight, "Sd4", around[5:], "1.Se6+/Sf3+/Sf5+? Kh7!"),
+        ):
+            with self.subTest(moves):
+                told = lines(men, "#2", "play\nsolutions: 0\n", tries(man, *moves))
+                self.assertEqual(told[1], wanted)
+
+    def test_what_circe_puts_back_may_let_a_man_capture(self) -> None:
+        """The knight is pinned by a rook; a knight that it captures is reborn on the line between."""
+        men = men_of("Ke1 Se4 re8 sd6 kh8")
+        move = PlayedMove(
+            *("Se4-g5", 1, Colour.WHITE, Kind.KNIGHT, Square.of_name("e4"), Square.of_name("g5")),
+            *(False, False, None, None, None, None),
         )
+        self.assertEqual(list(arrivals(men, move, None)), [])
+        found = [it.name for it in arrivals(men, move, Condition.CIRCE)]
+        self.assertEqual(found, ["d6"])
 
 
 class Forms(Case):
+    def test_any_move_of_a_man_stands_only_for_moves_that_are_known(self) -> None:
+        """After 1.Sc7 several replies refute, and 1...Ke7 not: Qe6 mates. By Samuel Loyd."""
+        text = b"BeginProblem\nPieces White Ke4 Qg4 Rc8 Sd5 Black Kd6 Pg5\nStipulation #2\nEndProblem\n"
+        told = self.text(text)
+        self.assertIn("1.Sc3/Se3/Sb4? Ke7!\n", told)
+        self.assertNotIn("~", told)
+
     def test_languages_and_figures(self) -> None:
         for language, wanted in (
             ("de", "1.Df1! droht: 2.Dg1#/Dh3#/Th3#"),
@@ -398,6 +447,9 @@ class Forms(Case):
         self.assertEqual(page.count('<svg class="diagram"'), 1)
         apart = self.sheet(TWINS, "--apart").output.decode()
         self.assertEqual(apart.count('<svg class="diagram"'), 2)
+        # (each twin of this text has an origin of its own, and all have one award)
+        origins = re.findall('<p class="origin">(.*?)</p>', apart)
+        self.assertEqual(origins, ["The Source 1900, 1st Prize", "1st Prize"])
 
     def test_a_document_of_latex(self) -> None:
         text = self.sheet(TWINS, "--to", "latex", "--language", "de").output.decode()
@@ -515,6 +567,8 @@ class Forms(Case):
             text = b"BeginProblem\nOrigin Jas, 6 August 1977\nPieces White Kg6 Ra1 Black Kg8\n"
             told = self.sheet(text + b"Stipulation #1\nEndProblem\n", "--language", code)
             self.assertIn(f">Jas, {date}<", told.output.decode())
+            latex = self.made(text + b"Stipulation #1\nEndProblem\n", "--to", "latex", "--language", code)
+            self.assertIn(f"\\source{{Jas, {date}}}\n", latex.output.decode())
         text = text.replace(b"6 August 1977", b"August 1977, no. 3")
         told = self.sheet(text + b"Stipulation #1\nEndProblem\n", "--language", "de")
         self.assertIn(">Jas, August 1977, no. 3<", told.output.decode())
@@ -603,6 +657,7 @@ class Forms(Case):
             self.assertEqual(self.sheet(text, *words).status, 2)
 
     def test_a_pdf(self) -> None:
+        """Its pages are A4, 210 by 297 mm, in points of 1/72 inch."""
         if shutil.which("chromium") is None:
             outcome = self.sheet(TWINS, "--to", "pdf")
             self.assertEqual((outcome.status, outcome.output), (3, b""))
@@ -611,6 +666,9 @@ class Forms(Case):
             return
         outcome = self.sheet(TWINS, "--to", "pdf")
         self.assertEqual((outcome.status, outcome.output[:5]), (0, b"%PDF-"))
+        sizes = re.findall(rb"/MediaBox \[0 0 ([\d.]+) ([\d.]+)\]", outcome.output)
+        found = {(round(float(width) / 72 * 25.4), round(float(height) / 72 * 25.4)) for width, height in sizes}
+        self.assertEqual(found, {(210, 297)})
 
     def test_authors(self) -> None:
         """One person, surname first or last, is one entry; two are two."""
@@ -697,6 +755,22 @@ class Command(Case):
             self.assertEqual(self.sheet(f"{head}{asked}{tail}".encode()).error, "")
         with mock.patch("pops_companions.commands.sheet._MOST_NUMBERS", 0):
             self.assertIn("(1 of them)", self.sheet(f"{head}#3{tail}".encode()).error)
+
+    def test_lines_that_end_early_by_the_numbers_of_the_sheet(self) -> None:
+        """The first problem has two twins, of which the second lacks Variation, as does the next one."""
+        men = "Pieces White Kg6 Ra1 Black Kg8 Pa7\nStipulation #3\n"
+        text = (
+            f"BeginProblem\nTitle T a)\n{men}Option Variation\nNextProblem\nTitle T b)\n{men}"
+            f"NextProblem\n{men}EndProblem\n"
+        ).encode()
+        for words, numbers in (
+            ((), "1, 2"),
+            (("--first-number", "17"), "17, 18"),
+            (("--first-number", "17", "--apart"), "17b, 18"),
+        ):
+            with self.subTest(words):
+                said = self.sheet(text, "--to", "text", *words).error
+                self.assertIn(f"problems without Variation ({numbers}): ", said)
 
     def test_a_program_of_tries(self) -> None:
         """If no text is given, the program runs, with the number of refutations that the command names."""

@@ -69,6 +69,11 @@ test('explaining: a later problem with the word before it; a fault far down is n
   assert.equal(explain(posed('x'), { number: 1, fault: { line: 2, number: 2 } }).marks[0].from, 'BeginProblem\n'.length);
 });
 
+test('explaining: punctuation', () => {
+  const text = posed('Pieces White Kg6 Ra1 Black Kg8', 'Stipulation #2!');
+  assert.match(explanationOf(text, faultsOf(text)[0].read).text, /The exclamation mark is part of the word `#2!`/);
+});
+
 test('explaining: marked lines, and what does not show', () => {
   assert.deepEqual(markedLines('a\nb c\n', [{ from: 4, to: 5 }]).map(({ line, pieces }) => [line, pieces.map(it => it.text + (it.isMarked ? '!' : ''))]),
     [[2, ['b ', 'c!']]]);
@@ -89,6 +94,33 @@ test('importing: twins, what is left out, YAML; our own texts stay', () => {
   assert.match(made.text, /^Stipulation #1$/m);
   assert.equal(imported('title: a\n'), null);
   assert.equal(imported(posed('Pieces White Kg6', 'Stipulation #1')), null);
+});
+
+test('importing: only options ask for tries or threats', () => {
+  const yaml = more => imported(`algebraic:\n  white: [Kg6, Ra1]\n  black: [Kg8]\nstipulation: '#1'\n${more}\n`);
+  const popeye = more => imported(`BeginProblem\nPieces White Kg6 Ra1 Black Kg8\nStipulation #1\n${more}\nTwin Move a1 b1\nEndProblem\n`);
+  const german = more => imported(`AnfangProblem\nSteine Weiss Kg6 Ta1 Schwarz Kg8\nForderung #1\n${more}\nEndeProblem\n`);
+  for (const [made, asks, most] of [
+    [yaml('options: [Try]'), true, 1], [yaml('options: [Threat]'), true, 0], [popeye('Option Variation Defence 3'), true, 3], [german('Option Verfuehrung'), true, 1],
+    [yaml('keywords: [Threat reversal]'), false, 0], [yaml('comments: [A try by Smith]'), false, 0], [popeye('Title A Threat'), false, 0],
+    [popeye('Remark Try left out: pops-tries shows tries'), false, 0], [yaml('options: [Intelligent]'), false, 0],
+  ]) assert.deepEqual([made.asksForTries, made.refutations], [asks, most], made.text);
+});
+
+test('importing: JSON of YACPDB', () => {
+  const problem = { id: 12, authors: ['Loyd, Samuel'], algebraic: { white: ['Kg6', 'Ra1'], black: ['Kg8'] }, stipulation: '#1', options: ['SetPlay'], award: null };
+  const twin = { id: 13, algebraic: { white: ['Kg6', 'Ra1'], black: ['Kh8'] }, stipulation: 'h#1', twins: { b: 'Move a1 b2' } };
+  for (const given of [{ success: true, result: { entries: [problem, twin] } }, [problem, twin]]) {
+    const { text, lost } = imported(`\ufeff${JSON.stringify(given, null, 1)}\r\n`);
+    assert.deepEqual(text.match(/^(?:Author|Pieces|Stipulation|Option) .*$/gm), [
+      'Author Loyd, Samuel', 'Pieces White Kg6 Ra1 Black Kg8', 'Stipulation #1', 'Option SetPlay', 'Pieces White Kg6 Ra1 Black Kh8', 'Stipulation h#1',
+      'Pieces White Kg6 Rb2 Black Kh8', 'Stipulation h#1',
+    ]);
+    assert.deepEqual(lost, []);
+  }
+  const deep = '['.repeat(1000) + JSON.stringify(problem) + ']'.repeat(1000);
+  assert.match(imported(deep).lost.join(), /40/);
+  assert.match(imported('{"algebraic": {"white": ["Kg6"}').lost.join(), /YAML/);
 });
 
 test('yaml: documents, their keys and lists', () => {
@@ -193,7 +225,9 @@ test('mending: options of Popeye that change nothing here, with their numbers an
 test('mending: a byte order mark, letters of another language, a mistyped word; each in its own problem', () => {
   const good = withOptions('Option Variation\n');
   assert.deepEqual(mendedProblem(`\ufeff${good}`, 1), { text: good, asksForTries: false, refutations: 0, line: 1 });
-  assert.equal(mendedProblem(good.replace('Rc7', 'Tc7'), 1).text, good);
+  const withoutPawn = good.replace(' Pa6', '');
+  assert.equal(mendedProblem(withoutPawn.replace('Qh8 Rc7', 'Rc7 Th8'), 1), null);
+  assert.equal(mendedProblem(withoutPawn.replace('Qh8 Rc7', 'Th8c7'), 1).text, withoutPawn.replace('Qh8 Rc7', 'Rh8c7'));
   assert.equal(mendedProblem(good.replace('Stipulation', 'Stipulatoin'), 1).text, good);
   const two = text => good.replace('End', 'Next') + text.slice(text.indexOf('Pieces'));
   const made = mendedProblem(two(withOptions('Option Try Variation\n')), 2);

@@ -82,6 +82,12 @@ test('outputs: a name with many blanks takes little time', () => {
   assert.ok(user + system < 3e7, `${user + system} microseconds`);
 });
 
+test('outputs: twins of a position that is no problem are one problem in YAML', () => {
+  const given = ['---', 'title: "Zero"', 'algebraic:', '  white: [Kg6, Ra1]', '  black: [Kh8]', 'stipulation: "h#1"', 'twins:', '  a: "Move a1 a3"',
+    '  b: "Move a1 a2"', ''].join('\n');
+  assert.equal(yamlOf(imported(given).text, []).text, given);
+});
+
 test('outputs: YAML of what an import kept has its keys again', () => {
   const given = ['---', 'id: 77', 'authors:', '  - "Loyd, Samuel"', 'source: "New York Albion"', 'date: "1858-07-03"', 'algebraic:', '  white: [Kg6, Ra1]', '  black: [Kg8]',
     'stipulation: "#1"', 'source-id: "A7"', 'award:', '  tourney: "A tourney"', '  distinction: "1st Prize"', 'keywords:', '  - "Zugzwang"', 'comments:', '  - "a comment"',
@@ -113,6 +119,15 @@ test('outputs: twins are one problem in LaTeX and YAML, and what cannot be posed
   const { text: left, lost } = yamlOf(text.replace('Rb2', 'Ra9'), []);
   assert.deepEqual([left.split('---').length, lost.length], [2, 1]);
   assert.deepEqual(lost, ['Problem 2 was left out: Ra9 isn\'t known here']);
+});
+
+test('outputs: LaTeX has the date of a source in the language of the page', () => {
+  const text = 'BeginProblem\nOrigin Die Schwalbe, 6 February 1971\nPieces White Kg6 Ra1 Black Kg8\nStipulation #1\nEndProblem\n';
+  for (const [code, date] of [['en', '6 February 1971'], ['de', '6. Februar 1971'], ['fr', '6 février 1971']]) {
+    speak(code);
+    assert.ok(latexOf(text, []).includes(`\\source{Die Schwalbe, ${date}}\n`), date);
+  }
+  speak('en');
 });
 
 test('outputs: why a problem is left out of YAML, in the language of the page', () => {

@@ -31,7 +31,7 @@ const { mostRefutations, sayDone, sayProblem, showMost, showSolve, solve, solvin
 const { blockNow, state, textNow } = await import('../../web/page/state.js');
 const { sayAsked, sayCondition, sayFault, sayTotal } = await import('../../web/names.js');
 const { companions } = await import('../../web/out/companions.js');
-const { sheetOf, shortText } = await import('../../web/outputs.js');
+const { givenOf, sheetOf, shortText } = await import('../../web/outputs.js');
 const { keep, kept: keptValue } = await import('../../web/page/storage.js');
 const { buildSwitches } = await import('../../web/page/switches.js');
 const views = await import('../../web/page/views.js');
@@ -158,6 +158,17 @@ test('files: a dropped text is taken', () => {
   assert.equal(textNow(), 'BeginProblem\nEndProblem\n');
   paste(TEXT);
   assert.equal(textNow(), TEXT);
+});
+
+test('files: of many that are dropped the first is read, and the page says so', async () => {
+  const file = name => ({ name, size: 9, arrayBuffer: async () => new TextEncoder().encode(`${TEXT}${name}`).buffer });
+  for (const [names, said] of [[['a.pop', 'b.pop'], 'only a.pop was read: one file at a time'], [['a.pop'], 'a.pop was read']]) {
+    begin('');
+    send('drop', { dataTransfer: { types: ['Files'], files: names.map(file), getData: () => '' } });
+    await new Promise(setImmediate);
+    assert.equal(textNow(), `${TEXT}a.pop`);
+    assert.equal(element('note').textContent.startsWith(said), true, element('note').textContent);
+  }
 });
 
 test('files: a text with a byte order mark is taken wherever it is pasted', () => {
@@ -326,6 +337,13 @@ test('links: a link\'s text is opened beside the text in work, once', () => {
   assert.equal(textNow(), TWO_MOVES);
   openLink();
   assert.equal(textNow(), TWO_MOVES);
+  // (again, after the page was opened without it)
+  location.hash = '';
+  openLink();
+  assert.equal(textNow(), TWO_MOVES);
+  location.hash = fragmentOf(linked);
+  openLink();
+  assert.equal(textNow(), linked);
   location.hash = fragmentOf('6k1/8/6K1/8/8/8/8/R7 w - - 0 1');
   openLink();
   assert.equal(textNow(), 'BeginProblem\nPieces White Kg6 Ra1 Black Kg8\nStipulation #2\nEndProblem\n');
@@ -639,11 +657,12 @@ test('names: conditions, fairy men, faults and totals in each language', () => {
 
 test('names: the page of diagrams and the printed sheet speak the language', () => {
   speak('de');
-  begin(TEXT.replace('#1', '#1\nCondition Circe'), REPORT.replace('#1\n', `${'8 .....k..\n'}#1 Circe\n`));
-  const sheet = sheetOf(state.items, say('sheet'));
-  assert.match(sheet, /<html lang="de">[^]*Problem 1<[^]*<h3>Spiel<[^]*Lösungen: 1</);
+  const text = TEXT.replace('#1', '#1\nCondition Circe\nOrigin Die Schwalbe, February 1971');
+  begin(text, REPORT.replace('#1\n', `${'8 .....k..\n'}#1 Circe\n`));
+  const sheet = sheetOf(state.items, say('sheet'), givenOf(text));
+  assert.match(sheet, /<html lang="de">[^]*Problem 1<[^]*>Die Schwalbe, Februar 1971<[^]*<h3>Spiel<[^]*Lösungen: 1</);
   fillPrint();
-  assert.match(element('print').textContent, /Spiel\n1\.Ra1-a8#\nLösungen: 1/);
+  assert.match(element('print').textContent, /Die Schwalbe, Februar 1971[^]*Spiel\n1\.Ra1-a8#\nLösungen: 1/);
   speak('en');
 });
 

@@ -4,7 +4,7 @@ import { test } from 'node:test';
 import { barredAfter, halfAfter, moveBetween, promotes, stipulationAfter, withProblemAfter, partsOfStipulation, stipulationOf } from '../../web/play.js';
 import { after, changed, exchanged, fenOf, menOfRanks, placeOf, ranksOf, readFen, squareOf } from '../../web/position.js';
 import { fileNameOf, fragmentOf, keptOf, nameOfText, Steps, textOfBytes, textOfFragment, visitOf, withKept, writtenVisit } from '../../web/store.js';
-import { blockAt, blocksOf, fieldsOf, lineAt, menOf, posedIn, sidesOf, tailOf, valueOf, withField, withMen, withTail, wordsOf } from '../../web/text.js';
+import { blockAt, blocksOf, fieldsOf, lineAt, menOf, posedIn, sidesOf, tailOf, valueOf, withField, withMen, withoutLines, withTail, wordsOf } from '../../web/text.js';
 import { language, say, sayMan } from '../../web/words.js';
 import { makeDocument } from '../helpers/page_imports.mjs';
 
@@ -130,4 +130,25 @@ test('store: files are named after the title', () => {
   assert.deepEqual(['A first problem', 'Über “Größe”, 2.', '../../x', '', null].map(it => fileNameOf(it, 'pop')),
     ['A-first-problem.pop', 'Über-Größe-2.pop', 'x.pop', 'pops.pop', 'pops.pop']);
   assert.equal(fileNameOf('x'.repeat(100), 'svg').length, 64);
+});
+
+test('text: a long text that says one thing again and again is read and changed in little time', () => {
+  const begun = process.cpuUsage();
+  const many = 80_000;
+  const posed = (line = '') => `BeginProblem\nPieces White Ke1 Ra1 Black Ke8\nStipulation #1\n${line}EndProblem\n`;
+  const squares = posed(`Option NoCastling${' a1'.repeat(many)}\n`);
+  const value = Array(many).fill('a1').join(' ');
+  assert.ok(valueOf(fieldsOf(squares, blocksOf(squares)[0]), 'NoCastling') === value);
+  assert.ok(withField(squares, 0, 'NoCastling', null) === posed());
+  const options = posed('Opt NoC a1\n'.repeat(many));
+  assert.ok(valueOf(fieldsOf(options, blocksOf(options)[0]), 'NoCastling') === value);
+  assert.ok(withField(options, 0, 'NoCastling', null) === posed());
+  assert.ok(withField(options, 0, 'NoCastling', 'h1') === posed('Opt NoC h1\n'));
+  const words = posed(`Option SetPlay${' NoC a1'.repeat(many)}\n`);
+  assert.ok(withField(words, 0, 'NoCastling', null) === posed('Option SetPlay\n'));
+  const men = posed('Pieces White Ka1\nRem x\n'.repeat(many));
+  assert.ok(withMen(men, 0, new Map([['b2', 'wK']])) === posed('Rem x\n'.repeat(many)).replace('White Ke1 Ra1 Black Ke8', 'White Kb2'));
+  assert.ok(withoutLines(posed('Rem x\nCond Circe\n'.repeat(many)), 0, ['remark']) === posed('Cond Circe\n'.repeat(many)));
+  const { user, system } = process.cpuUsage(begun);
+  assert.ok(user + system < 6e7, `${user + system} microseconds`);
 });

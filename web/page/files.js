@@ -12,9 +12,14 @@ import { takeFen, takeText } from './editing.js';
 import { textNow } from './state.js';
 import { note } from './views.js';
 
-/** @param {File | undefined} file */
-async function takeFile(file) {
+/**
+ * Takes the first of some files, and says so if there are others.
+ * @param {FileList | null | undefined} files
+ */
+async function takeFile(files) {
+  const file = files?.[0];
   if (!file) return;
+  const isAlone = files.length === 1;
   if (file.size > MOST_FILE_BYTES) {
     note(say('fileLong', { name: file.name }));
     return;
@@ -23,7 +28,8 @@ async function takeFile(file) {
   note('');
   takeText(text);
   const said = element('note').textContent;
-  note([say(isUtf8 ? 'fileTaken' : 'fileLatin', { name: file.name }), said].filter(Boolean).join('. '));
+  const first = isAlone ? '' : say('fileFirst', { name: file.name });
+  note([isUtf8 && first ? '' : say(isUtf8 ? 'fileTaken' : 'fileLatin', { name: file.name }), first, said].filter(Boolean).join('. '));
 }
 
 /**
@@ -70,7 +76,7 @@ function dropped(event) {
   event.preventDefault();
   const { dataTransfer } = event;
   const text = dataTransfer?.getData('text/plain') ?? '';
-  if (dataTransfer?.files.length) takeFile(dataTransfer.files[0]);
+  if (dataTransfer?.files.length) takeFile(dataTransfer.files);
   else if (!isTooLong(text.length)) takeText(text);
 }
 
@@ -79,7 +85,7 @@ const isDroppable = event => [...event.dataTransfer?.types ?? []].some(type => t
 
 export function listenToFiles() {
   element('open').onclick = () => element('file').click();
-  element('file').onchange = () => takeFile(element('file').files?.[0]).then(() => { element('file').value = ''; });
+  element('file').onchange = () => takeFile(element('file').files).then(() => { element('file').value = ''; });
   addEventListener('dragover', event => {
     if (!isDroppable(event)) return;
     event.preventDefault();

@@ -44,8 +44,9 @@ export function drawVisit() {
 /** Opens the text of the link, unless it was opened already, beside the text in work, which is kept. */
 export function openLink() {
   const linked = textOfFragment(location.hash);
-  if (linked === null || location.hash === link) return;
+  if (location.hash === link) return;
   link = location.hash;
+  if (linked === null) return;
   if (linked === textNow()) return;
   const fen = readFen(linked);
   const begun = blockAt(NEW_PROBLEM, 0);

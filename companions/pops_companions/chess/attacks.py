@@ -1,5 +1,7 @@
 """Finds the men that attack a square, and so the men that give check."""
 
+from typing import Optional
+
 from pops_companions.chess.men import Colour, Kind, Man, Square
 
 Step = tuple[int, int]
@@ -12,8 +14,11 @@ _RIDERS = {
     Kind.ROOK: _LINES,
     Kind.BISHOP: _DIAGONALS,
     Kind.QUEEN: _LINES + _DIAGONALS,
+    Kind.GRASSHOPPER: _LINES + _DIAGONALS,
     Kind.NIGHTRIDER: _LEAPS,
 }
+# What `_between` found: it is looked for often, and differs in few cases.
+_BETWEEN: dict[tuple[Man, Square, Square], Optional[tuple[Square, ...]]] = {}
 _LEAPERS = {Kind.KING: _LINES + _DIAGONALS, Kind.KNIGHT: _LEAPS}
 
 
@@ -39,21 +44,34 @@ def _paralysed(men: Men, square: Square) -> bool:
 def _reaches(men: Men, origin: Square, target: Square) -> bool:
     """Returns whether a man could capture on a square, whether it may or not."""
     man = men[origin]
+    key = (man, origin, target)
+    if key not in _BETWEEN:
+        _BETWEEN[key] = _between(man, origin, target)
+    between = _BETWEEN[key]
+    if between is None:
+        return False
+    if man.kind is Kind.GRASSHOPPER:
+        if not between or between[-1] not in men:
+            return False
+        between = between[:-1]
+    return not any(square in men for square in between)
+
+
+def _between(man: Man, origin: Square, target: Square) -> Optional[tuple[Square, ...]]:
+    """Returns the squares between two that a man's move joins; None for all others."""
     step = (target.file - origin.file, target.rank - origin.rank)
     if man.kind is Kind.PAWN:
-        return step[1] == (1 if man.colour is Colour.WHITE else -1) and abs(step[0]) == 1
+        captures = step[1] == (1 if man.colour is Colour.WHITE else -1) and abs(step[0]) == 1
+        return () if captures else None
     if man.kind in _LEAPERS:
-        return step in _LEAPERS[man.kind]
+        return () if step in _LEAPERS[man.kind] else None
     shortest = _shortest(step)
-    if man.kind is not Kind.GRASSHOPPER:
-        return shortest in _RIDERS[man.kind] and _is_clear(men, origin, shortest, target)
-    hurdle = Square(target.file - shortest[0], target.rank - shortest[1])
-    return (
-        shortest in _LINES + _DIAGONALS
-        and hurdle != origin
-        and hurdle in men
-        and _is_clear(men, origin, shortest, hurdle)
-    )
+    if shortest not in _RIDERS[man.kind]:
+        return None
+    squares = [Square(origin.file + shortest[0], origin.rank + shortest[1])]
+    while squares[-1] != target:
+        squares.append(Square(squares[-1].file + shortest[0], squares[-1].rank + shortest[1]))
+    return tuple(squares[:-1])
 
 
 def _shortest(step: Step) -> Step:
@@ -65,13 +83,3 @@ def _shortest(step: Step) -> Step:
     if far == 0 or near not in (0, times):
         return step
     return (step[0] // times, step[1] // times)
-
-
-def _is_clear(men: Men, origin: Square, step: Step, target: Square) -> bool:
-    """Returns whether no man stands between two squares, which repetition of a step joins."""
-    file, rank = origin.file + step[0], origin.rank + step[1]
-    while (file, rank) != (target.file, target.rank):
-        if Square(file, rank) in men:
-            return False
-        file, rank = file + step[0], rank + step[1]
-    return True

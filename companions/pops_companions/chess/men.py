@@ -1,8 +1,8 @@
 """Colours, men and squares, by the names and letters that pops uses."""
 
 from collections.abc import Iterator
-from dataclasses import dataclass
 from enum import Enum
+from typing import NamedTuple
 
 
 class Colour(Enum):
@@ -10,6 +10,9 @@ class Colour(Enum):
 
     WHITE = "white"
     BLACK = "black"
+
+    # (a member is its own only equal; Enum's hash takes longer)
+    __hash__ = object.__hash__
 
     @property
     def opponent(self) -> "Colour":
@@ -28,14 +31,15 @@ class Kind(Enum):
     GRASSHOPPER = "G"
     NIGHTRIDER = "N"
 
+    __hash__ = object.__hash__
+
     @property
     def word(self) -> str:
         """The kind's English name, as `nightrider`."""
         return self.name.lower()
 
 
-@dataclass(frozen=True)
-class Man:
+class Man(NamedTuple):
     """A man of a colour."""
 
     colour: Colour
@@ -55,8 +59,7 @@ class Man:
         return man
 
 
-@dataclass(frozen=True)
-class Square:
+class Square(NamedTuple):
     """A square; file and rank run from 1 to 8, the file a being 1."""
 
     file: int

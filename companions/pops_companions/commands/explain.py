@@ -10,6 +10,7 @@ from pathlib import Path
 from typing import BinaryIO, Optional
 
 from pops.engine import Engine
+from pops.run import Ending, Limits
 from pops_companions import command
 from pops_companions.command import STANDARD_INPUT, CommandError, Status
 from pops_companions.files import Links
@@ -26,6 +27,9 @@ from pops_companions.report.reader import ReportError, read_report
 from pops_companions.show.titles import printable
 
 NAME = "pops-explain"
+# The most bytes that pops writes where it only looks for faults: more than any text has.
+_MOST_FOR_A_TEXT = 1 << 16
+_MOST_FOR_A_BYTE = 16
 
 
 class Settings(argparse.Namespace):
@@ -98,8 +102,12 @@ def name_of(file: str) -> str:
 
 def checked(text: bytes, named: Optional[str]) -> bytes:
     """Returns what pops says of a text without solving it."""
+    most = _MOST_FOR_A_TEXT + _MOST_FOR_A_BYTE * len(text)
     try:
-        return Engine(named).check(text).result.text
+        result = Engine(named).check(text, Limits(bytes=most)).result
+        if result.ending is Ending.BYTES:
+            raise CommandError(Status.DEVICE, f"pops wrote more than {most} bytes, and was ended")
+        return result.text
     except MissingError as error:
         raise CommandError(Status.DEVICE, f"{error}; or give REPORT") from None
     except (RunError, ReportError) as error:

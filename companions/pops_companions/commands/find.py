@@ -25,7 +25,7 @@ _WORDS = (
     *("author", "title", "source", "date", "keyword", "stipulation", "condition"),
     *("men", "count", "fragment"),
 )
-_DATE = re.compile(r"\d{4}(?:-\d\d(?:-\d\d)?)?")
+_DATE = re.compile("[0-9]{4}(?:-[0-9]{2}){0,2}")
 
 
 class Settings(argparse.Namespace):

@@ -14,7 +14,7 @@ from pops_companions.import_.posing import posed
 from pops_companions.import_.sources import read_drafts
 from pops_companions.import_.words import Message, Unreadable
 from pops_companions.input.writing import text_of_problems
-from pops_companions.show.titles import other_lines, text_of
+from pops_companions.show.titles import other_lines, printable, text_of
 from pops_companions.tables import row_of
 
 NAME = "pops-import"
@@ -89,7 +89,8 @@ class Entry(NamedTuple):
         """Its line in the index."""
         problem = "" if self.problem is None else self.problem
         draft = self.draft
-        return row_of((problem, self.file, draft.number, draft.line, self.twin, draft.key))
+        key = printable(draft.key)
+        return row_of((problem, self.file, draft.number, draft.line, self.twin, key))
 
 
 COLUMNS = ("problem", "file", "entry", "line", "twin", "id")

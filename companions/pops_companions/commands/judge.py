@@ -11,6 +11,7 @@ from pops_companions import command
 from pops_companions.command import STANDARD_INPUT, CommandError, Status
 from pops_companions.commands.many import refuse_shared
 from pops_companions.input.given import given_problems
+from pops_companions.files import is_device
 from pops_companions.input.given_source import refuse_other_text
 from pops_companions.many.program import LOOKED_FOR, MissingError, find
 from pops_companions.many.tries_program import TRIES_LOOKED_FOR, find_tries
@@ -115,6 +116,9 @@ def folder_of(settings: Settings) -> Path:
 def refuse_sheet(collection: str, sheet: str) -> None:
     """Refuses a sheet that is the collection or can't be written, before anything is solved."""
     refuse_shared([collection] if collection != STANDARD_INPUT else [], [sheet])
+    if is_device(sheet) and not os.path.isdir(sheet):
+        message = f"the sheet needs the name of a file, beside which its folder is: {sheet} is none"
+        raise CommandError(Status.USAGE, message)
     if sheet.endswith("/") or os.path.isdir(sheet):
         reason = os.strerror(errno.EISDIR)
     elif os.path.exists(sheet) and not os.access(sheet, os.W_OK):
@@ -129,13 +133,13 @@ def judge(settings: Settings) -> Status:
     refuse_sheet(settings.collection, settings.output)
     text = read_collection(settings.collection)
     given = given_problems(text)
-    name = "standard input" if settings.collection == "-" else settings.collection
+    name = "standard input" if settings.collection == STANDARD_INPUT else settings.collection
     work = Work(folder_of(settings), runs_of(settings), name)
     work.folder.begin(text, settings.resume)
     work.solve()
     short: Optional[str] = str(work.short) if work.solve_shorter(given) else None
     tries = work.tries(text, given)
-    beside = Beside(NAME, settings.solutions, settings.collection, short, tries)
+    beside = Beside(NAME, settings.solutions, str(work.input), short, tries)
     tally = Tally()
     most = None if settings.all else MOST_LINES
     with reviewed_unfinished_report(
@@ -143,7 +147,7 @@ def judge(settings: Settings) -> Status:
     ) as items:
         judgements = beside.judgements(map(work.renamed, items))
         judged = list(judged_groups(judgements, given, settings.encoding, settings.apart))
-    heading = settings.heading or Path(settings.collection).stem
+    heading = settings.heading or Path(name).stem
     evidence = Evidence(boards_of(text), tries, settings.encoding, most)
     page = sheet(tally.counted(judged), tally, heading, evidence)
     with command.written(settings.output) as target:

@@ -1,6 +1,7 @@
 """The command line of pops-many."""
 
 import argparse
+import shlex
 from collections.abc import Sequence
 from typing import Optional
 
@@ -131,11 +132,30 @@ def _add_journal(parser: argparse.ArgumentParser) -> None:
     add("--pops", metavar="PROGRAM", help=LOOKED_FOR)
 
 
+def _machines(text: str) -> str:
+    """Reads names of machines. Files of GNU parallel have them, in lines of text."""
+    if not text.isprintable():
+        raise argparse.ArgumentTypeError(f"{text!r} names no machines: it isn't printable text")
+    return text
+
+
+def _shell_command(text: str) -> str:
+    """Reads a command with its options, as the shell parts them."""
+    try:
+        words, why = shlex.split(text), "it has no word"
+    except ValueError as error:
+        words, why = [], str(error)
+    if not words:
+        raise argparse.ArgumentTypeError(f"{text!r} is no command: {why}")
+    return text
+
+
 def _add_machines(parser: argparse.ArgumentParser) -> None:
     """Adds the options for other machines."""
     add = parser.add_argument
     add(
         "--sshlogin",
+        type=_machines,
         action="append",
         default=[],
         metavar="HOST,..",
@@ -147,7 +167,12 @@ def _add_machines(parser: argparse.ArgumentParser) -> None:
         metavar="PROGRAM",
         help="pops-part on those machines (pops-part)",
     )
-    add("--ssh", metavar="COMMAND", help="the ssh that GNU parallel uses, with its options")
+    add(
+        "--ssh",
+        type=_shell_command,
+        metavar="COMMAND",
+        help="the ssh that GNU parallel uses, with its options",
+    )
 
 
 def command_line() -> argparse.ArgumentParser:

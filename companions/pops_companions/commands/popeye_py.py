@@ -5,7 +5,7 @@ import sys
 import time
 from collections.abc import Iterable, Iterator
 from dataclasses import replace
-from typing import Optional
+from typing import Optional, Union
 
 from pops.engine import Engine
 from pops.run import Ending, Limits, Result
@@ -27,6 +27,8 @@ from pops_companions.show.titles import printable, shown, text_of
 
 NAME = "popeye-py"
 _MOST_REFUTATIONS = 200
+# The most bytes that a program writes of a problem; then what was found so far is shown.
+_MOST_SHOWN = 1 << 23
 
 
 class Settings(argparse.Namespace):
@@ -91,9 +93,11 @@ class Solver:
             raise FaultFound(item.fault.text)
         if not isinstance(item, TriesItem):
             raise RunError("pops-tries shows nothing of the problem")
-        yield from _head(one.label, item)
         result = self._run(self._pops, text, begun)
         solved = result.items[0] if result.items else None
+        if isinstance(solved, SoundItem) and _asked(solved) != _asked(item):
+            raise RunError("pops-tries shows another problem than pops")
+        yield from _head(one.label, item)
         phases = solved.phases or () if isinstance(solved, SoundItem) else ()
         if item.stipulation.play is Play.HELP:
             for phase in phases:
@@ -107,11 +111,16 @@ class Solver:
         yield ""
 
     def _run(self, engine: Engine, text: str, begun: float) -> Result:
-        seconds = self._settings.maxtime
-        if seconds is None:
-            return engine.solve(text, Limits(seconds=None)).result
-        left = begun + min(seconds, command.MOST_SECONDS) - time.monotonic()
-        return engine.solve(text, Limits(seconds=max(left, 0.001))).result
+        seconds, left = self._settings.maxtime, None
+        if seconds is not None:
+            until = begun + min(seconds, command.MOST_SECONDS)
+            left = max(until - time.monotonic(), 0.001)
+        return engine.solve(text, Limits(left, _MOST_SHOWN)).result
+
+
+def _asked(item: Union[SoundItem, TriesItem]) -> tuple[object, ...]:
+    """Returns what both programs show of a problem before its solutions."""
+    return item.title, item.author, item.board, item.stipulation, item.condition
 
 
 def _shown_by(options: Options) -> popeye_layout.Shown:

@@ -2,9 +2,10 @@
 
 import argparse
 import io
+import os
 import shutil
+import subprocess
 import sys
-import tempfile
 from pathlib import Path
 from typing import NoReturn, Optional, Union
 
@@ -13,7 +14,8 @@ from pops_companions.chess.stipulation import Play
 from pops_companions.command import CommandError, Status
 from pops_companions.input.given import GivenProblem, given_problems
 from pops_companions.input.given_source import refuse_other_text, warn_of_rest
-from pops_companions.many.child_process import outcome_of
+from pops_companions.many import sessions
+from pops_companions.many.child_process import ChildProcess, Outcome
 from pops_companions.many.program import LOOKED_FOR, MissingError, find
 from pops_companions.many.tries_program import TRIES_LOOKED_FOR, TriesProgram, find_tries
 from pops_companions.report.items import AnyItem, Board, HeadlessItem, SoundItem
@@ -28,7 +30,7 @@ from pops_companions.sheet.languages import LANGUAGES
 from pops_companions.sheet.latex_letters import beyond_latex
 from pops_companions.sheet.solution import TriesShown
 from pops_companions.sheet.solving import Solving
-from pops_companions.show.twins import groups
+from pops_companions.show.twins import Twin, groups
 
 NAME = "pops-sheet"
 SECONDS = 60.0
@@ -39,6 +41,8 @@ _MOST_NUMBERS = 10
 # The most diagrams of a row.
 _MOST_IN_A_ROW = 8
 FORMS = ("html", "latex", "pdf", "text")
+# Chromium makes a socket below TMPDIR: `org.chromium.Chromium.` with six letters, `SingletonSocket`.
+LONGEST_ROOM = 62
 BROWSERS = ("chromium", "chromium-browser", "google-chrome")
 
 
@@ -243,24 +247,33 @@ def is_battle(item: AnyItem) -> bool:
     return isinstance(item, SoundItem) and item.stipulation.play is not Play.HELP
 
 
-def warn_of_short_lines(
-    items: list[AnyItem], tries: dict[int, TriesItem], given: list[GivenProblem]
-) -> None:
-    """Says of which problems the lines end before their last move, because Variation is missing."""
+def warn_of_short_lines(entries: list[Entry], tries: dict[int, TriesItem]) -> None:
+    """Says of which problems of the sheet the lines end before their last move, because Variation is
+    missing.
+    """
     numbers = [
-        it.number
-        for it in items
-        if isinstance(it, SoundItem)
-        and is_battle(it)
-        and it.stipulation.half_moves > _HALF_MOVES_SHOWN
-        and not given[it.number - 1].has_variations
-        and has_lines(it, tries.get(it.number))
+        entry.number
+        for entry in entries
+        if any(has_short_lines(twin, tries) for twin in entry.group.twins)
     ]
     if numbers:
         many = len(numbers) > _MOST_NUMBERS
-        shown = f"{len(numbers)} of them" if many else ", ".join(map(str, numbers))
+        shown = f"{len(numbers)} of them" if many else ", ".join(numbers)
         said = "lines end at move 2, Option Variation shows all of them"
         print(f"{NAME}: problems without Variation ({shown}): {said}", file=sys.stderr)
+
+
+def has_short_lines(twin: Twin, tries: dict[int, TriesItem]) -> bool:
+    """Returns whether the lines of a problem end before its last move."""
+    item, given = twin.item, twin.given
+    return (
+        isinstance(item, SoundItem)
+        and is_battle(item)
+        and item.stipulation.half_moves > _HALF_MOVES_SHOWN
+        and given is not None
+        and not given.has_variations
+        and has_lines(item, tries.get(item.number))
+    )
 
 
 def has_lines(item: SoundItem, tries: Optional[TriesItem]) -> bool:
@@ -288,18 +301,31 @@ def refuse_other_texts(
             raise CommandError(Status.DEVICE, message)
 
 
+def printed(words: list[str], room: str) -> Outcome:
+    """Runs Chromium, which leaves nothing outside its folder and is over with all its processes."""
+    environment = {**os.environ, "TMPDIR": room} if len(os.fsencode(room)) <= LONGEST_ROOM else None
+    # (without its input it never begins, should this process end before it is held)
+    held = ["/bin/sh", "-c", 'read -r _ && exec "$@"', "sh", *words]
+    child = ChildProcess(held, subprocess.PIPE, subprocess.PIPE, environment)
+    with sessions.watched(child.run.pid, room):
+        try:
+            return child.outcome(b"\n")
+        finally:
+            sessions.end(child.run.pid)
+
+
 def pdf_of(page: str) -> bytes:
     """Returns a page as headless Chromium prints it. CommandError where there is none."""
     browser = next((it for it in BROWSERS if shutil.which(it)), None)
     if browser is None:
         message = "--to pdf needs chromium, which isn't on the PATH; --to html needs nothing"
         raise CommandError(Status.DEVICE, message)
-    with tempfile.TemporaryDirectory(prefix="pops-sheet-") as room:
+    with sessions.passing_folder("pops-sheet-") as room:
         source, target = Path(room) / "sheet.html", Path(room) / "sheet.pdf"
         source.write_text(page, "utf-8", "replace")
         words = ["--headless", "--no-sandbox", "--disable-gpu", "--no-pdf-header-footer"]
         words += [f"--user-data-dir={room}/profile", f"--print-to-pdf={target}", source.as_uri()]
-        done = outcome_of([browser, *words])
+        done = printed([browser, *words], room)
         if done.status != 0 or not target.is_file():
             raise CommandError(Status.DEVICE, f"{browser} ended with {done.status}")
         return target.read_bytes()
@@ -314,13 +340,13 @@ def sheet(settings: Settings) -> Status:
     warn_of_names(NAME, settings.report or settings.input, items, settings.encoding)
     tries = texts.tries(items) if any(map(is_battle, items)) else {}
     refuse_other_texts(items, tries, given, boards)
-    warn_of_short_lines(items, tries, given)
     items = with_missing(items, given)
     shown = TriesShown(settings.tries)
     made = Sheet(boards, tries, LANGUAGES[settings.language], settings.encoding, shown)
     found = groups(iter(items), given, settings.encoding, False)
-    entries = made.entries(found, settings.first_number, settings.apart)
-    written = written_as(settings, list(entries))
+    entries = list(made.entries(found, settings.first_number, settings.apart))
+    warn_of_short_lines(entries, tries)
+    written = written_as(settings, entries)
     with command.written(settings.output) as target:
         target.write(written)
     return Status.GOOD if all(map(is_solved, items)) else Status.FAULTY

@@ -108,7 +108,9 @@ class Case:
 
     @property
     def _begun(self) -> bool:
-        return not self.reading.first or self.word is not self.reading.words[0]
+        # (a list of all words would be made again for each name that could stand here)
+        first = next(it for it in self.reading.tokens if isinstance(it, Word))
+        return not self.reading.first or self.word is not first
 
     def _copied(self) -> Reading:
         old = self.reading
@@ -121,10 +123,6 @@ class Case:
     def openers_of(self, section: Section) -> list[Word]:
         """Returns the commands that open sections of this kind in the problem."""
         return [it for it in self.reading.openers if named(it.bytes, [section.value])]
-
-    def last_colour(self) -> Optional[Word]:
-        """Returns the colour before the faulty word."""
-        return self.reading.colours[-1][1] if self.reading.colours else None
 
 
 def at(text: str, *marks: Span) -> Explanation:

@@ -45,7 +45,8 @@ def colour_missing(case: Case) -> Iterator[Optional[Explanation]]:
 
 def _colour_before_man(case: Case) -> Optional[Explanation]:
     word = case.word.bytes
-    if word[:1] not in (b"b", b"B") or not is_man(word[1:]):
+    # (`Bbe8` may have a letter too many)
+    if word[:1] != b"b" or not word[1:2].isupper() or not is_man(word[1:]):
         return None
     return case.tells("black_apart", rest=case.plain[1:])
 
@@ -143,6 +144,7 @@ def square_missing(case: Case) -> Iterator[Optional[Explanation]]:
     yield _letter_alone(case)
     yield _short_command(case)
     yield _rank_first(case)
+    yield wordings.pawn_or_square(case)
     yield wordings.signs(case)
     yield wordings.joined(case)
     yield _line_of_squares(case)

@@ -12,6 +12,9 @@ from pops_companions.input.words import Span, named, short_forms
 
 _NEXT = b"NextProblem"
 _BEGIN_AFTER = re.compile(rb"(?i)\s+(?:" + short_forms("BeginProblem") + rb")(?!\S)")
+_CLOSING_AFTER = re.compile(
+    rb"(?i)\s+(" + short_forms("NextProblem") + rb"|" + short_forms("EndProblem") + rb")(?!\S)"
+)
 
 
 @dataclass
@@ -94,7 +97,7 @@ class _Mender:
         self._done.append(near.text[near.begin : end.stop])
         self._closing = near.text[end.stop : end.after]
         self._number += 1
-        if named(self._closing, ["EndProblem"]) is not None and not self._joins():
+        if not self._goes_on():
             self._finish(self._closing + self._text[self._place :])
             return False
         self._done.append(self._closing)
@@ -110,8 +113,7 @@ class _Mender:
                 return
             if near.begin and reading.at is None or not (near.begin or near.is_all):
                 # What is said of the first problem and of the end is said of the whole text.
-                near.widen(b"".join(self._done), self._number)
-                self._done.clear()
+                self._widen(near)
                 line = None
                 continue
             edit = edit_for(near.text, near.number, reading)
@@ -121,12 +123,21 @@ class _Mender:
                     near.text = line.restored(near.text)
                     self.made.mended -= line.mended
                 return
+            if not edit.text and edit.span.start < near.begin:
+                # (the word that closes the problem before is left out)
+                self._widen(near)
+                line = None
+                continue
             if line is None or not line.has(reading):
                 line = _Line.of(near.text, reading)
             line.note(edit)
             near.text = edit.of(near.text)
             self.made.mended += 1
             mended += 1
+
+    def _widen(self, near: Near) -> None:
+        near.widen(b"".join(self._done), self._number)
+        self._done.clear()
 
     def _pass_on(self, near: Near, after: int) -> None:
         """Goes on after a problem: in the text as it was, unless it was changed there too."""
@@ -136,6 +147,25 @@ class _Mender:
             self._text = rest + self._text[near.stop :]
             self._place = 0
             self._last_block = last_block(self._text)
+
+    def _goes_on(self) -> bool:
+        """Joins the block after an EndProblem, and leaves out a NextProblem that nothing follows. Returns
+        whether a problem follows."""
+        while True:
+            if named(self._closing, ["EndProblem"]) is not None:
+                if not self._joins():
+                    return False
+            elif not self._leaves_out():
+                return True
+
+    def _leaves_out(self) -> bool:
+        """Leaves out the word that closes a problem, where only blanks part it from the next one."""
+        after = _CLOSING_AFTER.match(self._text, self._place)
+        if after is None:
+            return False
+        self._closing, self._place = after[1], after.end()
+        self.made.mended += 1
+        return True
 
     def _joins(self) -> bool:
         """Joins the block after an EndProblem, where there is one. Returns whether it does."""

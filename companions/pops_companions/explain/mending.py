@@ -10,14 +10,16 @@ from dataclasses import dataclass
 from typing import NamedTuple, Optional
 
 from pops_companions.explain.case import Case, Explanation
-from pops_companions.explain.characters import decoded
+from pops_companions.explain.characters import decoded, with_blanks
 from pops_companions.explain.explaining import ExplainedFault, explanation
 from pops_companions.explain.fault_texts import FAULT_TEXTS
 from pops_companions.explain.near import Near, near_of
-from pops_companions.explain.vocabulary import is_unread_command, unread
+from pops_companions.explain.other_men import letters_of, men_words
+from pops_companions.explain.vocabulary import alphabets_of, is_unread_command, unread
 from pops_companions.input.pieces import Piece, cut
 from pops_companions.input.reading import (
     CASTLING_SQUARES,
+    CLOSING,
     COLOURS,
     COMMANDS,
     CONDITIONS,
@@ -29,7 +31,7 @@ from pops_companions.input.reading import (
     read_piece,
     squares_of,
 )
-from pops_companions.input.words import Span, named
+from pops_companions.input.words import TEXT_WORDS, Span, named
 from pops_companions.report.items import Fault
 
 _QUOTED = "`([^`]+)`"
@@ -40,15 +42,16 @@ _IN_PLACE = re.compile(
 )
 _JOINED = re.compile(rf"^{_QUOTED} is one word, without a blank")
 _LONGER = re.compile(rf"Write three letters or more: {_QUOTED} or {_QUOTED}")
-_PAWN = re.compile(rf"A pawn is {_QUOTED}\.$")
 _LEFT_OUT = re.compile(
     r"Leave (?:it|`BeginProblem`) out(?:\.$|: )|(?:stipulation|condition) .* Leave one out"
 )
 _SQUARE_LEFT_OUT = re.compile(r"(?:names .* twice|was given before, .*)\. Leave one out")
+_BLANKS_IN_PLACE = re.compile("Type (?:a blank|blanks) in (?:its|their) place")
 # Where men may have the letters of that language, a word alone isn't mended.
 _IN_ANOTHER_LANGUAGE = re.compile(
     rf" is (?:German|French), .* Write `(?:BeginProblem|Pieces|White|Black)`|Then {_QUOTED} is "
 )
+_LANGUAGE = re.compile(" is (German|French), and pops reads only English")
 # What takes the rest of its line, or a line of its own, in place of the marked word or after it.
 _REMARK_IN_PLACE = re.compile("Write `(Remark solutions [0-9]+)` in its place")
 _REMARK_TOO = re.compile(f"Write {_QUOTED}, and `(Remark solutions [0-9]+)`")
@@ -63,8 +66,9 @@ _DENIED = re.compile(
     rb"|[=:][ \t]*0"
 )
 # A sign that begins a comment, or denies, right before a word.
-_SIGN_FIRST = re.compile(rb"(?:[;!*]|//|/\*|--?)[A-Za-z]")
-_SIGN_OF_NOT = re.compile(rb"[!-][A-Za-z]")
+_SIGN_FIRST = re.compile(rb"(?:[;!~*]|//|/\*|--?)[A-Za-z]")
+_SIGN_OF_NOT = re.compile(rb"[!~-][ \t]*[A-Za-z]")
+_SIGN_OF_MAN = re.compile(rb"^[-!][A-Za-z]|[*+=~]")
 # A side, without a man after it: `Black to move`.
 _SIDE = re.compile(
     rb"(?i)(?:^|[^a-z])(?:white|weiss|blancs?|black|schwarz|noirs?)(?![a-z])(?![ \t:]*[a-z]?[a-h][1-8])"
@@ -123,8 +127,11 @@ def edit_for(
 
     `in_any_language` mends also where the men may have the letters of another language.
     """
+    empty = _leaving_out(text, reading)
+    if empty is not None:
+        return empty
     said = explanation(text, reading)
-    if _IN_ANOTHER_LANGUAGE.search(said.text) and not in_any_language:
+    if not in_any_language and _may_be_in_another_language(text, reading, said):
         return None
     left = 0 if reading.at is None else len(text) - reading.word.span.stop
     for edit in _proposed(text, reading, said):
@@ -135,6 +142,19 @@ def edit_for(
         if again is not None and (again.number is None or _left(changed, again) <= left):
             return edit
     return None
+
+
+def _may_be_in_another_language(text: bytes, reading: Reading, said: Explanation) -> bool:
+    """Returns whether the men may have the letters of another language, which an explanation names."""
+    if _IN_ANOTHER_LANGUAGE.search(said.text):
+        return True
+    language = _LANGUAGE.search(said.text)
+    if language is None or reading.at is None:
+        return False
+    letters = letters_of(men_words(Case(text, reading)))
+    spoken = [it for it in alphabets_of("".join(letters)) if language[1] in it.languages]
+    kinds = [(letter, it.kind(letter)) for it in spoken for letter in letters]
+    return any(kind is None or kind.value != letter for letter, kind in kinds)
 
 
 def _is_unsure(text: bytes, reading: Reading, edit: Edit) -> bool:
@@ -150,14 +170,20 @@ def _is_unsure(text: bytes, reading: Reading, edit: Edit) -> bool:
         return True
     own_bytes = text[start:stop]
     is_command = reading.section is not Section.PIECES
-    may_deny = is_command and _SIGN_OF_NOT.match(own_bytes) is not None
-    if _SIGN_FIRST.match(own_bytes) and (may_deny or not before.strip()):
+    # (in Popeye's boards `-R` is black and `=R` neutral)
+    if not is_command and _SIGN_OF_MAN.search(own_bytes):
+        return True
+    may_deny = is_command and _SIGN_OF_NOT.match(own_bytes + after) is not None
+    if may_deny or _SIGN_FIRST.match(own_bytes) and not before.strip():
         return True
     if _takes_men_over(reading, edit):
         return True
-    is_comment = edit.text.startswith(b"Remark ") and before.strip()
-    if is_comment and _says_more(Case(text, reading), after):
-        return True
+    is_short = len(own_bytes) == 2 and named(edit.text, TEXT_WORDS) is not None
+    if edit.text == b"Remark " or is_short:
+        is_beside = bool(before.strip()) and reading.section is Section.CONDITION
+        has_number = re.search(rb"[0-9]", reading.word.bytes) is not None
+        if is_beside or has_number or _says_more(Case(text, reading), after):
+            return True
     own = _DENIED.search(own_bytes)
     # (`No Board` becomes NoBoard)
     if own is not None and not edit.text.lower().startswith((own[1] or own[0]).lower()):
@@ -166,22 +192,23 @@ def _is_unsure(text: bytes, reading: Reading, edit: Edit) -> bool:
 
 
 def _takes_men_over(reading: Reading, edit: Edit) -> bool:
-    """Returns whether a colour written before one man would hold for the men after it, and is named for
-    others, as in `White Kg6 bQa8 Ra1 Black Kg8`.
+    """Returns whether a colour written before one man would hold for the man after it, which may have
+    the colour before, as in `White Kg6 bQa8 Ra1 Black Kg8`.
     """
     colour = named(edit.text.split(b" ")[0], COLOURS)
-    if colour is None or reading.section is not Section.PIECES:
+    if colour is None or reading.section is not Section.PIECES or b" " not in edit.text:
         return False
-    words = [it.bytes for it in reading.words if it.start >= edit.span.stop]
-    is_before_man = bool(words) and b" " in edit.text and is_man(words[0])
-    return is_before_man and any(named(word, [colour], 1) is not None for word in words[1:])
+    after = next((it for it in reading.words if it.start >= edit.span.stop), None)
+    is_other = reading.colour is None or reading.colour.name != colour.upper()
+    return is_other and after is not None and is_man(after.bytes)
 
 
 def _says_more(case: Case, comment: bytes) -> bool:
-    """Returns whether a comment may belong to what stands before it: it stands beside a condition, or
-    names a rule, a square, a stipulation or what pops would read there, as in `h#2 -- Circe`.
+    """Returns whether a comment may belong to the problem: it names a rule, a square, a stipulation or
+    what pops would read there, as in `h#2 -- Circe`.
     """
-    if case.reading.section is Section.CONDITION or _OF_A_PROBLEM.search(comment):
+    # (a star is set play)
+    if _OF_A_PROBLEM.search(comment) or comment.strip() == b"*":
         return True
     words = dict.fromkeys(re.findall(rb"[A-Za-z]+", comment))
     return any(
@@ -190,6 +217,22 @@ def _says_more(case: Case, comment: bytes) -> bool:
         or case.fits(decoded(word))
         for word in words
     )
+
+
+def _leaving_out(text: bytes, reading: Reading) -> Optional[Edit]:
+    """Returns the edit that leaves out a NextProblem before the end of a problem that has nothing else, or
+    after BeginProblem. A text line there may be of a problem that is lost.
+    """
+    if reading.number is not FaultKind.STIPULATION_MISSING:
+        return None
+    words = reading.tokens[:-1]
+    if not reading.first and not words:
+        before = Case(text, reading).span_before
+        assert before is not None
+        return Edit(Span(before.start, reading.word.start), b"")
+    if reading.first and len(words) == 1 and named(reading.word.bytes, ["NextProblem"]) is not None:
+        return Edit(Span(words[0].span.stop, reading.word.span.stop), b"")
+    return None
 
 
 def _left(text: bytes, reading: Reading) -> int:
@@ -242,6 +285,8 @@ def _taken_out(text: bytes, reading: Reading, said: str) -> Iterator[Edit]:
     word = reading.word
     if said.startswith("There is a byte order mark"):
         yield Edit(word.span, word.bytes.replace(_BYTE_ORDER_MARK, b""))
+    if _BLANKS_IN_PLACE.search(said):
+        yield Edit(word.span, with_blanks(decoded(word.bytes)).encode("utf-8"))
     if _SQUARE_LEFT_OUT.search(said) and reading.square is not None:
         place = reading.square_place
         rest = word.bytes[:place] + word.bytes[place + 2 :]
@@ -299,7 +344,7 @@ def _on_own_lines(text: bytes, reading: Reading, said: Explanation) -> Iterator[
 def _in_place(text: bytes, marks: tuple[Span, ...], said: str) -> Iterator[Edit]:
     """Yields what replaces the marked words, which are neighbours, or one of them."""
     longer = _LONGER.search(said)
-    found = [_IN_PLACE.search(said), _JOINED.search(said), _PAWN.search(said)]
+    found = [_IN_PLACE.search(said), _JOINED.search(said)]
     texts = ([longer[2]] if longer else []) + [it[1] for it in found if it is not None]
     for wanted in texts:
         if marks and not text[marks[0].start : marks[-1].stop].count(b"\n"):
@@ -341,10 +386,17 @@ def further_faults(text: bytes, pieces: Sequence[Piece], number: int) -> Iterato
         else:
             edits = [edit]
         for one in edits:
-            if one.span == Span(0, len(near.text)):
+            # (without its end the problem would go on with the next one's words)
+            if one.span == Span(0, len(near.text)) or not one.text and _ends_problem(near, one.span):
                 return
             back.note(one)
             near.text = one.of(near.text)
+
+
+def _ends_problem(near: Near, place: Span) -> bool:
+    """Returns whether a word that ends a problem stands there."""
+    words = near.text[place.start : place.stop].split()
+    return any(named(word, CLOSING) is not None for word in words)
 
 
 def _line_of(text: bytes, piece: Piece, place: int) -> int:

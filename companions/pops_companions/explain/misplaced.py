@@ -189,7 +189,7 @@ def _causes_among_men(case: Case) -> Iterator[Optional[Explanation]]:
 
 def _colour_letter(case: Case) -> Optional[Explanation]:
     word = case.word.bytes
-    if word[:1] not in (b"w", b"W") or not is_man(word[1:]):
+    if word[:1] != b"w" or not word[1:2].isupper() or not is_man(word[1:]):
         return None
     return case.tells("white_apart", rest=case.plain[1:])
 

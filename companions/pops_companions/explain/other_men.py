@@ -8,7 +8,7 @@ from pops_companions.explain.case import Case, Explanation, listed
 from pops_companions.explain.characters import decoded
 from pops_companions.explain.sentences import DATA, sentence
 from pops_companions.explain.vocabulary import Alphabet, alphabets_of, alphabets_with
-from pops_companions.input.reading import Section, is_man, kind_of, squares_of
+from pops_companions.input.reading import Section, is_man, kind_of, king_of, squares_of
 from pops_companions.input.words import Word, named
 
 _NAMES = {kind.word: kind for kind in Kind}
@@ -26,11 +26,13 @@ def foreign_letter(case: Case) -> Optional[Explanation]:
     possible = alphabets_with(letter) if len(letter) == 1 else []
     if not possible:
         return None
+    text = sentence("no_letter", letter=letter)
+    if letter in "wW":
+        return case.tells("letter_of_colour", text=text, squares=squares)
     men = men_words(case)
     fitting = [it for it in alphabets_of("".join(letters_of(men))) if it in possible]
     possible = fitting or possible
     kinds = {_kind(alphabet, letter) for alphabet in possible}
-    text = sentence("no_letter", letter=letter)
     if len(kinds) > 1:
         ways = [sentence(
             "kind_in", kind=_kind(it, letter).word, languages=listed(it.languages)
@@ -39,7 +41,7 @@ def foreign_letter(case: Case) -> Optional[Explanation]:
     (kind,) = kinds
     languages = [language for it in possible for language in it.languages]
     text = sentence(
-        "letter_of_one",
+        "letter_of_one" if fitting else "letter_among_others",
         text=text,
         kind=kind.word,
         languages=listed(languages),
@@ -85,10 +87,16 @@ def two_letters(case: Case) -> Optional[Explanation]:
     word = case.plain
     if not re.fullmatch(r"[a-z]{2}(?:[a-h][1-8])+", word, re.IGNORECASE):
         return None
-    # (`KT` is a fairy man of Popeye)
-    if word[:2] in ("Kt", "Kn", "kt", "kn"):
+    # (`KT` is a fairy man of Popeye, and `Kng6` may be the king)
+    if word[:2] in ("Kt", "Kn", "kt", "kn") and _has_king(case):
         return case.tells("knight_is_s", squares=word[2:])
     return case.tells("two_letters")
+
+
+def _has_king(case: Case) -> bool:
+    """Returns whether the side at hand has its king."""
+    colour = case.reading.colour
+    return colour is not None and king_of(case.reading, colour) is not None
 
 
 def _kind(alphabet: Alphabet, letter: str) -> Kind:

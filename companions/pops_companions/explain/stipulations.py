@@ -20,14 +20,16 @@ from pops_companions.input.reading import (
 from pops_companions.input.words import Word, named
 
 _FORMS = sentence("forms")
-_STIPULATION = re.compile(r"(?:[a-z]{0,5}-)?[a-z]{0,2}(?:#|==?)[0-9]+(?:\.5)?", re.IGNORECASE)
-_GOOD = re.compile(r"([sh]?)([#=])([0-9]+)(\.5)?", re.IGNORECASE)
+_STIPULATION = re.compile(r"(?:[a-zA-Z]{0,5}-)?[a-zA-Z]{0,2}(?:#|==?)[0-9]+(?:\.5)?")
+_GOOD = re.compile(r"([shSH]?)([#=])([0-9]+)(\.5)?")
 _KNOWN: dict[str, Any] = DATA["stipulations"]
 _OTHER_PLAY = tuple((re.compile(plays, re.IGNORECASE), what) for plays, what in _KNOWN["plays"])
 _OTHER_GOALS = re.compile(_KNOWN["goals"], re.IGNORECASE)
 _SIGNS_OF_MATE: str = _KNOWN["mates"]
 _WORDS: dict[str, str] = _KNOWN["words"]
 _NUMBERS: dict[str, str] = _KNOWN["numbers"]
+# What help play and selfmate are called before a number.
+_WITHOUT_GOAL = ("h", "s")
 _A_NUMBER = "|".join(["[1-9][0-9]*(?:½| 1/2|[.,]5)?", *_NUMBERS])
 # As `mate in 2 moves`, `help mate in 2½`, `s 3`: how the play is called, and the number.
 _IN_WORDS = re.compile(
@@ -37,7 +39,7 @@ _IN_WORDS = re.compile(
 _AROUND = re.compile(r"""^[(\["']+|[)\]"'.,;:!?]+$""")
 _MOST_WORDS = 6
 # As `#two`.
-_NUMBER_IN_WORDS = re.compile(rf"([sh]?[#=])({'|'.join(_NUMBERS)})[.,;:]*", re.IGNORECASE)
+_NUMBER_IN_WORDS = re.compile(rf"([sh]?[#=])({'|'.join(_NUMBERS)})[.,;:]*")
 # What may stand before `mate in 2`.
 _WHITE_FIRST = re.compile("white (?:to )?(?:(?:play|move)s?,? and )?(?=[a-z -]*mates? )")
 _MOST_WORDS_FIRST = 5
@@ -68,6 +70,7 @@ def bad(case: Case) -> Iterator[Optional[Explanation]]:
     yield _other_goal(case)
     yield _comma(case)
     yield _reversed(case)
+    yield _may_be_half(case)
     yield wordings.signs(case)
     yield _number_in_words(case)
     yield _in_words(case)
@@ -161,7 +164,8 @@ def _star(case: Case) -> Optional[Explanation]:
     found = re.fullmatch(r"(.*?)\*+(.*)", re.sub(",5(?=\\*)|½", ".5", _bare(case.plain)))
     if found is None or not case.fits(found[1] + found[2]):
         return None
-    if re.search("[0-9]$", found[1]) and found[2]:
+    # (`#*2` may have a sign too many)
+    if found[1] and found[2]:
         return None
     return case.tells("star", first=found[1], second=found[2])
 
@@ -196,6 +200,12 @@ def _comma(case: Case) -> Optional[Explanation]:
     return case.tells("half_point", mended=mended) if case.fits(mended) else _wrong_number(case, mended)
 
 
+def _may_be_half(case: Case) -> Optional[Explanation]:
+    """Explains a point after the number of help play, as `h#2.`."""
+    found = re.fullmatch(r"(h[#=][0-9]+)\.[^0-9]*", case.plain, re.IGNORECASE)
+    return None if found is None else case.tells("may_be_half", whole=found[1])
+
+
 def _reversed(case: Case) -> Optional[Explanation]:
     found = re.fullmatch(r"([0-9]+)(\.5)?([sh]?[#=])|([sh])([0-9]+)(\.5)?([#=])", case.plain)
     if found is None:
@@ -210,10 +220,10 @@ def _reversed(case: Case) -> Optional[Explanation]:
 
 
 def _number_in_words(case: Case) -> Optional[Explanation]:
-    found = _NUMBER_IN_WORDS.fullmatch(case.plain)
+    found = _NUMBER_IN_WORDS.fullmatch(case.plain.lower())
     if found is None:
         return None
-    whole = found[1] + _NUMBERS[found[2].lower()]
+    whole = found[1] + _NUMBERS[found[2]]
     return case.tells("in_words", whole=whole) if case.fits(whole) else None
 
 
@@ -243,13 +253,20 @@ def _said_in_words(case: Case, words: Sequence[Word], begin: int = 0) -> Optiona
         # (White begins a help mate only with half a move more)
         if begin and sign.startswith("h") and not number.endswith(".5"):
             return None
-        whole = sign + _NUMBERS.get(number, number)
+        number = _NUMBERS.get(number, number)
+        if sign in _WITHOUT_GOAL:
+            if "#" not in found[0]:
+                return case.tells("goal_missing", play=sign, number=number)
+            sign += "#"
+        whole = sign + number
         if not case.fits(whole):
             return _wrong_number(case, whole)
         spans = [it.span for it in words[: begin + found[0].count(" ") + 1]]
         return case.tells("in_words", *spans, whole=whole)
     sign = _WORDS.get(re.sub("[-#]+$", "", case.plain.lower()))
-    return None if sign is None else case.tells("in_words_as", sign=sign)
+    if sign is None or sign in _WITHOUT_GOAL:
+        return None
+    return case.tells("in_words_as", sign=sign)
 
 
 def second(case: Case) -> Explanation:

@@ -13,7 +13,7 @@ from pops_companions.input.reading import Section
 # As 2.1.1.1, 2.1.., 3.1;1.1 and 0.2.1.1; not 2 alone.
 _COUNTS = re.compile(r"\(?[0-9]{1,3}(?:[.,;]+[0-9]{1,3})*[.,;]*\)?[.,;]*")
 _HALF = re.compile(r"^(h[#=][0-9]+)(?:,5(?![0-9]|\.[0-9])|½)", re.IGNORECASE)
-_OR_HALF = re.compile("[0-9][,;:]5$")
+_OR_ANOTHER = re.compile(r"^[^0-9]*[0-9]+[,;:/(\[]+[0-9]+$")
 _OF_MEN = re.compile(r"\(?[0-9]{1,2}(?:\+[0-9]{1,2}){1,2}\)?[.,;]*")
 _JOINED = re.compile(r"(.+?)[;:,(\[/]+([0-9]+(?:[.,;][0-9]+)*)[.,;]*[)\]]?")
 _OF_SOLUTIONS = re.compile(
@@ -76,8 +76,8 @@ def joined(case: Case) -> Optional[Explanation]:
     found = _JOINED.fullmatch(_HALF.sub(r"\g<1>.5", case.plain))
     if found is None or not case.fits(found[1]):
         return None
-    # (`#2/3` may be a mate in 2 or 3; `#1,5`, `h#2:5` and `h#2;5` one of a half-move more)
-    if "/" in case.plain and re.fullmatch("[0-9]+", found[2]) or _OR_HALF.search(case.plain):
+    # (`#2/3` and `#3,2` may be two mates, `h#2;5` one of a half-move more)
+    if _OR_ANOTHER.search(case.plain):
         return None
     count = _product(found[2])
     if not count:

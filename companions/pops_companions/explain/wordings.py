@@ -8,16 +8,21 @@ from pops_companions.explain import characters
 from pops_companions.explain.case import NAMES, Case, Explanation
 from pops_companions.explain.sentences import DATA, sentence
 from pops_companions.explain.vocabulary import foreign, unread
-from pops_companions.input.reading import CONDITIONS, Section, squares_of
+from pops_companions.input.reading import CONDITIONS, Section, is_man, squares_of, stipulation_of
 from pops_companions.input.words import TEXT_WORDS, named
 
 _SIGNS: dict[str, str] = DATA["signs"]
 _SIGN = "[" + re.escape("".join(_SIGNS)) + "]"
 # (`h#.5` isn't h#5)
-_OF_A_NUMBER = re.compile(f"[0-9]{_SIGN}+[0-9]|[#=][.,:;][0-9]")
-_FROM_TO = re.compile("([a-h])([1-8])([-–—.,…>→]+)([a-h])([1-8])", re.IGNORECASE)
+_OF_A_NUMBER = re.compile(f"[0-9]{_SIGN}+[0-9]|[#=]{_SIGN}*[.,:;]{_SIGN}*[0-9]")
+_FROM_TO = re.compile("([a-h])([1-8])([-–—.,…<>→/]+)([a-h])([1-8])", re.IGNORECASE)
 _COMMENT = re.compile(r"(#(?![0-9=])|%|//|/\*|\*|;|--|<!--|\{|!|\")")
 _FEN = re.compile(r"(?:[kqrbnpKQRBNP1-8]{1,8}/){7}[kqrbnpKQRBNP1-8]{1,8}")
+# As in Variationen.
+_LONGEST_ENDING = 3
+# Squares that are the man's, or a pawn's without its letter.
+_MAY_BE_PAWN = re.compile("([QRBSGN])(?:[a-h][1-8])+.*?[^A-Za-z0-9-]+([a-h][2-7])(?![a-z])", re.IGNORECASE)
+_THOUSANDS = re.compile("[0-9]{1,3}(?: [0-9]{3})+")
 _HALVES = re.compile(rb"^(?:\xff\xfe|\xfe\xff)|^[ -~]\x00|^\x00[ -~]")
 
 
@@ -39,11 +44,28 @@ def invisible(case: Case) -> Optional[Explanation]:
         cure = sentence("mark_joined" if case.word.start > 0 else "mark_save")
         return case.tells("mark", where=where, cure=cure)
     blanks = characters.with_blanks(case.plain)
-    mended = next((it for it in (blanks, blanks.replace(" ", "")) if case.fits(it)), None)
+    joined_up = [blanks.replace(" ", "")] if _is_one_word(blanks) else []
+    mended = next((it for it in (blanks, *joined_up) if case.fits(it)), None)
     cure = sentence("blank_in_place") if mended is None else sentence("write", mended=mended)
     is_wide = characters.is_wide_blank(odd.character)
     looks = sentence("looks_like_blank" if is_wide else "does_not_show")
     return case.tells("invisible", name=odd.name, looks=looks, cure=cure)
+
+
+def _is_one_word(text: str) -> bool:
+    """Returns whether the blanks of a text can't be meant: `h#1 5` may be h#1 or h#15."""
+    if re.search("[0-9] +[0-9]", text) and not _THOUSANDS.fullmatch(text):
+        return False
+    return _MAY_BE_PAWN.search(text) is None
+
+
+def pawn_or_square(case: Case) -> Optional[Explanation]:
+    """Explains squares that a sign parts, as `Ra1,a2`."""
+    found = _MAY_BE_PAWN.match(case.plain)
+    if found is None:
+        return None
+    whole = re.sub("[^A-Za-z0-9]", "", case.plain)
+    return case.tells("pawn_or_squares", whole=whole, pawn=f"P{found[2]}") if case.fits(whole) else None
 
 
 def look_alike(case: Case) -> Optional[Explanation]:
@@ -102,10 +124,11 @@ def without_signs(word: str) -> str:
 def signs(case: Case) -> Optional[Explanation]:
     """Punctuation that belongs to the word, since blanks alone part words."""
     inside = re.findall(_SIGN, case.plain)
-    # (`#=2` may be either, and -1 isn't 1)
-    if not inside or re.match("[sh]?(?:#=|=#)|-[0-9]", case.plain, re.IGNORECASE):
+    # (`#=2` and `#2=` may be either, and -1 isn't 1)
+    if not inside or re.match("[sh]?(?:#.*=|=.*#)|-[0-9]", case.plain, re.IGNORECASE):
         return None
-    if "*" in inside and case.reading.section is Section.STIPULATION:
+    # (a star means set play, a plus may be another goal)
+    if case.reading.section is Section.STIPULATION and any(sign in "*+" for sign in inside):
         return None
     if _is_range(case.plain.lower()):
         return None
@@ -113,7 +136,8 @@ def signs(case: Case) -> Optional[Explanation]:
     parted = " ".join(re.sub(_SIGN, " ", case.plain).split())
     # (without the comma `h#1,5.` would be h#15)
     joined = [] if _OF_A_NUMBER.search(case.plain) else [re.sub(_SIGN, "", case.plain)]
-    mended = next((it for it in (stripped, parted, *joined) if case.fits(it)), None)
+    whole = [it for it in joined if _is_name(it)]
+    mended = next((it for it in (stripped, *whole, parted, *joined) if case.fits(it)), None)
     if mended is None:
         return None
     kinds = {_SIGNS[it] for it in inside}
@@ -128,7 +152,8 @@ def signs(case: Case) -> Optional[Explanation]:
 
 
 def _is_range(word: str) -> bool:
-    """Returns whether a word may name all squares of a line, as `Pa2-h2`, or a move, as `Ra1->b1`."""
+    """Returns whether a word may name all squares of a line, as `Pa2-h2`, one of two, or a move, as
+    `Ra1->b1`."""
     found = _FROM_TO.search(word)
     if found is None or found[3] in (".", ","):
         return False
@@ -148,7 +173,7 @@ def parted(case: Case) -> Optional[Explanation]:
             return case.tells("parted", case.after.span, whole=whole)
     before = case.span_before
     # (`SetPlay ; Variation` may have a comment)
-    if before is not None and _COMMENT.match(word) is None:
+    if before is not None and without_signs(word) and _COMMENT.match(word) is None:
         whole = without_signs(characters.decoded(case.text[before.start : before.stop]) + word)
         if _is_name(whole):
             return case.tells("parted", before, whole=whole)
@@ -166,8 +191,15 @@ def joined(case: Case) -> Optional[Explanation]:
         return case.tells("texts_joined")
     for place in range(len(word) - 1, 0, -1):
         first, second = word[:place], word[place:]
-        is_short = len(second) < 3 and not squares_of(second.encode("utf-8"))
-        if second.islower() and (is_short or named(first.encode("utf-8"), TEXT_WORDS)):
+        # (`Qh8B`, `BKg8` and `Pa7rb7` may have a letter too many)
+        is_short = len(second) < 3 and second.isalpha()
+        is_small = word[0].isupper() and second[0].islower() and is_man(second.encode("utf-8"))
+        if place < 2 or is_short or is_small:
+            continue
+        # (`Stipulations#2` may be one for several)
+        if first.lower() == "stipulation" and second[0] in "sS":
+            continue
+        if second.islower() and named(first.encode("utf-8"), TEXT_WORDS):
             continue
         if case.fits(f"{first} {second}"):
             return case.tells("joined", first=first, second=second)
@@ -212,10 +244,19 @@ def lengthened(case: Case) -> Optional[Explanation]:
     """Explains a word of pops with letters after it."""
     word = without_signs(case.plain).lower()
     for name in NAMES:
-        if word.startswith(name.lower()) and word[len(name) :].isalpha():
-            if case.fits(name) and not _names_more(word, name):
+        rest = word[len(name) :]
+        if word.startswith(name.lower()) and rest.isalpha() and len(rest) <= _LONGEST_ENDING:
+            if case.fits(name) and not _names_more(word, name) and not _goes_on(case, rest):
                 return case.tells("lengthened", name=name)
     return None
+
+
+def _goes_on(case: Case, ending: str) -> bool:
+    """Returns whether letters may belong to the next word: `WhiteK g6`, `Stipulations #2`."""
+    if case.after is None:
+        return False
+    whole = ending.encode("utf-8") + case.after.bytes
+    return is_man(whole) or stipulation_of(whole) is not None
 
 
 def too_short(case: Case) -> Optional[Explanation]:
@@ -234,10 +275,14 @@ def too_short(case: Case) -> Optional[Explanation]:
 def misspelt(case: Case) -> Optional[Explanation]:
     """Explains a word that is nearly one of pops, also with signs around it."""
     word = without_signs(case.plain).lower()
-    if len(word) < 3:
+    if len(word) < 3 or _goes_on(case, word[-1]):
         return None
     best = min(case.names_here(), key=lambda name: _nearness(word, name), default=None)
     if best is None or _nearness(word, best) > (1 if len(word) < 6 else 2):
+        return None
+    # (a digit may be of what was beside it; `0ption` is as long)
+    digits = set(re.findall("[0-9]", word))
+    if digits and (len(word) != len(best) or not digits <= {"0", "1"}):
         return None
     if _names_more(word, best) or _denies(word, best):
         return None

@@ -5,7 +5,8 @@ from collections.abc import Iterable, Iterator, Sequence
 from dataclasses import dataclass, field, replace
 from typing import NamedTuple, Optional
 
-from pops_companions.import_.posing import COLOURS_TURNED, posed
+from pops_companions.import_.options import option_left_out
+from pops_companions.import_.posing import COLOURS_TURNED, ZERO_POSITION, posed
 from pops_companions.import_.sources import read_drafts
 from pops_companions.input.writing import text_of_problems
 from pops_companions.show.twins import Label, label_and_title
@@ -32,13 +33,16 @@ class Problem:
 
     @staticmethod
     def of_lines(number: int, lines: Iterable[str]) -> "Problem":
-        """Returns the problem of the lines that pops-import writes."""
+        """Returns the problem of the lines that pops-import writes; an option that it left out is one again.
+        """
         texts: dict[str, list[str]] = {}
         for line in lines:
             word, _, text = line.partition(" ")
             texts.setdefault(word.lower(), []).append(text)
         origins, remarks = texts.pop("origin", ()), texts.pop("remark", ())
-        options = options_of(texts.pop("option", [""])[-1])
+        left_out = [option_left_out(text) for text in remarks]
+        options = [*options_of(texts.pop("option", [""])[-1]), *(it for it in left_out if it)]
+        remarks = [text for text, option in zip(remarks, left_out) if not option]
         last = {word: given[-1] for word, given in texts.items()}
         many = {"origins": tuple(origins), "remarks": tuple(remarks), "options": tuple(options)}
         return replace(Problem(number), **many, **last)
@@ -79,10 +83,21 @@ class Twin(NamedTuple):
     changes: str
     problem: Problem
 
+    @property
+    def is_first(self) -> bool:
+        """Whether all twins are made of a position that is no problem."""
+        return f"{self.letter})" == _FIRST_LABEL
+
+    @property
+    def line(self) -> str:
+        """Its line in an input of Popeye."""
+        return f"{'ZeroPosition' if self.is_first else 'Twin'} {self.changes}"
+
 
 @dataclass(frozen=True)
 class Exported:
-    """A problem with its twins; the title has no label then.
+    """A problem with its twins; the title has no label then. If a) is among them, the problem itself is
+    none: only its twins are.
 
     With the option Duplex, `turned` are the problem and its twins with colours turned.
     """
@@ -94,7 +109,9 @@ class Exported:
     @property
     def parts(self) -> "list[Part]":
         """All its problems, in the order of a report."""
-        plain = [Part("a)" if self.twins else "", self.problem, False)]
+        plain: list[Part] = []
+        if not self.twins or not self.twins[0].is_first:
+            plain.append(Part(_FIRST_LABEL if self.twins else "", self.problem, False))
         plain += [Part(f"{it.letter}) {it.changes}", it.problem, False) for it in self.twins]
         if not self.turned:
             return plain
@@ -106,7 +123,7 @@ class Exported:
 
     def lines(self) -> list[str]:
         """Returns its lines in an input of Popeye."""
-        return [*self.problem.lines(), *(f"Twin {twin.changes}" for twin in self.twins)]
+        return [*self.problem.lines(), *(twin.line for twin in self.twins)]
 
 
 class Part(NamedTuple):
@@ -208,11 +225,13 @@ def _joined_run(run: list[Problem], with_gaps: bool) -> Iterator[Exported]:
 
 def _whole(run: list[Problem]) -> Optional[Exported]:
     """Twins and duplex as one problem; None where their Remarks don't say what changes."""
-    if len(run) < 2:
+    remarks = run[0].remarks if run else ()
+    zero = [it[len(ZERO_POSITION) :] for it in remarks if it.startswith(ZERO_POSITION)]
+    if len(run) < 2 and not zero:
         return None
     twins: list[Twin] = []
     turned: list[Problem] = []
-    for problem in run[1:]:
+    for problem in run[0 if zero else 1 :]:
         _, label = label_and_title(problem.title)
         letter = label.text.partition(" ")[0]
         said = [text for text in problem.remarks if text.startswith(f"{letter} ")]
@@ -232,7 +251,31 @@ def _whole(run: list[Problem]) -> Optional[Exported]:
     title, _ = label_and_title(run[0].title)
     options = (*run[0].options, *[_DUPLEX] * bool(turned))
     first = replace(run[0], title=title or "", options=options)
+    if zero:
+        first = _at_zero(first, twins, zero[0])
     return Exported(first, tuple(twins), tuple(turned))
+
+
+def _at_zero(first: Problem, twins: Sequence[Twin], pieces: str) -> Problem:
+    """Returns the position that all twins are made of, of the first one: with stipulation and condition
+    of a twin that changes neither, without what its Remarks say of its changes."""
+
+    def unchanged(word: str) -> Problem:
+        return next((it.problem for it in twins if word not in it.changes), first)
+
+    remarks = [
+        text
+        for text in first.remarks
+        if not any(text.startswith(it) for it in (f"{_FIRST_LABEL} ", ZERO_POSITION))
+        and not _SAID_OF_CHANGES.fullmatch(text)
+    ]
+    return replace(
+        first,
+        remarks=tuple(remarks),
+        pieces=pieces,
+        stipulation=unchanged("Stipulation").stipulation,
+        condition=unchanged("Condition").condition,
+    )
 
 
 def _gives_back(whole: Exported, run: list[Problem]) -> bool:
@@ -242,7 +285,7 @@ def _gives_back(whole: Exported, run: list[Problem]) -> bool:
     for twin in whole.twins:
         _, label = label_and_title(f"{twin.letter})")
         # (a twin without a change has a letter, and is left out)
-        lines += ["Twin"] * (label.number - number - 1) + [f"Twin {twin.changes}"]
+        lines += ["Twin"] * (label.number - number - 1) + [twin.line]
         number = label.number
     reading = read_problems(text_of_problems([lines]))
     return [it.posed for it in reading.problems] == [it.posed for it in run]

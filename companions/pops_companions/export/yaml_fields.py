@@ -4,7 +4,7 @@ import re
 from collections.abc import Iterable, Iterator, Sequence
 from typing import NamedTuple, Optional, Union
 
-from pops_companions.import_.origins import MONTHS, origin_of
+from pops_companions.import_.origins import BELOW_DATE, MONTHS, origin_of
 
 Value = Union["dict[str, Value]", "list[str]"]
 
@@ -48,17 +48,17 @@ def fields_of(remarks: Iterable[str]) -> Fields:
             path, text = found[1], found[2] or ""
         elif award is not None:
             path, text = "award", award[1]
-        if (found or award) is None or not _put(fields.keys, path.split("."), text):
+        if (found or award) is None or not put(fields.keys, path.split("."), text):
             fields.comments.append(remark)
     return fields
 
 
-def _put(keys: dict[str, Value], path: Sequence[str], text: str) -> bool:
+def put(keys: dict[str, Value], path: Sequence[str], text: str) -> bool:
     """Adds a text below keys; returns whether there was room."""
     first, below = path[0], path[1:]
     if below:
         inner = keys.setdefault(first, {})
-        return isinstance(inner, dict) and _put(inner, below, text)
+        return isinstance(inner, dict) and put(inner, below, text)
     texts = keys.setdefault(first, [])
     if isinstance(texts, dict):
         return False
@@ -71,23 +71,49 @@ def source_of(origin: str, remarks: Sequence[str]) -> Optional[tuple[Source, lis
 
     None where an import wouldn't give the origin back.
     """
-    parts = _DATE.fullmatch(origin)
+    rests = [found[1] for found in (_SOURCE.fullmatch(text) for text in remarks) if found]
+    others = [text for text in remarks if not _SOURCE.fullmatch(text)]
+    more = tuple(_named(rests[0])) if len(rests) == 1 else ()
+    dated = _DATE.fullmatch(origin)
+    changed = more if dated is None else tuple(_dated(more, dated))
+    # (four digits at the end are a year, or the number of a problem)
+    for parts, rest in ((dated, more), (dated, changed), (None, more)):
+        source = _source_of(origin, parts, rest)
+        named = [("name", source.name)] * bool(source.name) + [*source.more]
+        made = origin_of(named + [("date", source.date)] * bool(source.date))
+        kept = rests if rest is more else [", ".join(f"{name} {text}" for name, text in rest)]
+        if (made.line, [made.rest] if made.rest else []) == (origin, kept):
+            return source, others
+    return None
+
+
+def _dated(more: tuple[tuple[str, str], ...], parts: "re.Match[str]") -> Iterator[tuple[str, str]]:
+    """Yields the keys of a source, with the date of its origin in place of its own."""
+    month = MONTHS.index(parts[3]) + 1 if parts[3] else None
+    numbers = {"year": parts[4], "month": month, "day": parts[2]}
+    date = [(BELOW_DATE + name, str(it)) for name, it in numbers.items() if it is not None]
+    for name, text in more:
+        if not name.startswith(BELOW_DATE):
+            yield name, text
+        elif date:
+            yield from date
+            date = []
+
+
+def _source_of(
+    origin: str, parts: "Optional[re.Match[str]]", more: tuple[tuple[str, str], ...]
+) -> Source:
+    """Returns the source of an origin, with a date if these are its parts."""
     name, date = origin, ""
     if parts is not None:
         month = f"-{MONTHS.index(parts[3]) + 1:02}" if parts[3] else ""
         day = f"-{int(parts[2]):02}" if parts[2] else ""
-        name, date = parts[1] or "", f"{parts[4]}{month}{day}"
-    rests = [found[1] for found in (_SOURCE.fullmatch(text) for text in remarks) if found]
-    others = [text for text in remarks if not _SOURCE.fullmatch(text)]
-    more = tuple(_named(rests[0])) if len(rests) == 1 else ()
+        is_below = any(it.startswith(BELOW_DATE) for it, _ in more)
+        name, date = parts[1] or "", "" if is_below else f"{parts[4]}{month}{day}"
     number = _NUMBER.fullmatch(name)
     if number is not None:
         name, more = number[1], (("problemid", number[2]), *more)
-    named = [("name", name)] * bool(name) + [*more] + [("date", date)] * bool(date)
-    made = origin_of(named)
-    if (made.line, [made.rest] if made.rest else []) != (origin, rests):
-        return None
-    return Source(name, more, date), others
+    return Source(name, more, date)
 
 
 def _named(rest: str) -> Iterator[tuple[str, str]]:

@@ -9,13 +9,14 @@ from collections.abc import Iterable, Iterator, Mapping, Sequence
 from typing import Optional
 
 from pops_companions.export.problems import Exported
-from pops_companions.export.yaml_fields import Fields, Source, Value, fields_of, source_of
+from pops_companions.export.yaml_fields import Fields, Source, Value, fields_of, put, source_of
 from pops_companions.report.items import SoundItem
 from pops_companions.show.authors import persons
 
 _WANTED = re.compile("solutions ([1-9][0-9]{0,8})")
-# Keys whose texts are a list, also a single one.
-_LISTS = ("keywords",)
+# Keys that have a list, also of one, and a key whose texts are a list.
+_LISTS = ("awards", "judges", "keywords", "reprints")
+_LISTS_OF_TEXTS = (*_LISTS, "judge")
 _MAN = re.compile("([KQRBSPGN])((?:[a-h][1-8])+)")
 _SIGNS = re.compile("(.*?)([#+=]?)([!?]?)")
 # What Popeye prints after a first move in place of the line that a text of tries has below it.
@@ -66,9 +67,10 @@ def _document(one: Exported, items: Mapping[int, SoundItem]) -> Iterator[str]:
 def _origin(source: Source) -> Iterator[str]:
     """Yields the keys of source and date."""
     if source.more:
-        yield "source:"
-        named = [("name", source.name)] * bool(source.name) + [*source.more]
-        yield from (f"  {key}: {_quoted(text)}" for key, text in named)
+        keys: dict[str, Value] = {}
+        for key, text in [("name", source.name)] * bool(source.name) + [*source.more]:
+            put(keys, key.split("."), text)
+        yield from _field("source", keys)
     elif source.name:
         yield f"source: {_quoted(source.name)}"
     if source.date:
@@ -79,12 +81,14 @@ def _field(key: str, value: Value, indent: str = "") -> Iterator[str]:
     """Yields a key with what is below it."""
     if isinstance(value, dict):
         yield f"{indent}{key}:"
-        if list(value) == [str(number) for number in range(1, len(value) + 1)]:
-            yield from (f"{indent}  {line}" for line in _members(value))
+        is_list = list(value) == [str(number) for number in range(1, len(value) + 1)]
+        if is_list or key.lower() in _LISTS:
+            members = value if is_list else {"1": value}
+            yield from (f"{indent}  {line}" for line in _members(members))
             return
         for name, below in value.items():
             yield from _field(name, below, f"{indent}  ")
-    elif len(value) == 1 and key.lower() not in _LISTS:
+    elif len(value) == 1 and key.lower() not in _LISTS_OF_TEXTS:
         yield f"{indent}{key}: {_scalar(value[0])}"
     elif value:
         yield from (f"{indent}{line}" for line in _list(key, value))

@@ -83,6 +83,14 @@ def _read_option(words: Words, option: Option, draft: Draft) -> None:
         draft.faults.append(Message(line, f"pops knows no option {option.value}"))
 
 
+def option_left_out(remark: str) -> Optional[str]:
+    """Returns the option that a Remark says was left out, with its number; None for other Remarks."""
+    said, _, reason = remark.partition(" left out: ")
+    name, _, number = said.partition(" ")
+    is_one = any((name, reason) == (option.value, why) for option, why in _LEFT_OUT.items())
+    return said if is_one and (not number or number.isdecimal()) else None
+
+
 def _number(words: Words) -> Optional[str]:
     word = words.peek()
     if word is None or not word.text.isdecimal() or len(word.text) > _LONGEST_NUMBER:

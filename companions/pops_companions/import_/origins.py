@@ -18,6 +18,9 @@ MONTHS = (
     "November",
     "December",
 )
+# What the parts of a date in a source are named by, as in `date.year`.
+BELOW_DATE = "date."
+_PARTS_OF_DATE = ("year", "month", "day")
 _DATE = re.compile(r"([0-9]{4})(?:[-/.]([0-9]{1,2}))?(?:[-/.]([0-9]{1,2}))?")
 
 
@@ -32,12 +35,14 @@ def origin_of(parts: Sequence[tuple[str, str]]) -> Origin:
     """Returns the origin of named parts, such as `name`, `date`, `volume`; unknown ones are the
     rest.
 
-    `year`, `month` and `day` may stand in place of `date`.
+    `year`, `month` and `day` may stand in place of `date`. Where they are below the date of a source,
+    as `date.year`, the rest has them too.
     """
     names = [text for name, text in parts if name == "name"]
     numbers = [text for name, text in parts if name == "problemid"]
     dates = [date_text(text) for name, text in parts if name == "date"]
-    by_name = {name: text for name, text in parts if name in ("year", "month", "day")}
+    named = [(name.replace(BELOW_DATE, ""), text) for name, text in parts]
+    by_name = {name: text for name, text in named if name in _PARTS_OF_DATE}
     if "year" in by_name:
         text = "-".join(by_name[name] for name in ("year", "month", "day") if name in by_name)
         dates.append(date_text(text))

@@ -21,6 +21,8 @@ _MOST_REPEATED = 20
 _MOST_QUOTED = 100
 # The Remark of a problem with colours turned, by Duplex or HalfDuplex.
 COLOURS_TURNED = "duplex: colours turned round"
+# The Remark of the first twin, which the men follow, where all twins are made of a position that is none.
+ZERO_POSITION = "zero position: "
 
 
 class Posed(NamedTuple):
@@ -64,6 +66,9 @@ class _Said(NamedTuple):
             texts.setdefault(command, []).append(text)
             if command in (Command.REMARK, Command.AWARD):
                 remarks.append(text if command is Command.REMARK else f"Award {text}")
+        men = {square: man for square, man in draft.setting.men.items() if isinstance(man, Man)}
+        if not draft.first and men and len(men) == len(draft.setting.men):
+            remarks.append(pieces_line(men).replace("Pieces ", ZERO_POSITION, 1))
         return _Said(
             "; ".join(filter(None, texts.get(Command.TITLE, ()))),
             "; ".join(filter(None, texts.get(Command.AUTHOR, ()))),

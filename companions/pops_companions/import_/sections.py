@@ -1,6 +1,5 @@
 """Stipulations and conditions among the words of a text."""
 
-import math
 import re
 from typing import Optional
 
@@ -18,12 +17,17 @@ _WANTED = re.compile(r"[1-9][0-9]{0,8}(\.[1-9][0-9]{0,8})*\.*")
 
 
 def wanted_of(text: str) -> Optional[int]:
-    """Returns the number of solutions that 2.1.1.1 stands for, the product; None for another text.
+    """Returns the number of solutions that 2.1.1.1 stands for, the product; None for another text, or
+    for a product that is too great.
     """
     if not _WANTED.fullmatch(text):
         return None
-    wanted = math.prod(int(number) for number in text.split(".") if number)
-    return wanted if wanted <= _MOST_WANTED else None
+    wanted = 1
+    for number in re.findall("[0-9]+", text):
+        wanted *= int(number)
+        if wanted > _MOST_WANTED:
+            return None
+    return wanted
 
 
 def take_wanted(words: Words) -> tuple[Optional[int], str]:

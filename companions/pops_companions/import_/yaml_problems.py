@@ -6,7 +6,7 @@ from pops_companions.import_.draft import Draft, Twin
 from pops_companions.import_.language import ENGLISH, Command
 from pops_companions.import_.men import read_men
 from pops_companions.import_.options import read_options
-from pops_companions.import_.origins import origin_of
+from pops_companions.import_.origins import BELOW_DATE, origin_of
 from pops_companions.import_.popeye import place
 from pops_companions.import_.sections import is_condition, take_conditions, wanted_of
 from pops_companions.import_.twins import read_twin
@@ -141,10 +141,16 @@ def _read_origin(keys: dict[str, Node], draft: Draft) -> None:
 
 
 def _parts_of_origin(name: str, node: Node) -> Iterator[tuple[str, str]]:
-    """Yields the named texts of a source or a date; a text without a key has this name."""
+    """Yields the named texts of a source or a date; a text without a key has this name, what is below the
+    date of a source `date.` before its own.
+    """
     if isinstance(node, dict):
         for key, value in node.items():
-            yield from _parts_of_origin(key.lower(), value)
+            if key.lower() == "date" and isinstance(value, dict):
+                for part, text in _parts_of_origin("date", value):
+                    yield f"{BELOW_DATE}{part}", text
+            else:
+                yield from _parts_of_origin(key.lower(), value)
     else:
         text = _one_line(node, ", ")
         if text:

@@ -15,6 +15,8 @@ from pops_companions.report import lines
 # In milliseconds: a program that writes line by line is read after pauses.
 _PAUSE = 20
 _PIECE = 1 << 16
+# The most bytes of its report: a problem that has more is solved alone.
+_MOST_WRITTEN = 1 << 26
 # The statuses of runs that wrote every byte of their report.
 _WELL = (0, 1)
 
@@ -46,6 +48,7 @@ class BundleRun:
         # What was written, when each piece came, and how many pieces were looked through.
         self._written: list[bytes] = []
         self._times: list[float] = []
+        self._left = _MOST_WRITTEN
         self._seen = 0
         # How many problems are whole in these, and since when the next one is at work.
         self._whole = 0
@@ -82,6 +85,9 @@ class BundleRun:
                 return
             self._written.append(piece)
             self._times.append(time.monotonic())
+            self._left -= len(piece)
+            if self._left < 0:
+                break
             if len(piece) < _PIECE // 2:
                 end.poll(_PAUSE)
         self._child.send(signal.SIGKILL)

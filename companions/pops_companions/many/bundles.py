@@ -87,7 +87,7 @@ def items_in(report: bytes, bundle: Sequence[Task], may_go_on: bool = False) -> 
     stop = report.rfind(lines.ITEM_END)
     if stop < 0:
         return Items(0, 0, b"") if _HEAD.startswith(report[: len(_HEAD)]) else None
-    bodies = report[:stop].split(_BETWEEN)
+    bodies = report[:stop].split(_BETWEEN, len(bundle))
     if may_go_on:
         del bodies[len(bundle) :]
     if not bodies[0].startswith(_HEAD) or len(bodies) > len(bundle):

@@ -7,14 +7,19 @@ no harm. A program that is fed by a pipe has no window between its start and the
 owner: without its input it ends by itself.
 """
 
+import errno
 import fcntl
+import io
 import math
 import os
 import resource
+import selectors
 import signal
 import subprocess
 import threading
+import time
 from collections.abc import Sequence
+from contextlib import suppress
 from typing import IO, NamedTuple, Optional, Union
 
 Stream = Union[None, int, IO[bytes]]
@@ -27,6 +32,24 @@ _SET_ROOM = 1031
 _LAST_STREAM = 2
 # The processor time after which a program ends that outlives its seconds, in seconds beyond them.
 _SECONDS_MORE = 2
+# The most bytes of a program's output that are kept in memory, and of its words on standard error.
+MOST_OUTPUT = 1 << 28
+MOST_SAID = 1 << 16
+# The most bytes of a file that a program writes its output to.
+MOST_SPOOLED = 1 << 34
+_PIECE = 1 << 16
+
+
+class OutputError(OSError):
+    """A program writes more than is kept in memory, and was ended."""
+
+    def __init__(self) -> None:
+        super().__init__(errno.EFBIG, wrote_more(MOST_OUTPUT))
+
+
+def wrote_more(most: int) -> str:
+    """Returns what is said of a program that writes more bytes than it may."""
+    return f"it wrote more than {most >> 20} MiB"
 
 
 class Outcome(NamedTuple):
@@ -47,15 +70,16 @@ class ChildProcess:
         source: Stream,
         errors: Stream,
         environment: Optional[dict[str, str]] = None,
+        output: Stream = subprocess.PIPE,
     ):
-        """Starts the program with its standard output in a pipe. OSError where it can't be started."""
+        """Starts the program. OSError where it can't be started."""
         watched, self._held = _pipe()
         try:
             self.run = subprocess.Popen(
                 [_plain(words[0]), *words[1:]],
                 executable=words[0],
                 stdin=source,
-                stdout=subprocess.PIPE,
+                stdout=output,
                 stderr=errors,
                 env=environment,
                 pass_fds=(watched,),
@@ -72,31 +96,65 @@ class ChildProcess:
 
     def outcome(self, text: Optional[bytes], seconds: Optional[float] = None) -> Outcome:
         """Feeds the program and waits for its end. After `seconds`, or if the wait is broken off, it
-        is ended.
+        is ended. OutputError where it writes too much.
         """
+        until = None
+        if seconds is not None:
+            self.limit(seconds)
+            until = time.monotonic() + seconds
+        output, errors = io.BytesIO(), io.BytesIO()
         try:
-            if seconds is not None:
-                self.limit(seconds)
-            try:
-                output, errors = self._ended(text, seconds)
-                in_time = True
-            except subprocess.TimeoutExpired:
-                self.send(signal.SIGKILL)
-                output, errors = self.run.communicate()
-                in_time = False
-            return Outcome(self.run.returncode, output, errors or b"", in_time)
+            if self.run.stdin is not None:
+                self.feed(text or b"")
+            with selectors.DefaultSelector() as streams:
+                for stream, kept in ((self.run.stdout, output), (self.run.stderr, errors)):
+                    if stream is not None:
+                        streams.register(stream, selectors.EVENT_READ, kept)
+                in_time = self._take(streams, output, until)
+                if not in_time:
+                    self.send(signal.SIGKILL)
+                    self._take(streams, output, None)
+            # (a text that isn't shared takes no second copy)
+            return Outcome(self.run.returncode, output.getvalue(), errors.getvalue(), in_time)
         except BaseException:
             self.send(signal.SIGKILL)
             self.run.wait()
             raise
         finally:
+            for opened in (self.run.stdout, self.run.stderr):
+                if opened is not None:
+                    opened.close()
             self.release()
 
-    def _ended(
-        self, text: Optional[bytes], seconds: Optional[float]
-    ) -> tuple[bytes, Optional[bytes]]:
-        """Returns what the program wrote and said at its end. TimeoutExpired after `seconds`."""
-        return self.run.communicate(text, seconds)
+    def _take(
+        self, streams: selectors.BaseSelector, output: io.BytesIO, until: Optional[float]
+    ) -> bool:
+        """Takes what the program writes until it has ended, or until its time is over; returns whether
+        it has ended.
+
+        What it says beyond the most is dropped. OutputError where it writes beyond the most.
+        """
+        while (left := self._left(until)) is None or left > 0:
+            if not streams.get_map():
+                with suppress(subprocess.TimeoutExpired):
+                    self.run.wait(left)
+                    return True
+                continue
+            for key, _ in streams.select(left):
+                piece, kept = os.read(key.fd, _PIECE), key.data
+                if not piece:
+                    streams.unregister(key.fileobj)
+                elif kept is not output:
+                    kept.write(piece[: MOST_SAID - kept.tell()])
+                elif kept.tell() + len(piece) > MOST_OUTPUT:
+                    raise OutputError
+                else:
+                    kept.write(piece)
+        return False
+
+    def _left(self, until: Optional[float]) -> Optional[float]:
+        """Returns the seconds that the program has left, if it has a limit."""
+        return None if until is None else max(until - time.monotonic(), 0)
 
     def limit(self, seconds: float) -> None:
         """Limits the processor time, so that the program ends even if nobody can end it."""
@@ -174,5 +232,5 @@ def _plain(path: str) -> str:
 def outcome_of(
     words: Sequence[str], text: bytes = b"", errors: Stream = subprocess.PIPE
 ) -> Outcome:
-    """Runs a program on a text. OSError where it can't be started."""
+    """Runs a program on a text. OSError where it can't be started or writes too much."""
     return ChildProcess(words, subprocess.PIPE, errors).outcome(text)

@@ -2,7 +2,6 @@
 
 import os
 import shlex
-import tempfile
 from contextlib import ExitStack
 
 from pops_companions.many import sessions
@@ -24,7 +23,7 @@ class Connections:
         words = shlex.split(ssh)
         if not words or os.path.basename(words[0]) != "ssh":
             return
-        folder = self._open.enter_context(tempfile.TemporaryDirectory(prefix="pops-many-"))
+        folder = self._open.enter_context(sessions.passing_folder("pops-many-"))
         if len(os.fsencode(folder)) + _LONGEST_NAME > _LONGEST_PATH or shlex.quote(folder) != folder:
             self._open.close()
             return

@@ -82,7 +82,7 @@ class Joined:
         """Writes the record that begins with a task; returns how many tasks it has."""
         if not self._journal.is_finished(place):
             return 1
-        output.write(self._journal.report(place))
+        output.writelines(self._journal.pieces(place))
         return self._journal.kept[place].tasks
 
     def _write(self, report: Report, target: Target) -> None:
@@ -138,25 +138,24 @@ def write_index(target: Target, tasks: Tasks, journal: Journal) -> None:
                 place += 1
                 continue
             kept = journal.kept[place]
-            for item in _items_of(journal.report(place), kept):
+            for length, status in _items_of(journal, place, kept):
                 task = tasks[place]
                 piece = task.piece
                 number, line = ("", "") if piece is None else (piece.number, piece.line)
-                row = (start, len(item), _status_of(item, kept), number, line, task.source.shown)
+                row = (start, length, status, number, line, task.source.shown)
                 file.write(os.fsencode(row_of(row)))
-                start += len(item)
+                start += length
                 place += 1
 
 
-def _items_of(report: bytes, kept: Kept) -> list[bytes]:
-    """Returns the reports of the tasks of a record."""
+def _items_of(journal: Journal, place: int, kept: Kept) -> list[tuple[int, int]]:
+    """Returns the lengths of the reports of the tasks of a record, and their exit statuses."""
     if kept.tasks == 1:
-        return [report]
-    return [item + lines.ITEM_END for item in report.split(lines.ITEM_END)[:-1]]
+        return [(kept.length, kept.status)]
+    items = journal.report(place).split(lines.ITEM_END)[:-1]
+    return [(len(item) + len(lines.ITEM_END), _status_of(item)) for item in items]
 
 
-def _status_of(item: bytes, kept: Kept) -> int:
+def _status_of(item: bytes) -> int:
     """Returns the exit status of a task of a record, which has the greatest of all its tasks."""
-    if kept.tasks == 1:
-        return kept.status
     return int(lines.FAULT.match(item, item.index(b"\n") + 1) is not None)

@@ -1,20 +1,21 @@
 """The journal of a run: the reports of all its problems, in the order in which they came.
 
 Its first line is a fingerprint of the run's inputs and options. Each report follows a line with its
-task, status, length and checksum, so that a cut report is noticed; an unfinished report's line also
-has the seconds that its run took. The reports of tasks in turn may be one record. Parts of a problem
+task, status, length, and a checksum of all of it, so that a cut or changed record is noticed; an
+unfinished report's line also has the seconds that its run took. The reports of tasks in turn may be one record. Parts of a problem
 are kept in the same way, each with its phase, its number and the number of moves by which the problem
 was cut.
 """
 
 import fcntl
 import hashlib
+import mmap
 import os
 import re
 import stat
 import zlib
-from collections.abc import Sequence
-from typing import TYPE_CHECKING, NamedTuple, Optional
+from collections.abc import Iterable, Iterator, Sequence
+from typing import TYPE_CHECKING, NamedTuple, Optional, Union
 
 from pops_companions.many.tasks import UNFINISHED, Result, Source
 from pops_companions.report import lines
@@ -23,13 +24,17 @@ if TYPE_CHECKING:
     # (loaded only by runs that need them: they take longer than a small run)
     from pops_companions.many.parts import Key, Part
 
-_HEAD = b"pops-many journal 1 "
-_RECORD = re.compile(rb"task (\d+) status (\d+)(?: seconds (\d+\.\d+))? bytes (\d+) sum (\d+)\n")
-_RECORD_OF_SOME = re.compile(rb"tasks (\d+) number (\d+) status (\d+) bytes (\d+) sum (\d+)\n")
-_PART = re.compile(rb"part (\d+) (set|play) (\d+) depth (\d+) bytes (\d+) sum (\d+)\n")
+_ANY_HEAD = b"pops-many journal "
+_HEAD = _ANY_HEAD + b"2 "
+_RECORD = re.compile(rb"task (\d+) status (\d+)(?: seconds (\d+\.\d+))? bytes (\d+)")
+_RECORD_OF_SOME = re.compile(rb"tasks (\d+) number (\d+) status (\d+) bytes (\d+)")
+_PART = re.compile(rb"part (\d+) (set|play) (\d+) depth (\d+) bytes (\d+)")
+_SUM = b" sum "
 _LONGEST_HEAD = 200
+_PIECE = 1 << 20
 # (its name is made of the report's: a link by that name isn't followed)
 _OPEN = os.O_RDWR | os.O_NOFOLLOW | os.O_CLOEXEC
+_Report = Union[bytes, mmap.mmap]
 
 
 class JournalError(Exception):
@@ -63,6 +68,21 @@ def is_begun(path: str) -> bool:
             return file.readline(_LONGEST_HEAD).endswith(b"\n")
     except FileNotFoundError:
         return False
+
+
+def _with_sum(head: bytes, report: Iterable[_Report]) -> bytes:
+    """Returns a record's line with the checksum of the line and the report."""
+    total = zlib.crc32(head)
+    for piece in report:
+        total = zlib.crc32(piece, total)
+    return b"%s%s%d\n" % (head, _SUM, total)
+
+
+def _report_of(result: Result) -> _Report:
+    """Returns the report of a result; one in a file isn't read into memory."""
+    if result.spooled is None or os.fstat(result.spooled.fileno()).st_size == 0:
+        return result.report
+    return mmap.mmap(result.spooled.fileno(), 0, access=mmap.ACCESS_READ)
 
 
 class Journal:
@@ -100,6 +120,8 @@ class Journal:
             fcntl.flock(self._file, fcntl.LOCK_EX | fcntl.LOCK_NB)
         except BlockingIOError:
             raise JournalError(f"{self.path} is in use by another run") from None
+        except OSError as error:
+            raise JournalError(f"{self.path} can't be locked: {error.strerror}") from None
         if not self.is_there:
             # (it ended just now, and removed its journal)
             raise JournalError(f"{self.path} was removed by another run: try again")
@@ -120,8 +142,10 @@ class Journal:
     def _read_all(self) -> None:
         """Reads what is kept; a last record that was cut is dropped."""
         head = self._file.readline(len(self._head))
-        if not head.startswith(_HEAD):
+        if not head.startswith(_ANY_HEAD):
             raise JournalError(f"{self.path} is no journal of pops-many")
+        if not head.startswith(_HEAD):
+            raise JournalError(f"{self.path} is of another version of pops-many: remove it")
         if head != self._head:
             raise JournalError(f"{self.path} belongs to other problems or options")
         end = self._file.tell()
@@ -133,24 +157,24 @@ class Journal:
     def _read_record(self) -> bool:
         """Reads a record; False at the end of those that are whole."""
         line = self._file.readline(_LONGEST_HEAD)
-        of_task, of_some = _RECORD.fullmatch(line), _RECORD_OF_SOME.fullmatch(line)
-        of_part = _PART.fullmatch(line)
+        head = line.rpartition(_SUM)[0]
+        of_task, of_some = _RECORD.fullmatch(head), _RECORD_OF_SOME.fullmatch(head)
+        of_part = _PART.fullmatch(head)
         found = of_task or of_some or of_part
         if found is None:
             return False
-        length, checksum = (int(part) for part in found.groups()[-2:])
-        start = self._file.tell()
+        start, length = self._file.tell(), int(found.groups()[-1])
         if length > os.fstat(self._file.fileno()).st_size - start:
             return False
-        report = self._file.read(length)
-        if len(report) != length or zlib.crc32(report) != checksum:
+        if line != _with_sum(head, self._pieces(start, length)):
             return False
+        self._file.seek(start + length)
         if of_task:
             seconds = None if of_task[3] is None else float(of_task[3])
             return self._note(int(of_task[1]), Kept(int(of_task[2]), seconds, start, length))
         if of_some:
             place, tasks, status = (int(part) for part in of_some.group(1, 2, 3))
-            if tasks > report.count(lines.ITEM_END):
+            if tasks > b"".join(self._pieces(start, length)).count(lines.ITEM_END):
                 return False
             return self._note(place, Kept(status, None, start, length, tasks))
         if of_part:
@@ -180,52 +204,51 @@ class Journal:
 
     def keep(self, result: Result) -> None:
         """Adds a report; it takes the place of an unfinished one of the same problem."""
-        place, report, checksum = result.task.place, result.report, zlib.crc32(result.report)
+        place, report = result.task.place, _report_of(result)
         if result.tasks > 1:
             head = b"tasks %d number %d status %d" % (place, result.tasks, result.status)
         else:
             seconds = b"" if result.seconds is None else b" seconds %f" % result.seconds
             head = b"task %d status %d%s" % (place, result.status, seconds)
-        head += b" bytes %d sum %d\n" % (len(report), checksum)
         start = self._add(head, report)
         self._note(place, Kept(result.status, result.seconds, start, len(report), result.tasks))
 
     def keep_part(self, part: "Part", report: bytes) -> None:
         """Adds the report of a part."""
         place, phase, number, depth = part.key
-        head = b"part %d %s %d depth %d bytes %d sum %d\n" % (
-            place,
-            phase.encode("ascii"),
-            number,
-            depth,
-            len(report),
-            zlib.crc32(report),
-        )
+        head = b"part %d %s %d depth %d" % (place, phase.encode("ascii"), number, depth)
         self.parts[part.key] = Kept(0, None, self._add(head, report), len(report))
 
-    def _add(self, head: bytes, report: bytes) -> int:
+    def _add(self, head: bytes, report: _Report) -> int:
         """Writes a record; returns where its report is."""
-        left, end = memoryview(head + report), self._end
-        while left:
-            written = os.pwrite(self._file.fileno(), left, end)
-            left, end = left[written:], end + written
+        head = _with_sum(b"%s bytes %d" % (head, len(report)), [report])
+        end = self._end
+        for left in map(memoryview, (head, report) if len(report) > _PIECE else (head + report,)):
+            while left:
+                written = os.pwrite(self._file.fileno(), left, end)
+                left, end = left[written:], end + written
         self._end = end
         return end - len(report)
 
+    def pieces(self, place: int) -> Iterator[bytes]:
+        """Yields the kept report of a task, with the tasks that share its record."""
+        kept = self.kept[place]
+        return self._pieces(kept.start, kept.length)
+
     def report(self, place: int) -> bytes:
         """Returns the kept report of a task, with the tasks that share its record."""
-        return self._read(self.kept[place])
+        return b"".join(self.pieces(place))
 
     def part(self, part: "Part") -> bytes:
         """Returns the kept report of a part."""
-        return self._read(self.parts[part.key])
+        kept = self.parts[part.key]
+        return b"".join(self._pieces(kept.start, kept.length))
 
-    def _read(self, kept: Kept) -> bytes:
-        pieces, place, end = [], kept.start, kept.start + kept.length
-        while piece := os.pread(self._file.fileno(), end - place, place):
-            pieces.append(piece)
+    def _pieces(self, place: int, length: int) -> Iterator[bytes]:
+        end = place + length
+        while piece := os.pread(self._file.fileno(), min(end - place, _PIECE), place):
+            yield piece
             place += len(piece)
-        return b"".join(pieces)
 
     @property
     def finished(self) -> int:

@@ -9,15 +9,14 @@ import shlex
 import shutil
 import signal
 import subprocess
-import tempfile
 import threading
 import time
-from collections.abc import Callable, Iterable, Sequence
+from collections.abc import Callable, Iterable, Iterator, Sequence
 from pathlib import Path
-from typing import NamedTuple, Optional
+from typing import IO, NamedTuple, Optional
 
 from pops_companions.many import sessions
-from pops_companions.many.child_process import ChildProcess, outcome_of
+from pops_companions.many.child_process import MOST_OUTPUT, ChildProcess, outcome_of
 from pops_companions.many.connections import Connections
 
 _SECONDS_BETWEEN_LOOKS = 0.3
@@ -25,6 +24,8 @@ _SECONDS_TO_END = 3.0
 # How often jobs that are stopped are looked for, until none is left.
 _LOOKS = 100
 _SECONDS_BETWEEN_KILLS = 0.02
+# The most bytes of a line that comes back, which is a report in base64; a longer one is dropped.
+_LONGEST_LINE = MOST_OUTPUT // 3 * 4
 _SSH = "ssh -o BatchMode=yes -o ConnectTimeout=10 -o ServerAliveInterval=5 -o ServerAliveCountMax=3"
 # Ends a job that isn't to begin, before its login and, on this machine, before its script.
 UNLESS_OVER = '[ ! -e "$PARALLEL_HOME/over-$PARALLEL_SEQ" ] || exit 0; '
@@ -107,11 +108,12 @@ class Parallel:
         then; it may take logins out of their list, and ends the run where it returns False.
         Where connections are `shared`, what a job runs on its machine isn't ended by `stop`.
         """
-        with tempfile.TemporaryDirectory(prefix="pops-many-") as name:
+        with sessions.passing_folder("pops-many-") as name:
             room = Path(name)
             (room / "tasks").write_text("".join(line + "\n" for line in lines), "ascii")
             options = self._connections.options if shared else ""
-            (room / "ssh").write_text(f'{UNLESS_OVER}exec {self._ssh}{options} "$@"\n')
+            command = f'{UNLESS_OVER}exec {self._ssh}{options} "$@"\n'
+            (room / "ssh").write_bytes(os.fsencode(command))
             _write_logins(room, logins)
             environment = _environment(room)
             with open(room / "errors", "wb") as errors:
@@ -201,15 +203,26 @@ def _write_logins(room: Path, logins: Sequence[str]) -> None:
 def _take_all(child: ChildProcess, take: Callable[[bytes], None]) -> None:
     """Hands each line on; also those that came before the run was ended."""
     assert child.run.stdout is not None
+    lines = _short_lines(child.run.stdout)
     try:
-        for line in child.run.stdout:
+        for line in lines:
             take(line)
         child.run.wait()
     except BaseException:
         _end(child)
-        for line in child.run.stdout:
+        for line in _short_lines(child.run.stdout):
             take(line)
         raise
+
+
+def _short_lines(source: IO[bytes]) -> Iterator[bytes]:
+    """Yields the lines that aren't too long."""
+    while line := source.readline(_LONGEST_LINE):
+        if line.endswith(b"\n") or len(line) < _LONGEST_LINE:
+            yield line
+            continue
+        while line and not line.endswith(b"\n"):
+            line = source.readline(_LONGEST_LINE)
 
 
 def _look(

@@ -8,7 +8,12 @@ from contextlib import closing
 from typing import Optional
 
 from pops_companions.many.batches import Batch, numbers_of
-from pops_companions.many.child_process import ChildProcess
+from pops_companions.many.child_process import (
+    MOST_OUTPUT,
+    MOST_SAID,
+    ChildProcess,
+    OutputError,
+)
 from pops_companions.many.parts import (
     Key,
     Part,
@@ -85,13 +90,17 @@ class PartProgram(Runs):
         words = ["--item", "1", "--phase", asked[0].phase, "--part", numbers_of(asked)]
         words += ["--depth", str(asked[0].depth)]
         written: list[bytes] = []
+        left = MOST_OUTPUT
         try:
             with closing(self._pieces(words, asked[0], _pauses(batch, asked))) as pieces:
                 for text, is_total in up_to_totals(pieces):
                     written.append(text)
+                    left -= len(text)
+                    if left < 0:
+                        raise RunError(f"{self._name} was ended: {OutputError().strerror}")
                     # (the last part asked for is whole once the run has ended well)
                     if is_total and batch.first is not asked[-1]:
-                        report, written = _whole(written), []
+                        report, written, left = _whole(written), [], MOST_OUTPUT
                         yield batch.pass_first(), report
                         if not batch:
                             return
@@ -126,7 +135,7 @@ class PartProgram(Runs):
             status = child.run.returncode
             if status != SOUND:
                 errors.seek(0)
-                raise RunError(self._reason(status, errors.read()))
+                raise RunError(self._reason(status, errors.read(MOST_SAID)))
 
     def drop(self, part: Part) -> None:
         """Stops the run that begins with a part that can't matter any more."""

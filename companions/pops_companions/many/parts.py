@@ -14,6 +14,8 @@ from pops_companions.report import lines
 
 # A phase of more parts than that is cut too small.
 MOST_PARTS = 100_000
+# The longest line that is looked at as a whole: a total is short.
+_LONGEST_LINE = 1 << 16
 
 _SOUND = lines.SOUND + b"\n\n"
 _LIST = re.compile(rb"1: (?:set (?:(?P<set>\d+)|(?P<barred>not possible)), )?play (?P<play>\d+)\n")
@@ -122,6 +124,9 @@ def up_to_totals(pieces: Iterable[bytes]) -> Iterator[tuple[bytes, bool]]:
             begin = stop
         if begin < len(whole):
             yield whole[begin:], False
+        if len(rest) > _LONGEST_LINE:
+            yield rest, False
+            rest = b""
     if rest:
         yield rest, False
 

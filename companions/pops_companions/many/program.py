@@ -12,14 +12,18 @@ from pops_companions import places
 from pops_companions.many.bundle_run import BundleRun, Came
 from pops_companions.many.bundles import Bundles, text_of
 from pops_companions.many.child_process import (
+    MOST_OUTPUT,
     MOST_ROOM,
+    MOST_SPOOLED,
     ChildProcess,
     Outcome,
+    OutputError,
     Stream,
     has_room,
     outcome_of,
+    wrote_more,
 )
-from pops_companions.many.tasks import UNFINISHED, Result, Task, is_whole, whole_lines
+from pops_companions.many.tasks import UNFINISHED, Result, Source, Task, is_whole, whole_lines
 from pops_companions.places import COMPANIONS, REPOSITORY, folder_above
 
 # A run of pops ends with one of these where every byte of its report was written.
@@ -143,13 +147,19 @@ class Runs:
         self._lock = threading.Lock()
         self._stopped = False
 
-    def _started(self, words: Sequence[str], source: Stream, errors: Stream) -> ChildProcess:
+    def _started(
+        self,
+        words: Sequence[str],
+        source: Stream,
+        errors: Stream,
+        output: Stream = subprocess.PIPE,
+    ) -> ChildProcess:
         """Starts it with more words."""
         with self._lock:
             if self._stopped:
                 raise RunError("stopped")
             try:
-                child = ChildProcess([*self._words, *words], source, errors)
+                child = ChildProcess([*self._words, *words], source, errors, output=output)
             except OSError as error:
                 raise RunError(f"{self._name} can't be run: {error.strerror}") from None
             self._running.add(child)
@@ -158,9 +168,11 @@ class Runs:
     def _ended(
         self, child: ChildProcess, text: Optional[bytes], seconds: Optional[float]
     ) -> Outcome:
-        """Returns how a run ended, at the latest after `seconds`."""
+        """Returns how a run ended, at the latest after `seconds`. RunError where it wrote too much."""
         try:
             return child.outcome(text, seconds)
+        except OutputError as error:
+            raise RunError(f"{self._name} was ended: {error.strerror}") from None
         finally:
             with self._lock:
                 self._running.discard(child)
@@ -207,8 +219,10 @@ class Runs:
                 self._running.discard(child)
             child.release()
 
-    def _reason(self, status: int, error: bytes) -> str:
-        """Returns why a run failed."""
+    def _reason(self, status: int, error: bytes, most: int = MOST_SPOOLED) -> str:
+        """Returns why a run failed that could write `most` bytes into a file."""
+        if status == -signal.SIGXFSZ:
+            return f"{self._name} was ended: {wrote_more(most)}"
         if status < 0:
             return f"{self._name} was ended by signal {-status}"
         said = error.decode("utf-8", "replace").strip()
@@ -278,25 +292,39 @@ class Program(Runs):
         raise RunError(self._reason(run.status, run.errors))
 
     def _whole(self, task: Task) -> Result:
-        """Returns a source that is left to pops, which reads the file itself: it takes no name that isn't
-        UTF-8.
+        """Returns a source that is left to pops, whose report is in a file without a name.
 
         What it says goes to standard error, unless the file was reported already.
         """
-        name, text = task.source.name, task.source.text
+        # (loaded only by runs that need it)
+        import tempfile
+
+        text = task.source.text
         errors = subprocess.DEVNULL if text is None else None
-        if name is None:
-            child = self._started([], subprocess.PIPE, errors)
-        else:
-            try:
-                opened = os.open(name, os.O_RDONLY | os.O_CLOEXEC)
-            except OSError:
-                return Result(task, UNREADABLE, b"")
-            try:
-                child = self._started([], opened, errors)
-            finally:
-                os.close(opened)
-        run = self._ended(child, text if name is None else None, None)
+        # (it stays open as long as the result)
+        report = tempfile.TemporaryFile()
+        try:
+            child = self._started_on(task.source, errors, report)
+        except FileNotFoundError:
+            return Result(task, UNREADABLE, b"")
+        child.limit_files(MOST_SPOOLED)
+        run = self._ended(child, text, None)
         if run.status < 0:
             raise RunError(self._reason(run.status, b""))
-        return Result(task, run.status, run.output)
+        return Result(task, run.status, b"", spooled=report)
+
+    def _started_on(self, source: Source, errors: Stream, output: Stream) -> ChildProcess:
+        """Starts a run that reads a source itself: pops takes no name that isn't UTF-8.
+
+        FileNotFoundError where the source can't be opened.
+        """
+        if source.name is None:
+            return self._started([], subprocess.PIPE, errors, output)
+        try:
+            opened = os.open(source.name, os.O_RDONLY | os.O_CLOEXEC)
+        except OSError:
+            raise FileNotFoundError from None
+        try:
+            return self._started([], opened, errors, output)
+        finally:
+            os.close(opened)

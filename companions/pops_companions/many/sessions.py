@@ -10,6 +10,7 @@ import shutil
 import signal
 import subprocess
 import sys
+import tempfile
 import time
 from collections.abc import Iterator
 from contextlib import contextmanager
@@ -56,6 +57,21 @@ def end(session: int) -> None:
             except ProcessLookupError:
                 pass
         time.sleep(_SECONDS_BETWEEN)
+
+
+@contextmanager
+def passing_folder(prefix: str) -> Iterator[str]:
+    """A new folder that goes with the block, also if a signal comes while it goes."""
+    folder = tempfile.mkdtemp(prefix=prefix)
+    try:
+        yield folder
+    finally:
+        try:
+            shutil.rmtree(folder, ignore_errors=True)
+        except KeyboardInterrupt:
+            # (the next signal raises nothing)
+            shutil.rmtree(folder, ignore_errors=True)
+            raise
 
 
 @contextmanager

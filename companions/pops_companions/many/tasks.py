@@ -2,7 +2,7 @@
 
 from bisect import bisect
 from collections.abc import Sequence
-from typing import TYPE_CHECKING, NamedTuple, Optional, Union, overload
+from typing import IO, TYPE_CHECKING, NamedTuple, Optional, Union, overload
 
 from pops_companions.command import Status
 from pops_companions.many.cutting import Pieces
@@ -114,6 +114,8 @@ class Result(NamedTuple):
     seconds: Optional[float] = None
     # How many tasks it is of, from `task` on.
     tasks: int = 1
+    # A file with the report, in its place: of an input that is left to pops.
+    spooled: Optional[IO[bytes]] = None
 
 
 def is_whole(report: bytes) -> bool:

@@ -95,6 +95,11 @@ class LineReader:
             yield events.EndEvent(self._number, self._unfinished if is_whole else reason)
         self._begun, self._state = b"", self._problem
 
+    @property
+    def is_whole(self) -> bool:
+        """Whether what was taken so far ends where a problem does."""
+        return self._state == self._problem and not self._begun
+
     def take(self, line: bytes) -> Iterator[events.Event]:
         """Takes the next line and yields what it says."""
         self._line += 1

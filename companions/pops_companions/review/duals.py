@@ -131,7 +131,7 @@ def late_partings(lines: Sequence[HelpLine]) -> Iterator[Dual]:
 
 
 def _partings(lines: list[tuple[PlayedMove, ...]], depth: int) -> Iterator[Dual]:
-    if depth == len(lines[0]):
+    if depth == len(lines[0]) or len(lines) == 1:
         return
     groups: "dict[str, list[tuple[PlayedMove, ...]]]" = {}
     for line in lines:

@@ -6,6 +6,7 @@ from dataclasses import dataclass, field
 from enum import Enum
 from typing import Optional
 
+from pops_companions.chess.attacks import Men
 from pops_companions.chess.game_counts import impossible_counts
 from pops_companions.chess.men import Kind
 from pops_companions.chess.stipulation import Play, Stipulation
@@ -88,7 +89,10 @@ class Judgement:
     unprovided_checks: Optional[int] = None
     threats: Optional[int] = None
     tries: Optional[int] = None
-    is_zugzwang: bool = False
+    # What each key threatens: the number of its threats, or `zugzwang`.
+    menaces: tuple[str, ...] = ()
+    # Men that no game can have, as `White has 9 pawns`.
+    impossible_men: tuple[str, ...] = ()
     # What the keys do, as `check` and `capture`.
     key_traits: tuple[str, ...] = ()
     # What all mates of help play are, as `model mates`.
@@ -136,7 +140,8 @@ def judged(
         judgement.find(Weight.OPEN, f"unfinished: {item.unfinished}")
         return judgement
     judgement.wanted = wanted
-    _warn_of_men(judgement, item)
+    men = {} if item.board is None else item.board.men
+    _warn_of_men(judgement, men)
     play = _phase(item, PhaseKind.PLAY)
     if item.unfinished is not None and (play is None or play.total is None):
         _judge_unfinished(judgement, item, play, short)
@@ -151,21 +156,24 @@ def judged(
         _judge_duals(judgement, item.stipulation, play)
     else:
         _judge_duals_after_defences(judgement, item.stipulation, tries)
-        _judge_tries(judgement, tries)
+        _judge_keys_by_tries(judgement, tries)
+        # (in a problem of one move each other move would be a try)
+        if item.stipulation.half_moves > 1:
+            _judge_tries(judgement, tries)
     _judge_set_play(judgement, item, play)
-    judgement.keywords = mates_in(item, {} if item.board is None else item.board.men)
+    judgement.keywords = mates_in(item, men)
     if judgement.keywords:
         judgement.find(Weight.NOTE, f"all mates: {', '.join(judgement.keywords)}")
     return judgement
 
 
-def _warn_of_men(judgement: Judgement, item: SoundItem) -> None:
+def _warn_of_men(judgement: Judgement, men: Men) -> None:
     """Notes nightriders without knights, and counts of men that no game can have."""
-    men = {} if item.board is None else item.board.men
     kinds = {man.kind for man in men.values()}
     if Kind.NIGHTRIDER in kinds and Kind.KNIGHT not in kinds:
         judgement.find(Weight.NOTE, "N is a nightrider here, and there is no knight: knights are S")
-    for text in impossible_counts(men):
+    judgement.impossible_men = tuple(impossible_counts(men))
+    for text in judgement.impossible_men:
         judgement.find(Weight.NOTE, f"no game has these men: {text}")
 
 
@@ -314,8 +322,8 @@ def _is_cut(key: FirstMove) -> bool:
     return any(not move.below and not _ends(move.move) for move in (*key.threats, *continuations))
 
 
-def _judge_tries(judgement: Judgement, tries: TriesItem) -> None:
-    """Says what each key threatens, and which tries have one refutation."""
+def _judge_keys_by_tries(judgement: Judgement, tries: TriesItem) -> None:
+    """Says what each key threatens."""
     for key in tries.keys:
         move = key.text[:-1]
         if key.menace is Menace.THREAT:
@@ -323,9 +331,15 @@ def _judge_tries(judgement: Judgement, tries: TriesItem) -> None:
             judgement.find_in_solutions(Weight.NOTE, text, (_choices(key.threats),))
         elif key.menace is not None:
             judgement.find(Weight.NOTE, f"{move}: {key.menace.value}")
+    judgement.menaces = tuple(
+        "zugzwang" if key.menace is Menace.ZUGZWANG else str(len(key.threats)) for key in tries.keys
+    )
     if len(tries.keys) == 1:
         judgement.threats = len(tries.keys[0].threats)
-        judgement.is_zugzwang = tries.keys[0].menace is Menace.ZUGZWANG
+
+
+def _judge_tries(judgement: Judgement, tries: TriesItem) -> None:
+    """Says which tries have one refutation."""
     close = [one for one in tries.tries if one.is_stalemate or len(one.refutations) == 1]
     judgement.tries = len(close)
     if close:

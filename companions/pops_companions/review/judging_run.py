@@ -12,7 +12,7 @@ from contextlib import redirect_stderr
 from dataclasses import dataclass, replace
 from functools import partial
 from pathlib import Path
-from typing import Optional, TextIO
+from typing import NamedTuple, Optional, TextIO
 
 from pops_companions import files
 from pops_companions.chess.stipulation import Play
@@ -24,12 +24,13 @@ from pops_companions.input.writing import text_of_problems
 from pops_companions.many.journal import is_begun
 from pops_companions.many.program import RunError
 from pops_companions.many.tries_program import TriesProgram
-from pops_companions.report.items import AnyItem, HeadlessItem, SoundItem
+from pops_companions.report.items import AnyItem, Board, HeadlessItem, SoundItem
 from pops_companions.report.source import UNFINISHED
 from pops_companions.report.tries import TriesItem
 from pops_companions.review.posing import posed_problems
 from pops_companions.review.reading import tries_of_text
 from pops_companions.review.work_folder import WorkFolder
+from pops_companions.sheet.entries import boards_of
 
 
 @dataclass(frozen=True)
@@ -67,13 +68,26 @@ class _Renaming(io.StringIO):
         return self._terminal.fileno()
 
 
+class _Wanted(NamedTuple):
+    """A problem whose tries are wanted, with its board and the input of it alone."""
+
+    problem: GivenProblem
+    board: Optional[Board]
+    text: bytes
+
+    def has(self, item: TriesItem) -> bool:
+        """Returns whether an item asks for the same, on the same board if it shows one."""
+        is_asked = item.stipulation == self.problem.stipulation
+        return is_asked and item.board in (None, self.board)
+
+
 class Work:
     """A sheet's runs and the folder that keeps them; `collection` is its input as messages name it."""
 
     def __init__(self, folder: Path, runs: Runs, collection: str):
         self.folder = WorkFolder(folder)
         self._runs = runs
-        self._input, self._short_input = folder / "input.pop", folder / "short.pop"
+        self.input, self._short_input = folder / "input.pop", folder / "short.pop"
         self._collection = collection
         self.report = folder / "solutions.report"
         self.short = folder / "short.report"
@@ -83,7 +97,7 @@ class Work:
 
     def solve(self) -> None:
         """Solves the problems."""
-        self._many(self._input, self.report)
+        self._many(self.input, self.report)
 
     def solve_shorter(self, given: Sequence[GivenProblem]) -> bool:
         """Looks for short solutions; returns whether any problem can have one."""
@@ -97,7 +111,7 @@ class Work:
 
     def named(self, text: str) -> str:
         """Returns what a run said, with the collection in place of the folder's inputs."""
-        text = text.replace(str(self._input), self._collection)
+        text = text.replace(str(self.input), self._collection)
         return text.replace(str(self._short_input), f"shorter stipulations of {self._collection}")
 
     def renamed(self, item: AnyItem) -> AnyItem:
@@ -105,7 +119,7 @@ class Work:
         if not isinstance(item, (HeadlessItem, SoundItem)) or item.unfinished is None:
             return item
         place = f"(problem {item.number} of {self._collection}, "
-        return replace(item, unfinished=item.unfinished.replace(f"({self._input}, ", place))
+        return replace(item, unfinished=item.unfinished.replace(f"({self.input}, ", place))
 
     def _many(self, source: Path, report: Path) -> None:
         """Runs what pops-many runs, which goes on where it was stopped."""
@@ -151,8 +165,9 @@ class Work:
         if self._runs.tries is None:
             return {}
         program = TriesProgram(self._runs.tries, self._runs.seconds)
+        boards = boards_of(text)
         wanted = [
-            (problem.number, piece.alone(text, False))
+            _Wanted(problem, boards.get(problem.number), piece.alone(text, False))
             for problem, piece in zip(given, cut(text))
             if problem.stipulation is not None and problem.stipulation.play is not Play.HELP
         ]
@@ -165,27 +180,28 @@ class Work:
                 raise
         return {item.number: item for item in found if item is not None}
 
-    def _tries_of(self, program: TriesProgram, wanted: tuple[int, bytes]) -> Optional[TriesItem]:
+    def _tries_of(self, program: TriesProgram, wanted: "_Wanted") -> Optional[TriesItem]:
         """Returns what pops-tries shows of a problem; its text is kept for a run that goes on.
 
-        `wanted` is its number and its text. None where it is faulty, takes too long or fails.
+        None where it is faulty, takes too long or fails.
         """
-        number, problem = wanted
+        number = wanted.problem.number
         path = self.folder.path / f"tries-{number}.txt"
-        text = kept = self.folder.kept(path)
-        if text is None:
-            try:
-                text = program.text_of(problem)
-            except RunError as error:
-                self.failed[number] = str(error)
-                self.is_finished = False
-                return None
+        name = f"problem {number}: the output of {self._runs.tries}"
+        kept = self.folder.kept(path)
+        try:
+            text = program.text_of(wanted.text) if kept is None else kept
             if text is None:
                 self.is_finished = False
                 return None
-        name = f"problem {number}: the output of {self._runs.tries}"
-        item = next(iter(tries_of_text(name, text).values()), None)
-        # (what can't be read isn't kept)
+            item = next(iter(tries_of_text(name, text).values()), None)
+            if item is not None and not wanted.has(item):
+                raise RunError("pops-tries shows another problem")
+        except RunError as error:
+            self.failed[number] = str(error)
+            self.is_finished = False
+            return None
+        # (what can't be read, or is of another problem, isn't kept)
         if kept is None:
             self.folder.keep(path, text)
         return None if item is None else replace(item, number=number)

@@ -21,7 +21,10 @@ Picture = frozenset[tuple[int, int, Man]]
 
 
 class Mate(NamedTuple):
-    """A mate: what it is called, as `ideal`, or nothing; its picture, and the king's square."""
+    """A mate: what it is called, as `ideal`, its picture, and the king's square.
+
+    One that isn't pure has no name and an empty picture.
+    """
 
     name: str
     picture: Picture
@@ -36,22 +39,23 @@ def mate_of(men: Men, mated: Colour) -> Optional[Mate]:
         return None
     without = {square: man for square, man in men.items() if square != king}
     checks = attackers(men, king, mated.opponent, False)
-    is_pure, taking_part = len(checks) == 1, set(checks)
-    for square in _field(king):
-        own = men.get(square)
-        others = {it: man for it, man in without.items() if it != square}
+    taking_part, others = set(checks), dict(without)
+    is_pure = len(checks) == 1
+    for square in _field(king) if is_pure else ():
+        own = others.pop(square, None)
         guards = attackers(others, square, mated.opponent, False)
-        if own is not None and own.colour is mated:
-            is_pure = is_pure and not guards
-            taking_part.add(square)
-        else:
-            is_pure = is_pure and len(guards) == 1
-            taking_part.update(guards)
+        if own is not None:
+            others[square] = own
+        is_blocked = own is not None and own.colour is mated
+        is_pure = len(guards) == (0 if is_blocked else 1)
+        taking_part.update([square] if is_blocked else guards)
+        if not is_pure:
+            break
+    if not is_pure:
+        return Mate("", frozenset(), king)
     idle = [man for square, man in without.items() if square not in taking_part]
-    name = ""
-    if is_pure:
-        is_model = not any(man.colour is not mated and man.kind in _OFFICERS for man in idle)
-        name = "ideal" if not idle else "model" if is_model else "pure"
+    is_model = not any(man.colour is not mated and man.kind in _OFFICERS for man in idle)
+    name = "ideal" if not idle else "model" if is_model else "pure"
     picture = frozenset(
         (square.file - king.file, square.rank - king.rank, men[square]) for square in taking_part
     )
@@ -101,7 +105,7 @@ def keywords_of(mates: Iterable[Mate]) -> list[str]:
             found.append(name)
             break
     places: dict[tuple[tuple[int, int, str], ...], set[tuple[Square, Picture]]] = {}
-    for mate in pure:
+    for mate in pure if len(pure) > 1 else ():
         first = min(map(_sorted, _turned(mate.picture)))
         places.setdefault(first, set()).add((mate.king, mate.picture))
     echoes = [it for it in places.values() if len(it) > 1]

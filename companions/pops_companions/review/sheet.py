@@ -34,9 +34,9 @@ _MARKS = marked_as(_ENGLISH, {})
 _COLUMNS: Mapping[str, Callable[[Judgement], str]] = {
     "Solutions": lambda it: _shown(it.solutions) + "+" * (it.solutions is not None and it.stopped),
     "Check, capture": lambda it: ", ".join(it.key_traits),
-    "Short": lambda it: _shown(it.short_solutions),
+    "Short": lambda it: _shown(it.short_solutions) + "+" * (bool(it.short_solutions) and it.stopped),
     "Duals": lambda it: _shown(_sum(it.duals_at_the_end, it.duals_earlier)),
-    "Threats": lambda it: "zugzwang" if it.is_zugzwang else _shown(it.threats),
+    "Threats": lambda it: ", ".join(dict.fromkeys(it.menaces)),
     "Tries": lambda it: _shown(it.tries),
     "Set play": lambda it: _shown(it.set_solutions),
 }
@@ -91,8 +91,10 @@ def _row(one: JudgedGroup, evidence: Evidence) -> str:
     name = html.escape(name_of(one, evidence.encoding))
     verdict = one.verdict.value
     reasons = [reason for judgement in one.judgements for reason in judgement.reasons]
+    men = dict.fromkeys(text for judgement in one.judgements for text in judgement.impossible_men)
+    marked = f' <em>(no game: {html.escape("; ".join(men))})</em>' if men else ""
     return (
-        f'<tr><td><a href="#{_id(one)}">{number}</a></td><td class="name">{name}</td>'
+        f'<tr><td><a href="#{_id(one)}">{number}</a></td><td class="name">{name}{marked}</td>'
         f'<td class="{verdict}">{verdict}</td>{_cells(one)}'
         f'<td class="why">{html.escape("; ".join(reasons))}</td></tr>\n'
     )

@@ -41,11 +41,18 @@ class WorkFolder:
     def begin(self, text: bytes, resume: bool) -> None:
         """Makes the folder for an input, or takes up that of a run that was stopped.
 
-        CommandError where the folder isn't this program's, isn't of this input, or has a run at work.
+        CommandError where the folder can't be made, isn't this program's, isn't of this input, or has
+        a run at work.
         """
-        while not self._is_held():
-            with suppress(FileExistsError):
-                self.path.mkdir(0o700, parents=True)
+        try:
+            # (where a link leads nowhere, no folder can be made)
+            self.path.parent.mkdir(parents=True, exist_ok=True)
+            while not self._is_held():
+                with suppress(FileExistsError):
+                    self.path.mkdir(0o700)
+        except OSError as error:
+            message = f"cannot write {error.filename}: {error.strerror}"
+            raise CommandError(Status.DEVICE, message) from None
         self._refuse_foreign()
         mark = self.path / _MARK
         if mark.exists():
@@ -70,6 +77,9 @@ class WorkFolder:
             fcntl.flock(handle, fcntl.LOCK_EX | fcntl.LOCK_NB)
         except BlockingIOError:
             self._refuse("is in use by another run")
+        except OSError as error:
+            message = f"{self.path} can't be locked: {error.strerror}"
+            raise CommandError(Status.DEVICE, message) from None
         # (the run before this one may have removed it meanwhile)
         with suppress(FileNotFoundError):
             if os.path.samestat(os.fstat(handle), os.lstat(self.path)):

@@ -15,6 +15,7 @@ from pops_companions.show.page import STYLE
 from pops_companions.show.titles import printable
 
 _STYLE = """
+@page { size: A4; margin: 14mm; }
 .line { margin: 0 0 0 calc(var(--level) * 1em + 1em); text-indent: -1em; }
 h3.block { margin-top: .4em; }
 .turned { display: inline-block; text-indent: 0; transform: rotate(180deg); }

@@ -64,7 +64,7 @@ def _problem(entry: Entry, encoding: str, language: Language, marks: dict[int, s
         return _box(entry, marks)
     lines = [line for part in entry.parts for line in _part(part, marks)]
     twins = [escaped(heading).translate(marks) for heading in entry.twins]
-    own = (entry.number, entry.award, entry.asked, twins, lines, language.fairy_men)
+    own = (entry.number, entry.source, entry.award, entry.asked, twins, lines, language.fairy_men)
     return latex(entry.group, entry.board, encoding, Sheet(*own))
 
 

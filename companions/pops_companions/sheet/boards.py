@@ -1,5 +1,7 @@
 """Men before and after a printed move, and which other men could have made it."""
 
+from collections.abc import Iterator
+from dataclasses import replace
 from typing import Optional
 
 from pops_companions.chess.attacks import Men, attackers
@@ -44,6 +46,25 @@ def rivals(men: Men, move: PlayedMove, condition: Optional[Condition]) -> list[S
         and men[other] == man
         and not _leaves_king(men, move, other, is_madrasi)
     ]
+
+
+def arrivals(men: Men, move: PlayedMove, condition: Optional[Condition]) -> Iterator[Square]:
+    """Yields where the man of a move could legally go: every square, and under Circe perhaps more.
+
+    The man isn't a pawn; castling is left out.
+    """
+    is_madrasi = condition is Condition.MADRASI
+    for target in Square.of_diagram():
+        taken = men.get(target)
+        if taken is not None and taken.colour is move.side:
+            continue
+        # (what is reborn may stand between the king and a check)
+        is_reborn = taken is not None and condition is Condition.CIRCE
+        other = replace(move, arrival=target, en_passant=False, promotion=None, rebirth=None)
+        if move.origin in attackers(men, target, move.side, is_madrasi) and (
+            is_reborn or not _leaves_king(men, other, move.origin, is_madrasi)
+        ):
+            yield target
 
 
 def _leaves_king(men: Men, move: PlayedMove, origin: Square, is_madrasi: bool) -> bool:

@@ -7,7 +7,6 @@ from typing import Optional
 
 from pops_companions.chess.attacks import Men
 from pops_companions.chess.men import Square
-from pops_companions.import_.origins import MONTHS
 from pops_companions.input.given import GivenProblem
 from pops_companions.input.pieces import cut
 from pops_companions.input.reading import FaultKind, read_piece
@@ -24,8 +23,6 @@ from pops_companions.show.twins import Group, Twin
 
 # Why a problem has no solution that a report lacks.
 NOT_IN_REPORT = "not in the report"
-# What pops-import makes of a date: `6 August 1977`.
-_DATE = re.compile(rf"(?:([0-9]{{1,2}}) )?\b({'|'.join(MONTHS)}) ([0-9]{{4}})$")
 # What pops-import makes of an award: `Award 1st Prize`, `award: 1st Prize`,
 # `award.distinction: 1st Prize`.
 _AWARD = re.compile(r"award(?:\.([\w.]+))?:? +(.+)|distinction: +(.+)", re.IGNORECASE)
@@ -96,14 +93,15 @@ class Sheet:
         """Yields the problems of the sheet, numbered from `first`; `apart` numbers twins 1a, 1b."""
         for number, group in enumerate(groups, start=first):
             parts = list(self._parts(group))
+            award = self._award(group.twins[0].given)
             if apart and not group.is_alone:
                 for twin, part in zip(group.twins, parts):
                     alone = Group(group.title, group.author, (twin,))
-                    yield self._entry(f"{number}{_letter(twin)}", alone, [part])
+                    yield self._entry(f"{number}{_letter(twin)}", alone, award, [part])
             else:
-                yield self._entry(str(number), group, parts)
+                yield self._entry(str(number), group, award, parts)
 
-    def _entry(self, number: str, group: Group, parts: Sequence[Part]) -> Entry:
+    def _entry(self, number: str, group: Group, award: str, parts: Sequence[Part]) -> Entry:
         given = group.twins[0].given
         author = "" if group.author is None else self._text(group.author)
         origin = None if given is None else given.origin
@@ -112,8 +110,8 @@ class Sheet:
             group,
             tuple(persons(author)),
             "" if group.title is None else printable(group.title),
-            "" if origin is None else self._dated(self._text(origin)),
-            "" if given is None else self._award(given),
+            "" if origin is None else self.language.dated(self._text(origin)),
+            award,
             WORDS[self.language.code].asked(_asked(group)),
             self.boards.get(group.first.number),
             tuple(parts),
@@ -122,16 +120,10 @@ class Sheet:
     def _text(self, text: bytes) -> str:
         return printable(shown(text, self.encoding))
 
-    def _dated(self, source: str) -> str:
-        """Writes the date of a source, as pops-import has it, in the language of the sheet."""
-        date = _DATE.search(source)
-        if date is None:
-            return source
-        return source[: date.start()] + self.language.date(date[1], MONTHS.index(date[2]), date[3])
-
-    def _award(self, given: GivenProblem) -> str:
+    def _award(self, given: Optional[GivenProblem]) -> str:
         """Returns the award that Remarks name; the distinction comes first."""
-        found = [_AWARD.fullmatch(self._text(remark)) for remark in given.remarks]
+        remarks = () if given is None else given.remarks
+        found = [_AWARD.fullmatch(self._text(remark)) for remark in remarks]
         parts = [(it[1] or "distinction", it[2] or it[3]) for it in found if it is not None]
         parts = sorted(parts, key=lambda part: part[0].lower() != "distinction")
         return ", ".join(text for _, text in parts)

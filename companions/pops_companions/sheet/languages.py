@@ -1,14 +1,18 @@
 """Letters of the men and words of a solution, in the languages of a sheet."""
 
+import re
 from collections.abc import Mapping
-from typing import NamedTuple, Optional
+from typing import NamedTuple
 
 from pops_companions.chess.men import Colour, Kind
+from pops_companions.import_.origins import MONTHS
 from pops_companions.stored import stored
 
 # The men of a line before it is put into letters or figures: characters of private use.
 MARKS: Mapping[Kind, str] = {kind: chr(0xE000 + place) for place, kind in enumerate(Kind)}
 _COLOUR_MARKS: Mapping[Colour, str] = {Colour.WHITE: "\ue010", Colour.BLACK: "\ue011"}
+# What pops-import makes of a date: `6 August 1977`.
+_DATE = re.compile(rf"(?:([0-9]{{1,2}}) )?\b({'|'.join(MONTHS)}) ([0-9]{{4}})$")
 # White's figures stand for the men of both sides; fairy men have none.
 FIGURES: Mapping[Kind, str] = dict(zip(Kind, "♔♕♖♗♘♙"))
 
@@ -46,10 +50,14 @@ class Language(NamedTuple):
         """The names of the fairy men."""
         return {Kind.GRASSHOPPER: self.grasshopper, Kind.NIGHTRIDER: self.nightrider}
 
-    def date(self, day: Optional[str], month: int, year: str) -> str:
-        """Writes a date; months count from 0."""
-        before = "" if day is None else self.day.format(day=day)
-        return f"{before}{self.months.split()[month]} {year}"
+    def dated(self, source: str) -> str:
+        """Returns a source with its date, as pops-import writes it, in this language."""
+        date = _DATE.search(source)
+        if date is None:
+            return source
+        day = "" if date[1] is None else self.day.format(day=date[1])
+        month = self.months.split()[MONTHS.index(date[2])]
+        return f"{source[: date.start()]}{day}{month} {date[3]}"
 
     def man(self, kind: Kind) -> str:
         return self.letters[list(Kind).index(kind)]

@@ -10,9 +10,9 @@ from pops_companions.chess.men import Kind, Square
 from pops_companions.chess.stipulation import Condition
 from pops_companions.report.events import Menace
 from pops_companions.report.items import HelpLine, Node, Phase, PhaseKind, SoundItem, Total
-from pops_companions.report.moves import prefix
+from pops_companions.report.moves import Mark, prefix
 from pops_companions.report.tries import FirstMove, TriesItem
-from pops_companions.sheet.boards import after
+from pops_companions.sheet.boards import after, arrivals
 from pops_companions.sheet.languages import MARKS, Language
 from pops_companions.sheet.short import short
 from pops_companions.sheet.variations import Line, Variations
@@ -52,23 +52,27 @@ class TriesShown(Enum):
 _ANY_MOVE = 3
 
 
-def _moves_of_men(moves: Iterable[FirstMove]) -> dict[Square, list[FirstMove]]:
-    """Returns the moves of each man, by its square."""
-    found: dict[Square, list[FirstMove]] = {}
+# The square of a man, and the mark of its moves, as of those that check.
+_ManAndMark = tuple[Square, Optional[Mark]]
+
+
+def _moves_of_men(moves: Iterable[FirstMove]) -> dict[_ManAndMark, list[FirstMove]]:
+    """Returns the moves of each man with the same mark."""
+    found: dict[_ManAndMark, list[FirstMove]] = {}
     for one in moves:
-        found.setdefault(one.move.origin, []).append(one)
+        found.setdefault((one.move.origin, one.move.mark), []).append(one)
     return found
 
 
 def _largest_of_each_man(
     groups: Iterable[Sequence[FirstMove]],
-) -> dict[Square, list[FirstMove]]:
+) -> dict[_ManAndMark, list[FirstMove]]:
     """Returns the moves of each man in the group where it has the most."""
-    largest: dict[Square, list[FirstMove]] = {}
+    largest: dict[_ManAndMark, list[FirstMove]] = {}
     for group in groups:
-        for origin, own in _moves_of_men(group).items():
-            if len(own) > len(largest.get(origin, [])):
-                largest[origin] = own
+        for which, own in _moves_of_men(group).items():
+            if len(own) > len(largest.get(which, [])):
+                largest[which] = own
     return largest
 
 
@@ -89,7 +93,7 @@ class Solution:
             lines = self._phase(phases[PhaseKind.SET])
             found.append(Block(self.language.set_play, lines))
         if tries is not None and tries.total is not None:
-            attempts = tuple(self._tries(tries.tries))
+            attempts = tuple(self._tries(tries))
             if attempts:
                 found.append(Block(self.language.tries, attempts))
             keys = [line for it in tries.keys for line in self._first_move(it, "!")]
@@ -100,36 +104,53 @@ class Solution:
             found.append(Block(self.language.solution, lines))
         return found
 
-    def _tries(self, tries: Sequence[FirstMove]) -> Iterator[Line]:
+    def _tries(self, tries: TriesItem) -> Iterator[Line]:
         """Yields the lines of tries, those with the same refutations and variations together."""
         groups: dict[tuple[str, tuple[Line, ...]], list[FirstMove]] = {}
-        for one in tries if self.shown is not TriesShown.NONE else ():
+        for one in tries.tries if self.shown is not TriesShown.NONE else ():
             has_variations = bool(one.threats or one.defences)
             said, below = self._below(one)
             if not has_variations and one.refutations:
                 said, below = f" {self._refuting(one)}", []
             if has_variations or self.shown is TriesShown.ALL:
                 groups.setdefault((said, tuple(below)), []).append(one)
-        largest = _largest_of_each_man(groups.values())
+        any_moves = self._any_moves(list(groups.values()), tries.keys)
         for (said, lines), group in groups.items():
-            yield Line(f"{prefix(1)}{'/'.join(self._first_moves(group, largest))}?{said}")
+            yield Line(f"{prefix(1)}{'/'.join(self._first_moves(group, any_moves))}?{said}")
             yield from (line.set_in() for line in lines)
 
+    def _any_moves(
+        self, groups: Sequence[Sequence[FirstMove]], keys: Sequence[FirstMove]
+    ) -> dict[_ManAndMark, list[FirstMove]]:
+        """Returns the moves that any move of a man stands for: many moves of a group, where the sheet
+        shows all others too. A move with more refutations than wanted isn't shown."""
+        shown = {
+            (it.move.origin, it.move.arrival) for group in (*groups, keys) for it in group
+        }
+        return {
+            which: own
+            for which, own in _largest_of_each_man(groups).items()
+            if len(own) >= _ANY_MOVE
+            and own[0].move.kind is not Kind.PAWN
+            and all(one.move.castling is None for one in own)
+            and all(
+                (own[0].move.origin, arrival) in shown
+                for arrival in arrivals(self.men, own[0].move, self.condition)
+            )
+        }
+
     def _first_moves(
-        self, group: Sequence[FirstMove], largest: dict[Square, list[FirstMove]]
+        self, group: Sequence[FirstMove], any_moves: dict[_ManAndMark, list[FirstMove]]
     ) -> Iterator[str]:
-        """Yields the moves of a group; many of a man that isn't a pawn are any of its moves, `K~`, but only
-        where it has the most moves."""
-        for origin, own in _moves_of_men(group).items():
-            kind = own[0].move.kind
-            castles = any(one.move.castling is not None for one in own)
-            is_largest = own[0] is largest[origin][0]
-            if len(own) < _ANY_MOVE or kind is Kind.PAWN or castles or not is_largest:
+        """Yields the moves of a group; any move of a man is `K~`, or any that checks, `R~+`."""
+        for (origin, mark), own in _moves_of_men(group).items():
+            if any_moves.get((origin, mark)) != own:
                 yield from (short(self.men, one.move, self.condition) for one in own)
                 continue
             man = self.men[origin]
             is_alone = all(other != man or it == origin for it, other in self.men.items())
-            yield MARKS[kind] + ("" if is_alone else origin.name) + "~"
+            sign = "" if mark is None else mark.value
+            yield MARKS[man.kind] + ("" if is_alone else origin.name) + "~" + sign
 
     def _phase(self, phase: Phase) -> tuple[Line, ...]:
         """Returns the lines of a phase of the report; its keys have a sign."""

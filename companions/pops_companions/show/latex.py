@@ -35,13 +35,14 @@ _SPECIAL = {
 
 
 class Sheet(NamedTuple):
-    """What a sheet says of a problem: number, award, stipulation, and in LaTeX what makes its
+    """What a sheet says of a problem: number, source, award, stipulation, and in LaTeX what makes its
     twins and the lines of its solution.
 
     `fairy_men` are the names of the fairy men.
     """
 
     number: str
+    source: str
     award: str
     asked: str
     twins: Sequence[str]
@@ -101,8 +102,11 @@ def _names(group: Group, encoding: str, sheet: Optional[Sheet]) -> list[str]:
         lines.append(r"\author{%s}" % authors(shown(group.author, encoding)))
     if group.title is not None:
         lines.append(r"\dedic{%s}" % escaped(group.title))
-    if given is not None and given.origin is not None:
-        lines.append(r"\source{%s}" % escaped(shown(given.origin, encoding)))
+    source = "" if sheet is None else sheet.source
+    if sheet is None and given is not None and given.origin is not None:
+        source = shown(given.origin, encoding)
+    if source:
+        lines.append(r"\source{%s}" % escaped(source))
     if sheet is not None and sheet.award:
         lines.append(r"\award{%s}" % escaped(sheet.award))
     return lines

@@ -82,6 +82,10 @@ class Words:
         """Returns a stipulation with its condition."""
         return text
 
+    def dated(self, source: str) -> str:
+        """Returns an origin with its date."""
+        return source
+
     def fault(self, fault: Fault) -> str:
         return f"line {fault.line}: fault {fault.number}: {fault.text}"
 
@@ -160,7 +164,7 @@ class Page:
         texts = (
             ("title", group.title),
             ("author", None if group.author is None else shown(group.author, self.encoding)),
-            ("origin", None if origin is None else shown(origin, self.encoding)),
+            ("origin", None if origin is None else self.words.dated(shown(origin, self.encoding))),
         )
         return "".join(
             f'<p class="{label}">{_safe(text)}</p>\n' for label, text in texts if text is not None

@@ -1,10 +1,9 @@
 -- Aimed legal moves: walking from candidate to candidate skips all others.
-use Rattle.chess_mates.proofs.Chess.{Man, Move, Position, Some, and_left, arith, bit_at, cases_Bool, false, first_of_and, is_fairy, king_square, man_on, may_check_from, met_after-here, off_second, off_zero, on_first, other, other_twice, second_of_and, word_has, ℕ, ◌<◌, ◌==◌, ◌≡◌}
+use Rattle.chess_mates.proofs.Chess.{Man, Move, Position, Some, and_left, arith, bit_at, cases_Bool, false, first_of_and, is_fairy, king_square, man_on, may_check_from, off_second, off_zero, on_first, other, other_twice, word_has, ℕ, ◌<◌, ◌==◌, ◌≡◌}
 use Rattle.chess_attacks.specs.ties.Lines.{AreReached}
 use Rattle.chess_mates.specs.ties.Aims.{aims_at_king}
 use Rattle.chess_rules.proofs.Chess.{second_fails}
-use Rattle.chess_rules.proofs.listing_moves.Places.{place_of_none, place_of_triple}
-use Rattle.chess_rules.proofs.listing_moves.Filtering.{none_kept_after, wanted-none}
+use Rattle.chess_rules.proofs.listing_moves.Filtering.{kept_after}
 
 -- a man other than a fairy man doesn't attack the king from where it wouldn't reach it on any board
 pub never_aimed : (p : Position) (m : Move) (x : Man) (k w : ℕ) → man_on p.men m.from ≡ Some x → king_square p.men (other p.turn) ≡ Some k → k < 64
@@ -16,4 +15,4 @@ never_aimed p m x k w here king small reached plain off = grind (arith, here, ki
 pub ruleset aimed_candidates = (and_left, cases_Bool, off_second, off_zero, on_first, second_fails, word_has)
 
 -- for the next move
-pub ruleset next_aimed = (first_of_and, met_after-here, place_of_none, place_of_triple, second_of_and, none_kept_after, wanted-none)
+pub ruleset next_aimed = (first_of_and, kept_after)

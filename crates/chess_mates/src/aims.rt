@@ -12,9 +12,7 @@ use chess_attacks::Rules;
 use chess_attacks::unblocked::unblocked_reach;
 use chess_attacks::words::contains;
 use chess_core::{Board, Man, Move, Square, Squares};
-use chess_rules::{
-    LegalCursor, LegalityMasks, MoveTest, Moves, TRIPLES, TargetCache, move_at, next_met,
-};
+use chess_rules::{Cursor, LegalCursor, LegalityMasks, MoveTest};
 
 // Returns the squares from which the man on `from`, if there is one, would attack the enemy king on the
 // board as it is.
@@ -129,16 +127,9 @@ pub fn next_aimed<R: Rules>(moves: &mut LegalCursor<R>, board: &mut Board) -> Op
     let aimed = Aimed {
         known: *moves.test(),
     };
-    let mut kept = TargetCache {
-        origin: None,
-        squares: 0,
-    };
-    let start = moves.place().number();
-    let number = next_met::<R, Aimed>(board, &aimed, &mut kept, start, TRIPLES);
-    if number < TRIPLES {
-        moves.go_to(Moves::at(number + 1));
-        return Some(move_at(number));
-    }
-    moves.go_to(Moves::at(TRIPLES));
-    None
+    let mut cursor = Cursor::<R, Aimed>::over(aimed);
+    cursor.go_to(moves.place());
+    let next = cursor.next(board);
+    moves.go_to(cursor.place());
+    next
 }

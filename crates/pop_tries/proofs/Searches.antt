@@ -1,54 +1,68 @@
 -- How a search for tries begins, and what a call of `next` returns.
-use Rattle.pop_tries.proofs.Words.{BareTryEvent, Battle, Bool, IsSound, List, None, Option, Posed, Position, RuleSet, Some, [], arith, battle_of, drop, false, false≢true, inl, nat_tests, play_start, refl, rules, true, ℕ, ◌∙◌, ◌∷◌, ◌≡◌, ◌≤◌}
+use Rattle.pop_tries.proofs.Words.{BareTryEvent, Battle, Bool, IsSound, List, None, Option, Posed, Position, RuleSet, Some, [], arith, battle_of, drop, false, false≢true, inl, nat_tests, play_start, refl, rules, true, ℕ, ◌∙◌, ◌∷◌, ◌≡◌, ◌≤◌, ◌<◌}
 unfoldable use Rattle.pop_tries.proofs.Words.{try_events}
 use Rattle.std.specs.Prelude.{MatchOption, is_some, slice_get}
 use Rattle.std.specs.Option.{option_map}
 use Rattle.pop_battle.specs.ties.Frames.{Frame}
-use Rattle.pop_stipulation.specs.Stipulations.{may_have}
+use Rattle.pop_stipulation.specs.Stipulations.{half_moves, may_have}
 use Rattle.pop_stipulation.specs.declared.stipulation.Form.{Form}
 use Rattle.pop_tries.specs.Events.{events_by}
 use Rattle.pop_tries.specs.Shown.{try_event_of}
 use Rattle.pop_events.specs.declared.try_event.TryEvent.{TryEvent}
+use Rattle.pop_tries.specs.declared.stage.Course.{Course}
 use Rattle.pop_tries.specs.declared.stage.Task.{Task}
 use Rattle.pop_tries.specs.declared.stage.TriesStage.{TriesStage}
 use Rattle.pop_tries.proofs.Candidates.{none_are_kept}
-use Rattle.pop_tries.specs.ties.Searching.{Emits, IsOf, contest_of, first_stage, is_over, stage_by}
+use Rattle.pop_tries.specs.ties.Searching.{Emits, IsOnCourse, contest_of, course_by, first_course, is_over, left_on}
 unfoldable use Rattle.pop_tries.specs.ties.Searching.{HoldsAt, left_of}
 
 -- a battle has a move
 some_move : (form : Form) (battle : Battle) (n : ℕ) → battle_of form ≡ Some battle → may_have form n ≡ true → 1 ≤ n
 some_move form battle n e r = grind (arith, nat_tests)
 
-module _ {A : Type 0} (rule : RuleSet) (problem : Posed) (battle : Battle) (most : ℕ) (is : IsOf (battle_of problem.stipulation.form) battle)
-    (stage : TriesStage A) (at_first : stage ≡ first_stage problem) (items : List Frame) (none : items ≡ []) where
-  abbrev task : Task
-  task = record { problem = problem; battle = battle; most = most }
-
+module _ {A : Type 0} (rule : RuleSet) (problem : Posed) (most : ℕ) (course : Course A) (whole : course ≡ first_course problem most) (items : List Frame)
+    (none : items ≡ []) where
   -- at first all events are to come
-  pub all_to_come : left_of rule task stage items ≡ try_events rule problem most
+  pub all_to_come : left_on rule course items ≡ try_events rule problem most
   unfolding left_of try_events
-  all_to_come = rw (at_first, none) (by (battle_of problem.stipulation.form) problem.set_play is refl)
+  all_to_come = rw (whole, none) (by (battle_of problem.stipulation.form) problem.set_play refl)
     where
-      by : (p : Option Battle) (set_play : Bool) → IsOf p battle → problem.set_play ≡ set_play
-          → left_of rule task {A = A} (stage_by p set_play) [] ≡ events_by p rule problem most
-      by None set_play i e = refl
-      by (Some b) true i e = rw (i, e) refl
-      by (Some b) false i e = rw (i, e) refl
+      by : (p : Option Battle) (set_play : Bool) → problem.set_play ≡ set_play
+          → left_on rule (course_by {A = A} p set_play problem most) [] ≡ events_by p rule problem most
+      by None set_play e = refl
+      by (Some b) true e = rw e refl
+      by (Some b) false e = rw e refl
 
   -- at first the board has the play's first position, and no frame is in use
-  pub holds_first : IsSound problem → (board : Position) → board ≡ play_start problem → HoldsAt rule task stage items board
+  pub on_course : IsSound problem → most ≤ 200 → (room : ℕ) → half_moves problem.stipulation < room → (board : Position) → board ≡ play_start problem
+      → IsOnCourse rule problem course items board room
   unfolding HoldsAt
-  holds_first s board at = rw (at_first, none, at) (by (battle_of problem.stipulation.form) problem.set_play is refl)
+  on_course s few room fits board at = rw (whole, none, at) (by (battle_of problem.stipulation.form) problem.set_play refl)
     where
-      by : (p : Option Battle) (set_play : Bool) → IsOf p battle → battle_of problem.stipulation.form ≡ p
-          → HoldsAt rule task {A = A} (stage_by p set_play) [] (play_start problem)
-      by None set_play i e = tt
-      by (Some b) true i e =
-          let fought : battle_of problem.stipulation.form ≡ Some battle = rw i e in
-          (record { fought = fought; some = some_move _ _ _ fought s.range }, record { board_at = refl; none = refl })
-      by (Some b) false i e =
-          let fought : battle_of problem.stipulation.form ≡ Some battle = rw i e in
-          (record { fought = fought; some = some_move _ _ _ fought s.range }, record { board_at = refl; none = refl }, tt, (λ m c t. inl refl, none_are_kept rule (contest_of task) most (play_start problem)))
+      by : (p : Option Battle) (set_play : Bool) → battle_of problem.stipulation.form ≡ p
+          → IsOnCourse rule problem (course_by {A = A} p set_play problem most) [] (play_start problem) room
+      by None set_play e = tt
+      by (Some b) true e = (
+        refl,
+        record {
+          is_task = record { sound = s; few = few };
+          room = fits;
+          holds = (record { fought = e; some = some_move _ _ _ e s.range }, record { board_at = refl; none = refl });
+        },
+      )
+      by (Some b) false e = (
+        refl,
+        record {
+          is_task = record { sound = s; few = few };
+          room = fits;
+          holds = (
+            record { fought = e; some = some_move _ _ _ e s.range },
+            record { board_at = refl; none = refl },
+            tt,
+            (λ m c t. inl refl, none_are_kept rule (contest_of (record { problem = problem; battle = b; most = most })) most (play_start problem)),
+          );
+        },
+      )
 
 module _ (rule : RuleSet) (problem : Posed) where
   -- the event returned, and the events then still to come

@@ -1,9 +1,8 @@
 //! The search for keys and tries: an iterator over the events of a problem with its tries.
 ghost use Rattle.std.specs.Prelude.{◌≡◌, [], ◌∷◌, false, MatchOption};
-ghost use Rattle.pop_stipulation.specs.Stipulations.{battle_of};
 ghost use Rattle.pop_tries.specs.Events.{BareTryEvent};
 ghost use Rattle.pop_tries.specs.Shown.{try_event_of};
-ghost use Rattle.pop_tries.specs.ties.Searching.{first_stage, is_over, IsOf, left_of, Goes, HoldsAt, MayStep};
+ghost use Rattle.pop_tries.specs.ties.Searching.{first_course, is_over, left_of, Goes, HoldsAt, MayStep};
 
 use crate::below_first::{
     begin_refutations, end_stalemate, face, find_refutation, find_reply, walk_reply, walk_threats,
@@ -11,12 +10,11 @@ use crate::below_first::{
 use crate::desk::Desk;
 use crate::group::{begin_group, beginning_of_keys, find_first};
 use crate::set_play::{begin_set_play, walk_set_play};
-use crate::stage::{MOST_REFUTATIONS, Step, Task, TriesStage};
+use crate::stage::{Course, MOST_REFUTATIONS, Step, Task, TriesStage};
 use chess_core::board::Board;
 use chess_rules::Rules;
 use pop_events::{Event, TryEvent};
 use pop_input::problem::Problem;
-use pop_stipulation::Battle;
 use std::marker::Model;
 
 /// A search for the keys and tries of a problem, which returns its events one by one and may be dropped at any
@@ -25,23 +23,25 @@ use std::marker::Model;
 /// still to come.
 #[derive(Drop)]
 pub struct TriesSearch<R: Rules, const N: usize> {
-    task: Task,
-    stage: TriesStage<R>,
+    problem: Problem,
+    most: u32,
+    course: Course<R>,
     desk: Desk<R, N>,
 }
 
 impl<R: Rules, const N: usize> Model for TriesSearch<R, N> {
-    ghost use Rattle.pop_tries.specs.ties.Searching.{left_of, MayStep, TriesState};
+    ghost use Rattle.pop_tries.specs.ties.Searching.{left_on, IsOnCourse, TriesState};
 
     ghost Value = { TriesState };
 
     ghost view = { λ s. record {
-      problem = s.task.problem;
-      most = s.task.most;
-      left = left_of R.rule s.task s.stage s.desk.frames.items;
+      problem = s.problem;
+      most = s.most;
+      left = left_on R.rule s.course s.desk.frames.items;
     } };
 
-    ghost invariant = { λ s. MayStep R.rule s.task s.stage s.desk N };
+    ghost invariant = { λ s. IsOnCourse R.rule s.problem s.course s.desk.frames.items s.desk.board
+        N };
 }
 
 impl<R: Rules, const N: usize> TriesSearch<R, N> {
@@ -60,14 +60,10 @@ impl<R: Rules, const N: usize> TriesSearch<R, N> {
         ensures most { result.most ≡ most }
         ensures left { result.left ≡ try_events R.rule problem.now most }
     {
-        let (battle, stage) = first_stage::<R>(problem);
         TriesSearch {
-            task: Task {
-                problem: *problem,
-                battle,
-                most,
-            },
-            stage,
+            problem: *problem,
+            most,
+            course: first_course::<R>(problem, most),
             desk: Desk::with(Board::of(&problem.diagram())),
         }
     }
@@ -80,20 +76,35 @@ impl<R: Rules, const N: usize> TriesSearch<R, N> {
         ensures problem { self.new.problem ≡ self.old.problem }
         ensures most { self.new.most ≡ self.old.most }
     {
-        next_event::<R, N>(&self.task, &mut self.stage, &mut self.desk)
+        match &mut self.course {
+            Course::NoTries => {
+                self.course = Course::Ended;
+                Some(TryEvent::NoTries)
+            }
+            Course::InBattle { task, stage } => { next_event::<R, N>(task, stage, &mut self.desk) }
+            Course::Ended => None,
+        }
     }
 }
 
-/// Returns the battle of a problem, any in help play, and the first stage of its search.
-fn first_stage<R: Rules>(problem: &Problem) -> (Battle, TriesStage<R>)
-    ensures stage { result.1 ≡ first_stage problem.now }
-    ensures battle { IsOf (battle_of problem.now.stipulation.form) result.0 }
+/// Returns the whole course of a problem, with tries of at most `most` refutations.
+fn first_course<R: Rules>(problem: &Problem, most: u32) -> Course<R>
+    ensures { result ≡ first_course problem.now most }
 {
-    match problem.stipulation().form.battle() {
-        None => (Battle::Direct, TriesStage::NoTries),
-        Some(battle) if problem.set_play() => (battle, TriesStage::SetPlay),
-        Some(battle) => (battle, beginning_of_keys()),
-    }
+    let Some(battle) = problem.stipulation().form.battle() else {
+        return Course::NoTries;
+    };
+    let stage = if problem.set_play() {
+        TriesStage::SetPlay
+    } else {
+        beginning_of_keys()
+    };
+    let task = Task {
+        problem: *problem,
+        battle,
+        most,
+    };
+    Course::InBattle { task, stage }
 }
 
 /// Returns whether nothing is left to return.
@@ -115,10 +126,6 @@ fn take_step<R: Rules, const N: usize>(
     ensures { Goes R.rule task.now stage desk.old result.stage desk.new result.event }
 {
     match stage {
-        TriesStage::NoTries => Step {
-            stage: TriesStage::Over,
-            event: Some(TryEvent::NoTries),
-        },
         TriesStage::SetPlay => begin_set_play(task, desk),
         TriesStage::Impossible => Step {
             stage: beginning_of_keys(),

@@ -1,5 +1,5 @@
 //! How far a search for tries has come.
-ghost use Rattle.std.specs.Prelude.{◌≡◌, ◌+◌, ◌-◌, ◌≤◌, ⊤};
+ghost use Rattle.std.specs.Prelude.{◌≡◌, ◌+◌, ◌-◌, ◌≤◌};
 ghost use Rattle.chess_rules.specs.ties.Places.{all_triples};
 ghost use Rattle.pop_stipulation.specs.Stipulations.{half_moves};
 ghost use Rattle.pop_tries.specs.ties.Searching.{contest_of, walk_below};
@@ -18,16 +18,15 @@ use pop_input::problem::Problem;
 use pop_stipulation::Battle;
 use pop_walk::phases::Stage;
 use pop_walk::plan::Plan;
-use std::alloc::AllocError;
 
 /// The greatest number of refutations of a try that can be asked for (own).
 pub const MOST_REFUTATIONS: u32 = 200;
 
-/// What a search for tries covers.
+/// What a search for tries covers in a problem of battle.
 #[derive(Clone, Copy)]
 pub struct Task {
     pub problem: Problem,
-    /// The problem's battle; any in help play, which has no tries.
+    /// The problem's battle.
     pub battle: Battle,
     /// The greatest number of refutations of a try, 0 to `MOST_REFUTATIONS`.
     pub most: u32,
@@ -112,11 +111,20 @@ pub struct Played<R: Rules> {
     pub undo: Undo,
 }
 
-/// What a search for tries returns next.
-#[derive(Copy)]
-pub enum TriesStage<R: Rules> {
-    /// The only event of a problem of help play.
+/// What a search for tries returns of a problem.
+#[derive(Drop)]
+pub enum Course<R: Rules> {
+    /// The only event of help play.
     NoTries,
+    /// The events of a battle from a stage on.
+    InBattle { task: Task, stage: TriesStage<R> },
+    /// Nothing more of help play.
+    Ended,
+}
+
+/// What a search for tries returns next of a battle.
+#[derive_where(Clone, Copy)]
+pub enum TriesStage<R: Rules> {
     /// The beginning of set play.
     SetPlay,
     /// That set play isn't possible.
@@ -169,16 +177,6 @@ pub enum TriesStage<R: Rules> {
     },
     /// Nothing.
     Over,
-}
-
-impl<R: Rules> Clone for TriesStage<R> {
-    ghost is_clone = { λ it copy. copy ≡ it };
-
-    ghost is_infallible = { λ _. ⊤ };
-
-    fn clone(&self) -> Result<Self, AllocError> {
-        Ok(*self)
-    }
 }
 
 /// What a step of a search for tries leaves.

@@ -379,7 +379,7 @@ pub fn is_defence<R: Rules, const N: usize>(
     if known.places.are_few() {
         return stops_few::<R, N>(contest, known, by, desk);
     }
-    stops_one::<R, N>(contest, threat, by, desk)
+    stops_one::<R, N>(contest, known, by, desk)
 }
 
 /// Returns whether the legal reply `by` to the first move that led to the board's position is a defence.
@@ -387,11 +387,11 @@ pub fn is_defence<R: Rules, const N: usize>(
 #[tactic(auto, using(crate::proofs::Loops::looking, crate::proofs::Contests::defending, pop_battle::proofs::Boards::after_start))]
 fn stops_one<R: Rules, const N: usize>(
     contest: Contest,
-    threat: Option<Threat>,
+    threat: Threat,
     by: Move,
     desk: &mut Desk<R, N>,
 ) -> bool
-    requires threat { AreThreats R.rule contest desk.old.board threat }
+    requires threat { HoldsThreats R.rule contest desk.old.board threat }
     requires well_formed { IsWellFormed desk.old.board }
     requires legal { is_legal R.rule desk.old.board by ≡ true }
     requires room { array_vec_len desk.old.frames + half_moves contest.stipulation ≤ N }
@@ -399,17 +399,14 @@ fn stops_one<R: Rules, const N: usize>(
         contest.stipulation.n (chess_passing R.rule) desk.old.board by }
     ensures rest { Keeps desk.old desk.new }
 {
-    let Some(threats) = threat else {
-        return true;
-    };
     let mut known = None;
     let mut place = Moves::<R>::start();
     let mut crossed = pass(&mut desk.board);
     while let Some(tried) = next_move::<R>(&mut known, &mut place, &mut desk.board) {
-        if is_threat::<R, N>(contest, threats, tried, desk) {
+        if is_threat::<R, N>(contest, threat, tried, desk) {
             unpass(&mut desk.board, crossed);
             let undo = play::<R>(&mut desk.board, by);
-            let still = works::<R, N>(contest, threats.length, place, desk);
+            let still = works::<R, N>(contest, threat.length, place, desk);
             unplay::<R>(&mut desk.board, by, undo);
             if !still {
                 return true;

@@ -1,10 +1,19 @@
 -- Walking from candidate to candidate skips the legal moves that a filter removes.
-use Rattle.chess_rules.proofs.Chess.{AreCandidates, AreLegal, AreOrigins, AreKeptSquares, Bool, NoneMeet, IsFirstKept, Move, None, Position, RuleSet, SomeFails, [], all_triples, and_le_l, and_left, ap, append-nil, append_assoc, append_cancel_right, arith, bit_and, bit_at, bit_at-trailing_zeros, bit_at_and, bit_not, cases_Bool, cases_lt, eq-eqb, eqb-true, false, filter, filter-append, is_legal, is_legal_and, length, moves_after, moves_between, meets_on, refl, rules, second_fails, sym, trailing_zeros, triple_at, true, w64, ℕ, ◌++◌, ◌+◌, ◌<◌, ◌==◌, ◌^◌, ◌∙◌, ◌∷◌, ◌≡◌, ◌≤◌}
+use Rattle.chess_rules.proofs.Chess.{AreCandidates, AreLegal, AreOrigins, AreKeptSquares, Bool, NoneMeet, IsFirstKept, Move, None, Position, RuleSet, SomeFails, [], all_triples, and_le_l, and_left, ap, append-nil, append_assoc, append_cancel_right, arith, bit_and, bit_at, bit_at-trailing_zeros, bit_at_and, bit_not, cases_Bool, cases_lt, eq-eqb, eqb-true, false, filter, filter-append, is_legal, is_legal_and, length, moves_after, moves_between, meets_on, refl, rules, second_fails, sym, trailing_zeros, triple_at, true, w64, ℕ, ◌++◌, ◌+◌, ◌<◌, ◌==◌, ◌^◌, ◌∙◌, ◌∷◌, ◌≡◌, ◌≤◌, List, met_after, drop, ◌&&◌, triples}
 use Rattle.std.proofs.lemmas.Nat.Bits.{bit_at_not}
 use Rattle.chess_rules.proofs.listing_moves.Between.{after_cut, between-past}
 use Rattle.chess_rules.proofs.listing_moves.Places.{met_after-end, met_after-here, met_after-skip, over, place_of_none, place_of_triple}
 use Rattle.chess_rules.proofs.listing_moves.Targeting.{false_by}
 use Rattle.chess_rules.proofs.listing_moves.Walks.{off_second, on_first}
+
+filter_both : {X : Type 0} (s t : X → Bool) (xs : List X) → filter t (filter s xs) ≡ filter (λ x. s x && t x) xs
+filter_both s t [] = refl
+filter_both s t (x ∷ xs) = grind (arith, cases_Bool (s x), filter_both s t xs)
+
+-- of the legal moves after a cursor a filter keeps those that are legal and meet its test
+pub kept_after : (rule : RuleSet) (p : Position) (test : Move → Bool) (n : ℕ) → filter test (moves_after rule p n) ≡ met_after (is_legal_and rule p test) n
+unfolding met_after
+kept_after rule p test n = filter_both (is_legal rule p) test (drop n triples)
 
 -- for callers with a cursor that has moved on, or is at the end
 pub moved_on : (rule : RuleSet) (p : Position) (a b : ℕ) → (b < all_triples → a ≤ b) → moves_after rule p a ≡ moves_between rule p a b ++ moves_after rule p b

@@ -1,5 +1,5 @@
 //! Counts the legal moves of one origin between two triples, mostly by counting bits.
-ghost use Rattle.std.specs.Prelude.{◌≡◌, ◌*◌, ◌+◌, ◌/◌, ◌^◌, ◌<◌, ◌≤◌, ◌==◌, ℕ, count_ones, false, length, true};
+ghost use Rattle.std.specs.Prelude.{◌≡◌, ◌/◌, ◌^◌, ◌<◌, ◌≤◌, ◌==◌, ℕ, count_ones, false, length, true};
 ghost use Rattle.std.specs.Int.{bit_at};
 ghost use Rattle.chess_core.specs.Position.{is_man, man_on};
 ghost use Rattle.chess_core.specs.WellFormed.{IsWellFormed};
@@ -7,7 +7,7 @@ ghost use Rattle.chess_core.specs.declared.man.Kind.TheVariants.{Pawn};
 ghost use Rattle.chess_core.specs.ties.Words.{word};
 ghost use Rattle.chess_rules.specs.Legal.{is_legal};
 ghost use Rattle.chess_rules.specs.ties.Counting.{AreKnownCandidates, AreLegal, IsKnownIn, is_untested};
-ghost use Rattle.chess_rules.specs.ties.Places.{moves_between, per_origin};
+ghost use Rattle.chess_rules.specs.ties.Places.{moves_of_origin, per_origin};
 ghost use Rattle.chess_rules.specs.ties.Blockers.{may_expose};
 ghost use Rattle.chess_rules.specs.ties.Targets.{AreCandidates};
 
@@ -123,8 +123,7 @@ fn count_of_pawn<R: Rules>(
     requires squares { AreCandidates R.rule board.old (is_legal R.rule board.old) from squares }
     requires start { start ≤ end }
     requires end { end ≤ per_origin }
-    ensures count { result ≡ length (moves_between R.rule board.old (per_origin * from + start)
-        (per_origin * from + end)) }
+    ensures count { result ≡ length (moves_of_origin R.rule board.old from start end) }
     ensures board { board.new ≡ board.old }
 {
     let first = u16::from(from.index()) * PER_ORIGIN;
@@ -156,8 +155,7 @@ fn count_of_piece<R: Rules>(
     requires no_pawn { is_man (man_on board.old.men from) board.old.turn Pawn ≡ false }
     requires start { start ≤ end }
     requires end { end ≤ per_origin }
-    ensures count { result ≡ length (moves_between R.rule board.old (per_origin * from + start)
-        (per_origin * from + end)) }
+    ensures count { result ≡ length (moves_of_origin R.rule board.old from start end) }
     ensures board { board.new ≡ board.old }
 {
     let mut count = 0u16;
@@ -194,8 +192,7 @@ fn count_one_by_one<R: Rules>(
     requires squares { AreCandidates R.rule board.old (is_legal R.rule board.old) from squares }
     requires start { start ≤ end }
     requires end { end ≤ per_origin }
-    ensures count { result ≡ length (moves_between R.rule board.old (per_origin * from + start)
-        (per_origin * from + end)) }
+    ensures count { result ≡ length (moves_of_origin R.rule board.old from start end) }
     ensures board { board.new ≡ board.old }
 {
     if contains(board.squares(board.turn(), Kind::Pawn), from) {
@@ -222,8 +219,7 @@ pub(crate) fn count_origin<R: Rules>(
     requires given { AreKnownCandidates R.rule board.old from given }
     requires start { start ≤ end }
     requires end { end ≤ per_origin }
-    ensures count { result ≡ length (moves_between R.rule board.old (per_origin * from + start)
-        (per_origin * from + end)) }
+    ensures count { result ≡ length (moves_of_origin R.rule board.old from start end) }
     ensures board { board.new ≡ board.old }
 {
     let squares = given.squares;

@@ -1,6 +1,5 @@
 //! A cursor over the moves of one position that meet a test.
 ghost use Rattle.std.specs.Prelude.{◌≡◌, ◌∷◌, [], ◌<◌, IfSome, MatchOption, true};
-ghost use Rattle.chess_attacks.specs.RuleSet.{RuleSet};
 ghost use Rattle.chess_core.specs.Position.{Position};
 ghost use Rattle.chess_core.specs.WellFormed.{IsWellFormed};
 ghost use Rattle.chess_rules.specs.ties.Places.{IsCursorIn, IsNextMet, cursor_onto, first_met, met_after, met_between, place_of};

@@ -1,11 +1,10 @@
 //! Searches the triples for the next move that meets a test. What is known of the position skips most
 //! of them.
-ghost use Rattle.std.specs.Int.{bit_at};
-ghost use Rattle.std.specs.Prelude.{◌≡◌, ◌==◌, ◌+◌, ◌*◌, ◌≤◌, ◌<◌, Some, false, true};
+ghost use Rattle.std.specs.Prelude.{◌≡◌, ◌≤◌, ◌<◌, Some, false, true};
 ghost use Rattle.chess_core.specs.Position.{is_man, man_on};
 ghost use Rattle.chess_core.specs.WellFormed.{IsWellFormed};
 ghost use Rattle.chess_core.specs.declared.man.Kind.TheVariants.{Pawn};
-ghost use Rattle.chess_rules.specs.ties.Places.{NoneMeet, all_triples, per_origin, triple_at};
+ghost use Rattle.chess_rules.specs.ties.Places.{IsFirstOfOrigin, NoneMeet, all_triples, per_origin, triple_at};
 ghost use Rattle.chess_rules.specs.ties.Targets.{AreCandidates, IsTargetCacheOf, AreOrigins, IsAimed, meets_on};
 
 use crate::listing_moves::triples::{PER_ARRIVAL, PER_ORIGIN, move_at, next_from};
@@ -99,14 +98,7 @@ fn next_of_pawn<R: Rules, S: MoveTest>(
         (meets_on squares (S.test R.rule board.old)) from squares }
     requires start { start ≤ per_origin }
     requires end { end ≤ per_origin }
-    ensures low { result < end → start ≤ result }
-    ensures high { result ≤ end }
-    ensures none { NoneMeet (meets_on squares (S.test R.rule board.old))
-        (per_origin * from + start) (per_origin * from + result) }
-    ensures meets { result < end
-        → S.test R.rule board.old (triple_at (per_origin * from + result)) ≡ true }
-    ensures inside { result < end
-        → (bit_at squares (triple_at (per_origin * from + result)).to == 1) ≡ true }
+    ensures first { IsFirstOfOrigin (S.test R.rule board.old) from squares start end result }
     ensures board { board.new ≡ board.old }
 {
     let first = u16::from(from.index()) * PER_ORIGIN;
@@ -141,14 +133,7 @@ fn next_of_piece<R: Rules, S: MoveTest>(
     requires no_pawn { is_man (man_on board.old.men from) board.old.turn Pawn ≡ false }
     requires start { start ≤ per_origin }
     requires end { end ≤ per_origin }
-    ensures low { result < end → start ≤ result }
-    ensures high { result ≤ end }
-    ensures none { NoneMeet (meets_on squares (S.test R.rule board.old))
-        (per_origin * from + start) (per_origin * from + result) }
-    ensures meets { result < end
-        → S.test R.rule board.old (triple_at (per_origin * from + result)) ≡ true }
-    ensures inside { result < end
-        → (bit_at squares (triple_at (per_origin * from + result)).to == 1) ≡ true }
+    ensures first { IsFirstOfOrigin (S.test R.rule board.old) from squares start end result }
     ensures board { board.new ≡ board.old }
 {
     let mut rest = squares_from(squares, ((start + PER_ARRIVAL - 1) / PER_ARRIVAL) as u8);
@@ -188,14 +173,7 @@ pub(crate) fn next_of_man<R: Rules, S: MoveTest>(
         (meets_on squares (S.test R.rule board.old)) from squares }
     requires start { start ≤ per_origin }
     requires end { end ≤ per_origin }
-    ensures low { result < end → start ≤ result }
-    ensures high { result ≤ end }
-    ensures none { NoneMeet (meets_on squares (S.test R.rule board.old))
-        (per_origin * from + start) (per_origin * from + result) }
-    ensures meets { result < end
-        → S.test R.rule board.old (triple_at (per_origin * from + result)) ≡ true }
-    ensures inside { result < end
-        → (bit_at squares (triple_at (per_origin * from + result)).to == 1) ≡ true }
+    ensures first { IsFirstOfOrigin (S.test R.rule board.old) from squares start end result }
     ensures board { board.new ≡ board.old }
 {
     if squares == 0 {
@@ -208,9 +186,9 @@ pub(crate) fn next_of_man<R: Rules, S: MoveTest>(
     }
 }
 
-/// Returns the number of the first move that meets the test, from triple `start` up to but not including `end`;
-/// `end` if there is none. `kept` carries the candidates of one origin from call to call. The board is unchanged.
-pub fn next_met<R: Rules, S: MoveTest>(
+// Returns the number of the first move that meets the test, from triple `start` up to but not including `end`;
+// `end` if there is none. `kept` carries the candidates of one origin from call to call. The board is unchanged.
+pub(crate) fn next_met<R: Rules, S: MoveTest>(
     board: &mut Board,
     move_test: &S,
     kept: &mut TargetCache,

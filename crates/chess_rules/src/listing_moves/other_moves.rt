@@ -7,9 +7,9 @@ ghost use Rattle.chess_rules.specs.ties.Filtering.{is_of_others, is_legal_and};
 ghost use Rattle.chess_rules.specs.ties.Targets.{AreCandidates, AreOrigins, IsAimed};
 
 use crate::legality::legal::is_legal;
+use crate::listing_moves::cursor::Cursor;
 use crate::listing_moves::legal_moves::{LegalityMasks, candidates, legality_masks, own_origins};
-use crate::listing_moves::move_test::{MoveTest, TargetCache, next_met};
-use crate::listing_moves::triples::TRIPLES;
+use crate::listing_moves::move_test::MoveTest;
 use chess_attacks::Rules;
 use chess_attacks::words::contains;
 use chess_core::{Board, Kind, Move, Square, Squares};
@@ -78,7 +78,6 @@ fn is_legal_of_others<R: Rules>(board: &mut Board, known: LegalityMasks, m: Move
 }
 
 /// Returns whether a man of the side to move other than the king has a legal move. The board is unchanged.
-#[tactic(auto, using(crate::proofs::listing_moves::OtherMoves::others_found))]
 pub fn others_have_move<R: Rules>(board: &mut Board) -> bool
     requires { IsWellFormed board.old }
     ensures answer { result
@@ -88,9 +87,5 @@ pub fn others_have_move<R: Rules>(board: &mut Board) -> bool
     let others = Others {
         known: legality_masks::<R>(board),
     };
-    let mut kept = TargetCache {
-        origin: None,
-        squares: 0,
-    };
-    next_met::<R, Others>(board, &others, &mut kept, 0, TRIPLES) < TRIPLES
+    Cursor::<R, Others>::over(others).next(board).is_some()
 }

@@ -14,8 +14,8 @@ pub(crate) const PER_ARRIVAL: u16 = 7;
 // The number of triples with the same origin.
 pub(crate) const PER_ORIGIN: u16 = 64 * PER_ARRIVAL;
 
-/// The number of all triples of origin, arrival and promotion.
-pub const TRIPLES: u16 = 64 * PER_ORIGIN;
+// The number of all triples of origin, arrival and promotion.
+pub(crate) const TRIPLES: u16 = 64 * PER_ORIGIN;
 
 // Returns the promotion with this number; number 0 is none.
 fn promotion_at(number: u16) -> Option<Kind>
@@ -32,8 +32,8 @@ fn promotion_at(number: u16) -> Option<Kind>
     }
 }
 
-/// Returns the triple with this number, from 0 to `TRIPLES - 1`, in the order of moves.
-pub fn move_at(number: u16) -> Move
+// Returns the triple with this number, from 0 to `TRIPLES - 1`, in the order of moves.
+pub(crate) fn move_at(number: u16) -> Move
     requires { number < all_triples }
     ensures { result ≡ triple_at number }
 {

@@ -36,11 +36,13 @@ use Rattle.pop_tries.specs.declared.first_moves.Group.{Group}
 use Rattle.pop_tries.specs.declared.first_moves.Group.TheVariants.{Keys, Tries}
 use Rattle.pop_events.specs.declared.try_event.TryEvent.{TryEvent}
 use Rattle.pop_events.specs.declared.try_event.TryEvent.TheVariants.{Check, Key, Try, Zugzwang}
+use Rattle.pop_tries.specs.declared.stage.Course.{Course}
+use Rattle.pop_tries.specs.declared.stage.Course.TheVariants.{NoTries, InBattle, Ended}
 use Rattle.pop_tries.specs.declared.stage.First.{First}
 use Rattle.pop_tries.specs.declared.stage.Firsts.{Firsts}
 use Rattle.pop_tries.specs.declared.stage.Task.{Task}
 use Rattle.pop_tries.specs.declared.stage.TriesStage.{TriesStage}
-use Rattle.pop_tries.specs.declared.stage.TriesStage.TheVariants.{NoTries, SetPlay, Impossible, Within, Beginning, FirstMove, Faced, Threats, Reply, BelowReply, But, Refutation, Stalemate, Over}
+use Rattle.pop_tries.specs.declared.stage.TriesStage.TheVariants.{SetPlay, Impossible, Within, Beginning, FirstMove, Faced, Threats, Reply, BelowReply, But, Refutation, Stalemate, Over}
 
 -- what contracts see of a search for tries: the problem, the most refutations of a try, and the events
 -- still to come
@@ -76,22 +78,19 @@ abbrev pub IsInLimit : Posed → Group → ℕ → Type 0
 IsInLimit problem Keys count = count ≤ problem.max_solutions
 IsInLimit problem (Tries most) count = Unit {0}
 
--- the first stage of a problem's search
-abbrev pub stage_by : {A : Type 0} → Option Battle → Bool → TriesStage A
-stage_by None set_play = NoTries
-stage_by (Some battle) set_play = if set_play then SetPlay else Beginning Keys (candidates_of None)
+-- the whole course of a problem with tries of at most `most` refutations
+abbrev pub course_by : {A : Type 0} → Option Battle → Bool → Posed → (most : ℕ) → Course A
+course_by None set_play problem most = NoTries
+course_by (Some battle) set_play problem most =
+    InBattle (record { problem = problem; battle = battle; most = most })
+    (if set_play then SetPlay else Beginning Keys (candidates_of None))
 
-abbrev pub first_stage : {A : Type 0} → Posed → TriesStage A
-first_stage problem = stage_by (battle_of problem.stipulation.form) problem.set_play
-
--- the battle belongs to the form, unless both sides help
-abbrev pub IsOf : Option Battle → Battle → Type 0
-IsOf None battle = Unit {0}
-IsOf (Some fought) battle = battle ≡ fought
+abbrev pub first_course : {A : Type 0} → Posed → (most : ℕ) → Course A
+first_course problem most =
+    course_by (battle_of problem.stipulation.form) problem.set_play problem most
 
 -- nothing is left to return
 abbrev pub is_over : {A : Type 0} → TriesStage A → Bool
-is_over NoTries = false
 is_over SetPlay = false
 is_over Impossible = false
 is_over (Within stage) = false
@@ -215,7 +214,6 @@ module _ (rule : RuleSet) (task : Task) where
 
   -- the events still to come
   unfoldable pub left_of : {A : Type 0} → TriesStage A → List Frame → List BareTryEvent
-  left_of NoTries items = no_tries ∷ []
   left_of SetPlay items =
       map set_event (phase_events rule task.problem Set) ++ whole_group Keys
   left_of Impossible items = set_event impossible ∷ whole_group Keys
@@ -281,7 +279,6 @@ module _ (rule : RuleSet) (task : Task) where
 
   -- what holds of board and frames
   unfoldable pub HoldsAt : {A : Type 0} → TriesStage A → List Frame → Position → Type 0
-  HoldsAt NoTries items board = Unit {0}
   HoldsAt SetPlay items board =
       IsContest (contest_of task) × IsBare (play_start task.problem) items board
   HoldsAt Impossible items board =
@@ -332,7 +329,6 @@ pub record MayStepWith {A : Type 0} (rule : RuleSet) (task : Task) (stage : Trie
 
 -- how many more steps may return no event
 unfoldable pub rank : {A : Type 0} → TriesStage A → ℕ
-rank NoTries = 0
 rank SetPlay = 0
 rank Impossible = 0
 rank (Within stage) = 1
@@ -364,3 +360,17 @@ abbrev pub Goes : {A : Type 0} {n : ℕ} → RuleSet → Task → (old : TriesSt
     → (new : TriesStage A) → Desk A n → Option TryEvent → Type 0
 Goes rule task old was new desk event =
     GoesWith rule task old was.frames.items new desk.frames.items desk.board event
+
+-- the events of a course still to come
+abbrev pub left_on : {A : Type 0} → RuleSet → Course A → List Frame → List BareTryEvent
+left_on rule NoTries items = no_tries ∷ []
+left_on rule (InBattle task stage) items = left_of rule task stage items
+left_on rule Ended items = []
+
+-- what holds of a search on the course of a problem: in a battle it may step, with `room` frames
+abbrev pub IsOnCourse : {A : Type 0} → RuleSet → Posed → Course A → List Frame → Position → (room : ℕ)
+    → Type 0
+IsOnCourse rule problem NoTries items board room = Unit {0}
+IsOnCourse rule problem (InBattle task stage) items board room =
+    (task.problem ≡ problem) × MayStepWith rule task stage items board room
+IsOnCourse rule problem Ended items board room = Unit {0}

@@ -1,14 +1,10 @@
-use Rattle.pop_tries.proofs.Words.{no_tries, play_start, refl, set_event}
+use Rattle.pop_tries.proofs.Words.{play_start, refl, set_event}
 unfoldable use Rattle.pop_tries.specs.ties.Searching.{HoldsAt, left_of}
 use Rattle.pop_tries.specs.ties.Searching.{contest_of}
 use Rattle.pop_tries.proofs.Candidates.{unknown_keys}
 use Rattle.pop_walk.specs.Events.{impossible}
 use Rattle.pop_tries.proofs.Goings.{with_event}
 use Rattle.pop_tries.proofs.search.take_step.Goals as goal
-
-pub returns-in-NoTries : goal.returns-in-NoTries
-unfolding HoldsAt left_of
-returns-in-NoTries g c = rw c.in-NoTries.is (with_event g.R.Rules.rule c.args.task.now _ _ _ _ _ tt _ no_tries refl refl)
 
 pub returns-in-Impossible : goal.returns-in-Impossible
 unfolding HoldsAt left_of

@@ -13,13 +13,13 @@ returns-then-at-lt-PER_ORIGIN-clause-none g c =
     let kept = rw c.loop-from.invariant.board at c.keep.ensures.kept in
     walk_to _ _ _ _ _ _ _ _ c.loop-from.invariant.walked c.in-Some.ensures.taken (omega (arith, c.from-first.ensures, c.index.ensures.value))
     c.saturating_sub-begin.ensures
-    (none-to _ _ _ _ _ _ _ _ (omega arith) (kept.are _ c.keep.ensures.origin) (λ m h. h) (rw c.loop-from.invariant.board at c.next_of_man-at.ensures.none))
+    (none-to _ _ _ _ _ _ _ _ (omega arith) (kept.are _ c.keep.ensures.origin) (λ m h. h) (rw c.loop-from.invariant.board at c.next_of_man-at.ensures.first.none))
 
 pub loop-from-preserved : goal.loop-from-preserved
 loop-from-preserved g c =
     let kept = rw c.loop-from.invariant.board at c.keep.ensures.kept in
     let past = walk_on _ _ _ _ _ _ _ _ c.loop-from.invariant.walked c.in-Some.ensures.taken (omega (arith, c.from-first.ensures, c.index.ensures.value))
     c.saturating_sub-begin.ensures
-    (none-to _ _ _ _ _ _ _ _ (omega arith) (kept.are _ c.keep.ensures.origin) (λ m h. h) (rw c.loop-from.invariant.board at c.next_of_man-at.ensures.none))
-    (omega (arith, c.next_of_man-at.ensures.high, c.min-limit.ensures)) in
+    (none-to _ _ _ _ _ _ _ _ (omega arith) (kept.are _ c.keep.ensures.origin) (λ m h. h) (rw c.loop-from.invariant.board at c.next_of_man-at.ensures.first.none))
+    (omega (arith, c.next_of_man-at.ensures.first.high, c.min-limit.ensures)) in
     record { board = c.next_of_man-at.ensures.board ∙ c.loop-from.invariant.board; walked = search (rules, past); kept = kept }

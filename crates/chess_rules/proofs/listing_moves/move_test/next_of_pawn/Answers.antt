@@ -11,8 +11,17 @@ meets-requires-clause-aimed g c =
     rw (c.loop-at.invariant.board, c.move_at.ensures, at)
     (aimed_from _ _ _ _ _ _ (omega arith) c.requires.squares (c.loop-at.invariant.named (omega arith)))
 
-pub returns-then-meets-clause-inside : goal.returns-then-meets-clause-inside
-returns-then-meets-clause-inside g c = λ lt. rw (triple_of c.args.from c.loop-at.at (omega arith)) (c.loop-at.invariant.named (omega arith)).inside
+pub returns-then-meets-clause-first : goal.returns-then-meets-clause-first
+returns-then-meets-clause-first g c =
+    let at : c.from-first.result * per_origin ≡ per_origin * c.args.from = omega (arith, c.from-first.ensures, c.index.ensures.value) in
+    let meets = rw (c.loop-at.invariant.board, c.move_at.ensures, at) at c.meets.ensures.answer in
+    record {
+      low = λ lt. c.loop-at.invariant.low;
+      high = omega arith;
+      none = c.loop-at.invariant.none;
+      meets = λ lt. sym meets ∙ c.if-meets.true;
+      inside = λ lt. rw (triple_of c.args.from c.loop-at.at (omega arith)) (c.loop-at.invariant.named (omega arith)).inside;
+    }
 
 pub loop-at-preserved : goal.loop-at-preserved
 loop-at-preserved g c =

@@ -13,22 +13,22 @@ pub returns-then-at-lt-PER_ORIGIN-clause-skipped : goal.returns-then-at-lt-PER_O
 returns-then-at-lt-PER_ORIGIN-clause-skipped g c =
     let count = rw (c.next_of_man-at.ensures.board, c.loop-from.invariant.board) at c.count_origin.ensures.count in
     let all = counted_to _ _ _ _ _ _ _ _ _ c.loop-from.invariant.skipped c.in-Some.ensures.taken (omega (arith, c.from-first.ensures, c.index.ensures.value))
-    c.saturating_sub-begin.ensures c.next_of_man-at.result (c.next_of_man-at.ensures.low c.if-at-lt-PER_ORIGIN.true) in
+    c.saturating_sub-begin.ensures c.next_of_man-at.result (c.next_of_man-at.ensures.first.low c.if-at-lt-PER_ORIGIN.true) in
     omega (arith, count, all)
 
 pub returns-then-at-lt-PER_ORIGIN-clause-none : goal.returns-then-at-lt-PER_ORIGIN-clause-none
 returns-then-at-lt-PER_ORIGIN-clause-none g c =
     walk_to _ _ _ _ _ _ _ _ c.loop-from.invariant.none c.in-Some.ensures.taken (omega (arith, c.from-first.ensures, c.index.ensures.value))
     c.saturating_sub-begin.ensures
-    (none-to _ _ _ _ _ _ _ _ c.next_of_man-at.ensures.high (rw c.loop-from.invariant.board at c.kept_candidates-kept.ensures.wanted)
-    (λ m h. and_left _ _ h) (rw c.loop-from.invariant.board at c.next_of_man-at.ensures.none))
+    (none-to _ _ _ _ _ _ _ _ c.next_of_man-at.ensures.first.high (rw c.loop-from.invariant.board at c.kept_candidates-kept.ensures.wanted)
+    (λ m h. and_left _ _ h) (rw c.loop-from.invariant.board at c.next_of_man-at.ensures.first.none))
 
 pub loop-from-preserved : goal.loop-from-preserved
 loop-from-preserved g c =
     let count = rw (c.next_of_man-at.ensures.board, c.loop-from.invariant.board) at c.count_origin.ensures.count in
-    let none = none-to _ _ _ _ _ _ _ _ c.next_of_man-at.ensures.high (rw c.loop-from.invariant.board at c.kept_candidates-kept.ensures.wanted)
-    (λ m h. and_left _ _ h) (rw c.loop-from.invariant.board at c.next_of_man-at.ensures.none) in
-    let all : c.next_of_man-at.result ≡ per_origin = omega (arith, c.next_of_man-at.ensures.high) in
+    let none = none-to _ _ _ _ _ _ _ _ c.next_of_man-at.ensures.first.high (rw c.loop-from.invariant.board at c.kept_candidates-kept.ensures.wanted)
+    (λ m h. and_left _ _ h) (rw c.loop-from.invariant.board at c.next_of_man-at.ensures.first.none) in
+    let all : c.next_of_man-at.result ≡ per_origin = omega (arith, c.next_of_man-at.ensures.first.high) in
     let first : c.from-first.result * per_origin ≡ per_origin * c.in-Some.from = omega (arith, c.from-first.ensures, c.index.ensures.value) in
     let left = walk_on _ _ _ _ _ _ _ _ c.loop-from.invariant.none c.in-Some.ensures.taken first c.saturating_sub-begin.ensures none all in
     let skipped = counted_on _ _ _ _ _ _ _ _ _ c.loop-from.invariant.skipped c.in-Some.ensures.taken first c.saturating_sub-begin.ensures _ (rw all at count) in

@@ -17,4 +17,4 @@ returns-in-Open-clause-fails g c = λ yes.
     let less = ltb-true _ _ yes in
     let at = triple_of c.args.from c.next_of_man.result less in
     removed_fails _ _ _ _ _ _ (omega arith) c.kept_candidates.ensures.wanted (triple_at (per_origin * c.args.from + c.next_of_man.result))
-    (c.next_of_man.ensures.meets less) (rw at refl) (rw at (omega arith)) (c.next_of_man.ensures.inside less)
+    (c.next_of_man.ensures.first.meets less) (rw at refl) (rw at (omega arith)) (c.next_of_man.ensures.first.inside less)

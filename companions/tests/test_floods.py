@@ -1,0 +1,67 @@
+"""Programs that write more than is kept in memory: they are ended, and reports in files aren't."""
+
+import tempfile
+import unittest
+from pathlib import Path
+from unittest import mock
+
+from pops_companions.many.batches import Batch
+from pops_companions.many.child_process import MOST_SAID, OutputError, outcome_of
+from pops_companions.many.part_program import PartProgram
+from pops_companions.many.parts import Part
+from pops_companions.many.program import RunError
+from pops_companions.many.tasks import Source, tasks_of
+from tests import run_here, support
+
+MATE = b"BeginProblem\nPieces White Kg6 Ra1 Black Kg8\nStipulation #1\nEndProblem\n"
+LEAST = 1 << 12
+
+
+class Floods(unittest.TestCase):
+    def setUp(self) -> None:
+        room = tempfile.TemporaryDirectory()
+        self.addCleanup(room.cleanup)
+        self.room = Path(room.name)
+        (self.room / "in.pop").write_bytes(MATE)
+
+    def script(self, text: str) -> str:
+        path = self.room / "program"
+        path.write_text(f"#!/bin/sh\ncat > /dev/null\n{text}\n", encoding="utf-8")
+        path.chmod(0o755)
+        return str(path)
+
+    def test_output_without_an_end(self) -> None:
+        with mock.patch("pops_companions.many.child_process.MOST_OUTPUT", LEAST):
+            with self.assertRaises(OutputError):
+                outcome_of([self.script("yes")], MATE)
+
+    def test_what_is_said_without_an_end_is_cut(self) -> None:
+        run = outcome_of([self.script("yes | head -c 1000000 >&2; echo well")], MATE)
+        self.assertEqual((run.output, len(run.errors)), (b"well\n", MOST_SAID))
+
+    def test_a_problem_with_too_long_a_report(self) -> None:
+        words = [str(self.room / "in.pop"), "-o", str(self.room / "out"), "--pops", self.script("yes")]
+        with mock.patch("pops_companions.many.child_process.MOST_OUTPUT", LEAST):
+            outcome = run_here.companion("pops-many", *words)
+        self.assertEqual(outcome.status, 6)
+        self.assertIn("pops was ended: it wrote more than ", outcome.error)
+
+    def test_a_file_left_to_pops_may_have_a_longer_report(self) -> None:
+        text = b"BeginProblem\n" + b"NextProblem\n".join([MATE[13:-11]] * 200) + b"EndProblem\n"
+        (self.room / "in.pop").write_bytes(text)
+        words = [str(self.room / "in.pop"), "--pops", support.pops(), "--index", str(self.room / "table")]
+        with mock.patch("pops_companions.many.child_process.MOST_OUTPUT", LEAST):
+            with mock.patch("pops_companions.many.tasks.LONGEST_INPUT", LEAST):
+                outcome = run_here.companion("pops-many", *words)
+        report = support.run([support.pops()], text).output
+        self.assertGreater(len(report), LEAST)
+        self.assertEqual((outcome.status, outcome.output), (0, report))
+        rows = (self.room / "table").read_text("utf-8").splitlines()
+        self.assertEqual(rows[1].split("\t")[:3], ["0", str(len(report)), "0"])
+
+    def test_a_part_without_an_end(self) -> None:
+        part = Part(tasks_of([Source(None, MATE)])[0], "play", 1, 1)
+        for flood in ("yes", "tr '\\0' x < /dev/zero"):
+            with mock.patch("pops_companions.many.part_program.MOST_OUTPUT", LEAST):
+                with self.assertRaisesRegex(RunError, "it wrote more than"):
+                    list(PartProgram(self.script(flood), 1).reports(Batch([part])))
