@@ -53,19 +53,24 @@ class Room(unittest.TestCase):
         shutil.copytree(support.PACKAGE, folder / support.PACKAGE.name, ignore=ignore)
         return folder
 
-    def repository(self) -> Path:
-        """A repository without programs; its own script says which are of its sources."""
-        root = self.room / "repository"
-        self.companions(root / "companions")
-        (root / "crates" / "pops").mkdir(parents=True)
-        (root / "crates.txt").write_text("pops:\npops_part:\n")
-        (root / "HANDLES").write_text("Handles allowed: none.\n")
+    def sources(self, root: Path) -> Path:
+        """A folder with sources, and the script that says which programs are of them."""
         for name in ("pops", "pops_part"):
             source = root / "crates" / name / "src" / "main.rt"
             source.parent.mkdir(parents=True)
             source.write_text("fn main() {}\n")
+            (root / "crates" / name / "out").mkdir()
+        (root / "crates.txt").write_text("pops:\npops_part:\n")
+        (root / "HANDLES").write_text("Handles allowed: none.\n")
         (root / "scripts").mkdir()
         shutil.copy(support.REPOSITORY / FIND_PROGRAM, root / FIND_PROGRAM)
+        return root
+
+    def repository(self) -> Path:
+        """A repository without programs."""
+        root = self.room / "repository"
+        self.companions(root / "companions")
+        self.sources(root)
         self.program(root / "pops")
         return root
 
@@ -203,12 +208,7 @@ class PartPrograms(Room):
         own = self.program(root / "crates" / "pops_part" / "out" / "pops_part")
         self.assertEqual(self.found_part(companions, self.elsewhere), str(own))
         self.assertEqual(self.found_part(companions, Path("/pops")), str(own))
-        crates = self.room / "other" / "crates"
-        crates.mkdir(parents=True)
-        (crates.parent / "crates.txt").write_text("pops:\npops_part:\n")
-        (crates.parent / "HANDLES").write_text("Handles allowed: none.\n")
-        (crates.parent / "scripts").mkdir()
-        shutil.copy(support.REPOSITORY / FIND_PROGRAM, crates.parent / FIND_PROGRAM)
+        crates = self.sources(self.room / "other") / "crates"
         other = self.program(crates / "pops_part" / "out" / "pops_part")
         pops = self.program(crates / "pops" / "out" / "pops")
         self.assertEqual(self.found_part(companions, pops), str(other))
