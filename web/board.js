@@ -1,8 +1,8 @@
 // @ts-check
 // The board on the page, used by mouse, touch and keys. It passes each change to the page as new men.
 import { drawn, element, makeButton } from './elements.js';
+import { KINDS } from './men.js';
 import { FILES, placeOf, squareOf } from './position.js';
-import { KINDS } from './text.js';
 import { say, sayMan } from './words.js';
 
 const HAND = 'hand';

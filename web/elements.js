@@ -1,6 +1,6 @@
 // @ts-check
 // Elements of the page: found by their names, and made.
-import { MAN_NAMES } from './report.js';
+import { MAN_NAMES } from './men.js';
 
 const SHAPE = 'http://www.w3.org/2000/svg';
 

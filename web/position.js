@@ -1,15 +1,16 @@
 // @ts-check
 // Positions are maps from squares to men, as 'e4' to 'wK'. Changes of a whole board, FEN, and positions after moves.
+import { KINDS } from './men.js';
 
 export const FILES = 'abcdefgh';
-// The letters of FEN for our kinds. A letter in brackets is Popeye's; so are all letters if S is the knight.
+// The letters of FEN for our kinds: N is the knight. A letter in brackets is Popeye's; so are all letters if S is the knight.
 /** @type {Record<string, string>} */
-const FEN_LETTERS = { K: 'K', Q: 'Q', R: 'R', B: 'B', S: 'N', P: 'P', G: 'G', N: '(N)' };
+const FEN_LETTERS = { ...Object.fromEntries([...KINDS].map(kind => [kind, kind])), S: 'N', N: '(N)' };
 /** @type {Record<string, string>} */
-const FEN_KINDS = { K: 'K', Q: 'Q', R: 'R', B: 'B', N: 'S', P: 'P', G: 'G' };
+const FEN_KINDS = Object.fromEntries(Object.entries(FEN_LETTERS).map(([kind, letter]) => [letter, kind]));
 // In letters, with some blanks between the fields.
 const LONGEST_FEN = 1000;
-const FEN_SQUARES = /\(([kqrbspgn])\)|[kqrbspgn]|[1-8]/gi;
+const FEN_SQUARES = new RegExp(`\\(([${KINDS}])\\)|[${KINDS}]|[1-8]`, 'gi');
 /** @type {Record<string, string>} */
 const CORNERS = { K: 'h1', Q: 'a1', k: 'h8', q: 'a8' };
 /** @param {Square} square */

@@ -1,14 +1,14 @@
 // @ts-check
 // Reads a report, with or without tries, or a beginning of one: items, phases, trees of moves.
+import { KINDS } from './men.js';
 
-/** @type {Record<string, string>} */
-export const MAN_NAMES = {
-  K: 'king', Q: 'queen', R: 'rook', B: 'bishop', S: 'knight', P: 'pawn', G: 'grasshopper', N: 'nightrider',
-};
+const REBORN = KINDS.replace('K', '');
+const PROMOTED = REBORN.replace('P', '');
+const RANK = new RegExp(`^[1-8] [${KINDS}${KINDS.toLowerCase()}.]{8}$`);
 /** @type {Record<string, string>} */
 const PLAYS = { '': 'direct', s: 'self', h: 'help' };
-const MOVE = new RegExp('^(?:(0-0-0|0-0)|([KQRBSGN])?([a-h][1-8])([-*])([a-h][1-8])( ep\\.)?(?:=([QRBSGN]))?'
-  + '(?:\\[\\+([wb])([QRBSPGN])([a-h][1-8])\\])?)([+#=])?$');
+const MOVE = new RegExp(`^(?:(0-0-0|0-0)|([K${PROMOTED}])?([a-h][1-8])([-*])([a-h][1-8])( ep\\.)?(?:=([${PROMOTED}]))?`
+  + `(?:\\[\\+([wb])([${REBORN}])([a-h][1-8])\\])?)([+#=])?$`);
 const HALF = /(?:([1-9][0-9]*)(\.\.\.|\.))?((?:[^ ]+)(?: ep\.[^ ]*)?)/g;
 // The words below a first move: what it threatens, or that it threatens nothing; what refutes it, a move or stalemate.
 const WORD = /^(?:  (threat|zugzwang|check|but)|    (stalemate))$/;
@@ -130,7 +130,7 @@ function readLine(line, item) {
     else if (line !== 'set' && line !== 'play' && (line !== 'tries' || phase?.kind !== 'play')) return false;
     else item.phases.push(newPhase(line));
   } else if (fault && !item.ranks.length) item.fault = { line: Number(fault[1]), number: Number(fault[2]), text: fault[3] };
-  else if (/^[1-8] [KQRBSPGNkqrbspgn.]{8}$/.test(line)) item.ranks.push(line.slice(2));
+  else if (RANK.test(line)) item.ranks.push(line.slice(2));
   else if (line !== '  abcdefgh') item.asked = askedOf(line);
   return Boolean(item.asked || item.fault || item.ranks.length);
 }

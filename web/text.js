@@ -1,15 +1,16 @@
 // @ts-check
 // A text of problems: reads and replaces the men and fields of one problem. The rest of the text stays byte for byte.
 // Nothing here judges a problem: the engine does.
+import { KINDS } from './men.js';
 import { fenOf } from './position.js';
 import { atOnce, LONG_TEXT } from './slices.js';
 
 // Text lines that are fields of the page.
+const MAN_WORD = new RegExp(`^[${KINDS}]([a-h][1-8])+$`, 'i');
 const TEXT_FIELDS = ['title', 'author', 'origin'];
 const TEXT_LINES = ['title', 'author', 'origin', 'remark'];
 const COMMANDS = ['beginproblem', 'pieces', 'stipulation', 'condition', 'option', 'nextproblem', 'endproblem',
   ...TEXT_LINES];
-export const KINDS = 'KQRBSPGN';
 export const FLAGS = ['SetPlay', 'Variation', 'NoBoard'];
 export const VALUES = ['MaxSolutions', 'EnPassant', 'NoCastling'];
 export const CONDITIONS = ['Circe', 'Madrasi'];
@@ -190,7 +191,7 @@ function readMen(word, colour, found) {
   const letters = word.toLowerCase();
   if ('white'.startsWith(letters)) return 'w';
   if ('black'.startsWith(letters)) return 'b';
-  const squares = /^[kqrbspgn]([a-h][1-8])+$/.test(letters) ? letters.slice(1).match(/../g) ?? [] : [];
+  const squares = MAN_WORD.test(letters) ? letters.slice(1).match(/../g) ?? [] : [];
   const isTwice = squares.some((square, index) => found.men.has(square) || squares.indexOf(square) < index);
   if (!colour || !squares.length || isTwice) found.unknown.push(word);
   else for (const square of squares) found.men.set(square, colour + letters[0].toUpperCase());

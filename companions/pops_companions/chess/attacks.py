@@ -2,24 +2,13 @@
 
 from typing import Optional
 
-from pops_companions.chess.men import Colour, Kind, Man, Square
+from pops_companions.chess.men import GAITS, STEPS, Colour, Gait, Kind, Man, Square
 
 Step = tuple[int, int]
 Men = dict[Square, Man]
 
-_LINES = [(1, 0), (-1, 0), (0, 1), (0, -1)]
-_DIAGONALS = [(1, 1), (1, -1), (-1, 1), (-1, -1)]
-_LEAPS = [(x, y) for x in (-2, -1, 1, 2) for y in (-2, -1, 1, 2) if abs(x) != abs(y)]
-_RIDERS = {
-    Kind.ROOK: _LINES,
-    Kind.BISHOP: _DIAGONALS,
-    Kind.QUEEN: _LINES + _DIAGONALS,
-    Kind.GRASSHOPPER: _LINES + _DIAGONALS,
-    Kind.NIGHTRIDER: _LEAPS,
-}
 # What `_between` found: it is looked for often, and differs in few cases.
 _BETWEEN: dict[tuple[Man, Square, Square], Optional[tuple[Square, ...]]] = {}
-_LEAPERS = {Kind.KING: _LINES + _DIAGONALS, Kind.KNIGHT: _LEAPS}
 
 
 def attackers(men: Men, target: Square, colour: Colour, madrasi: bool) -> list[Square]:
@@ -50,7 +39,7 @@ def _reaches(men: Men, origin: Square, target: Square) -> bool:
     between = _BETWEEN[key]
     if between is None:
         return False
-    if man.kind is Kind.GRASSHOPPER:
+    if GAITS[man.kind] is Gait.HOPPER:
         if not between or between[-1] not in men:
             return False
         between = between[:-1]
@@ -60,13 +49,12 @@ def _reaches(men: Men, origin: Square, target: Square) -> bool:
 def _between(man: Man, origin: Square, target: Square) -> Optional[tuple[Square, ...]]:
     """Returns the squares between two that a man's move joins; None for all others."""
     step = (target.file - origin.file, target.rank - origin.rank)
-    if man.kind is Kind.PAWN:
-        captures = step[1] == (1 if man.colour is Colour.WHITE else -1) and abs(step[0]) == 1
-        return () if captures else None
-    if man.kind in _LEAPERS:
-        return () if step in _LEAPERS[man.kind] else None
+    if man.kind is Kind.PAWN and man.colour is Colour.BLACK:
+        step = (step[0], -step[1])
+    if GAITS[man.kind] is Gait.LEAPER:
+        return () if step in STEPS[man.kind] else None
     shortest = _shortest(step)
-    if shortest not in _RIDERS[man.kind]:
+    if shortest not in STEPS[man.kind]:
         return None
     squares = [Square(origin.file + shortest[0], origin.rank + shortest[1])]
     while squares[-1] != target:
@@ -75,11 +63,8 @@ def _between(man: Man, origin: Square, target: Square) -> Optional[tuple[Square,
 
 
 def _shortest(step: Step) -> Step:
-    """Returns the step of a line, a diagonal or a knight whose repetition makes a step; where there
-    is none, the step itself.
-    """
-    far, near = max(abs(step[0]), abs(step[1])), min(abs(step[0]), abs(step[1]))
-    times = near if far == 2 * near else far
-    if far == 0 or near not in (0, times):
-        return step
-    return (step[0] // times, step[1] // times)
+    """Returns the shortest step whose repetition makes a step."""
+    times, rest = abs(step[0]), abs(step[1])
+    while rest:
+        times, rest = rest, times % rest
+    return (step[0] // times, step[1] // times) if times else step

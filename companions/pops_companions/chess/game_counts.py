@@ -3,7 +3,7 @@
 from collections import Counter
 from collections.abc import Iterator, Mapping
 
-from pops_companions.chess.men import Colour, Kind, Man, Square
+from pops_companions.chess.men import FAIRY_KINDS, Colour, Kind, Man, Square
 
 _MEN = 16
 _PAWNS = 8
@@ -26,7 +26,7 @@ def impossible_counts(men: Mapping[Square, Man]) -> Iterator[str]:
             yield f"{side} has {len(own)} men"
         if pawns > _PAWNS:
             yield f"{side} has {pawns} pawns"
-        elif not kinds[Kind.GRASSHOPPER] and not kinds[Kind.NIGHTRIDER]:
+        elif not any(kinds[kind] for kind in FAIRY_KINDS):
             too_many = dict(_too_many(own, kinds))
             if sum(too_many.values()) > _PAWNS - pawns:
                 told = [*too_many, *([_counted(pawns, "pawn")] if pawns else [])]

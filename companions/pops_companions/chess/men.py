@@ -2,7 +2,9 @@
 
 from collections.abc import Iterator
 from enum import Enum
-from typing import NamedTuple
+from typing import Any, NamedTuple
+
+from pops_companions.stored import stored
 
 
 class Colour(Enum):
@@ -17,6 +19,17 @@ class Colour(Enum):
     @property
     def opponent(self) -> "Colour":
         return Colour.BLACK if self is Colour.WHITE else Colour.WHITE
+
+
+class Gait(Enum):
+    """How a man moves by its steps: by one, by several over empty squares, or so to the first man
+    and over it."""
+
+    LEAPER = "leaper"
+    RIDER = "rider"
+    HOPPER = "hopper"
+
+    __hash__ = object.__hash__
 
 
 class Kind(Enum):
@@ -37,6 +50,14 @@ class Kind(Enum):
     def word(self) -> str:
         """The kind's English name, as `nightrider`."""
         return self.name.lower()
+
+
+_TABLE: list[dict[str, Any]] = stored("chess/men.json")
+LETTERS = "".join(kind.value for kind in Kind)
+FAIRY_KINDS = tuple(Kind(it["letter"]) for it in _TABLE if it["fairy"])
+GAITS = {Kind(it["letter"]): Gait(it["gait"]) for it in _TABLE}
+# Steps in files to the right and ranks up; a pawn's are those by which White captures.
+STEPS = {Kind(it["letter"]): [(step[0], step[1]) for step in it["steps"]] for it in _TABLE}
 
 
 class Man(NamedTuple):

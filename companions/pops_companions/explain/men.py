@@ -4,7 +4,7 @@ import re
 from collections.abc import Iterator
 from typing import Optional
 
-from pops_companions.chess.men import Colour, Kind, Square
+from pops_companions.chess.men import LETTERS, Colour, Kind, Square
 from pops_companions.chess.stipulation import Condition, Play
 from pops_companions.explain import wordings
 from pops_companions.explain.case import Case, Explanation, at, first_cause, listed, quoted
@@ -24,7 +24,7 @@ from pops_companions.input.reading import (
 )
 from pops_companions.input.words import TEXT_WORDS, Span, named
 
-_DIGITS_FIRST = re.compile(r"([KQRBSPGN])((?:[1-8][a-h])+)", re.IGNORECASE)
+_DIGITS_FIRST = re.compile(f"([{LETTERS}])((?:[1-8][a-h])+)", re.IGNORECASE)
 
 
 @first_cause

@@ -3,7 +3,7 @@
 import re
 from typing import Optional
 
-from pops_companions.chess.men import Kind
+from pops_companions.chess.men import LETTERS, Kind
 from pops_companions.explain.case import Case, Explanation, listed
 from pops_companions.explain.characters import decoded
 from pops_companions.explain.sentences import DATA, sentence
@@ -90,7 +90,10 @@ def two_letters(case: Case) -> Optional[Explanation]:
     # (`KT` is a fairy man of Popeye, and `Kng6` may be the king)
     if word[:2] in ("Kt", "Kn", "kt", "kn") and _has_king(case):
         return case.tells("knight_is_s", squares=word[2:])
-    return case.tells("two_letters")
+    kinds = [kind.word for kind in Kind]
+    return case.tells(
+        "two_letters", kinds=", ".join(kinds[:-1]), last=kinds[-1], letters=" ".join(LETTERS)
+    )
 
 
 def _has_king(case: Case) -> bool:

@@ -4,6 +4,7 @@ import re
 from collections.abc import Iterator
 from typing import Optional
 
+from pops_companions.chess.men import LETTERS
 from pops_companions.explain import characters
 from pops_companions.explain.case import NAMES, Case, Explanation
 from pops_companions.explain.sentences import DATA, sentence
@@ -21,7 +22,10 @@ _FEN = re.compile(r"(?:[kqrbnpKQRBNP1-8]{1,8}/){7}[kqrbnpKQRBNP1-8]{1,8}")
 # As in Variationen.
 _LONGEST_ENDING = 3
 # Squares that are the man's, or a pawn's without its letter.
-_MAY_BE_PAWN = re.compile("([QRBSGN])(?:[a-h][1-8])+.*?[^A-Za-z0-9-]+([a-h][2-7])(?![a-z])", re.IGNORECASE)
+_MAY_BE_PAWN = re.compile(
+    f"([{LETTERS[1:].replace('P', '')}])(?:[a-h][1-8])+.*?[^A-Za-z0-9-]+([a-h][2-7])(?![a-z])",
+    re.IGNORECASE,
+)
 _THOUSANDS = re.compile("[0-9]{1,3}(?: [0-9]{3})+")
 _HALVES = re.compile(rb"^(?:\xff\xfe|\xfe\xff)|^[ -~]\x00|^\x00[ -~]")
 

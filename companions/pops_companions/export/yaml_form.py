@@ -9,6 +9,7 @@ from collections.abc import Iterable, Iterator, Mapping, Sequence
 from typing import Optional
 
 from pops_companions.export.problems import Exported
+from pops_companions.chess.men import LETTERS
 from pops_companions.export.yaml_fields import Fields, Source, Value, fields_of, put, source_of
 from pops_companions.report.items import SoundItem
 from pops_companions.show.authors import persons
@@ -17,7 +18,7 @@ _WANTED = re.compile("solutions ([1-9][0-9]{0,8})")
 # Keys that have a list, also of one, and a key whose texts are a list.
 _LISTS = ("awards", "judges", "keywords", "reprints")
 _LISTS_OF_TEXTS = (*_LISTS, "judge")
-_MAN = re.compile("([KQRBSPGN])((?:[a-h][1-8])+)")
+_MAN = re.compile(f"([{LETTERS}])((?:[a-h][1-8])+)")
 _SIGNS = re.compile("(.*?)([#+=]?)([!?]?)")
 # What Popeye prints after a first move in place of the line that a text of tries has below it.
 _MENACES = {"threat": " threat:", "zugzwang": " zugzwang.", "check": ""}

@@ -9,10 +9,11 @@ from collections.abc import Callable, Iterator
 from functools import lru_cache
 from typing import NamedTuple
 
+from pops_companions.chess.men import LETTERS as KIND_LETTERS
 from pops_companions.chess.men import Colour, Man, Square
 
 EMPTY = "."
-LETTERS = "KQRBSPGNkqrbspgn"
+LETTERS = KIND_LETTERS + KIND_LETTERS.lower()
 _KEY_BITS = 63
 # Where the keys of men come from: hashes that a file keeps depend on it.
 _SEED = 1836

@@ -6,7 +6,7 @@ from collections.abc import Iterable, Iterator, Sequence
 from dataclasses import dataclass, replace
 from typing import Optional
 
-from pops_companions.chess.men import Colour, Kind, Man, Square
+from pops_companions.chess.men import LETTERS, Colour, Kind, Man, Square
 from pops_companions.export.problems import Problem, read_problems
 from pops_companions.find.boards import board_of, men_of
 from pops_companions.find.dates import date_of
@@ -19,7 +19,7 @@ from pops_companions.review.naming import joined_name
 from pops_companions.show.titles import shown, text_of
 
 _REPORT = re.compile(rb"problem [1-9][0-9]*\r?\n")
-_MAN = re.compile("([KQRBSPGNkqrbspgn])((?:[a-h][1-8])+)")
+_MAN = re.compile(f"([{LETTERS}{LETTERS.lower()}])((?:[a-h][1-8])+)")
 _FILES = str.maketrans("abcdefgh", "hgfedcba")
 _KEYWORD = re.compile(r"keywords?: (.+)", re.IGNORECASE)
 _SQUARE = re.compile("[a-h](?=[1-8])")

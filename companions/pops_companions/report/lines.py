@@ -2,11 +2,13 @@
 
 import re
 
+from pops_companions.chess.men import LETTERS
+
 PROBLEM = re.compile(rb"problem ([1-9][0-9]{0,17})")
 FAULT = re.compile(rb"line ([1-9][0-9]{0,17}): fault ([1-9][0-9]?): (.+)")
 TITLE = b"title: "
 AUTHOR = b"author: "
-RANK = re.compile(rb"([1-8]) ([KQRBSPGNkqrbspgn.]{8})")
+RANK = re.compile(b"([1-8]) ([%s%s.]{8})" % (LETTERS.encode(), LETTERS.lower().encode()))
 FILES = b"  abcdefgh"
 SOUND = b"sound"
 NOT_POSSIBLE = b"not possible"

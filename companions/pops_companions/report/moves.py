@@ -5,7 +5,7 @@ from dataclasses import dataclass
 from enum import Enum
 from typing import Optional
 
-from pops_companions.chess.men import Colour, Kind, Man, Square
+from pops_companions.chess.men import LETTERS, Colour, Kind, Man, Square
 
 
 class Castling(Enum):
@@ -52,11 +52,13 @@ class PlayedMove:
     mark: Optional[Mark]
 
 
+_REBORN = LETTERS.replace("K", "")
+_PROMOTED = _REBORN.replace("P", "")
 _MOVE = re.compile(
     r"(?:(?P<castling>0-0-0|0-0)"
-    r"|(?P<man>[KQRBSGN]?)(?P<origin>[a-h][1-8])(?P<step>[-*])(?P<arrival>[a-h][1-8])"
-    r"(?P<en_passant> ep\.)?(?:=(?P<promotion>[QRBSGN]))?"
-    r"(?:\[\+(?P<reborn_colour>[wb])(?P<reborn_kind>[QRBSPGN])(?P<reborn_square>[a-h][1-8])\])?)"
+    rf"|(?P<man>[K{_PROMOTED}]?)(?P<origin>[a-h][1-8])(?P<step>[-*])(?P<arrival>[a-h][1-8])"
+    rf"(?P<en_passant> ep\.)?(?:=(?P<promotion>[{_PROMOTED}]))?"
+    rf"(?:\[\+(?P<reborn_colour>[wb])(?P<reborn_kind>[{_REBORN}])(?P<reborn_square>[a-h][1-8])\])?)"
     r"(?P<mark>[#+=]?)(?= |$)",
     re.ASCII,
 )

@@ -8,7 +8,7 @@ from collections.abc import Iterable, Iterator
 from typing import NamedTuple, Optional
 
 from pops_companions.chess.attacks import Men, attackers
-from pops_companions.chess.men import Colour, Kind, Man, Square
+from pops_companions.chess.men import FAIRY_KINDS, Colour, Kind, Man, Square
 from pops_companions.chess.stipulation import Goal, Play
 from pops_companions.report.items import HelpLine, PhaseKind, SoundItem
 from pops_companions.report.moves import Mark
@@ -34,8 +34,7 @@ class Mate(NamedTuple):
 def mate_of(men: Men, mated: Colour) -> Optional[Mate]:
     """Returns what a position of mate is; None with fairy men, or without a king."""
     king = next((it for it, man in men.items() if man == Man(mated, Kind.KING)), None)
-    fairy = (Kind.GRASSHOPPER, Kind.NIGHTRIDER)
-    if king is None or any(man.kind in fairy for man in men.values()):
+    if king is None or any(man.kind in FAIRY_KINDS for man in men.values()):
         return None
     without = {square: man for square, man in men.items() if square != king}
     checks = attackers(men, king, mated.opponent, False)

@@ -4,12 +4,11 @@ texlive-games, texlive-pstricks)."""
 import unicodedata
 from collections.abc import Iterable
 
-from pops_companions.chess.men import Kind
 from pops_companions.sheet.entries import Entry, Part, index_of
 from pops_companions.sheet.languages import Language, marked_as
 from pops_companions.sheet.latex_letters import letters_of
 from pops_companions.show.authors import joined
-from pops_companions.show.latex import Sheet, escaped, latex
+from pops_companions.show.latex import KINDS, Sheet, escaped, latex
 
 _CLASS = "\\documentclass[a4paper]{article}\n"
 _HEAD = r"""\usepackage{diagram}
@@ -20,18 +19,6 @@ _HEAD = r"""\usepackage{diagram}
 _BETWEEN = "\\hspace{1em}\n"
 # A line of many moves may be broken after each.
 _BREAKS = {ord(sign): sign + r"\allowbreak{}" for sign in ",/"}
-# White's figures of the package; its upside-down queen and knight are the fairy men.
-_FIGURES = {
-    Kind.KING: "K",
-    Kind.QUEEN: "D",
-    Kind.ROOK: "T",
-    Kind.BISHOP: "L",
-    Kind.KNIGHT: "S",
-    Kind.PAWN: "B",
-    Kind.GRASSHOPPER: "DU",
-    Kind.NIGHTRIDER: "SU",
-}
-
 
 def as_latex(
     entries: Iterable[Entry], language: Language, heading: str, encoding: str, figures: bool
@@ -41,7 +28,7 @@ def as_latex(
     A problem without a diagram, as a faulty one, is a box of text among the diagrams.
     """
     all_entries = list(entries)
-    men = {kind: rf"\w{name}{{}}" for kind, name in _FIGURES.items()} if figures else {}
+    men = {kind: rf"\w{name}{{}}" for kind, name in KINDS.items()} if figures else {}
     marks = {**marked_as(language, men), **_BREAKS}
     parts = ["\\begin{document}\n\\raggedright\n", f"\\section*{{{escaped(heading)}}}\n"]
     # (the diagrams of a paragraph are set side by side, as many as a line holds)

@@ -4,7 +4,7 @@ import re
 from collections.abc import Mapping
 from typing import NamedTuple
 
-from pops_companions.chess.men import Colour, Kind
+from pops_companions.chess.men import FAIRY_KINDS, Colour, Kind
 from pops_companions.import_.origins import MONTHS
 from pops_companions.stored import stored
 
@@ -40,15 +40,14 @@ class Language(NamedTuple):
     no_solution: str
     stopped: str
     authors: str
-    grasshopper: str
-    nightrider: str
+    fairy_names: tuple[str, ...]
     day: str
     months: str
 
     @property
     def fairy_men(self) -> Mapping[Kind, str]:
         """The names of the fairy men."""
-        return {Kind.GRASSHOPPER: self.grasshopper, Kind.NIGHTRIDER: self.nightrider}
+        return dict(zip(FAIRY_KINDS, self.fairy_names))
 
     def dated(self, source: str) -> str:
         """Returns a source with its date, as pops-import writes it, in this language."""

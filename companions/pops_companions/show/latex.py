@@ -19,7 +19,7 @@ _UPRIGHT = {
     Kind.KNIGHT: "S",
     Kind.PAWN: "B",
 }
-_KINDS = {**_UPRIGHT, **{kind: _UPRIGHT[upright] + "U" for kind, upright in UPSIDE_DOWN.items()}}
+KINDS = {**_UPRIGHT, **{kind: _UPRIGHT[upright] + "U" for kind, upright in UPSIDE_DOWN.items()}}
 _SPECIAL = {
     "\\": r"\textbackslash{}",
     "~": r"\textasciitilde{}",
@@ -148,7 +148,7 @@ def _pieces(board: Board) -> list[str]:
     """Returns each kind of man of each colour with its squares, as `wTa1h1`."""
     pieces = []
     for colour, letter in _COLOURS.items():
-        for kind, letters in _KINDS.items():
+        for kind, letters in KINDS.items():
             squares = [
                 square.name
                 for square, man in board.men.items()
@@ -166,7 +166,7 @@ def _fairy_men(board: Board, names: Mapping[Kind, str]) -> list[str]:
         colours = {man.colour for man in board.men.values() if man.kind is kind}
         if colours:
             letters = "".join(_COLOURS[colour] for colour in Colour if colour in colours)
-            named.append("{%s}{%s}{%s}" % (letters, _KINDS[kind], names[kind]))
+            named.append("{%s}{%s}{%s}" % (letters, KINDS[kind], names[kind]))
     return named
 
 
