@@ -49,7 +49,9 @@ def copied_sources(room: str) -> Path:
     for name in SOURCES:
         (sources / name).parent.mkdir(parents=True, exist_ok=True)
         if (support.REPOSITORY / name).is_dir():
-            shutil.copytree(support.REPOSITORY / name, sources / name)
+            # (other suites compile meanwhile: their unfinished files come and go)
+            ignore = shutil.ignore_patterns("__pycache__")
+            shutil.copytree(support.REPOSITORY / name, sources / name, ignore=ignore)
         else:
             shutil.copy(support.REPOSITORY / name, sources / name)
     return sources
