@@ -133,7 +133,8 @@ class Package(unittest.TestCase):
         self.assertIn(b"<svg", self.said("pops-page", str(MATE.with_suffix(".report"))))
 
     def test_one_command_runs_another(self) -> None:
-        said = self.said("pops-judge", "--pops", support.pops(), str(MATE), "-o", "sheet.html")
+        words = ["--pops", support.pops(), str(MATE), "-o", "sheet.html", "--seconds", str(support.PATIENCE)]
+        said = self.said("pops-judge", *words)
         self.assertIn(b"1 problem: 1 sound", said)
 
 
