@@ -2,6 +2,7 @@
 
 import tempfile
 import threading
+import time
 import weakref
 from collections.abc import Generator, Iterator
 from dataclasses import dataclass
@@ -111,6 +112,7 @@ class Run:
         self._builder = ItemBuilder() if is_report else TriesBuilder()
         self._counted = 0
         self._errors = tempfile.TemporaryFile()
+        self._begun = time.monotonic()
         self._child = solver.begin(text, self._errors)
         self._timer = self._started_timer()
         self._events = self._read()
@@ -205,11 +207,18 @@ class Run:
             is_whole = status in (SOUND, FAULTY) and self._reader.is_whole
             if is_whole and self._ending not in _AT_ONCE:
                 self._ending, self._status = Ending.COMPLETE, status
+            if self._ending is None and self._is_out_of_time(status):
+                self._ending = Ending.SECONDS
             if self._ending is not None:
                 return None
             self._ending = Ending.FAILED
             self._errors.seek(0)
             return self._solver.reason(status, self._errors.read(_MOST_SAID))
+
+    def _is_out_of_time(self, status: int) -> bool:
+        """Returns whether the limit of processor time ended the program, since the timer is late on a busy machine."""
+        seconds = self._limits.seconds
+        return status == -SIGKILL and seconds is not None and time.monotonic() >= self._begun + seconds
 
     def _events_of(self, piece: bytes) -> Iterator[events.Event]:
         """Yields what a piece of the text says, as far as the limits let it."""

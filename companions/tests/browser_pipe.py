@@ -42,7 +42,8 @@ class Browser:
     """A headless Chromium with one page."""
 
     def __init__(self, program: str):
-        self._room = tempfile.mkdtemp(prefix="pops-browser-")
+        # (a socket in it needs a short path, wherever temporary files are)
+        self._room = tempfile.mkdtemp(prefix="pops-browser-", dir="/tmp")
         ours_in, theirs_out = os.pipe()
         theirs_in, ours_out = os.pipe()
 
@@ -58,6 +59,7 @@ class Browser:
             stdout=subprocess.DEVNULL,
             stderr=subprocess.DEVNULL,
             close_fds=False,
+            env={**os.environ, "TMPDIR": self._room},
             preexec_fn=take_pipes,
             start_new_session=True,
         )

@@ -86,7 +86,8 @@ class Streams(unittest.TestCase):
                 env={**os.environ, "PYTHONUNBUFFERED": unbuffered},
             )
             assert run.stdout is not None
-            self.assertEqual(len(os.read(run.stdout.fileno(), 10)), 10)
+            # (written byte by byte, ten bytes may come in several pieces)
+            self.assertEqual(len(run.stdout.read(10)), 10)
             run.stdout.close()
             status = run.wait(support.PATIENCE)
             errors.seek(0)

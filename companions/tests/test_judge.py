@@ -24,6 +24,8 @@ TWO = b"NextProblem\nTitle A help\nPieces White Kg6 Ra1 Black Kh8\nStipulation h
 TRIES_OF_ONE = (
     "problem 1\\ntitle: A mate\\n#1\\nplay\\n1.Ra1-a8#!\\nsolutions: 1\\ntries\\ntries: 0\\n\\n"
 )
+# (a busy machine takes no problem to the end of this time)
+NO_HURRY = ["--seconds", str(support.PATIENCE)]
 
 
 class Judging(unittest.TestCase):
@@ -80,13 +82,13 @@ class Judging(unittest.TestCase):
 
     def test_a_sheet_whose_name_begins_with_a_dash(self) -> None:
         program = support.COMPANIONS / "pops-judge"
-        words = [sys.executable, str(program), "--pops", support.pops(), str(self.text)]
+        words = [sys.executable, str(program), "--pops", support.pops(), str(self.text), *NO_HURRY]
         run = subprocess.run([*words, "-o", "./-sheet.html"], cwd=self.room, capture_output=True)
         self.assertEqual((run.returncode, run.stderr), (0, b""))
         self.assertEqual(self.files(), ["-sheet.html", "some.pop"])
 
     def test_a_collection_from_standard_input(self) -> None:
-        words = ["--pops", support.pops(), "-", "-o", str(self.sheet)]
+        words = ["--pops", support.pops(), "-", "-o", str(self.sheet), *NO_HURRY]
         outcome = run_here.companion("pops-judge", *words, text=self.text.read_bytes())
         self.assertEqual((outcome.status, outcome.error), (0, ""))
         self.assertIn("<h1>standard input</h1>", self.sheet.read_text("utf-8"))

@@ -43,6 +43,13 @@ time.sleep(6000)
 """
 
 
+def setUpModule() -> None:
+    """Puts temporary files where the paths of sockets are short enough, wherever others are."""
+    for place in (mock.patch.dict(os.environ, {"TMPDIR": "/tmp"}), mock.patch.object(tempfile, "tempdir", "/tmp")):
+        place.start()
+        unittest.addModuleCleanup(place.stop)
+
+
 def input_of(*problems: str) -> bytes:
     return f"BeginProblem\n{NEXT.join(problems)}EndProblem\n".encode()
 

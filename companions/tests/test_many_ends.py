@@ -211,7 +211,8 @@ class Sessions(unittest.TestCase):
             self.assertEqual(len(sessions.members(session)), 3)
             self.assertTrue(os.path.exists(room))
             sessions.end(session)
-            self.assertEqual(sessions.members(session), [])
+            # (what is killed ends a little later on a busy machine)
+            wait_for(lambda: not sessions.members(session))
             run.communicate()
 
 

@@ -49,7 +49,9 @@ def copied_sources(room: str) -> Path:
     for name in SOURCES:
         (sources / name).parent.mkdir(parents=True, exist_ok=True)
         if (support.REPOSITORY / name).is_dir():
-            shutil.copytree(support.REPOSITORY / name, sources / name)
+            # (other suites compile meanwhile: their unfinished files come and go)
+            ignore = shutil.ignore_patterns("__pycache__")
+            shutil.copytree(support.REPOSITORY / name, sources / name, ignore=ignore)
         else:
             shutil.copy(support.REPOSITORY / name, sources / name)
     return sources
@@ -131,7 +133,8 @@ class Package(unittest.TestCase):
         self.assertIn(b"<svg", self.said("pops-page", str(MATE.with_suffix(".report"))))
 
     def test_one_command_runs_another(self) -> None:
-        said = self.said("pops-judge", "--pops", support.pops(), str(MATE), "-o", "sheet.html")
+        words = ["--pops", support.pops(), str(MATE), "-o", "sheet.html", "--seconds", str(support.PATIENCE)]
+        said = self.said("pops-judge", *words)
         self.assertIn(b"1 problem: 1 sound", said)
 
 

@@ -168,6 +168,17 @@ class Runs(unittest.TestCase):
                 break
         self.assertEqual([it.number for it in result.items], [1, 2])
 
+    def test_limit_of_seconds_with_a_late_timer(self) -> None:
+        """The limit of processor time ends the program before the timer does."""
+        with tempfile.TemporaryDirectory() as room:
+            program = Path(room, "pops")
+            program.write_text("#!/bin/sh\necho problem 1\nsleep 0.2\nkill -9 $$\n")
+            program.chmod(0o755)
+            with mock.patch("threading.Timer.start"):
+                result = pops.Engine(str(program)).solve(PAIR, pops.Limits(seconds=0.1)).result
+        self.assertIs(result.ending, pops.Ending.SECONDS)
+        self.assertEqual(result.text, b"problem 1\n")
+
     def test_limit_of_bytes(self) -> None:
         whole = self.engine.solve(PAIR).result.text
         for length in (0, 1, 50, len(whole) - 1):

@@ -18,6 +18,7 @@ from unittest import mock
 
 from pops_companions.chess.men import Colour, Kind, Man, Square
 from pops_companions.chess.stipulation import Condition
+from pops_companions.commands.sheet import LONGEST_ROOM, printed
 from pops_companions.report.items import SoundItem
 from pops_companions.report.moves import PlayedMove
 from pops_companions.report.reader import read_report
@@ -669,6 +670,15 @@ class Forms(Case):
         sizes = re.findall(rb"/MediaBox \[0 0 ([\d.]+) ([\d.]+)\]", outcome.output)
         found = {(round(float(width) / 72 * 25.4), round(float(height) / 72 * 25.4)) for width, height in sizes}
         self.assertEqual(found, {(210, 297)})
+
+    def test_the_folder_of_a_browsers_socket(self) -> None:
+        """The folder of the run, or `/tmp` where its path is too long for a socket."""
+        with tempfile.TemporaryDirectory(dir="/tmp") as short:
+            long = Path(short, "x" * LONGEST_ROOM)
+            long.mkdir()
+            for room, folder in ((short, short), (str(long), "/tmp")):
+                outcome = printed(["/bin/sh", "-c", 'echo "$TMPDIR"'], room)
+                self.assertEqual(outcome.output.decode(), f"{folder}\n")
 
     def test_authors(self) -> None:
         """One person, surname first or last, is one entry; two are two."""

@@ -1,5 +1,6 @@
 """pops-many --split on other machines: parts that fail there, limits, and what is found of them."""
 
+import os
 import shutil
 import signal
 import time
@@ -81,12 +82,12 @@ class Fails(Machines):
 
     def test_a_machine_that_fails_twice_is_left_out(self) -> None:
         noted = f"{self.room}/failed"
-        # (the other machine waits for that)
+        # (the other machine waits for that; with more jobs at a time it could begin all parts)
         then = (
             f'if [ "$MACHINE" = two ]; then echo >> {noted}; exit 7; fi;'
             f" until [ $(wc -l < {noted}) -ge 2 ]; do sleep 0.1; done 2> /dev/null"
         )
-        outcome = self.there(self.pops_part("problem-play-*", then))
+        outcome = self.there(self.pops_part("problem-play-*", then), logins="2/one,2/two")
         self.is_solved(outcome)
         self.assertIn("machine 2/two failed and is left out", outcome.error)
 
@@ -116,11 +117,13 @@ class Fails(Machines):
         self.assertEqual(outcome.error, "")
 
     def test_without_a_machine_the_rest_stays_for_resume(self) -> None:
-        then = f"touch {self.room}/failed; kill -9 0"
+        # (the parts of the set play are kept before a machine fails)
+        kept = f"until [ $(grep -c '^part 0 set ' {self.journal}) = 19 ]; do sleep 0.1; done"
+        then = f"{kept}; touch {self.room}/failed; kill -9 0"
         outcome = self.there(self.pops_part("problem-play-*", then))
         self.assertEqual(outcome.status, 6)
         self.assertIn("no machine is left\n", outcome.error)
-        self.assertIn("play-2", self.parts())
+        self.assertTrue(any("play" in part for part in self.parts()))
         before = self.parts()
         self.is_solved(self.there(self.pops_part(), "--resume"))
         again = set(self.parts()[len(before) :])
@@ -148,9 +151,11 @@ class Limits(Machines):
         # (it waits until a third one is begun, and the first one until the second is kept)
         third = f"until grep -q play-3 {self.room}/parts; do sleep 0.1; done"
         kept = f"until grep -q '^part 0 play 2 ' {self.journal}; do sleep 0.1; done"
+        # (no other run of these tests has this number)
+        seconds = f"6000.{os.getpid()}"
         then = (
             f"case $part in play-1) {kept} ;; play-2) {third} ;;"
-            " *) echo 1.x; exec sleep 6150 ;; esac"
+            f" *) echo 1.x; exec sleep {seconds} ;; esac"
         )
         for logins in ("one,two", ":"):
             with self.subTest(logins):
@@ -158,7 +163,7 @@ class Limits(Machines):
                 self.is_solved(self.there(program, "--jobs", "8", logins=logins))
                 self.assertEqual(self.parts().count("play-1"), 1)
                 self.assertIn("play-3", self.parts())
-                wait_for(lambda: not self.left_running(b"6150"))
+                wait_for(lambda: not self.left_running(seconds.encode()))
                 self.forget()
 
     @staticmethod

@@ -3,9 +3,19 @@
 import os
 import subprocess
 import sys
+from collections.abc import Iterator
 from pathlib import Path
 
 ROOT = Path(__file__).resolve().parents[2]
+# Folders that builds, suites and git change at any time.
+CHANGING = {"out", ".git", "__pycache__"}
+
+
+def files_below(top: Path) -> Iterator[Path]:
+    """Lists the files below a folder in order, without folders that others change meanwhile. (A folder that vanishes ends `Path.glob`.)"""
+    for at, folders, names in os.walk(top):
+        folders[:] = sorted(set(folders) - CHANGING)
+        yield from (Path(at, it) for it in sorted(names))
 
 
 def said_by(*words: str) -> str:

@@ -302,8 +302,12 @@ def refuse_other_texts(
 
 
 def printed(words: list[str], room: str) -> Outcome:
-    """Runs Chromium, which leaves nothing outside its folder and is over with all its processes."""
-    environment = {**os.environ, "TMPDIR": room} if len(os.fsencode(room)) <= LONGEST_ROOM else None
+    """Runs Chromium, which leaves nothing outside its folder and is over with all its processes.
+
+    If the folder's path is too long for a socket, the socket is in `/tmp`.
+    """
+    folder = room if len(os.fsencode(room)) <= LONGEST_ROOM else "/tmp"
+    environment = {**os.environ, "TMPDIR": folder}
     # (without its input it never begins, should this process end before it is held)
     held = ["/bin/sh", "-c", 'read -r _ && exec "$@"', "sh", *words]
     child = ChildProcess(held, subprocess.PIPE, subprocess.PIPE, environment)
