@@ -73,6 +73,18 @@ test('outputs: YAML', () => {
   assert.equal(yamlOf(TEXT, []).text.includes('solution: |'), false);
 });
 
+test('outputs: YAML says of solutions that were stopped, by a limit or by the user, that they may not be all', () => {
+  const text = 'BeginProblem\nPieces White Kg6 Ra1 Rb2 Black Kh8\nStipulation h#1\nOption SetPlay\nEndProblem\n';
+  const [set, play] = ['set\n1...Ra1-a8#\nsolutions: 1\n', 'play\n1.Kh8-g8 Ra1-a8#\n'];
+  const solutionOf = report => /\nsolution: \|\n([^]*)$/.exec(yamlOf(text, itemsOf(`problem 1\nh#1\n${report}`)).text)?.[1];
+  const lines = '  1...Ra1-a8 #\n\n  1.Kh8-g8 Ra1-a8 #\n';
+  for (const end of ['solutions: 1, stopped\n\n', '']) assert.equal(solutionOf(set + play + end), `${lines}\n  Partial solution\n`);
+  assert.equal(solutionOf(`${set}${play}solutions: 1\n\n`), lines);
+  assert.equal(solutionOf(set), '  1...Ra1-a8 #\n\n  Partial solution\n');
+  const made = yamlOf(text, itemsOf(`problem 1\nh#1\n${set}`)).text;
+  assert.equal(yamlOf(imported(made).text, []).text, made);
+});
+
 test('outputs: a name with many blanks takes little time', () => {
   const begun = process.cpuUsage();
   const text = blanks => `BeginProblem\nAuthor A${' '.repeat(blanks)}B & C\nPieces White Kg6 Black Kg8\nStipulation #1\nEndProblem\n`;
@@ -119,6 +131,7 @@ test('outputs: twins are one problem in LaTeX and YAML, and what cannot be posed
   const { text: left, lost } = yamlOf(text.replace('Rb2', 'Ra9'), []);
   assert.deepEqual([left.split('---').length, lost.length], [2, 1]);
   assert.deepEqual(lost, ['Problem 2 was left out: Ra9 isn\'t known here']);
+  assert.match(left, /^title: "A pair"$/m);
 });
 
 test('outputs: LaTeX has the date of a source in the language of the page', () => {
