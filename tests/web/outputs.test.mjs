@@ -50,6 +50,14 @@ test('short: tries and keys with their variations', () => {
     'Tries', '  1.Rxa7+? Bxa7!', 'Solution', '  1.Ra6! zugzwang', '    1...bxa6 2.b7#', '    1...Bh2,Bg3 2.Rxa7#', ''].join('\n'));
 });
 
+test('short: tries of a man that all check keep their mark in a group, also in LaTeX', () => {
+  const tries = ['g2', 'f3', 'f5', 'g6'].map(it => `1.Sh4-${it}+?\n  check\n  but\n    1...Kh8-g8!\n`).join('');
+  const board = ['.......k', '......p.', '........', '........', '.......S', '........', '........', 'K......R'].map((it, at) => `${8 - at} ${it}\n`).join('');
+  const [item] = itemsOf(`problem 1\n${board}  abcdefgh\n#2\nplay\nsolutions: 0\ntries\n${tries}tries: 4\n\n`);
+  assert.match(shortText(item, menOfRanks(item.ranks)), /\n {2}1\.S~\+\? Kg8!\n/);
+  assert.match(latexOf('BeginProblem\nPieces White Ka1 Rh1 Sh4 Black Kh8 Pg7\nStipulation #2\nEndProblem\n', [item]), /1\.S\\textasciitilde\{\}\+\? Kg8!/);
+});
+
 test('short: threats, several continuations, longer play, help play, no solution', () => {
   const head = 'problem 1\n#3\nplay\n';
   const men = menIn('White Kh1 Qa1 Ra2 Black Kh8 Pa7');
