@@ -74,7 +74,7 @@ function draftsOf(text) {
  * Returns the problems of a text of another program, why some were left out, whether an option asks for tries or threats, and the most
  * refutations of a try, 0 if no option says; null for any other text. The result's text is null if no problem can be posed.
  * @param {string} given
- * @returns {{ text: string | null, lost: string[], asksForTries: boolean, refutations: number } | null}
+ * @returns {Imported | null}
  */
 export function imported(given) {
   const text = withoutMark(given);

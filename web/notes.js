@@ -6,16 +6,27 @@ export class Notes {
   constructor(place) {
     this.place = place;
     this.holds = () => true;
+    this.isOfAction = false;
+    /** Counts the notes. */
+    this.number = 0;
   }
 
   /**
-   * Shows a note until its cause is gone.
+   * Shows a note until its cause is gone; returns its number.
    * @param {string} text
    * @param {() => boolean} holds whether the cause is still there
+   * @param {boolean} [isOfAction] whether it says what came of an action, and goes when the next one begins
    */
-  show(text, holds) {
+  show(text, holds, isOfAction = false) {
+    Object.assign(this, { holds, isOfAction });
     this.place.textContent = text;
-    this.holds = holds;
+    this.number += 1;
+    return this.number;
+  }
+
+  /** Removes the note of an action, as another one begins. */
+  endAction() {
+    if (this.isOfAction) this.show('', () => true);
   }
 
   /** Removes the note if its cause is gone. */

@@ -83,10 +83,10 @@ export function shortText(item, men) {
  */
 export function yamlOf(text, items) {
   const reading = companions.readProblems(text);
-  const solved = py.dict(items.map(it => [it.number, knownItem(it)]));
+  const solved = py.dict(items.map(it => [it.number, Object.assign(knownItem(it), it.isWhole ? {} : { unfinished: 'stopped' })]));
   const lost = reading.left_out.map((/** @type {{ name: string, reasons: string[] }} */ { name, reasons }) => say('lostProblem',
     { number: name, reason: reasons.map(sayReason).join('; ') }));
-  return { text: [...companions.yamlOf(companions.joined(reading.problems), solved)].join(''), lost };
+  return { text: [...companions.yamlOf(companions.joined(reading.problems, true, reading.left_out), solved)].join(''), lost };
 }
 
 /**

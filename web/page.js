@@ -82,12 +82,22 @@ function keyPressed(event) {
   const isField = /** @type {Element} */ (event.target).closest?.('input:not([type=checkbox])');
   if (event.key === 'Escape' && state.walked) leave();
   if (!event.ctrlKey && !event.metaKey) return;
-  if (key === 'enter') event.shiftKey ? solve() : solveThis();
-  else if (isField) return;
+  if (key === 'enter') {
+    notes.endAction();
+    event.shiftKey ? solve() : solveThis();
+  } else if (isField) return;
   else if (key === 'z') goSteps(event.shiftKey ? 1 : -1);
   else if (key === 'y') goSteps(1);
   else return;
   event.preventDefault();
+}
+
+/**
+ * Ends what is said of one action when a click begins the next.
+ * @param {Event} event
+ */
+function clicked(event) {
+  if (/** @type {Element} */ (event.target).closest?.('button, label, select, summary')) notes.endAction();
 }
 
 function listen() {
@@ -107,6 +117,7 @@ function listen() {
   element('fen').onchange = fenWritten;
   element('join').onclick = joinTail;
   addEventListener('keydown', keyPressed);
+  addEventListener('click', clicked, true);
   addEventListener('beforeprint', fillPrint);
   addEventListener('hashchange', openLink);
   addEventListener('pagehide', storeVisit);

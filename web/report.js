@@ -204,7 +204,8 @@ export class ReportReading {
  */
 export function itemsOf(report) {
   const reading = new ReportReading();
-  for (const line of report.split('\n')) {
+  // (what follows the last line end is no empty line, which would end an item)
+  for (const line of report.replace(/\n$/, '').split('\n')) {
     if (!reading.take(line)) break;
   }
   return reading.items;

@@ -526,6 +526,29 @@ export function withTail(text) {
 }
 
 /**
+ * Joins texts of problems to one, with the problems after an EndProblem.
+ * @param {string[]} texts
+ */
+export const joinedTexts = texts => `BeginProblem${texts.flatMap(bodiesOf).join('NextProblem')}EndProblem\n`;
+
+/**
+ * Returns what a text has between the words that begin and end each of its problems, as whole lines.
+ * @param {string} text
+ */
+function bodiesOf(text) {
+  const bodies = [];
+  /** @type {number | null} */
+  let start = null;
+  for (const { command, from, to } of [...wordsOf(text), { command: 'endproblem', from: text.length, to: text.length }]) {
+    const closes = command === 'nextproblem' || command === 'endproblem';
+    if (start !== null && closes) bodies.push(text.slice(start, from).trimEnd() + '\n');
+    if (command === (start === null ? 'beginproblem' : 'nextproblem')) start = to;
+    else if (closes) start = null;
+  }
+  return bodies;
+}
+
+/**
  * Returns the line of a place, counted from 1.
  * @param {string} text
  * @param {number} place

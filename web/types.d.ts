@@ -146,6 +146,8 @@ interface MarkedLine { line: number; pieces: { text: string; isMarked: boolean }
 
 // Texts of other programs.
 
+/** The problems of a text, null if none can be posed, why some were left out, and what its options ask for, as in `Corrected`. */
+interface Imported { text: string | null; lost: string[]; asksForTries: boolean; refutations: number }
 /** A line of YAML with content. */
 interface YamlLine { indent: number; text: string; raw: string }
 

@@ -13,9 +13,10 @@ from tests.browser_pipe import Browser, BrowserError, BrowserGoneError
 READY = "document.getElementById('solve') && !document.getElementById('solve').disabled"
 IDLE = "document.getElementById('stop').disabled"
 SOLVED = f"{IDLE} && document.getElementById('report').textContent.endsWith('\\n\\n')"
-# A telephone: its width, the height that the browser leaves to a page, the least square, the least of the solutions in sight.
+# A telephone: its width, the height that the browser leaves to a page, the least width, the least square, the least of the solutions in sight.
 NARROW = 360
 LEAST_HEIGHT = 660
+LEAST_WIDTH = 336
 LEAST_SQUARE = 41
 LEAST_OF_SOLUTIONS = 120
 # The least width and height of what is pressed.
@@ -634,9 +635,10 @@ def spoken(page: Page) -> None:
 
 
 def fits(page: Page) -> None:
-    """Nothing stands outside of the narrow page, and nothing is too small to press."""
-    width = page.browser.run("document.documentElement.scrollWidth")
+    """Nothing stands outside of the narrow page or takes its width, and nothing is too small to press."""
+    width, used = page.browser.run("[document.documentElement.scrollWidth, document.querySelector('main').offsetWidth]")
     page.holds(width <= NARROW, f"the page is {width} wide")
+    page.holds(used >= LEAST_WIDTH, f"the page uses {used} of {width}")
     small = page.browser.run(
         "[...document.querySelectorAll('button, input, select')].filter(it =>"
         f" it.offsetParent && Math.min(it.offsetWidth, it.offsetHeight) < {LEAST_SIZE}).map(it => it.id)"

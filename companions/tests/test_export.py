@@ -140,6 +140,33 @@ class Twins(unittest.TestCase):
         for form in (made, exported("popeye", text=text)):
             self.assertEqual(same(form), same(text.decode()))
 
+    def test_twins_that_are_all_left_out(self) -> None:
+        """The first is no twin any more, whoever left out the others: its title has no label."""
+        for name, wanted in (("Title My pair\n", "My pair"), ("", None)):
+            with self.subTest(name):
+                pair = f"BeginProblem\n{name}Pieces White Kg6 Ra1 Black Kh8\nStipulation h#1\n"
+                text = f"{pair}Twin Condition Koeko\nEndProblem"
+                given = run_here.companion("pops-import", text=text.encode()).output.decode()
+                self.assertEqual(given, f"{pair}EndProblem\n")
+                pair = f"{pair}Twin Move a1 b2\nTwin Move a1 c1\nEndProblem"
+                given = run_here.companion("pops-import", text=pair.encode()).output.decode()
+                for broken, twins in ((("Rb2", "Rc1"), None), (("Rb2",), {"c": "Move a1 c1"})):
+                    text = given
+                    for man in broken:
+                        text = text.replace(man, "Ra9")
+                    outcome = run_here.companion("pops-export", "--to", "yaml", text=text.encode())
+                    self.assertEqual(outcome.error.count("left out"), len(broken))
+                    (found,) = nodes(outcome.output.decode())
+                    self.assertEqual((found.get("title"), found.get("twins")), (wanted, twins))
+
+    def test_a_label_without_twins_is_part_of_a_title(self) -> None:
+        text = self.text.partition(b"NextProblem")[0] + b"EndProblem\n"
+        other = text.replace(b"End", b"Next") + text.replace(b"pair a)", b"man").replace(b"Ra1", b"Ra9").partition(b"\n")[2]
+        for given in (text, other):
+            outcome = run_here.companion("pops-export", "--to", "yaml", text=given)
+            (found,) = nodes(outcome.output.decode())
+            self.assertEqual(found["title"], "A pair a)")
+
     def test_twins_of_a_zero_position_are_one_problem_again(self) -> None:
         """Also where twins change the stipulation, put a man on another, or are both sides'."""
         problem = "Title Zero\nRemark A note\nPieces White Kg6 Ra1b2 Black Kh8\nStipulation h#2\n"
@@ -208,7 +235,7 @@ class Duplex(unittest.TestCase):
         (found,) = nodes(self.both(DUPLEX))
         self.assertEqual(found["options"], ["MaxSolutions 1", "Duplex"])
         self.assertNotIn("comments", found)
-        solution = "1.Rb2-a2 Rb7-b8 #\n\nduplex\n\n1.Rb7-a7 Rb2-b1 #"
+        solution = "1.Rb2-a2 Rb7-b8 #\n\n{0}\n\nduplex\n\n1.Rb7-a7 Rb2-b1 #\n\n{0}".format("Partial solution")
         self.assertEqual(found["solution"], solution)
 
     def test_with_twins(self) -> None:
@@ -443,6 +470,20 @@ twins: {b: Move a1 b1}
         assert isinstance(node, dict)
         lines = str(node["solution"]).split("\n")
         self.assertEqual(lines[:3], ["1.Ra1-a6 !", "    1...b7*a6", "        2.b6-b7 #"])
+
+    def test_solutions_that_may_not_be_all(self) -> None:
+        """A limit is said as Popeye says it, and comes back from an import."""
+        given = TWINS.replace(b"MaxSolutions 5", b"MaxSolutions 1").partition(b"Twin")[0] + b"EndProblem\n"
+        given = given.replace(b"Black Kh8", b"Rb2 Black Kh8")
+        with tempfile.TemporaryDirectory() as room:
+            report = Path(room) / "limited.report"
+            report.write_bytes(support.run([support.pops()], given).output)
+            self.assertIn(b"solutions: 1, stopped\n", report.read_bytes())
+            text = exported("yaml", "--report", str(report), text=given)
+        (found,) = nodes(text)
+        self.assertRegex(str(found["solution"]), r"#\n\nPartial solution\Z")
+        back = run_here.companion("pops-import", text=text.encode())
+        self.assertEqual(nodes(exported("yaml", text=back.output)), [found])
 
     def test_signs_of_moves(self) -> None:
         report = (

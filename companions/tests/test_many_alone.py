@@ -8,12 +8,13 @@ from collections.abc import Callable
 from pathlib import Path
 from unittest import mock
 
+from pops_companions.many.batches import Batches
 from pops_companions.many.parts import Part, Phase
 from pops_companions.many.progress import HowFar, Progress
 from pops_companions.many.split_problem import Cutting, SplitProblem
 from pops_companions.many.tasks import Source, tasks_of
 from tests import run_here, support
-from tests.made_clock import made_clock
+from tests.made_clock import Clock, made_clock
 
 # Some tenths of a second for pops.
 LONG = (support.REPOSITORY / "examples" / "help_mate_in_three.pop").read_bytes()
@@ -97,6 +98,39 @@ class Heartbeat(unittest.TestCase):
         wanted = [line, *(f"{line}, 0:0{seconds} so far" for seconds in (1, 2, 3))]
         last = "pops-many: problem 1: 1 of 31 first moves, 0 solutions, about 2:00 left"
         self.assertEqual(told, [*wanted, last])
+
+    def test_the_time_left_goes_down_while_parts_are_at_work(self) -> None:
+        """Two at a time, 10 seconds each; the last one takes longer."""
+        progress = Progress("pops-many")
+        progress.begin_parts(6)
+
+        def left(seconds: float, parts_left: int, *at_work: float) -> str:
+            now = HowFar(0, 6, False, 0, parts_left, at_work)
+            return progress.line_of_parts("problem 1", now, seconds).rpartition("solutions, ")[2]
+
+        self.assertEqual(left(9, 6, 9, 9), "0:09 so far")
+        self.assertEqual(left(10, 4, 0, 0), "about 0:20 left")
+        self.assertEqual(left(11, 4, 1, 1), "about 0:19 left")
+        self.assertEqual(left(17, 4, 7, 7), "about 0:13 left")
+        self.assertEqual(left(30, 1, 10), "about 0:03 left")
+        self.assertEqual(left(60, 1, 40), "about 0:10 left")
+
+    def test_it_knows_how_long_parts_are_at_work(self) -> None:
+        clock = Clock()
+        task = tasks_of([Source(None, b"")])[0]
+        parts = [Part(task, "play", number, 1) for number in range(1, 4)]
+        with mock.patch("pops_companions.many.batches.time", clock):
+            batches = Batches(parts, lambda part: part.number == 3)
+            clock.now += 5
+            first, second = batches.next(lambda part: False), batches.next(lambda part: False)
+            assert first is not None and second is not None
+            clock.now += 2
+            first.pass_first()
+            clock.now += 1
+            self.assertEqual(batches.seconds_at_work, [1, 3])
+            second.pass_first()
+            batches.end(first)
+            self.assertEqual(batches.seconds_at_work, [])
 
     def test_without_a_terminal_it_comes_seldom_in_lines(self) -> None:
         """Many problems have none, a short problem neither."""

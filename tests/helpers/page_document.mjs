@@ -3,7 +3,7 @@
 export class Thing {
   constructor(tag) {
     Object.assign(this, { tagName: tag.toUpperCase(), children: [], style: {}, dataset: {}, attributes: {}, value: '' });
-    Object.assign(this, { hidden: false, disabled: false, scrollTop: 0, own: '', parent: null, selectionStart: 0, options: [] });
+    Object.assign(this, { hidden: false, disabled: false, scrollTop: 0, own: '', parent: null, selectionStart: 0, selectionEnd: 0, options: [] });
     this.names = new Set();
     this.acts = new Map();
     this.classList = {
@@ -51,7 +51,7 @@ export class Thing {
   addEventListener(name, act) { this.acts.set(name, [...(this.acts.get(name) ?? []), act]); }
   dispatchEvent(event) { for (const act of this.acts.get(event.type) ?? []) act(event); }
   focus() { document.activeElement = this; }
-  setSelectionRange(from) { this.selectionStart = from; }
+  setSelectionRange(selectionStart, selectionEnd) { Object.assign(this, { selectionStart, selectionEnd }); }
   getBoundingClientRect() { return { top: 0, left: 0, width: 1, height: 1 }; }
   scrollIntoView() {}
   click() { this.onclick?.({ target: this }); }

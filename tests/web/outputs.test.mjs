@@ -50,6 +50,14 @@ test('short: tries and keys with their variations', () => {
     'Tries', '  1.Rxa7+? Bxa7!', 'Solution', '  1.Ra6! zugzwang', '    1...bxa6 2.b7#', '    1...Bh2,Bg3 2.Rxa7#', ''].join('\n'));
 });
 
+test('short: tries of a man that all check keep their mark in a group, also in LaTeX', () => {
+  const tries = ['g2', 'f3', 'f5', 'g6'].map(it => `1.Sh4-${it}+?\n  check\n  but\n    1...Kh8-g8!\n`).join('');
+  const board = ['.......k', '......p.', '........', '........', '.......S', '........', '........', 'K......R'].map((it, at) => `${8 - at} ${it}\n`).join('');
+  const [item] = itemsOf(`problem 1\n${board}  abcdefgh\n#2\nplay\nsolutions: 0\ntries\n${tries}tries: 4\n\n`);
+  assert.match(shortText(item, menOfRanks(item.ranks)), /\n {2}1\.S~\+\? Kg8!\n/);
+  assert.match(latexOf('BeginProblem\nPieces White Ka1 Rh1 Sh4 Black Kh8 Pg7\nStipulation #2\nEndProblem\n', [item]), /1\.S\\textasciitilde\{\}\+\? Kg8!/);
+});
+
 test('short: threats, several continuations, longer play, help play, no solution', () => {
   const head = 'problem 1\n#3\nplay\n';
   const men = menIn('White Kh1 Qa1 Ra2 Black Kh8 Pa7');
@@ -71,6 +79,18 @@ test('outputs: YAML', () => {
     '  1.Ra1-a6 ! zugzwang.', '      1...b7*a6', '          2.b6-b7 #', '      1...Bb8-h2', '          2.Ra6*a7 #', '      1...Bb8-g3', '          2.Ra6*a7 #', '',
     '  1.Ra1*a7 + ?', '      but', '          1...Bb8*a7 !', ''].join('\n'));
   assert.equal(yamlOf(TEXT, []).text.includes('solution: |'), false);
+});
+
+test('outputs: YAML says of solutions that were stopped, by a limit or by the user, that they may not be all', () => {
+  const text = 'BeginProblem\nPieces White Kg6 Ra1 Rb2 Black Kh8\nStipulation h#1\nOption SetPlay\nEndProblem\n';
+  const [set, play] = ['set\n1...Ra1-a8#\nsolutions: 1\n', 'play\n1.Kh8-g8 Ra1-a8#\n'];
+  const solutionOf = report => /\nsolution: \|\n([^]*)$/.exec(yamlOf(text, itemsOf(`problem 1\nh#1\n${report}`)).text)?.[1];
+  const lines = '  1...Ra1-a8 #\n\n  1.Kh8-g8 Ra1-a8 #\n';
+  for (const end of ['solutions: 1, stopped\n\n', '']) assert.equal(solutionOf(set + play + end), `${lines}\n  Partial solution\n`);
+  assert.equal(solutionOf(`${set}${play}solutions: 1\n\n`), lines);
+  assert.equal(solutionOf(set), '  1...Ra1-a8 #\n\n  Partial solution\n');
+  const made = yamlOf(text, itemsOf(`problem 1\nh#1\n${set}`)).text;
+  assert.equal(yamlOf(imported(made).text, []).text, made);
 });
 
 test('outputs: a name with many blanks takes little time', () => {
@@ -119,6 +139,7 @@ test('outputs: twins are one problem in LaTeX and YAML, and what cannot be posed
   const { text: left, lost } = yamlOf(text.replace('Rb2', 'Ra9'), []);
   assert.deepEqual([left.split('---').length, lost.length], [2, 1]);
   assert.deepEqual(lost, ['Problem 2 was left out: Ra9 isn\'t known here']);
+  assert.match(left, /^title: "A pair"$/m);
 });
 
 test('outputs: LaTeX has the date of a source in the language of the page', () => {

@@ -27,7 +27,7 @@ const { forgetAll } = await import('../../web/page/kept.js');
 const { OUTS } = await import('../../web/page/outs.js');
 const { beginReport, drawGrowth, drawReport, reportGrew } = await import('../../web/page/reporting.js');
 const { buildLive, liveChanged, showLive, solveLive } = await import('../../web/page/live.js');
-const { mostRefutations, sayDone, sayProblem, showMost, showSolve, solve, solvingNow } = await import('../../web/page/solving.js');
+const { mostRefutations, sayDone, sayProblem, showMost, showSolve, solve, solvingNow, stopSolving } = await import('../../web/page/solving.js');
 const { blockNow, state, textNow } = await import('../../web/page/state.js');
 const { sayAsked, sayCondition, sayFault, sayTotal } = await import('../../web/names.js');
 const { companions } = await import('../../web/out/companions.js');
@@ -160,15 +160,107 @@ test('files: a dropped text is taken', () => {
   assert.equal(textNow(), TEXT);
 });
 
-test('files: of many that are dropped the first is read, and the page says so', async () => {
-  const file = name => ({ name, size: 9, arrayBuffer: async () => new TextEncoder().encode(`${TEXT}${name}`).buffer });
-  for (const [names, said] of [[['a.pop', 'b.pop'], 'only a.pop was read: one file at a time'], [['a.pop'], 'a.pop was read']]) {
-    begin('');
-    send('drop', { dataTransfer: { types: ['Files'], files: names.map(file), getData: () => '' } });
-    await new Promise(setImmediate);
-    assert.equal(textNow(), `${TEXT}a.pop`);
-    assert.equal(element('note').textContent.startsWith(said), true, element('note').textContent);
+const POPEYE = 'AnfangProblem\nSteine Weiss Kg6 Ta2 Schwarz Kg8\nForderung #1\nEndeProblem\n';
+const pasteIntoBox = text => {
+  let isTaken = false;
+  send('paste', { target: element('text'), clipboardData: { getData: () => text }, preventDefault: () => { isTaken = true; } });
+  return isTaken;
+};
+
+test('files: a text of Popeye pasted among one\'s own is put in at the caret, and one step of undo takes it back', () => {
+  const made = TEXT.replace('Ra1', 'Ra2');
+  for (const [from, to, wanted] of [
+    [TEXT.length, TEXT.length, TEXT + made], [0, 0, made + TEXT], [TEXT.length - 1, TEXT.length - 1, `${TEXT}${made}\n`], [0, 13, made + TEXT.slice(13)],
+  ]) {
+    begin(TEXT);
+    element('text').setSelectionRange(from, to);
+    assert.equal(pasteIntoBox(POPEYE), true);
+    assert.equal(textNow(), wanted);
+    assert.equal(noteNow(), say('imported'));
+    assert.equal(textNow().slice(0, element('text').selectionStart).endsWith(made), true);
+    goSteps(-1);
+    assert.equal(textNow(), TEXT);
   }
+  begin(TEXT);
+  element('text').setSelectionRange(0, TEXT.length);
+  pasteIntoBox(POPEYE);
+  assert.equal(textNow(), made);
+  assert.equal(pasteIntoBox('Pieces White Ka1'), false);
+});
+
+test('files: a long text of Popeye is put in where the caret was, or is by then in a text that was changed', () => {
+  const long = POPEYE.replace('Forderung', `${'\n'.repeat(6000)}Forderung`);
+  const made = TEXT.replace('Ra1', 'Ra2');
+  begin(TEXT);
+  element('text').setSelectionRange(0, 0);
+  const [first] = helpersOf(() => pasteIntoBox(long));
+  assert.deepEqual([textNow(), noteNow()], [TEXT, say('importing')]);
+  element('text').setSelectionRange(TEXT.length, TEXT.length);
+  first.answer();
+  assert.equal(textNow(), made + TEXT);
+  begin(TEXT);
+  element('text').setSelectionRange(0, 0);
+  const [second] = helpersOf(() => pasteIntoBox(long));
+  setText(`${TEXT}\n`);
+  element('text').setSelectionRange(TEXT.length + 1, TEXT.length + 1);
+  second.answer();
+  assert.equal(textNow(), `${TEXT}\n${made}`);
+});
+
+test('files: a text dropped into the text box among one\'s own is left to the browser', () => {
+  const drop = target => {
+    let isTaken = false;
+    send('drop', { target, dataTransfer: { types: ['text/plain'], files: [], getData: () => TWO_MOVES }, preventDefault: () => { isTaken = true; } });
+    return isTaken;
+  };
+  begin(TEXT);
+  element('text').setSelectionRange(0, 5);
+  assert.deepEqual([drop(element('text')), textNow()], [false, TEXT]);
+  begin('');
+  assert.deepEqual([drop(element('text')), textNow()], [true, TWO_MOVES]);
+});
+
+test('notes: what is said of an action goes when the next one begins', () => {
+  const click = name => send('click', { target: { closest: words => (words.includes(name) ? {} : null) } });
+  begin(TEXT);
+  OUTS.outJson();
+  assert.equal(noteNow(), 'solve first: there is no report yet');
+  click('button');
+  assert.equal(noteNow(), 'solve first: there is no report yet');
+  OUTS.outCopyShort();
+  assert.equal(noteNow(), 'solve first: this problem has no solution yet');
+  click('p');
+  assert.equal(noteNow(), 'solve first: this problem has no solution yet');
+  click('button');
+  assert.equal(noteNow(), '');
+  takeFen('8/8/8/8/8/8/8/K7 w');
+  helpersOf(() => send('keydown', { key: 'Enter', ctrlKey: true }));
+  stopSolving();
+  assert.equal(noteNow(), '');
+  begin(TEXT, REPORT);
+  views.tree.onward();
+  click('button');
+  assert.match(noteNow(), /^position after 1\.Ra1-a8#/);
+  leave();
+});
+
+test('outs: the solution of a changed position is neither copied nor saved, and the page says so', () => {
+  const saved = [];
+  const { createElement } = document;
+  document.createElement = tag => Object.assign(createElement(tag), tag === 'a' ? { click() { saved.push(this.download); } } : {});
+  begin(TEXT, REPORT);
+  changeBoard('mirror');
+  OUTS.outCopyShort();
+  assert.equal(noteNow(), 'not copied: the solution is of the position before it was changed; solve again');
+  for (const name of ['outYaml', 'outLatex']) {
+    OUTS[name]();
+    assert.equal(noteNow(), 'without the solutions of problems that were changed: solve again');
+  }
+  takeText(TWO_MOVES);
+  OUTS.outCopyShort();
+  assert.equal(noteNow(), 'solve first: this problem has no solution yet');
+  assert.deepEqual(saved, ['pops.yaml', 'pops.tex']);
+  document.createElement = createElement;
 });
 
 test('files: a text with a byte order mark is taken wherever it is pasted', () => {
@@ -795,6 +887,50 @@ test('beside: whether a long text can be converted is tried once, by a worker', 
   assert.equal(convertible(), 2);
   assert.equal(helpersOf(drawReport).length, 0);
   assert.equal(doChore('import', { text: TEXT }, () => {}, () => {}), true);
+});
+
+const fileOf = (name, text, size = text.length) => ({ name, size, arrayBuffer: async () => new TextEncoder().encode(text).buffer });
+
+/** Drops files, and waits until the page says what became of them. */
+async function dropFiles(...files) {
+  const before = views.notes.number;
+  send('drop', { dataTransfer: { types: ['Files'], files, getData: () => '' } });
+  while (views.notes.number === before || noteNow().startsWith('reading')) await new Promise(setImmediate);
+}
+
+test('files: of one that is dropped the text is taken; a folder can\'t be read', async () => {
+  begin('');
+  await dropFiles(fileOf('a.pop', `${TEXT}a.pop`));
+  assert.equal(textNow(), `${TEXT}a.pop`);
+  assert.match(noteNow(), /^a\.pop was read/);
+  await dropFiles({ name: 'folder', size: 9, arrayBuffer: () => Promise.reject(new Error('a folder')) });
+  assert.deepEqual([textNow(), noteNow()], [`${TEXT}a.pop`, 'folder can’t be read']);
+});
+
+test('files: of many that are dropped all problems are one text, and the page says which have none', async () => {
+  const numbered = Array.from({ length: 200 }, (_, at) => fileOf(`${at}.pop`, TEXT.replace('Pieces', `Title ${at}\nPieces`)));
+  begin(TEXT);
+  await dropFiles(...numbered);
+  assert.equal(blocksOf(textNow()).length, 200);
+  assert.equal(element('problems').children[199].textContent, '200. 199 · #1');
+  assert.equal(noteNow(), 'files read: 200 of 200, problems: 200');
+  goSteps(-1);
+  assert.equal(textNow(), TEXT);
+  const popeye = 'AnfangProblem\nSteine Weiss Kg6 Ta1 Schwarz Kg8\nForderung r#1\nWeiteresProblem\nSteine Weiss Kg6 Ta2 Schwarz Kg8\nForderung #1\nOption Verfuehrung\nEndeProblem\n';
+  element('tries').checked = false;
+  await dropFiles(
+    fileOf('two.pop', `${TEXT}${TEXT.replace('Ra1', 'Ra3').trimEnd()}`), fileOf('picture.png', '\0'), fileOf('popeye.inp', popeye), fileOf('long.pop', TEXT, 1 << 23),
+    fileOf('one.fen', '6k1/8/6K1/8/8/8/8/R7 w - - 0 1'), { name: 'folder', size: 9, arrayBuffer: () => Promise.reject(new Error('a folder')) },
+  );
+  assert.deepEqual(textNow().match(/R\w\d/g), ['Ra1', 'Ra3', 'Ra2', 'Ra1']);
+  assert.equal(blocksOf(textNow()).length, 4);
+  assert.equal(noteNow(), 'files read: 3 of 6, problems: 4. “tries and threats” was switched on, as the text asks for them. without a problem: picture.png, folder. '
+    + 'too long for the page, which takes 8 MiB in all: long.pop. popeye.inp: Problem 1 was left out: pops knows no stipulation r#1');
+  element('tries').checked = false;
+  showMost();
+  await dropFiles(...Array.from({ length: 9 }, (_, at) => fileOf(`${at}.txt`, 'no problem')));
+  assert.equal(noteNow(), 'files read: 0 of 9, problems: 0. without a problem: 0.txt, 1.txt, 2.txt, 3.txt, 4.txt, 4 more');
+  assert.equal(blocksOf(textNow()).length, 4);
 });
 
 test('after a key in a long text the problem at the cursor is looked for in slices', async () => {

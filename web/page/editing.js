@@ -213,6 +213,48 @@ export function takeText(given) {
 }
 
 /**
+ * Puts the problems of another program's text where one's own text has its caret, or in place of what is selected in it, as a browser pastes.
+ * @param {string} given
+ */
+export function insertText(given) {
+  endTyping();
+  const { value, selectionStart, selectionEnd } = element('text');
+  /** @param {Imported} made */
+  const put = made => {
+    const isSame = textNow() === value;
+    const place = isSame ? { from: selectionStart, to: selectionEnd } : { from: element('text').selectionStart, to: element('text').selectionEnd };
+    insertAt(place, made.text ?? given);
+    sayImported(made);
+  };
+  if (!doChore('import', { text: given }, put, fault => note(say('failed', { fault })))) note(say('importing'));
+}
+
+/**
+ * Puts whole lines into the text, with the caret after them.
+ * @param {Span} place
+ * @param {string} lines
+ */
+function insertAt({ from, to }, lines) {
+  const before = textNow().slice(0, from);
+  const first = !before || before.endsWith('\n') ? before : `${before}\n`;
+  const end = first.length + lines.length;
+  setText(first + lines + textNow().slice(to));
+  element('text').setSelectionRange(end, end);
+  scrollToLine(lineOf(textNow(), first.length), 2);
+  placed();
+}
+
+/**
+ * Takes the problems of several texts of other programs or of pops, which are one text now; switches tries on if one asks for them.
+ * @param {Corrected} made
+ */
+export function takeProblems(made) {
+  endTyping();
+  replaceText(made.text);
+  return askForTries(made);
+}
+
+/**
  * Replaces the whole text, which is kept.
  * @param {string} text
  */
@@ -226,7 +268,7 @@ function replaceText(text) {
 
 /**
  * Says what became of a text of another program, and switches tries on if it asks for them.
- * @param {{ text: string | null, lost: string[], asksForTries: boolean, refutations: number }} made
+ * @param {Imported} made
  */
 function sayImported(made) {
   const isAsked = askForTries({ ...made, text: made.text ?? '' });

@@ -5,32 +5,113 @@ import { imported, isOfAnother } from '../importing.js';
 import { readFen } from '../position.js';
 import { LONG_TEXT } from '../slices.js';
 import { MOST_FILE_BYTES, textOfBytes } from '../store.js';
-import { hasProblem } from '../text.js';
+import { blockAt, blocksOf, hasProblem, joinedTexts, NEW_PROBLEM, withFen } from '../text.js';
 import { say } from '../words.js';
-import { SHORT_WORK } from './beside.js';
-import { takeFen, takeText } from './editing.js';
+import { doChore, SHORT_WORK } from './beside.js';
+import { insertText, takeFen, takeProblems, takeText } from './editing.js';
 import { textNow } from './state.js';
 import { note } from './views.js';
 
-/**
- * Takes the first of some files, and says so if there are others.
- * @param {FileList | null | undefined} files
- */
-async function takeFile(files) {
-  const file = files?.[0];
-  if (!file) return;
-  const isAlone = files.length === 1;
-  if (file.size > MOST_FILE_BYTES) {
-    note(say('fileLong', { name: file.name }));
-    return;
-  }
-  const { text, isUtf8 } = textOfBytes(new Uint8Array(await file.arrayBuffer()));
-  note('');
-  takeText(text);
-  const said = element('note').textContent;
-  const first = isAlone ? '' : say('fileFirst', { name: file.name });
-  note([isUtf8 && first ? '' : say(isUtf8 ? 'fileTaken' : 'fileLatin', { name: file.name }), first, said].filter(Boolean).join('. '));
+// The most names and reasons that are said of many files.
+const MOST_SAID = 5;
+
+/** @param {FileList | null | undefined} files */
+async function takeFiles(files) {
+  const all = [...files ?? []];
+  if (all.length > 1) await takeMany(all);
+  else if (all.length) await takeFile(all[0]);
 }
+
+/** @param {File} file */
+async function takeFile(file) {
+  const { name } = file;
+  const read = file.size > MOST_FILE_BYTES ? null : await textOfFile(file);
+  note(read ? '' : say(file.size > MOST_FILE_BYTES ? 'fileLong' : 'fileNot', { name }));
+  if (!read) return;
+  takeText(read.text);
+  const said = element('note').textContent;
+  note([say(read.isUtf8 ? 'fileTaken' : 'fileLatin', { name }), said].filter(Boolean).join('. '));
+}
+
+/**
+ * Returns a file's text, and whether it is UTF-8; null for what can't be read, as a folder.
+ * @param {File} file
+ */
+async function textOfFile(file) {
+  try {
+    const { text, isUtf8 } = textOfBytes(new Uint8Array(await file.arrayBuffer()));
+    return { text: text.replace(/^\ufeff/, ''), isUtf8 };
+  } catch {
+    return null;
+  }
+}
+
+/**
+ * Takes the problems of several files as one text, and says of which files there are none.
+ * @param {File[]} files
+ */
+async function takeMany(files) {
+  /** @type {Record<'none' | 'long' | 'latin', string[]>} */
+  const names = { none: [], long: [], latin: [] };
+  /** @type {{ name: string, made: Imported }[]} */
+  const taken = [];
+  let room = MOST_FILE_BYTES;
+  for (const [at, file] of files.entries()) {
+    note(say('fileOf', { number: at + 1, all: files.length }), () => true);
+    const read = file.size > room ? null : await textOfFile(file);
+    const made = read && await problemsIn(read.text);
+    if (made?.text) taken.push({ name: file.name, made });
+    else names[file.size > room ? 'long' : 'none'].push(file.name);
+    if (made?.text) room -= file.size;
+    if (made?.text && !read?.isUtf8) names.latin.push(file.name);
+  }
+  note('');
+  const isAsked = taken.length > 0 && takeProblems(joinedFiles(taken.map(it => it.made)));
+  const problems = taken.length ? blocksOf(textNow()).length : 0;
+  const lost = taken.flatMap(({ name, made }) => made.lost.map(reason => `${name}: ${reason}`));
+  note([
+    say('filesTaken', { count: taken.length, all: files.length, problems }), ...(isAsked ? [say('triesOn')] : []), ...sayNames(names), ...firstOf(lost),
+  ].join('. '));
+}
+
+/**
+ * Returns the problems of a text as of one of another program: of one in FEN, of pops's own, or of another; null if there are none.
+ * @param {string} text
+ * @returns {Promise<Imported | null>}
+ */
+async function problemsIn(text) {
+  const fen = readFen(text);
+  const begun = blockAt(NEW_PROBLEM, 0);
+  if (fen && begun) return owned(withFen(NEW_PROBLEM, begun.from, fen));
+  if (text.length < LONG_TEXT && isOfAnother(text)) return new Promise(take => { doChore('import', { text }, take, () => take(null)); });
+  return hasProblem(text) ? owned(text) : null;
+}
+
+/** @param {string} text @returns {Imported} */
+const owned = text => ({ text, lost: [], asksForTries: false, refutations: 0 });
+
+/**
+ * Joins the problems of several files.
+ * @param {Imported[]} all
+ */
+const joinedFiles = all => ({
+  text: joinedTexts(all.map(it => it.text ?? '')), asksForTries: all.some(it => it.asksForTries), refutations: Math.max(...all.map(it => it.refutations)),
+});
+
+/**
+ * Names the files that weren't read, or not as UTF-8.
+ * @param {Record<'none' | 'long' | 'latin', string[]>} names
+ */
+function sayNames({ none, long, latin }) {
+  const said = [['filesNone', none], ['filesLong', long], ['filesLatin', latin]];
+  return said.flatMap(([key, all]) => (all.length ? [say(/** @type {string} */ (key), { names: firstOf(/** @type {string[]} */ (all)).join(', ') })] : []));
+}
+
+/**
+ * Returns the first of many, and how many there are more.
+ * @param {string[]} all
+ */
+const firstOf = all => [...all.slice(0, MOST_SAID), ...(all.length > MOST_SAID ? [say('more', { count: all.length - MOST_SAID })] : [])];
 
 /**
  * Returns whether a text from elsewhere is too long, and says so.
@@ -64,9 +145,16 @@ const isConvertible = text => text.length < LONG_TEXT && isOfAnother(text) && (t
  */
 function takePasted(event, text, isText) {
   if (readFen(text)) takeFen(text);
+  else if (isText && isAmongText() && isConvertible(text)) insertText(text);
   else if ((!isText && hasProblem(text)) || isConvertible(text)) takeText(text);
   else return;
   event.preventDefault();
+}
+
+/** Returns whether the text box has more than what is selected in it. */
+function isAmongText() {
+  const { value, selectionStart, selectionEnd } = element('text');
+  return Boolean((value.slice(0, selectionStart) + value.slice(selectionEnd)).trim());
 }
 
 /** @param {DragEvent} event */
@@ -76,16 +164,22 @@ function dropped(event) {
   event.preventDefault();
   const { dataTransfer } = event;
   const text = dataTransfer?.getData('text/plain') ?? '';
-  if (dataTransfer?.files.length) takeFile(dataTransfer.files);
+  if (dataTransfer?.files.length) takeFiles(dataTransfer.files);
   else if (!isTooLong(text.length)) takeText(text);
 }
 
-/** @param {DragEvent} event */
-const isDroppable = event => [...event.dataTransfer?.types ?? []].some(type => type === 'Files' || type === 'text/plain');
+/**
+ * Returns whether the page takes what is dropped: files, and a text but into the text box's own.
+ * @param {DragEvent} event
+ */
+function isDroppable({ dataTransfer, target }) {
+  const types = [...dataTransfer?.types ?? []];
+  return types.includes('Files') || (types.includes('text/plain') && !(target === element('text') && isAmongText()));
+}
 
 export function listenToFiles() {
   element('open').onclick = () => element('file').click();
-  element('file').onchange = () => takeFile(element('file').files).then(() => { element('file').value = ''; });
+  element('file').onchange = () => takeFiles(element('file').files).then(() => { element('file').value = ''; });
   addEventListener('dragover', event => {
     if (!isDroppable(event)) return;
     event.preventDefault();

@@ -6,7 +6,7 @@ import { blockAt, fieldsOf, valueOf } from '../text.js';
 import { say } from '../words.js';
 import { doChore } from './beside.js';
 import { blockNow, state, textNow } from './state.js';
-import { board, note } from './views.js';
+import { board, note, notes } from './views.js';
 import { ownLink } from './visit.js';
 
 /**
@@ -30,17 +30,17 @@ function save(name, type, content) {
   setTimeout(() => URL.revokeObjectURL(link.href), 10000);
 }
 
-/** @param {string} fault */
-const sayFailed = fault => note(say('failed', { fault }));
-
 /**
- * Does some work of chores.js; says so if it takes long.
+ * Does some work of chores.js, and says so if it takes long; at its end what `take` returns, if that is something.
  * @param {string} name
  * @param {ChoreGiven} given
- * @param {(made: any) => void} take
+ * @param {(made: any) => string} take
  */
 function make(name, given, take) {
-  if (!doChore(name, given, take, sayFailed)) note(say('making'));
+  let number = 0;
+  // (another action may have its note there now)
+  const end = (/** @type {string} */ said) => (said || notes.number === number) && note(said);
+  if (!doChore(name, given, made => end(take(made)), fault => end(say('failed', { fault })))) number = note(say('making'));
 }
 
 /** Draws the board with its men. */
@@ -80,10 +80,17 @@ const itemsNow = () => /** @type {SoundItem[]} */ (state.items.filter(it => it.a
 /** @param {Item[]} items */
 const numbersOf = items => items.map(it => it.number);
 
+/**
+ * Returns whether a problem on the page was solved before it was changed.
+ * @param {Item} item
+ */
+const isOld = ({ number, asked, phases }) => Boolean(asked && phases.length) && !state.isReplaced() && !state.isPosedNow(number);
+
 async function copyShort() {
-  const item = itemsNow().find(it => it.number === blockNow()?.number);
+  const number = blockNow()?.number;
+  const item = itemsNow().find(it => it.number === number);
   if (!item) {
-    note(say('nothing'));
+    note(say(state.items.some(it => it.number === number && isOld(it)) ? 'copyOld' : 'copyNone'));
     return;
   }
   const given = { text: textNow(), report: state.report, numbers: [item.number] };
@@ -111,7 +118,9 @@ function hasItems() {
 }
 
 /** Says of what was saved that it isn't of the text on the page any more. */
-const sayOld = () => note(state.isCurrent() ? '' : say('savedOld'));
+const saidOld = () => (state.isCurrent() ? '' : say('savedOld'));
+/** Says of what was saved that solutions of an earlier position aren't in it. */
+const saidWithoutOld = () => (state.items.some(isOld) ? say('savedWithoutOld') : '');
 
 /**
  * Saves the items of the report in another form.
@@ -125,14 +134,14 @@ function saveItems(name, ending, type) {
   const numbers = numbersOf(state.items.filter(item => item.isWhole || item.asked || item.fault));
   make(name, { text: state.solved, report: state.report, numbers }, made => {
     save(file, type, made);
-    sayOld();
+    return saidOld();
   });
 }
 
 function saveReport() {
   if (!hasItems()) return;
   save(nameNow('report'), 'text/plain', state.report);
-  sayOld();
+  note(saidOld());
 }
 
 export const OUTS = {
@@ -156,7 +165,7 @@ function saveLatex() {
   const file = nameNow('tex');
   make('latex', { text: textNow(), report: state.report, numbers: numbersOf([...itemsNow(), ...faulty]) }, ({ made, letters }) => {
     save(file, 'application/x-tex', made);
-    note(letters ? say('latexLacks', { letters }) : '');
+    return [letters && say('latexLacks', { letters }), saidWithoutOld()].filter(Boolean).join('. ');
   });
 }
 
@@ -165,7 +174,7 @@ function saveYaml() {
   const file = nameNow('yaml');
   make('yaml', { text: textNow(), report: state.report, numbers: numbersOf(itemsNow()) }, ({ text, lost }) => {
     save(file, 'application/yaml', text);
-    note(lost.join(' '));
+    return [...lost, saidWithoutOld()].filter(Boolean).join('. ');
   });
 }
 

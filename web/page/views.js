@@ -31,9 +31,8 @@ export function unchanged() {
 }
 
 /**
- * Shows a note while its cause lasts.
+ * Shows a note while its cause lasts; without one it says what came of an action. Returns its number.
  * @param {string} text
+ * @param {() => boolean} [holds]
  */
-export function note(text, holds = unchanged()) {
-  notes.show(text, holds);
-}
+export const note = (text, holds) => notes.show(text, holds ?? unchanged(), !holds);

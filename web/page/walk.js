@@ -4,7 +4,7 @@ import { element } from '../elements.js';
 import { labelOf } from '../report.js';
 import { say } from '../words.js';
 import { state } from './state.js';
-import { board, note, tree } from './views.js';
+import { board, note, tree, unchanged } from './views.js';
 
 /**
  * Shows the position after some moves; or, for null, the diagram again.
@@ -24,7 +24,7 @@ export function showPlace(place) {
   const isOther = item && isNow && state.number !== item.number;
   if (isOther) state.choose(item.number);
   if (isOther || !place) state.follow();
-  if (last) note(say(isNow ? 'shown' : 'shownOld', { move: labelOf(last) }));
+  if (last) note(say(isNow ? 'shown' : 'shownOld', { move: labelOf(last) }), unchanged());
 }
 
 /** Shows the diagram again. */

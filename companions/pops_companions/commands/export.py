@@ -97,7 +97,7 @@ def main(words: list[str]) -> Status:
         print(f"{NAME}: {name}, {one.text}", file=sys.stderr)
     is_yaml = settings.to == "yaml"
     one_by_one = map(Exported, reading.problems)
-    problems = list(one_by_one if settings.apart else joined(reading.problems, is_yaml))
+    problems = list(one_by_one if settings.apart else joined(reading.problems, is_yaml, reading.left_out))
     items = items_of(settings)
     refuse_other_report(problems, items, settings)
     if problems:

@@ -1,10 +1,12 @@
 """The problems of a text in any of the forms that pops-import reads, and twins joined again."""
 
 import re
-from collections.abc import Iterable, Iterator, Sequence
+from collections.abc import Iterable, Iterator, Mapping, Sequence
 from dataclasses import dataclass, field, replace
 from typing import NamedTuple, Optional
 
+from pops_companions.import_.draft import Draft
+from pops_companions.import_.language import Command
 from pops_companions.import_.options import option_left_out
 from pops_companions.import_.posing import COLOURS_TURNED, ZERO_POSITION, posed
 from pops_companions.import_.sources import read_drafts
@@ -15,6 +17,8 @@ _FIRST_LABEL = "a)"
 # What an import says of a change, and says again of the joined problem.
 _SAID_OF_CHANGES = re.compile("the man on [a-h][1-8] is replaced|Rotate [0-9]+ is .*")
 _DUPLEX = "Duplex"
+# The titles of problems that are left out, by their numbers.
+_Lost = Mapping[int, str]
 
 
 @dataclass(frozen=True)
@@ -135,11 +139,15 @@ class Part(NamedTuple):
 
 
 class LeftOut(NamedTuple):
-    """A problem that pops can't read: its line, its number with the label of a twin, and why."""
+    """A problem that pops can't read: its line, its number with the label of a twin, why, and its
+    place among all problems with its title.
+    """
 
     line: int
     name: str
     reasons: Sequence[str]
+    number: int
+    title: str
 
     @property
     def text(self) -> str:
@@ -164,28 +172,46 @@ def read_problems(text: str) -> Reading:
             if one.faults:
                 name = f"{draft.number} {one.label}".rstrip()
                 reasons = [fault.text for fault in one.faults]
-                reading.left_out.append(LeftOut(one.faults[0].line, name, reasons))
+                title = " ".join(filter(None, (_title_of(draft), one.label)))
+                reading.left_out.append(LeftOut(one.faults[0].line, name, reasons, number, title))
             else:
                 reading.problems.append(Problem.of_lines(number, one.lines))
     return reading
 
 
-def joined(problems: Iterable[Problem], with_gaps: bool = True) -> Iterator[Exported]:
-    """Yields the problems with the twins that pops-import made of one, as one again.
+def _title_of(draft: Draft) -> str:
+    return "; ".join(text for command, text in draft.texts if command is Command.TITLE and text)
+
+
+def joined(
+    problems: Iterable[Problem], with_gaps: bool = True, left_out: Sequence[LeftOut] = ()
+) -> Iterator[Exported]:
+    """Yields the problems with the twins that pops-import made of one, as one again; twins that are
+    left out may be among them.
 
     They stay apart where an import of the joined problem wouldn't give them back, and, without
     `with_gaps`, after a twin that was left out: Popeye gives its twins no letters.
     """
+    yield from _joined(problems, with_gaps, {it.number: it.title for it in left_out})
+
+
+def _joined(problems: Iterable[Problem], with_gaps: bool, lost: _Lost) -> Iterator[Exported]:
     run: list[Problem] = []
     for problem in problems:
-        if run and not _continues(run, problem, with_gaps):
-            yield from _joined_run(run, with_gaps)
+        if run and not _continues(run, problem, with_gaps, lost):
+            yield from _joined_run(run, with_gaps, lost)
             run = []
         run.append(problem)
-    yield from _joined_run(run, with_gaps)
+    yield from _joined_run(run, with_gaps, lost)
 
 
-def _continues(run: list[Problem], problem: Problem, with_gaps: bool) -> bool:
+def _are_lost_twins(title: Optional[str], numbers: Iterable[int], lost: _Lost) -> bool:
+    """Returns whether the problems of these numbers are left out, and twins of one with this title."""
+    titles = [label_and_title(lost.get(number, "")) for number in numbers]
+    return all(label.text != "" and (own or "") == (title or "") for own, label in titles)
+
+
+def _continues(run: list[Problem], problem: Problem, with_gaps: bool, lost: _Lost) -> bool:
     first_title, first = label_and_title(run[0].title)
     _, last = label_and_title(run[-1].title)
     title, label = label_and_title(problem.title)
@@ -193,7 +219,7 @@ def _continues(run: list[Problem], problem: Problem, with_gaps: bool) -> bool:
         (label.text in _next_labels(first, last) or with_gaps and _is_later(first, last, label))
         and (title or "", problem.author, problem.origins)
         == (first_title or "", run[0].author, run[0].origins)
-        and problem.number == run[-1].number + 1
+        and _are_lost_twins(first_title, range(run[-1].number + 1, problem.number), lost)
     )
 
 
@@ -213,14 +239,23 @@ def _is_later(first: Label, last: Label, label: Label) -> bool:
     return first.text == _FIRST_LABEL and not is_duplex and label.number > last.number
 
 
-def _joined_run(run: list[Problem], with_gaps: bool) -> Iterator[Exported]:
+def _joined_run(run: list[Problem], with_gaps: bool, lost: _Lost) -> Iterator[Exported]:
     whole = _whole(run)
     if whole is not None and _gives_back(whole, run):
         yield whole
+    elif len(run) == 1:
+        yield Exported(_without_lost_twins(run[0], lost))
     elif with_gaps:
-        yield from joined(run, False)
+        yield from _joined(run, False, lost)
     else:
         yield from map(Exported, run)
+
+
+def _without_lost_twins(problem: Problem, lost: _Lost) -> Problem:
+    """Returns the first of twins that are all left out, with the title that all of them have."""
+    title, label = label_and_title(problem.title)
+    is_alone = label.text == _FIRST_LABEL and _are_lost_twins(title, [problem.number + 1], lost)
+    return replace(problem, title=title or "") if is_alone else problem
 
 
 def _whole(run: list[Problem]) -> Optional[Exported]:

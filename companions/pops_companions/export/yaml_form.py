@@ -22,6 +22,8 @@ _MAN = re.compile(f"([{LETTERS}])((?:[a-h][1-8])+)")
 _SIGNS = re.compile("(.*?)([#+=]?)([!?]?)")
 # What Popeye prints after a first move in place of the line that a text of tries has below it.
 _MENACES = {"threat": " threat:", "zugzwang": " zugzwang.", "check": ""}
+# What Popeye prints after solutions that may not be all.
+PARTIAL = "Partial solution"
 
 
 def yaml_of(problems: Iterable[Exported], items: Mapping[int, SoundItem]) -> Iterator[str]:
@@ -190,7 +192,13 @@ def solution_lines(item: Optional[SoundItem]) -> list[str]:
                 lines.append(_line(line, _is_key(line, phase.kind.value, item)))
             else:
                 lines[-1] += menace
-    return lines
+    return [*lines, "", PARTIAL] if lines and item is not None and _is_partial(item) else lines
+
+
+def _is_partial(item: SoundItem) -> bool:
+    """Returns whether an item may have more solutions: its limit, or the user, stopped the search."""
+    totals = [phase.total for phase in item.phases or () if phase.is_possible]
+    return item.unfinished is not None or any(total is None or total.stopped for total in totals)
 
 
 def _is_key(line: str, phase: str, item: Optional[SoundItem]) -> bool:

@@ -19,6 +19,8 @@ from pops_companions.input.writing import pieces_line
 _MOST_REPEATED = 20
 # How much of a stipulation or a condition that pops doesn't know is repeated, for each twin.
 _MOST_QUOTED = 100
+# The label of the problem that twins are made of.
+_FIRST_LABEL = "a)"
 # The Remark of a problem with colours turned, by Duplex or HalfDuplex.
 COLOURS_TURNED = "duplex: colours turned round"
 # The Remark of the first twin, which the men follow, where all twins are made of a position that is none.
@@ -93,13 +95,24 @@ def posed(draft: Draft) -> list[Posed]:
         for part in _parts(version):
             made.append(_posed(said, part, is_first))
             is_first = is_first and not made[-1].lines
-    return made
+    return _without_lost_twins(made) if draft.first else made
+
+
+def _without_lost_twins(made: list[Posed]) -> list[Posed]:
+    """Returns the problems, where all but the first of twins are left out without its label."""
+    first, *twins = made
+    if first.label != _FIRST_LABEL or not first.lines or any(twin.lines for twin in twins):
+        return made
+    label = f" {_FIRST_LABEL}"
+    lines = [line[: -len(label)] if line.startswith("Title ") else line for line in first.lines]
+    own = [line for line in lines if line != "Title"]
+    return [Posed(first.label, first.line, own, first.notes, first.faults), *twins]
 
 
 def _versions(draft: Draft) -> Iterator[_Version]:
     """Yields the problem and its twins."""
     if draft.first:
-        label = "a)" if draft.twins else ""
+        label = _FIRST_LABEL if draft.twins else ""
         yield _Version(label, draft.line, draft.setting, draft.options)
     setting: Optional[Setting] = draft.setting
     for twin in draft.twins:

@@ -6,6 +6,7 @@ decided the tests of the part before it; and all runs end together.
 """
 
 import threading
+import time
 from collections import deque
 from collections.abc import Callable, Sequence
 from typing import Optional
@@ -19,6 +20,8 @@ class Batch:
     def __init__(self, parts: Sequence[Part]):
         self._left: deque[Part] = deque(parts)
         self._lock = threading.Lock()
+        # When work on the first part began.
+        self.since = time.monotonic()
 
     def __len__(self) -> int:
         return len(self._left)
@@ -42,6 +45,7 @@ class Batch:
     def pass_first(self) -> Part:
         """Removes the first part, which is done, and returns it."""
         with self._lock:
+            self.since = time.monotonic()
             return self._left.popleft()
 
     def half(self) -> list[Part]:
@@ -77,6 +81,7 @@ class Batches:
         while self._waiting:
             batch = self._waiting.popleft()
             if not is_needless(batch.first):
+                batch.since = time.monotonic()
                 self._running.append(batch)
                 return batch
         half = max(self._running, key=len).half() if self._running else []
@@ -84,6 +89,13 @@ class Batches:
             return None
         self._running.append(Batch(half))
         return self._running[-1]
+
+    @property
+    def seconds_at_work(self) -> list[float]:
+        """For how long the parts are at work that aren't done yet."""
+        now = time.monotonic()
+        # (a list: another thread may change them meanwhile)
+        return [now - batch.since for batch in list(self._running) if len(batch)]
 
     def end(self, batch: Batch) -> None:
         """Notes that the run of a batch ended."""

@@ -4,7 +4,7 @@ import os
 import sys
 import threading
 import time
-from collections.abc import Callable, Iterator
+from collections.abc import Callable, Iterator, Sequence
 from contextlib import contextmanager
 from typing import NamedTuple, Optional
 
@@ -14,8 +14,8 @@ SECONDS_ELSEWHERE = 30.0
 
 
 class HowFar(NamedTuple):
-    """How far a problem in parts is: the first moves that are done, of how many, its solutions, and
-    how many parts of all problems are left.
+    """How far a problem in parts is: the first moves that are done, of how many, its solutions, how
+    many parts of all problems are left, and for how many seconds those are at work that are known.
     """
 
     done: int
@@ -24,6 +24,11 @@ class HowFar(NamedTuple):
     is_exact: bool
     solutions: int
     parts_left: int
+    at_work: Sequence[float] = ()
+
+
+# How much longer a part takes that takes longer than others, of the time that it took so far.
+_SHARE_LEFT = 0.25
 
 
 def duration(seconds: float) -> str:
@@ -45,7 +50,7 @@ class Progress:
     def __init__(self, name: str):
         self._name = name
         self._before = self._done = self._total = 0
-        self._parts_before = self._parts_left = 0
+        self._parts_before = self._parts_left = self._most_at_work = 0
         # Makes the line of the problem in parts that got on last.
         self._line_of_parts: Optional[Callable[[float], str]] = None
         self._lock = threading.Lock()
@@ -113,6 +118,7 @@ class Progress:
     def begin_parts(self, left: int) -> None:
         """Begins to count the `left` parts of all problems in parts."""
         self._parts_before = self._parts_left = left
+        self._most_at_work = 0
         self._began = self._next = time.monotonic()
         if not self.is_shown:
             self._next += SECONDS_ELSEWHERE
@@ -140,10 +146,23 @@ class Progress:
         text += f", {now.solutions} solution{plural}"
         done = self._parts_before - now.parts_left
         if done > 0 and now.parts_left > 0:
-            text += f", about {duration(seconds / done * now.parts_left)} left"
+            text += f", about {duration(self._seconds_left(now, seconds))} left"
         elif now.parts_left > 0 and seconds >= 1:
             text += f", {duration(seconds)} so far"
         return text
+
+    def _seconds_left(self, now: HowFar, seconds: float) -> float:
+        """Returns how long the other parts take, if each takes as long as those that are done did: so
+        the time goes down from second to second while parts are at work.
+        """
+        done = self._parts_before - now.parts_left
+        if not now.at_work:
+            return seconds / done * now.parts_left
+        jobs = self._most_at_work = max(self._most_at_work, len(now.at_work))
+        each = max(seconds * jobs - sum(now.at_work), 0) / done
+        lacking = [max(each - it, it * _SHARE_LEFT) for it in now.at_work]
+        waiting = max(now.parts_left - len(lacking), 0)
+        return max((sum(lacking) + waiting * each) / jobs, *lacking)
 
     def _tell(self, line: Callable[[float], str], is_last: bool) -> None:
         """Writes a line, but where the one before is new."""

@@ -46,6 +46,8 @@ class Splitting:
         self._finish = finish
         self._problems: dict[int, SplitProblem] = {}
         self._failed: dict[int, tuple[Task, str]] = {}
+        # The parts that are handed out on this machine.
+        self._batches: Optional[Batches] = None
 
     @property
     def failed(self) -> list[tuple[Task, str]]:
@@ -122,7 +124,8 @@ class Splitting:
         def how_far() -> HowFar:
             done, moves = problem.first_moves
             left = self._parts_left()
-            return HowFar(done, moves, problem.is_by_first_moves, problem.found, left)
+            at_work = self._batches.seconds_at_work if self._batches is not None else ()
+            return HowFar(done, moves, problem.is_by_first_moves, problem.found, left, at_work)
 
         self._progress.part(problem.task.shown, how_far)
 
@@ -163,6 +166,7 @@ class Splitting:
 
     def _run_here(self, parts: Sequence[Part], jobs: int) -> None:
         batches = Batches(parts, lambda part: self._problems[part.task.place].is_limited)
+        self._batches = batches
         came: "SimpleQueue[Union[Came, Future[None]]]" = SimpleQueue()
         try:
             with ThreadPoolExecutor(jobs) as pool:
