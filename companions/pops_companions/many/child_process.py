@@ -73,7 +73,7 @@ class ChildProcess:
         output: Stream = subprocess.PIPE,
     ):
         """Starts the program. OSError where it can't be started."""
-        watched, self._held = _pipe()
+        watched, self._held = pipe_of_others()
         try:
             self.run = subprocess.Popen(
                 [_plain(words[0]), *words[1:]],
@@ -85,9 +85,7 @@ class ChildProcess:
                 pass_fds=(watched,),
                 start_new_session=True,
             )
-            fcntl.fcntl(watched, fcntl.F_SETOWN, -self.run.pid)
-            fcntl.fcntl(watched, fcntl.F_SETSIG, signal.SIGKILL)
-            fcntl.fcntl(watched, fcntl.F_SETFL, os.O_ASYNC)
+            killed_with_holder(watched, -self.run.pid)
         except BaseException:
             os.close(self._held)
             raise
@@ -203,7 +201,16 @@ class ChildProcess:
         os.close(self._held)
 
 
-def _pipe() -> tuple[int, int]:
+def killed_with_holder(watched: int, process: int) -> None:
+    """Lets the kernel kill a process, or the group of a negative number, once nobody holds the writing end
+    of a pipe.
+    """
+    fcntl.fcntl(watched, fcntl.F_SETOWN, process)
+    fcntl.fcntl(watched, fcntl.F_SETSIG, signal.SIGKILL)
+    fcntl.fcntl(watched, fcntl.F_SETFL, os.O_ASYNC)
+
+
+def pipe_of_others() -> tuple[int, int]:
     """Returns the ends of a pipe. The reading one isn't 0, 1 or 2, which are free where a standard stream
     is closed: a program that is started has its own streams there.
     """
