@@ -24,11 +24,8 @@ from pops_companions.review.judgement_text import (
     csv_line,
 )
 from pops_companions.review.posing import posed_problems
-from pops_companions.review.reading import (
-    refused_as_device,
-    reviewed_unfinished_report,
-    tries_of_file,
-)
+from pops_companions.review.kept_tries import kept_tries
+from pops_companions.review.reading import refused_as_device, reviewed_unfinished_report
 
 NAME = "pops-test"
 
@@ -152,14 +149,14 @@ def pose(file: Optional[str], output: Optional[str]) -> None:
 
 def test(settings: Settings) -> Status:
     """Judges a report and writes what was found."""
-    tries = tries_of_file(settings.tries)
-    beside = Beside(NAME, settings.solutions, settings.input, settings.short, tries)
     tally = Tally()
-    with opened_texts(settings, beside, tally) as texts:
-        with command.written(settings.output) as target:
-            for text in texts:
-                target.write(text)
-                target.flush()
+    with kept_tries(settings.tries) as tries:
+        beside = Beside(NAME, settings.solutions, settings.input, settings.short, tries)
+        with opened_texts(settings, beside, tally) as texts:
+            with command.written(settings.output) as target:
+                for text in texts:
+                    target.write(text)
+                    target.flush()
     return Status.GOOD if tally.all_sound else Status.FAULTY
 
 

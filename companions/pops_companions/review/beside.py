@@ -1,6 +1,6 @@
 """What is known of the problems of a report beside it: wanted numbers, short solutions, tries."""
 
-from collections.abc import Iterator, Mapping
+from collections.abc import Iterator
 from dataclasses import dataclass
 from typing import NoReturn, Optional
 
@@ -8,8 +8,9 @@ from pops_companions.chess.stipulation import Play
 from pops_companions.command import CommandError, Status
 from pops_companions.input.given import GivenProblem
 from pops_companions.input.given_source import read_given
-from pops_companions.report.items import AnyItem, SoundItem
+from pops_companions.report.items import AnyItem, FaultyItem, SoundItem
 from pops_companions.report.tries import TriesItem
+from pops_companions.review.kept_tries import KnownTries
 from pops_companions.review.judging import Judgement, judged, missing
 from pops_companions.review.posing import AnswersError, ShortAnswers
 from pops_companions.review.reading import reviewed_unfinished_report
@@ -35,7 +36,7 @@ class Beside:
         solutions: int,
         input_file: Optional[str],
         short_file: Optional[str],
-        tries: Mapping[int, TriesItem],
+        tries: KnownTries,
     ):
         """Reads both. `solutions` are wanted in help play where the input says nothing.
 
@@ -120,6 +121,9 @@ class Beside:
 
     def _tries_of(self, item: SoundItem) -> Optional[TriesItem]:
         tries = self._tries.get(item.number)
+        if isinstance(tries, FaultyItem):
+            message = f"the text of tries calls problem {item.number} faulty, and the report sound"
+            raise CommandError(Status.DEVICE, message)
         if tries is not None:
             boards = {tries.board, item.board} - {None}
             theirs, ours = (tries.stipulation, tries.condition), (item.stipulation, item.condition)

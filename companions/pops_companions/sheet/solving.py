@@ -90,8 +90,9 @@ def _take(
         late.append(number)
         return
     for item in read_tries(io.BytesIO(text)):
-        if isinstance(item, TriesItem):
-            found[number] = replace(item, number=number)
+        if not isinstance(item, TriesItem):
+            raise RunError(f"problem {number}: pops-tries calls it faulty, and pops sound")
+        found[number] = replace(item, number=number)
 
 
 def _marked(result: Result) -> bytes:
