@@ -41,10 +41,10 @@ _PIECE = 1 << 16
 
 
 class OutputError(OSError):
-    """A program writes more than is kept in memory, and was ended."""
+    """A program writes more than is kept, in memory or in a file, and was ended."""
 
-    def __init__(self) -> None:
-        super().__init__(errno.EFBIG, wrote_more(MOST_OUTPUT))
+    def __init__(self, most: Optional[int] = None) -> None:
+        super().__init__(errno.EFBIG, wrote_more(MOST_OUTPUT if most is None else most))
 
 
 def wrote_more(most: int) -> str:
@@ -53,12 +53,56 @@ def wrote_more(most: int) -> str:
 
 
 class Outcome(NamedTuple):
-    """How a program ended, what it wrote and what it said; whether it ended in its time."""
+    """How a program ended, what it wrote and what it said; whether it ended in its time.
+
+    Output that is too long for memory is in a file without a name.
+    """
 
     status: int
     output: bytes
     errors: bytes
     in_time: bool
+    spooled: Optional[IO[bytes]] = None
+
+
+class _Output:
+    """What a program writes: in memory, and a longer one that begins as expected in a file."""
+
+    def __init__(self, spooled_if: Optional[bytes]):
+        """Without an expected beginning, none is in a file."""
+        self._spooled_if = spooled_if
+        self._memory = io.BytesIO()
+        self._size = 0
+        self.file: Optional[IO[bytes]] = None
+
+    def write(self, piece: bytes) -> None:
+        """OutputError where it is more than is kept; OSError where the file can't be written."""
+        (self.file or self._memory).write(piece)
+        self._size += len(piece)
+        if self._size > MOST_OUTPUT and self.file is None:
+            self._spool()
+        if self._size > MOST_SPOOLED:
+            raise OutputError(MOST_SPOOLED)
+
+    def _spool(self) -> None:
+        begun = self._memory.getbuffer()
+        expected = self._spooled_if
+        if expected is None or begun[: len(expected)] != expected:
+            raise OutputError
+        # (loaded only by runs that need it)
+        import tempfile
+
+        self.file = tempfile.TemporaryFile()
+        self.file.write(begun)
+        begun.release()
+        self._memory = io.BytesIO()
+
+    def value(self) -> bytes:
+        """Returns what is in memory, and lets the file be read."""
+        if self.file is not None:
+            self.file.flush()
+        # (a text that isn't shared takes no second copy)
+        return self._memory.getvalue()
 
 
 class ChildProcess:
@@ -92,15 +136,21 @@ class ChildProcess:
         finally:
             os.close(watched)
 
-    def outcome(self, text: Optional[bytes], seconds: Optional[float] = None) -> Outcome:
+    def outcome(
+        self,
+        text: Optional[bytes],
+        seconds: Optional[float] = None,
+        spooled_if: Optional[bytes] = None,
+    ) -> Outcome:
         """Feeds the program and waits for its end. After `seconds`, or if the wait is broken off, it
-        is ended. OutputError where it writes too much.
+        is ended. OutputError where it writes too much: more than memory takes, if it doesn't begin with
+        `spooled_if`.
         """
         until = None
         if seconds is not None:
             self.limit(seconds)
             until = time.monotonic() + seconds
-        output, errors = io.BytesIO(), io.BytesIO()
+        output, errors = _Output(spooled_if), io.BytesIO()
         try:
             if self.run.stdin is not None:
                 self.feed(text or b"")
@@ -112,8 +162,8 @@ class ChildProcess:
                 if not in_time:
                     self.send(signal.SIGKILL)
                     self._take(streams, output, None)
-            # (a text that isn't shared takes no second copy)
-            return Outcome(self.run.returncode, output.getvalue(), errors.getvalue(), in_time)
+            written, said = output.value(), errors.getvalue()
+            return Outcome(self.run.returncode, written, said, in_time, output.file)
         except BaseException:
             self.send(signal.SIGKILL)
             self.run.wait()
@@ -125,7 +175,7 @@ class ChildProcess:
             self.release()
 
     def _take(
-        self, streams: selectors.BaseSelector, output: io.BytesIO, until: Optional[float]
+        self, streams: selectors.BaseSelector, output: _Output, until: Optional[float]
     ) -> bool:
         """Takes what the program writes until it has ended, or until its time is over; returns whether
         it has ended.
@@ -144,8 +194,6 @@ class ChildProcess:
                     streams.unregister(key.fileobj)
                 elif kept is not output:
                     kept.write(piece[: MOST_SAID - kept.tell()])
-                elif kept.tell() + len(piece) > MOST_OUTPUT:
-                    raise OutputError
                 else:
                     kept.write(piece)
         return False
