@@ -62,7 +62,9 @@ class Floods(unittest.TestCase):
         words = [str(self.room / "in.pop"), "--pops", support.pops(), "--index", str(table)]
         with mock.patch("pops_companions.many.child_process.MOST_OUTPUT", LEAST):
             with mock.patch("pops_companions.many.bundle_run._MOST_WRITTEN", LEAST):
-                self.assertEqual(run_here.companion("pops-many", *words), (0, report, ""))
+                outcome = run_here.companion("pops-many", *words)
+                self.assertEqual((outcome.error, outcome.status), ("", 0))
+                self.assertEqual(outcome.output, report)
                 with mock.patch("pops_companions.many.child_process.MOST_SPOOLED", 2 * LEAST):
                     outcome = run_here.companion("pops-many", *words, "-o", str(self.room / "out"))
         self.assertEqual(outcome.status, 6)

@@ -204,7 +204,8 @@ class Journal:
         return True
 
     def keep(self, result: Result) -> None:
-        """Adds a report; it takes the place of an unfinished one of the same problem."""
+        """Adds a report; it takes the place of an unfinished one of the same problem. Its file is closed.
+        """
         place, report = result.task.place, _report_of(result)
         if result.tasks > 1:
             head = b"tasks %d number %d status %d" % (place, result.tasks, result.status)
@@ -213,6 +214,8 @@ class Journal:
             head = b"task %d status %d%s" % (place, result.status, seconds)
         start, length = self._add(head, report)
         self._note(place, Kept(result.status, result.seconds, start, length, result.tasks))
+        if result.spooled is not None:
+            result.spooled.close()
 
     def keep_part(self, part: "Part", report: bytes) -> None:
         """Adds the report of a part."""
