@@ -11,6 +11,8 @@ const TEXT_FIELDS = ['title', 'author', 'origin'];
 const TEXT_LINES = ['title', 'author', 'origin', 'remark'];
 const COMMANDS = ['beginproblem', 'pieces', 'stipulation', 'condition', 'option', 'nextproblem', 'endproblem',
   ...TEXT_LINES];
+// A man of each square.
+const LONGEST_MEN = 1 + 2 * 64;
 export const FLAGS = ['SetPlay', 'Variation', 'NoBoard'];
 export const VALUES = ['MaxSolutions', 'EnPassant', 'NoCastling'];
 export const CONDITIONS = ['Circe', 'Madrasi'];
@@ -191,7 +193,9 @@ function readMen(word, colour, found) {
   const letters = word.toLowerCase();
   if ('white'.startsWith(letters)) return 'w';
   if ('black'.startsWith(letters)) return 'b';
-  const squares = MAN_WORD.test(letters) ? letters.slice(1).match(/../g) ?? [] : [];
+  // (the pattern needs the stack for each square)
+  const isMen = letters.length <= LONGEST_MEN && MAN_WORD.test(letters);
+  const squares = isMen ? letters.slice(1).match(/../g) ?? [] : [];
   const isTwice = squares.some((square, index) => found.men.has(square) || squares.indexOf(square) < index);
   if (!colour || !squares.length || isTwice) found.unknown.push(word);
   else for (const square of squares) found.men.set(square, colour + letters[0].toUpperCase());

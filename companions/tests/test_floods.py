@@ -1,5 +1,6 @@
 """Programs that write more than is kept in memory: they are ended, and reports in files aren't."""
 
+import errno
 import tempfile
 import unittest
 from pathlib import Path
@@ -12,6 +13,7 @@ from pops_companions.many.parts import Part
 from pops_companions.many.program import RunError
 from pops_companions.many.tasks import Source, tasks_of
 from tests import run_here, support
+from tests.shown_limit import limit_when_shown, shown
 
 MATE = b"BeginProblem\nPieces White Kg6 Ra1 Black Kg8\nStipulation #1\nEndProblem\n"
 LEAST = 1 << 12
@@ -45,6 +47,53 @@ class Floods(unittest.TestCase):
             outcome = run_here.companion("pops-many", *words)
         self.assertEqual(outcome.status, 6)
         self.assertIn("pops was ended: it wrote more than ", outcome.error)
+
+    def long_problem(self) -> bytes:
+        """Two problems, the second with a long report."""
+        pieces = b"Pieces White Kc3 Qd5 Rb2 Sb4 Black Ka8 Sh1 Bg1\nStipulation h#3\n"
+        return MATE.replace(b"EndProblem", b"NextProblem") + pieces + b"EndProblem\n"
+
+    def test_a_problem_may_have_a_longer_report_than_memory_takes(self) -> None:
+        text = self.long_problem()
+        (self.room / "in.pop").write_bytes(text)
+        report = support.run([support.pops()], text).output
+        self.assertGreater(len(report), 2 * LEAST)
+        table = self.room / "table"
+        words = [str(self.room / "in.pop"), "--pops", support.pops(), "--index", str(table)]
+        with mock.patch("pops_companions.many.child_process.MOST_OUTPUT", LEAST):
+            with mock.patch("pops_companions.many.bundle_run._MOST_WRITTEN", LEAST):
+                outcome = run_here.companion("pops-many", *words)
+                self.assertEqual((outcome.error, outcome.status), ("", 0))
+                self.assertEqual(outcome.output, report)
+                with mock.patch("pops_companions.many.child_process.MOST_SPOOLED", 2 * LEAST):
+                    outcome = run_here.companion("pops-many", *words, "-o", str(self.room / "out"))
+        self.assertEqual(outcome.status, 6)
+        self.assertIn("problem 2", outcome.error)
+        self.assertIn("pops was ended: it wrote more than ", outcome.error)
+
+    def test_a_long_report_that_is_stopped(self) -> None:
+        """It is kept up to its last whole line."""
+        lines = b"1.Ra1-a2\n" * LEAST
+        (self.room / "begun").write_bytes(b"problem 1\n#2\nplay\n" + lines + b"1.Ra1")
+        out = self.room / "out"
+        program = self.script(f"cat '{self.room}/begun'; {shown(self.room)}; exec sleep 6000")
+        words = [str(self.room / "in.pop"), "-o", str(out), "--pops", program, "--seconds", "3"]
+        with mock.patch("pops_companions.many.child_process.MOST_OUTPUT", LEAST):
+            with limit_when_shown(self.room):
+                self.assertEqual(run_here.companion("pops-many", *words).status, 6)
+        kept = (self.room / "out.unfinished").read_bytes()
+        self.assertTrue(kept.startswith(b"problem 1\n#2\nplay\n" + lines + b"unfinished: "))
+
+    def test_no_room_for_a_long_report(self) -> None:
+        (self.room / "in.pop").write_bytes(self.long_problem())
+        words = [str(self.room / "in.pop"), "-o", str(self.room / "out"), "--pops", support.pops()]
+        full = OSError(errno.ENOSPC, "No space left on device")
+        with mock.patch("pops_companions.many.child_process.MOST_OUTPUT", LEAST):
+            with mock.patch("pops_companions.many.bundle_run._MOST_WRITTEN", LEAST):
+                with mock.patch("tempfile.TemporaryFile", side_effect=full):
+                    outcome = run_here.companion("pops-many", *words)
+        self.assertEqual(outcome.status, 6)
+        self.assertIn("pops was ended: No space left on device", outcome.error)
 
     def test_a_file_left_to_pops_may_have_a_longer_report(self) -> None:
         text = b"BeginProblem\n" + b"NextProblem\n".join([MATE[13:-11]] * 200) + b"EndProblem\n"

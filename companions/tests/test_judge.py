@@ -306,6 +306,47 @@ class Judging(unittest.TestCase):
                 self.assertEqual((again.status, again.error), (0, ""))
                 self.assertIn("1.Ra8#!", self.articles()[0].words)
 
+    def test_a_problem_that_only_the_program_of_tries_calls_faulty(self) -> None:
+        tries = self.script("tries", f"cat > /dev/null\nprintf '{TRIES_OF_ONE}'\n")
+        fault = "problem 1\\nline 3: fault 10: bad stipulation\\n\\n"
+        lies = self.script("lies", f"cat > /dev/null\nprintf '{fault}'\nexit 1\n")
+        outcome = self.judged("--pops-tries", lies)
+        self.assertEqual(outcome.status, 6)
+        self.assertIn("problem 1: pops-tries calls it faulty, and pops sound: its tries", outcome.error)
+        again = self.judged("--resume", "--pops-tries", tries)
+        self.assertEqual((again.status, again.error), (0, ""))
+        self.assertIn("1.Ra8#!", self.articles()[0].words)
+
+    def test_a_mark_that_was_changed_is_not_believed(self) -> None:
+        work = self.unfinished()
+        mark = work / "pops-judge.mark"
+        whole, before = mark.read_bytes(), sorted(it.name for it in work.iterdir())
+        for place in range(0, len(whole), 7):
+            mark.write_bytes(whole[:place] + bytes([whole[place] ^ 1]) + whole[place + 1 :])
+            outcome = self.judged("--resume")
+            self.assertEqual((outcome.status, outcome.output), (2, b""))
+            self.assertIn("has a mark that was changed", outcome.error)
+            self.assertEqual(sorted(it.name for it in work.iterdir()), before)
+        mark.write_bytes(whole)
+        self.text.write_bytes(ONE + TWO)
+        self.assertIn("is of another text", self.judged("--resume").error)
+
+    def test_what_was_kept_for_another_text_is_not_believed(self) -> None:
+        work = self.unfinished()
+        report = b"problem 1\n#1\nplay\n1.Ra1-a7#\n1.Ra1-a8#\nsolutions: 2\n\n"
+        other = WorkFolder(self.room / "other")
+        other.begin(b"another text", False)
+        for name in ("solutions.report", "short.report"):
+            (other.path / name).write_bytes(report)
+            other.seal(other.path / name)
+            self.assertTrue(other.is_sealed(other.path / name))
+            for end in ("", ".sum"):
+                (work / f"{name}{end}").write_bytes((other.path / f"{name}{end}").read_bytes())
+            (work / f"{name}.journal").unlink(missing_ok=True)
+        outcome = self.judged("--resume")
+        self.assertEqual((outcome.status, outcome.error), (0, ""))
+        self.assertIn("problem 1: sound", outcome.output.decode())
+
     def test_a_folder_that_cannot_be_locked(self) -> None:
         refused = OSError(errno.ENOLCK, "No locks available")
         with mock.patch("fcntl.flock", side_effect=refused):

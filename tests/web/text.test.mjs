@@ -34,6 +34,13 @@ test('text: men and fields of a problem', () => {
   assert.equal(blockAt(TEXT, 20).number, 1);
 });
 
+test('text: a word of millions of letters is no men', () => {
+  const word = `k${'a1'.repeat(4_000_000)}`;
+  assert.deepEqual(menOf(blockAt(`BeginProblem Pieces White ${word} Kb1 EndProblem`, 0)), {
+    men: men('wKb1'), parts: [{ from: 13, to: 13 + 12 + word.length + 5 }], unknown: [word],
+  });
+});
+
 test('text: a change leaves the rest as it is', () => {
   assert.equal(withMen(TEXT, 0, men('wKa1')), TEXT.replace('White Kg6 Ra1 Black Kg8', 'White Ka1'));
   assert.equal(withField(TEXT, 0, 'Stipulation', 'h#2'), TEXT.replace('#1', 'h#2'));

@@ -99,9 +99,10 @@ class Square(NamedTuple):
     @staticmethod
     def of_name(name: str) -> "Square":
         """Returns the square of a name from a1 to h8. ValueError for any other text."""
-        if len(name) != 2 or name[0] not in "abcdefgh" or name[1] not in "12345678":
+        square = _SQUARES.get(name)
+        if square is None:
             raise ValueError(f"not a square: {name!r}")
-        return Square("abcdefgh".index(name[0]) + 1, int(name[1]))
+        return square
 
     @staticmethod
     def of_diagram() -> "Iterator[Square]":
@@ -110,4 +111,5 @@ class Square(NamedTuple):
 
 
 _MEN = {man.letter: man for man in (Man(colour, kind) for colour in Colour for kind in Kind)}
+_SQUARES = {square.name: square for square in (Square(file, rank) for file in range(1, 9) for rank in range(1, 9))}
 _DIAGRAM = [Square(file, rank) for rank in range(8, 0, -1) for file in range(1, 9)]

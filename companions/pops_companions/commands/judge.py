@@ -147,6 +147,7 @@ def judge(settings: Settings) -> Status:
     ) as items:
         judgements = beside.judgements(map(work.renamed, items))
         judged = list(judged_groups(judgements, given, settings.encoding, settings.apart))
+    work.compare(twin.item for one in judged for twin in one.judgements)
     heading = settings.heading or Path(name).stem
     evidence = Evidence(boards_of(text), tries, settings.encoding, most)
     page = sheet(tally.counted(judged), tally, heading, evidence)

@@ -18,7 +18,7 @@ from pops_companions.many import sessions
 from pops_companions.many.child_process import ChildProcess, Outcome
 from pops_companions.many.program import LOOKED_FOR, MissingError, find
 from pops_companions.many.tries_program import TRIES_LOOKED_FOR, TriesProgram, find_tries
-from pops_companions.report.items import AnyItem, Board, HeadlessItem, SoundItem
+from pops_companions.report.items import AnyItem, Board, FaultyItem, HeadlessItem, SoundItem
 from pops_companions.report.reader import ReportError, read_unfinished_report
 from pops_companions.report.source import warn_of_names
 from pops_companions.report.tries import TriesItem, read_tries
@@ -198,6 +198,11 @@ class Texts:
             found = list(read_tries(io.BytesIO(command.read_all(named))))
         except ReportError as error:
             self._refuse(named or "the output of pops-tries", "no text of pops-tries", error)
+        sound = {item.number for item in items if isinstance(item, SoundItem)}
+        for item in found:
+            if isinstance(item, FaultyItem) and item.number in sound:
+                message = f"{named} calls problem {item.number} faulty, and the report sound"
+                raise CommandError(Status.DEVICE, message)
         return {item.number: item for item in found if isinstance(item, TriesItem)}
 
     def _solved_tries(self, items: list[AnyItem]) -> dict[int, TriesItem]:

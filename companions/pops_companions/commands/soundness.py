@@ -1,15 +1,19 @@
 """Says which problems of a report of pops are sound, and what is wrong with the others."""
 
 import argparse
-from collections.abc import Iterator
+from collections.abc import Callable, Iterator
+from contextlib import contextmanager
+from functools import partial
 from typing import Optional
 
 from pops_companions import command
 from pops_companions.command import CommandError, Status
 from pops_companions.input.given_source import read_given
 from pops_companions.input.writing import text_of_problems
+from pops_companions.report.source import NamedText, unfinished_beside
 from pops_companions.review.beside import Beside
-from pops_companions.review.judged_groups import JudgedGroup, judged_groups
+from pops_companions.review.judged_groups import JudgedGroup
+from pops_companions.review.judged_report import Form, JudgedReport
 from pops_companions.review.judgement_page import page
 from pops_companions.review.judgement_text import (
     COLUMNS,
@@ -20,7 +24,8 @@ from pops_companions.review.judgement_text import (
     csv_line,
 )
 from pops_companions.review.posing import posed_problems
-from pops_companions.review.reading import reviewed_unfinished_report, tries_of_file
+from pops_companions.review.kept_tries import kept_tries
+from pops_companions.review.reading import refused_as_device, reviewed_unfinished_report
 
 NAME = "pops-test"
 
@@ -144,40 +149,61 @@ def pose(file: Optional[str], output: Optional[str]) -> None:
 
 def test(settings: Settings) -> Status:
     """Judges a report and writes what was found."""
-    tries = tries_of_file(settings.tries)
-    beside = Beside(NAME, settings.solutions, settings.input, settings.short, tries)
     tally = Tally()
-    most = None if settings.all else MOST_LINES
-    with reviewed_unfinished_report(
-        NAME, settings.text, settings.unfinished, settings.encoding
-    ) as items:
-        judgements = beside.judgements(items)
-        apart = settings.apart or settings.csv
-        judged = judged_groups(judgements, beside.given, settings.encoding, apart)
-        with command.written(settings.output) as target:
-            for text in texts(tally.counted(judged), tally, settings, most):
-                target.write(text.encode("utf-8", "replace"))
-                target.flush()
+    with kept_tries(settings.tries) as tries:
+        beside = Beside(NAME, settings.solutions, settings.input, settings.short, tries)
+        with opened_texts(settings, beside, tally) as texts:
+            with command.written(settings.output) as target:
+                for text in texts:
+                    target.write(text)
+                    target.flush()
     return Status.GOOD if tally.all_sound else Status.FAULTY
 
 
-def texts(
-    judged: Iterator[JudgedGroup],
-    tally: Tally,
+@contextmanager
+def opened_texts(
+    settings: Settings, beside: Beside, tally: Tally
+) -> Iterator[Iterator[bytes]]:
+    """Opens the report, and yields what is written, piece by piece: text and CSV problem by problem."""
+    file, encoding = settings.text, settings.encoding
+    named = NamedText(NAME, file or "standard input", encoding)
+    report = JudgedReport(named, beside, form_of(settings), tally)
+    if unfinished_beside(file, settings.unfinished) is None:
+        with refused_as_device(), command.opened(file) as source:
+            groups, texts = partial(report.groups, source), partial(report.texts, source)
+            yield texts_of(settings, tally, groups, texts)
+        return
+    with reviewed_unfinished_report(NAME, file, settings.unfinished, encoding) as items:
+        groups = partial(report.groups_of, items)
+        yield texts_of(settings, tally, groups, lambda: report.texts_of(groups()))
+
+
+def form_of(settings: Settings) -> Form:
+    """Returns how each problem is shown."""
+    encoding = settings.encoding
+    if settings.csv:
+        return Form(encoding, True, lambda one: as_csv(one.judgements[0], encoding))
+    most = None if settings.all else MOST_LINES
+    return Form(encoding, settings.apart, lambda one: as_text(one, encoding, most))
+
+
+def texts_of(
     settings: Settings,
-    most: Optional[int],
-) -> Iterator[str]:
-    """Yields what is written, piece by piece: text and CSV problem by problem."""
+    tally: Tally,
+    groups: Callable[[], Iterator[JudgedGroup]],
+    texts: Callable[[], Iterator[bytes]],
+) -> Iterator[bytes]:
+    """Yields what is written of problems, which are judged alone or as texts."""
     if settings.page:
-        yield page(judged, tally, settings.heading, settings.encoding, most)
-    elif settings.csv:
-        yield csv_line(COLUMNS)
-        for one in judged:
-            yield as_csv(one.judgements[0], settings.encoding)
-    else:
-        for one in judged:
-            yield as_text(one, settings.encoding, most)
-        yield tally.text + "\n"
+        most = None if settings.all else MOST_LINES
+        text = page(groups(), tally, settings.heading, settings.encoding, most)
+        yield text.encode("utf-8", "replace")
+        return
+    if settings.csv:
+        yield csv_line(COLUMNS).encode("ascii")
+    yield from texts()
+    if not settings.csv:
+        yield tally.text.encode("ascii") + b"\n"
 
 
 def main(words: list[str]) -> Status:

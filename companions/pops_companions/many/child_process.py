@@ -41,10 +41,10 @@ _PIECE = 1 << 16
 
 
 class OutputError(OSError):
-    """A program writes more than is kept in memory, and was ended."""
+    """A program writes more than is kept, in memory or in a file, and was ended."""
 
-    def __init__(self) -> None:
-        super().__init__(errno.EFBIG, wrote_more(MOST_OUTPUT))
+    def __init__(self, most: Optional[int] = None) -> None:
+        super().__init__(errno.EFBIG, wrote_more(MOST_OUTPUT if most is None else most))
 
 
 def wrote_more(most: int) -> str:
@@ -53,12 +53,56 @@ def wrote_more(most: int) -> str:
 
 
 class Outcome(NamedTuple):
-    """How a program ended, what it wrote and what it said; whether it ended in its time."""
+    """How a program ended, what it wrote and what it said; whether it ended in its time.
+
+    Output that is too long for memory is in a file without a name.
+    """
 
     status: int
     output: bytes
     errors: bytes
     in_time: bool
+    spooled: Optional[IO[bytes]] = None
+
+
+class _Output:
+    """What a program writes: in memory, and a longer one that begins as expected in a file."""
+
+    def __init__(self, spooled_if: Optional[bytes]):
+        """Without an expected beginning, none is in a file."""
+        self._spooled_if = spooled_if
+        self._memory = io.BytesIO()
+        self._size = 0
+        self.file: Optional[IO[bytes]] = None
+
+    def write(self, piece: bytes) -> None:
+        """OutputError where it is more than is kept; OSError where the file can't be written."""
+        (self.file or self._memory).write(piece)
+        self._size += len(piece)
+        if self._size > MOST_OUTPUT and self.file is None:
+            self._spool()
+        if self._size > MOST_SPOOLED:
+            raise OutputError(MOST_SPOOLED)
+
+    def _spool(self) -> None:
+        begun = self._memory.getbuffer()
+        expected = self._spooled_if
+        if expected is None or begun[: len(expected)] != expected:
+            raise OutputError
+        # (loaded only by runs that need it)
+        import tempfile
+
+        self.file = tempfile.TemporaryFile()
+        self.file.write(begun)
+        begun.release()
+        self._memory = io.BytesIO()
+
+    def value(self) -> bytes:
+        """Returns what is in memory, and lets the file be read."""
+        if self.file is not None:
+            self.file.flush()
+        # (a text that isn't shared takes no second copy)
+        return self._memory.getvalue()
 
 
 class ChildProcess:
@@ -73,7 +117,7 @@ class ChildProcess:
         output: Stream = subprocess.PIPE,
     ):
         """Starts the program. OSError where it can't be started."""
-        watched, self._held = _pipe()
+        watched, self._held = pipe_of_others()
         try:
             self.run = subprocess.Popen(
                 [_plain(words[0]), *words[1:]],
@@ -85,24 +129,28 @@ class ChildProcess:
                 pass_fds=(watched,),
                 start_new_session=True,
             )
-            fcntl.fcntl(watched, fcntl.F_SETOWN, -self.run.pid)
-            fcntl.fcntl(watched, fcntl.F_SETSIG, signal.SIGKILL)
-            fcntl.fcntl(watched, fcntl.F_SETFL, os.O_ASYNC)
+            killed_with_holder(watched, -self.run.pid)
         except BaseException:
             os.close(self._held)
             raise
         finally:
             os.close(watched)
 
-    def outcome(self, text: Optional[bytes], seconds: Optional[float] = None) -> Outcome:
+    def outcome(
+        self,
+        text: Optional[bytes],
+        seconds: Optional[float] = None,
+        spooled_if: Optional[bytes] = None,
+    ) -> Outcome:
         """Feeds the program and waits for its end. After `seconds`, or if the wait is broken off, it
-        is ended. OutputError where it writes too much.
+        is ended. OutputError where it writes too much: more than memory takes, if it doesn't begin with
+        `spooled_if`.
         """
         until = None
         if seconds is not None:
             self.limit(seconds)
             until = time.monotonic() + seconds
-        output, errors = io.BytesIO(), io.BytesIO()
+        output, errors = _Output(spooled_if), io.BytesIO()
         try:
             if self.run.stdin is not None:
                 self.feed(text or b"")
@@ -114,8 +162,8 @@ class ChildProcess:
                 if not in_time:
                     self.send(signal.SIGKILL)
                     self._take(streams, output, None)
-            # (a text that isn't shared takes no second copy)
-            return Outcome(self.run.returncode, output.getvalue(), errors.getvalue(), in_time)
+            written, said = output.value(), errors.getvalue()
+            return Outcome(self.run.returncode, written, said, in_time, output.file)
         except BaseException:
             self.send(signal.SIGKILL)
             self.run.wait()
@@ -127,7 +175,7 @@ class ChildProcess:
             self.release()
 
     def _take(
-        self, streams: selectors.BaseSelector, output: io.BytesIO, until: Optional[float]
+        self, streams: selectors.BaseSelector, output: _Output, until: Optional[float]
     ) -> bool:
         """Takes what the program writes until it has ended, or until its time is over; returns whether
         it has ended.
@@ -146,8 +194,6 @@ class ChildProcess:
                     streams.unregister(key.fileobj)
                 elif kept is not output:
                     kept.write(piece[: MOST_SAID - kept.tell()])
-                elif kept.tell() + len(piece) > MOST_OUTPUT:
-                    raise OutputError
                 else:
                     kept.write(piece)
         return False
@@ -203,7 +249,16 @@ class ChildProcess:
         os.close(self._held)
 
 
-def _pipe() -> tuple[int, int]:
+def killed_with_holder(watched: int, process: int) -> None:
+    """Lets the kernel kill a process, or the group of a negative number, once nobody holds the writing end
+    of a pipe.
+    """
+    fcntl.fcntl(watched, fcntl.F_SETOWN, process)
+    fcntl.fcntl(watched, fcntl.F_SETSIG, signal.SIGKILL)
+    fcntl.fcntl(watched, fcntl.F_SETFL, os.O_ASYNC)
+
+
+def pipe_of_others() -> tuple[int, int]:
     """Returns the ends of a pipe. The reading one isn't 0, 1 or 2, which are free where a standard stream
     is closed: a program that is started has its own streams there.
     """

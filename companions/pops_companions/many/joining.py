@@ -1,7 +1,7 @@
 """Joins the reports in the order of the problems: on standard output, in a file, in many files."""
 
 import os
-from collections.abc import Callable, Sequence
+from collections.abc import Callable, Iterator, Sequence
 from typing import BinaryIO, NamedTuple, Optional
 
 from pops_companions.many.journal import Journal, Kept
@@ -108,7 +108,7 @@ class Joined:
                 continue
             with report.unfinished.opened() as file:
                 for task in tasks:
-                    file.write(self._marked(task))
+                    file.writelines(self._marked(task))
             written.append(report.unfinished.path)
         return written
 
@@ -118,14 +118,16 @@ class Joined:
             return False
         return self._journal.has_unfinished(place) or self.in_parts(place) is not None
 
-    def _marked(self, task: Task) -> bytes:
-        """Returns the lines of an unfinished problem, with a last line that says so."""
+    def _marked(self, task: Task) -> Iterator[bytes]:
+        """Yields the lines of an unfinished problem, with a last line that says so."""
         known = self.in_parts(task.place)
         if known is None:
-            seconds = self._journal.kept[task.place].seconds
-            known = self._journal.report(task.place), f"stopped after {seconds:g} s"
-        text, how_far = known
-        return text + lines.UNFINISHED + os.fsencode(f"{how_far} ({task.where})\n\n")
+            yield from self._journal.pieces(task.place)
+            how_far = f"stopped after {self._journal.kept[task.place].seconds:g} s"
+        else:
+            text, how_far = known
+            yield text
+        yield lines.UNFINISHED + os.fsencode(f"{how_far} ({task.where})\n\n")
 
 
 def write_index(target: Target, tasks: Tasks, journal: Journal) -> None:

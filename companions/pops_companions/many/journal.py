@@ -34,7 +34,7 @@ _LONGEST_HEAD = 200
 _PIECE = 1 << 20
 # (its name is made of the report's: a link by that name isn't followed)
 _OPEN = os.O_RDWR | os.O_NOFOLLOW | os.O_CLOEXEC
-_Report = Union[bytes, mmap.mmap]
+_Report = Union[bytes, "memoryview[int]"]
 
 
 class JournalError(Exception):
@@ -78,11 +78,12 @@ def _with_sum(head: bytes, report: Iterable[_Report]) -> bytes:
     return b"%s%s%d\n" % (head, _SUM, total)
 
 
-def _report_of(result: Result) -> _Report:
-    """Returns the report of a result; one in a file isn't read into memory."""
+def _report_of(result: Result) -> list[_Report]:
+    """Returns the parts of a result's report; what is in a file isn't read into memory."""
     if result.spooled is None or os.fstat(result.spooled.fileno()).st_size == 0:
-        return result.report
-    return mmap.mmap(result.spooled.fileno(), 0, access=mmap.ACCESS_READ)
+        return [result.report]
+    file = mmap.mmap(result.spooled.fileno(), 0, access=mmap.ACCESS_READ)
+    return [result.report, memoryview(file)[result.skipped :]]
 
 
 class Journal:
@@ -203,32 +204,37 @@ class Journal:
         return True
 
     def keep(self, result: Result) -> None:
-        """Adds a report; it takes the place of an unfinished one of the same problem."""
+        """Adds a report; it takes the place of an unfinished one of the same problem. Its file is closed.
+        """
         place, report = result.task.place, _report_of(result)
         if result.tasks > 1:
             head = b"tasks %d number %d status %d" % (place, result.tasks, result.status)
         else:
             seconds = b"" if result.seconds is None else b" seconds %f" % result.seconds
             head = b"task %d status %d%s" % (place, result.status, seconds)
-        start = self._add(head, report)
-        self._note(place, Kept(result.status, result.seconds, start, len(report), result.tasks))
+        start, length = self._add(head, report)
+        self._note(place, Kept(result.status, result.seconds, start, length, result.tasks))
+        if result.spooled is not None:
+            result.spooled.close()
 
     def keep_part(self, part: "Part", report: bytes) -> None:
         """Adds the report of a part."""
         place, phase, number, depth = part.key
         head = b"part %d %s %d depth %d" % (place, phase.encode("ascii"), number, depth)
-        self.parts[part.key] = Kept(0, None, self._add(head, report), len(report))
+        self.parts[part.key] = Kept(0, None, *self._add(head, [report]))
 
-    def _add(self, head: bytes, report: _Report) -> int:
-        """Writes a record; returns where its report is."""
-        head = _with_sum(b"%s bytes %d" % (head, len(report)), [report])
+    def _add(self, head: bytes, report: list[_Report]) -> tuple[int, int]:
+        """Writes a record; returns where its report is, and its length."""
+        length = sum(map(len, report))
+        head = _with_sum(b"%s bytes %d" % (head, length), report)
         end = self._end
-        for left in map(memoryview, (head, report) if len(report) > _PIECE else (head + report,)):
+        parts = [head, *report] if length > _PIECE else [b"".join([head, *report])]
+        for left in map(memoryview, parts):
             while left:
                 written = os.pwrite(self._file.fileno(), left, end)
                 left, end = left[written:], end + written
         self._end = end
-        return end - len(report)
+        return end - length, length
 
     def pieces(self, place: int) -> Iterator[bytes]:
         """Yields the kept report of a task, with the tasks that share its record."""

@@ -7,7 +7,7 @@ from queue import Empty, SimpleQueue
 from typing import NamedTuple, Optional, Union
 
 from pops_companions.many.bundles import Bundles
-from pops_companions.many.program import Program, RunError
+from pops_companions.many.program import OutputRunError, Program, RunError
 from pops_companions.many.tasks import Result, Task
 
 # How often a run that fails is tried in all.
@@ -34,8 +34,8 @@ def _solved(program: Program, task: Task) -> Result:
     for tried in range(1, _TRIES + 1):
         try:
             return program.solve(task)
-        except RunError:
-            if tried == _TRIES:
+        except RunError as error:
+            if tried == _TRIES or isinstance(error, OutputRunError):
                 raise
     raise AssertionError("a task is tried at least once")
 

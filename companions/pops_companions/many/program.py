@@ -6,7 +6,7 @@ import signal
 import subprocess
 import threading
 from collections.abc import Callable, Generator, Sequence
-from typing import Optional
+from typing import IO, Optional
 
 from pops_companions import places
 from pops_companions.many.bundle_run import BundleRun, Came
@@ -17,14 +17,22 @@ from pops_companions.many.child_process import (
     MOST_SPOOLED,
     ChildProcess,
     Outcome,
-    OutputError,
     Stream,
     has_room,
     outcome_of,
     wrote_more,
 )
-from pops_companions.many.tasks import UNFINISHED, Result, Source, Task, is_whole, whole_lines
+from pops_companions.many.tasks import (
+    HEAD,
+    UNFINISHED,
+    Result,
+    Source,
+    Task,
+    is_whole,
+    whole_lines,
+)
 from pops_companions.places import COMPANIONS, REPOSITORY, folder_above
+from pops_companions.report import lines
 
 # A run of pops ends with one of these where every byte of its report was written.
 SOUND, FAULTY = 0, 1
@@ -51,6 +59,10 @@ class MissingError(Exception):
 
 class RunError(Exception):
     """A run that came to no end, with the reason."""
+
+
+class OutputRunError(RunError):
+    """A run whose output can't be kept: another one would end in the same way."""
 
 
 def find(named: Optional[str]) -> str:
@@ -166,22 +178,33 @@ class Runs:
             return child
 
     def _ended(
-        self, child: ChildProcess, text: Optional[bytes], seconds: Optional[float]
+        self,
+        child: ChildProcess,
+        text: Optional[bytes],
+        seconds: Optional[float],
+        spooled_if: Optional[bytes] = None,
     ) -> Outcome:
-        """Returns how a run ended, at the latest after `seconds`. RunError where it wrote too much."""
+        """Returns how a run ended, at the latest after `seconds`. OutputRunError where it wrote more than
+        can be kept.
+        """
         try:
-            return child.outcome(text, seconds)
-        except OutputError as error:
-            raise RunError(f"{self._name} was ended: {error.strerror}") from None
+            return child.outcome(text, seconds, spooled_if)
+        except OSError as error:
+            raise OutputRunError(f"{self._name} was ended: {error.strerror}") from None
         finally:
             with self._lock:
                 self._running.discard(child)
 
     def outcome(
-        self, words: Sequence[str], text: bytes, seconds: Optional[float] = None
+        self,
+        words: Sequence[str],
+        text: bytes,
+        seconds: Optional[float] = None,
+        spooled_if: Optional[bytes] = None,
     ) -> Outcome:
         """Runs it with more words on a text, at most for `seconds`. RunError where it can't be run."""
-        return self._ended(self._started(words, subprocess.PIPE, subprocess.PIPE), text, seconds)
+        child = self._started(words, subprocess.PIPE, subprocess.PIPE)
+        return self._ended(child, text, seconds, spooled_if)
 
     def _written(
         self, child: ChildProcess, text: bytes, pause: Callable[[], int]
@@ -250,7 +273,10 @@ class Program(Runs):
         """Runs a task. RunError where pops didn't come to its end, but for its time."""
         if task.pieces is None:
             return self._whole(task)
-        return self.told_anew(task, *self._one(task.text))
+        run = self.outcome([], task.text, self.seconds, HEAD)
+        if run.spooled is not None:
+            return self._spooled(task, run, run.spooled)
+        return self.told_anew(task, *self._of(run))
 
     def solve_bundle(self, bundle: Sequence[Task], bundles: Bundles) -> Came:
         """Runs a bundle in one process; what it doesn't solve goes back to the bundles."""
@@ -290,6 +316,18 @@ class Program(Runs):
         if not run.in_time:
             return UNFINISHED, run.output
         raise RunError(self._reason(run.status, run.errors))
+
+    def _spooled(self, task: Task, run: Outcome, file: IO[bytes]) -> Result:
+        """Returns the result of a run on one problem whose report is in a file."""
+        size = os.fstat(file.fileno()).st_size
+        end = os.pread(file.fileno(), _PIECE, max(size - _PIECE, 0))
+        status, seconds = run.status, None
+        if run.status not in (SOUND, FAULTY) or not end.endswith(lines.ITEM_END):
+            if run.in_time:
+                raise RunError(self._reason(run.status, run.errors))
+            status, seconds = UNFINISHED, self.seconds
+            os.ftruncate(file.fileno(), size - len(end) + len(whole_lines(end)))
+        return Result(task, status, task.numbered(HEAD), seconds, spooled=file, skipped=len(HEAD))
 
     def _whole(self, task: Task) -> Result:
         """Returns a source that is left to pops, whose report is in a file without a name.

@@ -21,7 +21,7 @@ LINE_ENDS_AT_ONCE = 4096
 UNFINISHED = int(Status.UNFINISHED)
 
 # A run on one problem numbers it 1.
-_HEAD = lines.problem_line(1)
+HEAD = lines.problem_line(1)
 
 
 class Source(NamedTuple):
@@ -89,12 +89,12 @@ class Task(NamedTuple):
         piece = self.piece
         assert piece is not None
         lacking = piece.number > 1 and piece.line_ends > LINE_ENDS_AT_ONCE
-        line = report[len(_HEAD) :].partition(b"\n")[0]
+        line = report[len(HEAD) :].partition(b"\n")[0]
         return lacking and lines.FAULT.fullmatch(line) is not None
 
     def numbered(self, report: bytes) -> bytes:
         """Returns the report with the problem's number in its input."""
-        return report if self.pieces is None else self.under_its_number(report[len(_HEAD) :])
+        return report if self.pieces is None else self.under_its_number(report[len(HEAD) :])
 
     def under_its_number(self, rest: bytes) -> bytes:
         """Returns the lines of a report after their first one, which has the problem's number."""
@@ -114,13 +114,14 @@ class Result(NamedTuple):
     seconds: Optional[float] = None
     # How many tasks it is of, from `task` on.
     tasks: int = 1
-    # A file with the report, in its place: of an input that is left to pops.
+    # A file with the rest of the report, after some bytes that are skipped: where it is long.
     spooled: Optional[IO[bytes]] = None
+    skipped: int = 0
 
 
 def is_whole(report: bytes) -> bool:
     """Returns whether a run on one problem came to its end: its report is one item."""
-    return report.startswith(_HEAD) and report.endswith(lines.ITEM_END)
+    return report.startswith(HEAD) and report.endswith(lines.ITEM_END)
 
 
 def whole_lines(report: bytes) -> bytes:

@@ -46,25 +46,25 @@ class GrowingPhase:
         self._path.append((event.level, node))
         self.lines.append(text)
 
-    def add_known(self, source: Sequence[bytes], start: int, known: KnownNodes) -> int:
-        """Adds the nodes of the lines from a place on, as far as they are known and go on in levels.
+    def add_known(self, source: Sequence[bytes], start: int, known: KnownNodes, last: int) -> int:
+        """Adds the nodes of the lines from a place on, as far as they are known and go on in levels, of
+        which `last` is the deepest.
 
         Returns how many they are.
         """
         below: list[list[Any]] = [self.solutions, *(node.below for _, node in self._path)]
         deepest = len(self._path)
-        below.extend([] for _ in range(MOST_LEVELS - deepest))
         texts = self.lines
         before = len(texts)
         for place in range(start, len(source)):
             found = known.get(source[place])
-            if found is None or found[0] > deepest:
+            if found is None or found[0] > deepest or found[0] > last:
                 break
             level, text, move = found
             nodes: list[items.Node] = []
             below[level].append(items.Node(text, move, nodes))
             deepest = level + 1
-            below[deepest] = nodes
+            below[deepest:] = (nodes,)
             texts.append(text)
         self._path = [(level, below[level][-1]) for level in range(deepest)]
         return len(texts) - before
@@ -127,12 +127,18 @@ class ItemBuilder:
                 self._growing.add_node(event)
         return None
 
-    def take_known(self, source: Sequence[bytes], start: int, known: KnownNodes) -> int:
+    def take_head(self, head: events.HeadEvent) -> None:
+        """Takes the head of a problem as its events would say it."""
+        self._head = head
+
+    def take_known(
+        self, source: Sequence[bytes], start: int, known: KnownNodes, last: int
+    ) -> int:
         """Takes lines of the phase at hand as their events would say them; returns how many."""
         assert self._growing is not None
-        return self._growing.add_known(source, start, known)
+        return self._growing.add_known(source, start, known, last)
 
-    def take_known_line(self, line: items.HelpLine) -> None:
+    def take_help_line(self, line: items.HelpLine) -> None:
         """Takes a line of help play of the phase at hand, as its event would say it."""
         assert self._growing is not None
         self._growing.add_line(line)

@@ -68,12 +68,16 @@ class Board:
     ranks: tuple[str, ...]
 
     @property
+    def letters(self) -> str:
+        """The letters and points of all ranks."""
+        return "".join(self.ranks)
+
+    @property
     def men(self) -> dict[Square, Man]:
         """The men by their squares, in the order of the diagram."""
-        letters = "".join(self.ranks)
         return {
             square: Man.of_letter(letter)
-            for square, letter in zip(Square.of_diagram(), letters)
+            for square, letter in zip(Square.of_diagram(), self.letters)
             if letter != "."
         }
 

@@ -8,8 +8,9 @@ inside a problem.
 """
 
 import io
-from collections.abc import Callable, Iterable, Iterator
+from collections.abc import Callable, Iterable, Iterator, Sequence
 from enum import Enum
+from functools import lru_cache
 from typing import Optional
 
 from pops_companions.chess.men import Colour
@@ -42,8 +43,19 @@ _LONGEST_LINE = 1 << 20
 # So that the memory for known lines is bounded.
 _MOST_KNOWN = 100_000
 _PIECE = 1 << 16
+# More lines than the head of a problem has, with the line of its first phase.
+_LINES_OF_HEAD = 14
 # What a state makes of a line.
-State = Callable[[bytes], Iterator[events.Event]]
+State = Callable[[bytes], Sequence[events.Event]]
+
+
+@lru_cache(maxsize=1000)
+def asked_of(line: bytes) -> tuple[Stipulation, Optional[Condition]]:
+    """Returns what the line of the stipulation asks, by its first two words. ValueError where it asks
+    nothing.
+    """
+    words = line.decode("latin-1").split(" ")
+    return Stipulation.of_text(words[0]), Condition(words[1]) if len(words) > 1 else None
 
 
 class LineReader:
@@ -53,11 +65,12 @@ class LineReader:
     next state.
     """
 
-    def __init__(self, allowed: Allowed):
+    def __init__(self, allowed: Allowed, line: int = 0):
+        """Begins a text, or a piece of one that so many lines are before."""
         self._allowed = allowed
         self._state: State = self._problem
         self._begun = b""
-        self._line = 0
+        self._line = line
         self._number = 0
         self._unfinished: Optional[str] = None
         self._title: Optional[bytes] = None
@@ -100,14 +113,14 @@ class LineReader:
         """Whether what was taken so far ends where a problem does."""
         return self._state == self._problem and not self._begun
 
-    def take(self, line: bytes) -> Iterator[events.Event]:
-        """Takes the next line and yields what it says."""
+    def take(self, line: bytes) -> Sequence[events.Event]:
+        """Takes the next line and returns what it says."""
         self._line += 1
         is_marked = line.startswith(lines.UNFINISHED) and self._state != self._problem
         if is_marked and self._allowed is Allowed.UNFINISHED:
             self._unfinished = line[len(lines.UNFINISHED) :].decode("utf-8", "replace")
             self._state = self._end
-            return iter(())
+            return ()
         return self._state(line)
 
     def refused(self, expected: str, line: bytes) -> ReportError:
@@ -116,7 +129,7 @@ class LineReader:
         shown = text if len(text) <= _LONGEST_SHOWN else text[:_LONGEST_SHOWN] + ".."
         return ReportError(self._line, f"expected {expected}, found {shown!r}")
 
-    def _problem(self, line: bytes) -> Iterator[events.Event]:
+    def _problem(self, line: bytes) -> Sequence[events.Event]:
         found = lines.PROBLEM.fullmatch(line)
         if found is None:
             raise self.refused("a line 'problem' with its number", line)
@@ -124,36 +137,35 @@ class LineReader:
         self._unfinished = self._title = self._author = None
         self._ranks = []
         self._state = self._fault_or_title
-        yield events.ProblemEvent(self._number)
+        return (events.ProblemEvent(self._number),)
 
-    def _fault_or_title(self, line: bytes) -> Iterator[events.Event]:
+    def _fault_or_title(self, line: bytes) -> Sequence[events.Event]:
         found = lines.FAULT.fullmatch(line)
         if found is None:
-            yield from self._title_line(line)
-            return
+            return self._title_line(line)
         self._state = self._end
         fault = items.Fault(int(found[1]), int(found[2]), found[3].decode("latin-1"))
-        yield events.FaultEvent(self._number, fault)
+        return (events.FaultEvent(self._number, fault),)
 
-    def _title_line(self, line: bytes) -> Iterator[events.Event]:
+    def _title_line(self, line: bytes) -> Sequence[events.Event]:
         self._state = self._author_line
         if not line.startswith(lines.TITLE):
             return self._author_line(line)
         self._title = line[len(lines.TITLE) :]
-        return iter(())
+        return ()
 
-    def _author_line(self, line: bytes) -> Iterator[events.Event]:
+    def _author_line(self, line: bytes) -> Sequence[events.Event]:
         self._state = self._board_line
         if not line.startswith(lines.AUTHOR):
             return self._board_line(line)
         self._author = line[len(lines.AUTHOR) :]
-        return iter(())
+        return ()
 
-    def _board_line(self, line: bytes) -> Iterator[events.Event]:
+    def _board_line(self, line: bytes) -> Sequence[events.Event]:
         self._state = self._rank if line.startswith(b"8 ") else self._stipulation_line
         return self._state(line)
 
-    def _rank(self, line: bytes) -> Iterator[events.Event]:
+    def _rank(self, line: bytes) -> Sequence[events.Event]:
         rank = 8 - len(self._ranks)
         found = lines.RANK.fullmatch(line)
         if found is None or int(found[1]) != rank:
@@ -161,44 +173,42 @@ class LineReader:
         self._ranks.append(found[2].decode("ascii"))
         if rank == 1:
             self._state = self._files
-        return iter(())
+        return ()
 
-    def _files(self, line: bytes) -> Iterator[events.Event]:
+    def _files(self, line: bytes) -> Sequence[events.Event]:
         if line != lines.FILES:
             raise self.refused("the line of files below a board", line)
         self._state = self._stipulation_line
-        return iter(())
+        return ()
 
-    def _stipulation_line(self, line: bytes) -> Iterator[events.Event]:
-        words = line.decode("latin-1").split(" ")
+    def _stipulation_line(self, line: bytes) -> Sequence[events.Event]:
         try:
-            stipulation = Stipulation.of_text(words[0])
-            condition = Condition(words[1]) if len(words) > 1 else None
+            stipulation, condition = asked_of(line)
         except ValueError:
             raise self.refused("a stipulation", line) from None
-        if len(words) > 2:
+        if line.count(b" ") > 1:
             raise self.refused("a stipulation and at most one condition", line)
         board = items.Board(tuple(self._ranks)) if self._ranks else None
         self._begin(stipulation)
         names = (self._title, self._author, board)
-        yield events.HeadEvent(self._number, *names, stipulation, condition)
+        return (events.HeadEvent(self._number, *names, stipulation, condition),)
 
     def _begin(self, stipulation: Stipulation) -> None:
         """Sets the state that takes the first line after the head."""
         raise NotImplementedError
 
-    def _end(self, line: bytes) -> Iterator[events.Event]:
+    def _end(self, line: bytes) -> Sequence[events.Event]:
         if line != b"":
             raise self.refused("an empty line", line)
         self._state = self._problem
-        yield events.EndEvent(self._number, self._unfinished)
+        return (events.EndEvent(self._number, self._unfinished),)
 
 
 class ReportReader(LineReader):
     """Reads the phases of a report."""
 
-    def __init__(self, allowed: Allowed):
-        super().__init__(allowed)
+    def __init__(self, allowed: Allowed, line: int = 0):
+        super().__init__(allowed, line)
         self._stipulation = Stipulation.of_text("#1")
         self._kind = items.PhaseKind.PLAY
         self._count = 0
@@ -208,40 +218,86 @@ class ReportReader(LineReader):
         self._known_here: KnownNodes = {}
         # The moves of lines of help play by their words, for each place, for each first half-move.
         self._known_moves: dict[int, list[dict[str, PlayedMove]]] = {}
+        self._known_moves_here: list[dict[str, PlayedMove]] = []
 
     def feed_builder(self, data: bytes, builder: ItemBuilder) -> Iterator[items.AnyItem]:
         """Takes some bytes as `feed` does, and yields the items that end in them.
 
-        Lines of battle play that were read before make no events, nor do lines of help play whose
-        moves were: a report repeats them.
+        Plain heads and solutions make no events.
         """
         lines_left = self._whole_lines(data)
         at = 0
         while at < len(lines_left):
-            known = self._take_known(lines_left, at, builder)
-            if known:
-                at += known
-                continue
+            at += self._take_head(lines_left, at, builder)
+            at += self._take_solutions(lines_left, at, builder)
+            if at == len(lines_left):
+                return
             for event in self.take(lines_left[at]):
                 item = builder.take(event)
                 if item is not None:
                     yield item
             at += 1
 
-    def _take_known(self, lines_left: list[bytes], at: int, builder: ItemBuilder) -> int:
-        """Takes the solutions that are known, from a line on; returns how many lines."""
-        if self._state != self._solution:
+    def _take_head(self, lines_left: list[bytes], at: int, builder: ItemBuilder) -> int:
+        """Takes a head with a board and the line of its first phase, from a line on; returns how many
+        lines. It takes none where the head is another, or isn't whole.
+        """
+        if self._state != self._problem:
             return 0
+        found = lines.HEAD.match(b"\n".join(lines_left[at : at + _LINES_OF_HEAD]))
+        if found is None:
+            return 0
+        number, title, author, *ranks, asked, phase = found.groups()
+        try:
+            stipulation, condition = asked_of(asked)
+        except ValueError:
+            return 0
+        self._number, self._unfinished = int(number), None
+        board = items.Board(tuple([rank.decode("ascii") for rank in ranks]))
+        self._begin(stipulation)
+        builder.take_head(events.HeadEvent(self._number, title, author, board, stipulation, condition))
+        for event in self._phase(items.PhaseKind(phase.decode("ascii"))):
+            builder.take(event)
+        taken = _LINES_OF_HEAD - (title, author).count(None)
+        self._line += taken
+        return taken
+
+    def _take_solutions(self, lines_left: list[bytes], at: int, builder: ItemBuilder) -> int:
+        """Takes the solutions from a line on, as far as they are plain; returns how many lines."""
+        if self._state not in (self._solution, self._first_solution) or at == len(lines_left):
+            return 0
+        if lines_left[at] == lines.NOT_POSSIBLE:
+            return 0
+        self._state = self._solution
         if self._stipulation.play is Play.HELP:
-            taken = self._take_known_lines(lines_left, at, builder)
+            taken = self._take_help_lines(lines_left, at, builder)
         else:
-            taken = builder.take_known(lines_left, at, self._known_here)
+            taken = self._take_nodes(lines_left, at, builder)
         self._line += taken
         self._count, self._deepest = builder.phase_so_far
         return taken
 
-    def _take_known_lines(self, lines_left: list[bytes], at: int, builder: ItemBuilder) -> int:
-        """Takes the lines of help play whose moves are known; returns how many."""
+    def _take_nodes(self, lines_left: list[bytes], at: int, builder: ItemBuilder) -> int:
+        """Takes lines of battle play; returns how many."""
+        place, last = at, self._deepest_level
+        while place < len(lines_left):
+            place += builder.take_known(lines_left, place, self._known_here, last)
+            if place == len(lines_left) or not self._note_node(lines_left[place]):
+                break
+        return place - at
+
+    def _note_node(self, line: bytes) -> bool:
+        """Notes what a line says that wasn't known; returns whether it is one of battle play."""
+        if line.startswith(lines.SOLUTIONS) or line in self._known_here:
+            return False
+        known = self._read_node(line)
+        if known is None or len(self._known_here) >= _MOST_KNOWN:
+            return False
+        self._known_here[line] = known
+        return True
+
+    def _take_help_lines(self, lines_left: list[bytes], at: int, builder: ItemBuilder) -> int:
+        """Takes lines of help play whose words are one move each; returns how many."""
         known = self._known_moves_here
         for place in range(at, len(lines_left)):
             text = lines_left[place].decode("latin-1")
@@ -251,68 +307,77 @@ class ReportReader(LineReader):
             try:
                 moves = tuple([here[word] for here, word in zip(known, words)])
             except KeyError:
-                return place - at
-            builder.take_known_line(items.HelpLine(text, moves))
+                if not self._note_moves(words):
+                    return place - at
+                moves = tuple([here[word] for here, word in zip(known, words)])
+            builder.take_help_line(items.HelpLine(text, moves))
         return len(lines_left) - at
 
-    @property
-    def _known_moves_here(self) -> list[dict[str, PlayedMove]]:
-        """The known moves for each place of a line of the phase at hand."""
-        known = self._known_moves.setdefault(self._first_half, [])
-        known.extend({} for _ in range(self._halves - len(known)))
-        return known[: self._halves]
+    def _note_moves(self, words: list[str]) -> bool:
+        """Notes the moves of a line's words that weren't known; returns whether now all are."""
+        for place, (known, word) in enumerate(zip(self._known_moves_here, words)):
+            if word in known:
+                continue
+            half = self._first_half + place
+            lead = prefix(half) if half % 2 == 1 or place == 0 else ""
+            move = whole_move(word, lead, half, self._stipulation.side(half))
+            if move is None or len(known) >= _MOST_KNOWN:
+                return False
+            known[word] = move
+        return True
 
     def _begin(self, stipulation: Stipulation) -> None:
         self._stipulation = stipulation
         self._state = self._first_phase
 
-    def _first_phase(self, line: bytes) -> Iterator[events.Event]:
+    def _first_phase(self, line: bytes) -> Sequence[events.Event]:
         if line == lines.SOUND:
             self._state = self._end
-            return iter((events.CheckedEvent(self._number),))
+            return (events.CheckedEvent(self._number),)
         if line == items.PhaseKind.SET.value.encode("ascii"):
             return self._phase(items.PhaseKind.SET)
         return self._play(line)
 
-    def _play(self, line: bytes) -> Iterator[events.Event]:
+    def _play(self, line: bytes) -> Sequence[events.Event]:
         if line != items.PhaseKind.PLAY.value.encode("ascii"):
             raise self.refused("'play'", line)
         return self._phase(items.PhaseKind.PLAY)
 
-    def _phase(self, kind: items.PhaseKind) -> Iterator[events.Event]:
+    def _phase(self, kind: items.PhaseKind) -> Sequence[events.Event]:
         self._kind, self._count, self._deepest = kind, 0, 0
         self._known_here = self._known.setdefault(self._first_half, {})
+        if self._stipulation.play is Play.HELP:
+            known = self._known_moves.setdefault(self._first_half, [])
+            known.extend({} for _ in range(self._halves - len(known)))
+            self._known_moves_here = known[: self._halves]
         self._state = self._first_solution
-        yield events.PhaseEvent(self._number, kind)
+        return (events.PhaseEvent(self._number, kind),)
 
-    def _first_solution(self, line: bytes) -> Iterator[events.Event]:
+    def _first_solution(self, line: bytes) -> Sequence[events.Event]:
         if line != lines.NOT_POSSIBLE:
             self._state = self._solution
-            yield from self._solution(line)
-            return
+            return self._solution(line)
         self._state = self._after_phase()
-        yield events.NotPossibleEvent(self._number, self._kind)
+        return (events.NotPossibleEvent(self._number, self._kind),)
 
     def _after_phase(self) -> State:
         return self._play if self._kind is items.PhaseKind.SET else self._end
 
-    def _solution(self, line: bytes) -> Iterator[events.Event]:
+    def _solution(self, line: bytes) -> Sequence[events.Event]:
         is_set = self._kind is items.PhaseKind.SET
         if self._allowed is Allowed.UNFINISHED and is_set and line == b"play":
             # (as pops-many writes an unfinished problem of which parts of both phases were solved)
-            yield from self._play(line)
-            return
+            return self._play(line)
         total = lines.TOTAL.fullmatch(line)
         if total is not None:
             self._refuse_other_count(int(total[1]), line)
             self._state = self._after_phase()
             counted = items.Total(self._count, total[2] is not None)
-            yield events.TotalEvent(self._number, self._kind, counted)
-        elif self._stipulation.play is Play.HELP:
+            return (events.TotalEvent(self._number, self._kind, counted),)
+        if self._stipulation.play is Play.HELP:
             self._count += 1
-            yield events.LineEvent(self._number, self._kind, self._help_line(line))
-        else:
-            yield self._node(line, events.Place.SOLUTION, 0)
+            return (events.LineEvent(self._number, self._kind, self._help_line(line)),)
+        return (self._node(line, events.Place.SOLUTION, 0),)
 
     def _refuse_other_count(self, count: int, line: bytes) -> None:
         if count != self._count:
@@ -344,31 +409,31 @@ class ReportReader(LineReader):
             place = found[1]
         if place != len(text) or not moves or len(moves) != halves:
             raise self.refused(f"a line of {halves} half-moves", line)
-        self._note_moves(text.split(" "), moves)
         return items.HelpLine(text, tuple(moves))
 
-    def _note_moves(self, words: list[str], moves: list[PlayedMove]) -> None:
-        """Notes the moves of a line by its words. (`e5*d6 ep.` is two words.)"""
-        if len(words) != len(moves):
-            return
-        for known, word, move in zip(self._known_moves_here, words, moves):
-            if len(known) < _MOST_KNOWN:
-                known[word] = move
+    @property
+    def _deepest_level(self) -> int:
+        """The level of the last half-move of battle play."""
+        last = self._stipulation.first_half + min(self._stipulation.half_moves, MOST_LEVELS) - 1
+        return last - self._first_half
 
-    def _node(self, line: bytes, place: events.Place, least: int) -> events.NodeEvent:
-        """Returns the node of a line, whose level is from `least` to one more than the level before."""
+    def _read_node(self, line: bytes) -> Optional[KnownNode]:
+        """Returns what a line of battle play says; None for another line."""
         text = line.decode("latin-1")
         level = (len(text) - len(text.lstrip(" "))) // 2
         half = self._first_half + level
         lead = " " * (2 * level) + prefix(half)
         move = whole_move(text, lead, half, self._stipulation.side(half))
-        last = self._stipulation.first_half + min(self._stipulation.half_moves, MOST_LEVELS) - 1
-        if move is None or half > last or not least <= level <= self._deepest:
+        return None if move is None else KnownNode(level, text, move)
+
+    def _node(self, line: bytes, place: events.Place, least: int) -> events.NodeEvent:
+        """Returns the node of a line, whose level is from `least` to one more than the level before."""
+        known = self._read_node(line)
+        if known is None or known.level > self._deepest_level or not least <= known.level <= self._deepest:
             raise self.refused("a move, or the number of solutions", line)
+        level, text, move = known
         self._count += level == 0
         self._deepest = level + 1
-        if len(self._known_here) < _MOST_KNOWN:
-            self._known_here[line] = KnownNode(level, text, move)
         return events.NodeEvent(self._number, self._kind, place, level, text[2 * level :], move)
 
 
@@ -395,16 +460,19 @@ def read_report(source: Iterable[bytes]) -> Iterator[items.Item]:
         yield item
 
 
-def read_unfinished_report(source: Iterable[bytes]) -> Iterator[items.AnyItem]:
+def read_unfinished_report(source: Iterable[bytes], line: int = 0) -> Iterator[items.AnyItem]:
     """Yields items as `read_report` does, also of stopped problems and of a report that is cut.
 
-    These problems have what the report shows of them. A cut line is left out.
+    These problems have what the report shows of them. A cut line is left out. `line` lines of the
+    report are before the source.
     """
-    return _items(Allowed.UNFINISHED, source)
+    return _items(Allowed.UNFINISHED, source, line)
 
 
-def _items(allowed: Allowed, source: Iterable[bytes]) -> Iterator[items.AnyItem]:
-    reader, builder = ReportReader(allowed), ItemBuilder()
+def _items(
+    allowed: Allowed, source: Iterable[bytes], line: int = 0
+) -> Iterator[items.AnyItem]:
+    reader, builder = ReportReader(allowed, line), ItemBuilder()
     for data in _pieces(source):
         yield from reader.feed_builder(data, builder)
     for event in reader.close():

@@ -74,8 +74,7 @@ def opened_unfinished_report(
     empty.
     """
     named = unfinished is not None
-    if unfinished is None and file is not None and os.path.isfile(file + UNFINISHED):
-        unfinished = file + UNFINISHED
+    unfinished = unfinished_beside(file, unfinished)
     with command.opened(file) as source:
         name = file or "standard input"
         may_be_empty = unfinished is not None
@@ -86,6 +85,13 @@ def opened_unfinished_report(
         with command.opened(unfinished) as rest:
             more = list(_items(companion, unfinished, rest, encoding, read_unfinished_report))
         yield iter(_merged(list(items), more, name, named))
+
+
+def unfinished_beside(file: Optional[str], unfinished: Optional[str]) -> Optional[str]:
+    """Returns the file of a report's unfinished problems: the one named, else one next to the report."""
+    if unfinished is None and file is not None and os.path.isfile(file + UNFINISHED):
+        return file + UNFINISHED
+    return unfinished
 
 
 @contextmanager
@@ -115,7 +121,7 @@ def opened_events(
 
 
 def _events(name: str, source: BinaryIO, reader: ReportReader, text: Text) -> Iterator[Event]:
-    pieces = _Pieces(source)
+    pieces = _Pieces(pieces_of(source))
     try:
         yield from read_events(reader, pieces)
     except ReportError as error:
@@ -151,17 +157,23 @@ def is_input(line: bytes) -> bool:
     return bool(words) and is_short_for(words[0], "BeginProblem")
 
 
-class _Pieces:
-    """The bytes of a source in pieces, each as soon as it has come; the first line is kept."""
+def pieces_of(source: BinaryIO) -> Iterator[bytes]:
+    """Yields the bytes of a source in pieces, each as soon as it has come."""
+    # (a read gives what has come, and waits only for the first byte)
+    assert isinstance(source, io.BufferedIOBase)
+    while piece := source.read1(_PIECE):
+        yield piece
 
-    def __init__(self, source: BinaryIO):
-        self._source = source
+
+class _Pieces:
+    """The bytes of a text in pieces; the first line is kept."""
+
+    def __init__(self, pieces: Iterable[bytes]):
+        self._pieces = pieces
         self._first = b""
 
     def __iter__(self) -> Iterator[bytes]:
-        # (a read gives what has come, and waits only for the first byte)
-        assert isinstance(self._source, io.BufferedIOBase)
-        while piece := self._source.read1(_PIECE):
+        for piece in self._pieces:
             self._first = self._first or piece
             yield piece
 
@@ -183,21 +195,43 @@ def _items(
     may_be_empty: bool = False,
     text: Text = Text.REPORT,
 ) -> Iterator[Read]:
-    is_empty = True
-    undecodable: list[int] = []
-    pieces = _Pieces(source)
-    try:
-        for item in read(pieces):
-            is_empty = False
-            if not _has_names_in(encoding, item):
-                undecodable.append(item.number)
-            yield item
-    except ReportError as error:
-        message = _refusal(name, pieces.first_line, error, text)
-        raise CommandError(Status.FAULTY, message) from None
-    if is_empty and not may_be_empty:
-        raise CommandError(Status.FAULTY, f"{name} is empty: no {text.value}")
-    _warn_of_names(companion, name, undecodable, encoding)
+    named = NamedText(companion, name, encoding, text)
+    yield from named.items(pieces_of(source), read)
+    named.end(may_be_empty)
+
+
+class NamedText:
+    """A text as messages name it, read as a whole or from some of its pieces."""
+
+    def __init__(self, companion: str, name: str, encoding: str, text: Text = Text.REPORT):
+        self._companion = companion
+        self._name = name
+        self._encoding = encoding
+        self._text = text
+        self._is_empty = True
+        # The numbers of the problems whose title or author isn't in the encoding.
+        self.undecodable: list[int] = []
+
+    def items(
+        self, pieces: Iterable[bytes], read: Callable[[Iterable[bytes]], Iterator[Read]]
+    ) -> Iterator[Read]:
+        """Yields the items of some pieces. A text of another form ends the companion."""
+        noted = _Pieces(pieces)
+        try:
+            for item in read(noted):
+                self._is_empty = False
+                if not _has_names_in(self._encoding, item):
+                    self.undecodable.append(item.number)
+                yield item
+        except ReportError as error:
+            message = _refusal(self._name, noted.first_line, error, self._text)
+            raise CommandError(Status.FAULTY, message) from None
+
+    def end(self, may_be_empty: bool = False) -> None:
+        """Refuses a text without items, and says whose names aren't in the encoding."""
+        if self._is_empty and not may_be_empty:
+            raise CommandError(Status.FAULTY, f"{self._name} is empty: no {self._text.value}")
+        _warn_of_names(self._companion, self._name, self.undecodable, self._encoding)
 
 
 def warn_of_names(companion: str, name: str, items: Iterable[AnyItem], encoding: str) -> None:

@@ -4,7 +4,7 @@ The reading is strict, as that of reports.
 """
 
 import re
-from collections.abc import Iterable, Iterator
+from collections.abc import Iterable, Iterator, Sequence
 from dataclasses import dataclass, field
 from typing import Optional, Union
 
@@ -80,31 +80,31 @@ class TriesReader(ReportReader):
             self._state = self._no_tries
         self._sign = events.FirstMoveKind.KEY
 
-    def _no_tries(self, line: bytes) -> Iterator[events.Event]:
+    def _no_tries(self, line: bytes) -> Sequence[events.Event]:
         if line == lines.SOUND:
             return self._first_phase(line)
         self._refuse_other(line, NO_TRIES)
         self._state = self._end
-        return iter((events.NoTriesEvent(self._number),))
+        return (events.NoTriesEvent(self._number),)
 
     def _refuse_other(self, line: bytes, wanted: str) -> None:
         if line.decode("latin-1") != wanted:
             raise self.refused(repr(wanted), line)
 
-    def _phase(self, kind: items.PhaseKind) -> Iterator[events.Event]:
-        yield from super()._phase(kind)
+    def _phase(self, kind: items.PhaseKind) -> Sequence[events.Event]:
+        begun = super()._phase(kind)
         if kind is items.PhaseKind.PLAY:
             self._state = self._first_move
+        return begun
 
-    def _first_move(self, line: bytes) -> Iterator[events.Event]:
+    def _first_move(self, line: bytes) -> Sequence[events.Event]:
         if not line[:1].isdigit():
-            yield from self._total(line)
-            return
+            return self._total(line)
         text = line.decode("latin-1")
         move = self._signed_move(text, self._stipulation.first_half, prefix(1), self._sign.value)
         self._count += 1
         self._state = self._menace
-        yield events.FirstMoveEvent(self._number, self._sign, text, move)
+        return (events.FirstMoveEvent(self._number, self._sign, text, move),)
 
     def _signed_move(self, text: str, half: int, lead: str, sign: str) -> PlayedMove:
         """Returns the move of a line that has this sign after it."""
@@ -115,80 +115,77 @@ class TriesReader(ReportReader):
             raise self.refused(f"a move with {sign}", text.encode("latin-1"))
         return move
 
-    def _menace(self, line: bytes) -> Iterator[events.Event]:
+    def _menace(self, line: bytes) -> Sequence[events.Event]:
         text = line.decode("latin-1")
         menace = next((it for it in events.Menace if text == f"  {it.value}"), None)
         if menace is None and self._sign is events.FirstMoveKind.TRY:
             self._refuse_other(line, _BUT)
             self._state = self._stalemate
-            return
+            return ()
         if menace is None:
-            yield from self._first_move(line)
-            return
+            return self._first_move(line)
         self._deepest = 2
         self._state = self._threat
         if menace is not events.Menace.THREAT:
             self._go_to_defences()
-        yield events.MenaceEvent(self._number, menace)
+        return (events.MenaceEvent(self._number, menace),)
 
     def _go_to_defences(self) -> State:
         self._deepest, self._state = 1, self._defence
         return self._state
 
-    def _threat(self, line: bytes) -> Iterator[events.Event]:
+    def _threat(self, line: bytes) -> Sequence[events.Event]:
         if not self._is_node(line, 2):
             return self._go_to_defences()(line)
-        return iter((self._node(line, events.Place.THREAT, 2),))
+        return (self._node(line, events.Place.THREAT, 2),)
 
-    def _defence(self, line: bytes) -> Iterator[events.Event]:
+    def _defence(self, line: bytes) -> Sequence[events.Event]:
         if self._is_node(line, 1):
-            return iter((self._node(line, events.Place.DEFENCE, 1),))
+            return (self._node(line, events.Place.DEFENCE, 1),)
         if self._sign is events.FirstMoveKind.KEY:
             return self._first_move(line)
         self._refuse_other(line, _BUT)
         self._state = self._refutation
-        return iter(())
+        return ()
 
     def _is_node(self, line: bytes, level: int) -> bool:
         """Returns whether a line begins as a node of at least this level."""
         found = _NODE.match(line.decode("latin-1"))
         return found is not None and len(found[1]) >= 2 * level
 
-    def _refutation(self, line: bytes) -> Iterator[events.Event]:
+    def _refutation(self, line: bytes) -> Sequence[events.Event]:
         text, lead = line.decode("latin-1"), f"    {prefix(2)}"
         if not text.startswith(lead):
-            yield from self._first_move(line)
-            return
+            return self._first_move(line)
         move = self._signed_move(text, self._stipulation.first_half + 1, lead, "!")
-        yield events.RefutationEvent(self._number, text.lstrip(" "), move)
+        return (events.RefutationEvent(self._number, text.lstrip(" "), move),)
 
-    def _stalemate(self, line: bytes) -> Iterator[events.Event]:
+    def _stalemate(self, line: bytes) -> Sequence[events.Event]:
         self._refuse_other(line, _STALEMATE)
         self._state = self._first_move
-        yield events.StalemateEvent(self._number)
+        return (events.StalemateEvent(self._number),)
 
-    def _total(self, line: bytes) -> Iterator[events.Event]:
+    def _total(self, line: bytes) -> Sequence[events.Event]:
         if self._sign is events.FirstMoveKind.TRY:
-            yield from self._total_of_tries(line)
-            return
+            return self._total_of_tries(line)
         total = lines.TOTAL.fullmatch(line)
         if total is None or int(total[1]) != self._count:
             raise self.refused(f"'solutions: {self._count}', the number of keys above", line)
         self._state = self._tries
         counted = items.Total(self._count, total[2] is not None)
-        yield events.TotalEvent(self._number, items.PhaseKind.PLAY, counted)
+        return (events.TotalEvent(self._number, items.PhaseKind.PLAY, counted),)
 
-    def _tries(self, line: bytes) -> Iterator[events.Event]:
+    def _tries(self, line: bytes) -> Sequence[events.Event]:
         self._refuse_other(line, _TRIES)
         self._sign, self._count, self._state = events.FirstMoveKind.TRY, 0, self._first_move
-        yield events.TriesEvent(self._number)
+        return (events.TriesEvent(self._number),)
 
-    def _total_of_tries(self, line: bytes) -> Iterator[events.Event]:
+    def _total_of_tries(self, line: bytes) -> Sequence[events.Event]:
         count = _TRIES_TOTAL.fullmatch(line.decode("latin-1"))
         if count is None or int(count[1]) != self._count:
             raise self.refused(f"'tries: {self._count}', the number of tries above", line)
         self._state = self._end
-        yield events.TriesTotalEvent(self._number, self._count)
+        return (events.TriesTotalEvent(self._number, self._count),)
 
 
 @dataclass

@@ -1,21 +1,30 @@
 """What is known of the problems of a report beside it: wanted numbers, short solutions, tries."""
 
-from collections.abc import Iterator, Mapping
-from dataclasses import replace
+from collections.abc import Iterator
+from dataclasses import dataclass
 from typing import NoReturn, Optional
 
 from pops_companions.chess.stipulation import Play
 from pops_companions.command import CommandError, Status
 from pops_companions.input.given import GivenProblem
 from pops_companions.input.given_source import read_given
-from pops_companions.report.items import AnyItem, SoundItem
+from pops_companions.report.items import AnyItem, FaultyItem, SoundItem
 from pops_companions.report.tries import TriesItem
+from pops_companions.review.kept_tries import KnownTries
 from pops_companions.review.judging import Judgement, judged, missing
 from pops_companions.review.posing import AnswersError, ShortAnswers
 from pops_companions.review.reading import reviewed_unfinished_report
 
 # Without an input no more problems than these are listed as missing.
 _MOST_LACKING = 10_000
+
+
+@dataclass
+class Course:
+    """How far a report was judged: its last problem, and how many it lacks so far."""
+
+    last: int = 0
+    lacking: int = 0
 
 
 class Beside:
@@ -27,7 +36,7 @@ class Beside:
         solutions: int,
         input_file: Optional[str],
         short_file: Optional[str],
-        tries: Mapping[int, TriesItem],
+        tries: KnownTries,
     ):
         """Reads both. `solutions` are wanted in help play where the input says nothing.
 
@@ -51,30 +60,46 @@ class Beside:
 
     def judgements(self, items: Iterator[AnyItem]) -> Iterator[Judgement]:
         """Judges the items of a report, and adds the problems that it lacks."""
-        last = lacking = 0
+        course = Course()
+        yield from self.judgements_of_piece(items, course)
+        yield from self.missing_at_end(course)
+
+    def judgements_of_piece(
+        self, items: Iterator[AnyItem], course: "Course"
+    ) -> Iterator[Judgement]:
+        """Judges the next items of a report, and adds the problems that it lacks before them."""
         for item in items:
-            if item.number <= last:
+            if item.number <= course.last:
                 if self._input_file is not None or self._short_file is not None or self._tries:
                     options = "--input, --short and --tries"
                     message = f"{options} go with one report, not with several joined"
                     raise CommandError(Status.DEVICE, message)
-                last = 0
-            lacking += item.number - last - 1
-            self._refuse_far(item.number, lacking)
-            yield from map(self._missing, range(last + 1, item.number))
-            last = item.number
+                course.last = 0
+            course.lacking += item.number - course.last - 1
+            self._refuse_far(item.number, course.lacking)
+            yield from map(self._missing, range(course.last + 1, item.number))
+            course.last = item.number
             yield self._judged(item)
-        yield from map(self._missing, range(last + 1, len(self.given) + 1))
+
+    def missing_at_end(self, course: "Course") -> Iterator[Judgement]:
+        """Yields the problems of the input after the last one of the report."""
+        return map(self._missing, range(course.last + 1, len(self.given) + 1))
 
     def _given_of(self, number: int) -> Optional[GivenProblem]:
         return self.given[number - 1] if number <= len(self.given) else None
 
     def _missing(self, number: int) -> Judgement:
-        return replace(missing(number), given=self._given_of(number))
+        judgement = missing(number)
+        judgement.given = self._given_of(number)
+        return judgement
+
+    def may_lack(self, lacking: int) -> bool:
+        """Returns whether so many problems may be missing: with an input these are its own."""
+        return self._input_file is not None or lacking <= _MOST_LACKING
 
     def _refuse_far(self, number: int, lacking: int) -> None:
         """Refuses a number that the input hasn't, or that leaves too many problems missing."""
-        if self._input_file is None and lacking > _MOST_LACKING:
+        if not self.may_lack(lacking):
             message = f"problem {number} leaves more than {_MOST_LACKING} missing: name the --input"
             raise CommandError(Status.DEVICE, message)
         if self._input_file is not None and number > len(self.given):
@@ -90,11 +115,15 @@ class Beside:
                     short = self._answers.of(item)
                 except AnswersError as error:
                     self._refuse_answers(error)
-        given = self._given_of(item.number)
-        return replace(judged(item, wanted, short, tries), given=given)
+        judgement = judged(item, wanted, short, tries)
+        judgement.given = self._given_of(item.number)
+        return judgement
 
     def _tries_of(self, item: SoundItem) -> Optional[TriesItem]:
         tries = self._tries.get(item.number)
+        if isinstance(tries, FaultyItem):
+            message = f"the text of tries calls problem {item.number} faulty, and the report sound"
+            raise CommandError(Status.DEVICE, message)
         if tries is not None:
             boards = {tries.board, item.board} - {None}
             theirs, ours = (tries.stipulation, tries.condition), (item.stipulation, item.condition)

@@ -23,6 +23,8 @@ class JudgedGroup:
     @property
     def verdict(self) -> Verdict:
         """The worst verdict of its twins."""
+        if len(self.judgements) == 1:
+            return self.judgements[0].verdict
         return max((it.verdict for it in self.judgements), key=_VERDICTS.index)
 
     @property

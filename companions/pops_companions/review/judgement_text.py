@@ -146,6 +146,16 @@ class Tally:
             yield one
 
     @property
+    def counts(self) -> dict[str, int]:
+        """The numbers by the words of the verdicts."""
+        return {verdict.value: count for verdict, count in self._counts.items()}
+
+    def add(self, counts: dict[str, int]) -> None:
+        """Adds what was counted elsewhere."""
+        for word, count in counts.items():
+            self._counts[Verdict(word)] += count
+
+    @property
     def all_sound(self) -> bool:
         return self.total == self._counts[Verdict.SOUND]
 

@@ -6,14 +6,13 @@ from dataclasses import dataclass, field
 from enum import Enum
 from typing import Optional
 
-from pops_companions.chess.attacks import Men
-from pops_companions.chess.game_counts import impossible_counts
-from pops_companions.chess.men import Kind
+from pops_companions.chess.game_counts import impossible_counts, surely_begun
 from pops_companions.chess.stipulation import Play, Stipulation
 from pops_companions.input.given import GivenProblem
 from pops_companions.report.events import Menace
 from pops_companions.report.items import (
     AnyItem,
+    Board,
     FaultyItem,
     HeadlessItem,
     HelpLine,
@@ -34,6 +33,10 @@ from pops_companions.review.duals import (
 )
 from pops_companions.review.mates import mates_in
 from pops_companions.review.naming import counted
+
+
+# The letters of men on a printed board.
+_NIGHTRIDERS, _KNIGHTS = frozenset("Nn"), frozenset("Ss")
 
 
 class Verdict(Enum):
@@ -100,7 +103,7 @@ class Judgement:
 
     @property
     def verdict(self) -> Verdict:
-        weights = {finding.weight for finding in self.findings}
+        weights = [finding.weight for finding in self.findings]
         if Weight.FAULT in weights:
             return Verdict.FAULTY
         if Weight.FLAW in weights:
@@ -140,8 +143,8 @@ def judged(
         judgement.find(Weight.OPEN, f"unfinished: {item.unfinished}")
         return judgement
     judgement.wanted = wanted
-    men = {} if item.board is None else item.board.men
-    _warn_of_men(judgement, men)
+    if item.board is not None:
+        _warn_of_men(judgement, item.board)
     play = _phase(item, PhaseKind.PLAY)
     if item.unfinished is not None and (play is None or play.total is None):
         _judge_unfinished(judgement, item, play, short)
@@ -161,18 +164,21 @@ def judged(
         if item.stipulation.half_moves > 1:
             _judge_tries(judgement, tries)
     _judge_set_play(judgement, item, play)
-    judgement.keywords = mates_in(item, men)
+    if item.board is not None and item.stipulation.play is Play.HELP:
+        judgement.keywords = mates_in(item, item.board.men)
     if judgement.keywords:
         judgement.find(Weight.NOTE, f"all mates: {', '.join(judgement.keywords)}")
     return judgement
 
 
-def _warn_of_men(judgement: Judgement, men: Men) -> None:
+def _warn_of_men(judgement: Judgement, board: Board) -> None:
     """Notes nightriders without knights, and counts of men that no game can have."""
-    kinds = {man.kind for man in men.values()}
-    if Kind.NIGHTRIDER in kinds and Kind.KNIGHT not in kinds:
+    letters = board.letters
+    if not _NIGHTRIDERS.isdisjoint(letters) and _KNIGHTS.isdisjoint(letters):
         judgement.find(Weight.NOTE, "N is a nightrider here, and there is no knight: knights are S")
-    judgement.impossible_men = tuple(impossible_counts(men))
+    if surely_begun(letters):
+        return
+    judgement.impossible_men = tuple(impossible_counts(board.men))
     for text in judgement.impossible_men:
         judgement.find(Weight.NOTE, f"no game has these men: {text}")
 

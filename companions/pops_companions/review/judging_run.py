@@ -6,7 +6,7 @@ They are kept in a folder until all of them are done, so that a run that was sto
 import io
 import os
 import sys
-from collections.abc import Callable, Sequence
+from collections.abc import Callable, Iterable, Sequence
 from concurrent.futures import ThreadPoolExecutor
 from contextlib import redirect_stderr
 from dataclasses import dataclass, replace
@@ -24,7 +24,7 @@ from pops_companions.input.writing import text_of_problems
 from pops_companions.many.journal import is_begun
 from pops_companions.many.program import RunError
 from pops_companions.many.tries_program import TriesProgram
-from pops_companions.report.items import AnyItem, Board, HeadlessItem, SoundItem
+from pops_companions.report.items import AnyItem, Board, FaultyItem, HeadlessItem, SoundItem
 from pops_companions.report.source import UNFINISHED
 from pops_companions.report.tries import TriesItem
 from pops_companions.review.posing import posed_problems
@@ -94,6 +94,8 @@ class Work:
         self.is_finished = True
         # The problems without tries, because pops-tries failed, with the reasons.
         self.failed: dict[int, str] = {}
+        # The problems that pops-tries calls faulty.
+        self._called_faulty: set[int] = set()
 
     def solve(self) -> None:
         """Solves the problems."""
@@ -194,8 +196,11 @@ class Work:
             if text is None:
                 self.is_finished = False
                 return None
-            item = next(iter(tries_of_text(name, text).values()), None)
-            if item is not None and not wanted.has(item):
+            item, *others = tries_of_text(name, [text])
+            if isinstance(item, FaultyItem):
+                self._called_faulty.add(number)
+                return None
+            if others or not wanted.has(item):
                 raise RunError("pops-tries shows another problem")
         except RunError as error:
             self.failed[number] = str(error)
@@ -204,7 +209,14 @@ class Work:
         # (what can't be read, or is of another problem, isn't kept)
         if kept is None:
             self.folder.keep(path, text)
-        return None if item is None else replace(item, number=number)
+        return replace(item, number=number)
+
+    def compare(self, items: Iterable[Optional[AnyItem]]) -> None:
+        """Notes the problems that only pops-tries calls faulty."""
+        for item in items:
+            if isinstance(item, SoundItem) and item.number in self._called_faulty:
+                self.failed[item.number] = "pops-tries calls it faulty, and pops sound"
+                self.is_finished = False
 
     def end(self) -> bool:
         """Removes the folder, unless a problem isn't finished; returns whether it left other files.

@@ -1,7 +1,8 @@
 """The folder that keeps what is done of a sheet until all of it is.
 
 It has a file that marks it as this program's own, with a checksum of the input. Nothing of a folder
-without that mark is read, and only files with names of its own are removed.
+without that mark is read, and only files with names of its own are removed. What it keeps has checksums
+with that of the input: what was kept for another isn't taken.
 """
 
 import fcntl
@@ -18,7 +19,7 @@ from pops_companions import files
 from pops_companions.command import CommandError, Status
 
 _MARK = "pops-judge.mark"
-_HEAD = b"pops-judge work 1 "
+_HEAD = b"pops-judge work 2 "
 _OWN = re.compile(
     r"(?:pops-judge\.mark|input\.pop|short\.pop|tries-[0-9]+\.txt"
     r"|(?:solutions|short)\.report(?:\.journal|\.unfinished|\.sum)?)(?:\.[0-9a-f]{12})?"
@@ -37,6 +38,7 @@ class WorkFolder:
 
     def __init__(self, path: Path):
         self.path = path
+        self._mark = b""
 
     def begin(self, text: bytes, resume: bool) -> None:
         """Makes the folder for an input, or takes up that of a run that was stopped.
@@ -54,14 +56,14 @@ class WorkFolder:
             message = f"cannot write {error.filename}: {error.strerror}"
             raise CommandError(Status.DEVICE, message) from None
         self._refuse_foreign()
-        mark = self.path / _MARK
+        mark, begun = self.path / _MARK, _HEAD + _sum_of(text)
+        self._mark = begun + _sum_of(begun)
         if mark.exists():
             if not resume:
                 self._refuse("keeps a run that was stopped: go on with --resume, or remove it")
-            if mark.read_bytes() != _HEAD + _sum_of(text):
-                self._refuse("is of another text: remove it")
+            self._refuse_other(mark.read_bytes())
         else:
-            self.write(mark, _HEAD + _sum_of(text))
+            self.write(mark, self._mark)
         self.write(self.path / "input.pop", text)
 
     def _is_held(self) -> bool:
@@ -104,6 +106,14 @@ class WorkFolder:
         if not is_own or not all(map(stat.S_ISREG, kinds)) or not (_MARK in names or is_empty):
             self._refuse(_FOREIGN)
 
+    def _refuse_other(self, mark: bytes) -> None:
+        """Refuses a folder with another mark than that of the input."""
+        begun, end, checksum = mark.partition(b"\n")
+        if checksum != _sum_of(begun + end):
+            self._refuse("has a mark that was changed, or is of another version: remove it")
+        if mark != self._mark:
+            self._refuse("is of another text: remove it")
+
     def _refuse(self, reason: str) -> NoReturn:
         raise CommandError(Status.USAGE, f"{self.path} {reason}")
 
@@ -115,26 +125,27 @@ class WorkFolder:
 
     def keep(self, path: Path, text: bytes) -> None:
         """Writes a text with its checksum in front, for `kept`."""
-        self.write(path, _sum_of(text) + text)
+        self.write(path, self._sum_of(text) + text)
 
-    @staticmethod
-    def kept(path: Path) -> Optional[bytes]:
+    def _sum_of(self, text: bytes) -> bytes:
+        return _sum_of(self._mark + text)
+
+    def kept(self, path: Path) -> Optional[bytes]:
         """Returns a text that `keep` wrote; None if there is none, or another."""
         try:
             head, _, text = path.read_bytes().partition(b"\n")
         except FileNotFoundError:
             return None
-        return text if head + b"\n" == _sum_of(text) else None
+        return text if head + b"\n" == self._sum_of(text) else None
 
     def seal(self, report: Path) -> None:
         """Notes that a report is whole, for `is_sealed`."""
-        self.write(Path(f"{report}{_SUM}"), _sum_of(report.read_bytes()))
+        self.write(Path(f"{report}{_SUM}"), self._sum_of(report.read_bytes()))
 
-    @staticmethod
-    def is_sealed(report: Path) -> bool:
+    def is_sealed(self, report: Path) -> bool:
         """Returns whether a report is the one that was noted as whole."""
         try:
-            return Path(f"{report}{_SUM}").read_bytes() == _sum_of(report.read_bytes())
+            return Path(f"{report}{_SUM}").read_bytes() == self._sum_of(report.read_bytes())
         except FileNotFoundError:
             return False
 

@@ -9,6 +9,7 @@ from typing import Optional
 
 from pops_companions.command import CommandError, Status
 from pops_companions.input.pieces import cut
+from pops_companions.many.child_process import MOST_OUTPUT, wrote_more
 from pops_companions.many.local import run_locally
 from pops_companions.many.program import Program, RunError
 from pops_companions.many.progress import Progress
@@ -90,12 +91,15 @@ def _take(
         late.append(number)
         return
     for item in read_tries(io.BytesIO(text)):
-        if isinstance(item, TriesItem):
-            found[number] = replace(item, number=number)
+        if not isinstance(item, TriesItem):
+            raise RunError(f"problem {number}: pops-tries calls it faulty, and pops sound")
+        found[number] = replace(item, number=number)
 
 
 def _marked(result: Result) -> bytes:
     """Returns a problem's report; that of an unfinished one ends in a line that says so."""
+    if result.spooled is not None:
+        raise CommandError(Status.DEVICE, f"{result.task.shown}: {wrote_more(MOST_OUTPUT)}")
     if result.status != UNFINISHED:
         return result.report
     return result.report + lines.UNFINISHED + b"%g s\n\n" % (result.seconds or 0.0)

@@ -1,0 +1,143 @@
+"""A report that is judged as it is read: a large one in pieces, by all processors."""
+
+import json
+import os
+from collections.abc import Callable, Iterable, Iterator
+from functools import partial
+from itertools import chain, islice
+from typing import BinaryIO, NamedTuple
+
+from pops_companions.many.forked import Copies, can_fork
+from pops_companions.report.items import AnyItem
+from pops_companions.report.reader import read_unfinished_report
+from pops_companions.report.source import NamedText, pieces_of
+from pops_companions.review.beside import Beside, Course
+from pops_companions.review.in_pieces import Cutter, Piece, is_large
+from pops_companions.review.judged_groups import JudgedGroup, judged_groups
+from pops_companions.review.judgement_text import Tally
+from pops_companions.review.judging import Judgement
+
+# More take more memory, and one process can't keep them busy.
+_MOST_COPIES = 8
+
+
+class Form(NamedTuple):
+    """How the problems of a report are grouped and shown."""
+
+    encoding: str
+    apart: bool
+    text_of: Callable[[JudgedGroup], str]
+
+
+class _Known(NamedTuple):
+    """What a copy of this process knows of a piece, beside its texts."""
+
+    last: int
+    lacking: int
+    counts: dict[str, int]
+    undecodable: list[int]
+    # How many bytes the text of the last group has.
+    held: int
+
+
+class JudgedReport:
+    """A report, with what is known beside it; `tally` counts its problems as they are judged."""
+
+    def __init__(self, report: NamedText, beside: Beside, form: Form, tally: Tally):
+        self._report = report
+        self._beside = beside
+        self._form = form
+        self._tally = tally
+        self._course = Course()
+
+    def groups_of(self, items: Iterator[AnyItem]) -> Iterator[JudgedGroup]:
+        """Yields the problems of items that are read elsewhere."""
+        return self._counted(self._beside.judgements(items))
+
+    def groups(self, source: BinaryIO) -> Iterator[JudgedGroup]:
+        """Yields all problems."""
+        return self._counted(self._judgements_to_end(pieces_of(source), 0))
+
+    def texts_of(self, groups: Iterator[JudgedGroup]) -> Iterator[bytes]:
+        return (self._form.text_of(one).encode("utf-8", "replace") for one in groups)
+
+    def texts(self, source: BinaryIO) -> Iterator[bytes]:
+        """Yields the texts of all problems."""
+        processors = len(os.sched_getaffinity(0)) if can_fork() else 1
+        if processors == 1 or not is_large(source):
+            return self.texts_of(self.groups(source))
+        cutter = Cutter(source, self._beside.given, self._form.encoding, self._form.apart)
+        return self._texts_in_pieces(cutter, source, min(processors, _MOST_COPIES))
+
+    def _texts_in_pieces(self, cutter: Cutter, source: BinaryIO, number: int) -> Iterator[bytes]:
+        """Yields the texts of pieces by copies of this process. Where one fails on a piece, all that
+        is left is judged here.
+
+        The last text of a piece comes after the next problem is judged, as without pieces.
+        """
+        held = b""
+        with Copies(self._result, number) as copies:
+            results = copies.results(piece.data for piece in cutter.pieces())
+            for data, result in results:
+                head, _, texts = (result or b"").partition(b"\n")
+                known = _Known(*json.loads(head)) if head else None
+                if known is None or not self._add(known):
+                    left = chain([data], (other for other, _ in results))
+                    yield from self._texts_to_end(held, left, cutter, source)
+                    return
+                end = len(texts) - known.held
+                yield held + texts[:end]
+                held = texts[end:]
+        yield from self._texts_to_end(held, iter(()), cutter, source)
+
+    def _texts_to_end(
+        self, held: bytes, left: Iterator[bytes], cutter: Cutter, source: BinaryIO
+    ) -> Iterator[bytes]:
+        """Yields what was held back, then the texts of pieces that are left and all that follows them."""
+        pieces = chain(map(Piece.of_data, left), cutter.rests())
+        first = next(pieces)
+        chunks = chain.from_iterable(piece.chunks() for piece in chain([first], pieces))
+        judgements = self._judgements_to_end(chain(chunks, pieces_of(source)), first.place.line)
+        judged = list(islice(judgements, 1))
+        yield held
+        yield from self.texts_of(self._counted(chain(judged, judgements)))
+
+    def _result(self, data: bytes) -> bytes:
+        """Returns the texts of a piece, after a line with what else is known of it."""
+        piece = Piece.of_data(data)
+        self._course, self._tally = Course(piece.place.last), Tally()
+        self._report.undecodable.clear()
+        items = self._items(piece.chunks(), piece.place.line)
+        judged = self._beside.judgements_of_piece(items, self._course)
+        texts = list(self.texts_of(self._counted(judged)))
+        held = 0 if self._form.apart else len(texts[-1])
+        course, counts = self._course, self._tally.counts
+        known = _Known(course.last, course.lacking, counts, self._report.undecodable, held)
+        return b"".join([json.dumps(known).encode("ascii"), b"\n", *texts])
+
+    def _add(self, known: _Known) -> bool:
+        """Adds what is known of a piece, unless it lacks too many problems; returns whether it did."""
+        if not self._beside.may_lack(self._course.lacking + known.lacking):
+            return False
+        self._course.last = known.last
+        self._course.lacking += known.lacking
+        self._tally.add(known.counts)
+        self._report.undecodable.extend(known.undecodable)
+        return True
+
+    def _items(self, chunks: Iterable[bytes], line: int) -> Iterator[AnyItem]:
+        return self._report.items(chunks, partial(read_unfinished_report, line=line))
+
+    def _items_to_end(self, chunks: Iterable[bytes], line: int) -> Iterator[AnyItem]:
+        yield from self._items(chunks, line)
+        self._report.end()
+
+    def _judgements_to_end(self, chunks: Iterable[bytes], line: int) -> Iterator[Judgement]:
+        items = self._items_to_end(chunks, line)
+        yield from self._beside.judgements_of_piece(items, self._course)
+        yield from self._beside.missing_at_end(self._course)
+
+    def _counted(self, judgements: Iterable[Judgement]) -> Iterator[JudgedGroup]:
+        form = self._form
+        groups = judged_groups(judgements, self._beside.given, form.encoding, form.apart)
+        return self._tally.counted(groups)

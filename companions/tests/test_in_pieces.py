@@ -1,0 +1,131 @@
+"""pops-test on large reports: judged in pieces by several processes, it says what one process says."""
+
+import os
+import signal
+import tempfile
+import unittest
+from contextlib import contextmanager
+from pathlib import Path
+from typing import Iterator
+from unittest import mock
+
+from pops_companions.many import forked
+from pops_companions.review import in_pieces
+from tests import run_here, support
+
+BOARD = b"".join(b"%d ........\n" % rank for rank in range(8, 0, -1)) + b"  abcdefgh\n"
+KEY = b"#2\nplay\n1.Ra1-a8\n  1...Kh8-h7\n    2.Ra8-a7#\n    2.Ra8-h8#\nsolutions: 1\n\n"
+BODIES = [
+    BOARD + KEY,
+    b"title: Alone\n" + BOARD + b"#1\nplay\n1.Ra1-a8#\n1.Rb1-b8#\nsolutions: 2\n\n",
+    b"title: Twins a)\n" + KEY,
+    b"title: Twins b)\n" + KEY,
+    b"title: Twins c)\n" + BOARD + KEY,
+    b"title: duplex\nauthor: A\n" + KEY,
+    b"line 7: fault 2: unknown or misplaced word\n\n",
+    b"title: \xff\n#1\nplay\nsolutions: 0\n\n",
+    b"h#1\nset\nnot possible\nplay\n1.Ka1-a2 e5*d6 ep.#\n1.Ka1-a2 Qd1-a4#\nsolutions: 2\n\n",
+    b"title: \n#1\nsound\n\n",
+    b"title: Twins a)\n" + KEY,
+    b"#3 Circe\nplay\n1.Ra1-a8\n  1...Kh8-h7\n    2.Ra8-a7\n      2...Kh7-h8\n        3.Ra7-a8#\nsolutions: 1, stopped\n\n",
+    b"s#1\nset\n1...Kh8-h7\nsolutions: 1\nplay\nsolutions: 0\nunfinished: stopped after 60 s\n\n",
+]
+WORDS: list[list[str]] = [[], ["--all"], ["--csv"], ["--apart"], ["--solutions", "2"]]
+
+
+def report(numbers: list[int]) -> bytes:
+    """A report of problems with these numbers, one of each kind after another."""
+    bodies = (BODIES[place % len(BODIES)] for place in range(len(numbers)))
+    return b"".join(b"problem %d\n%s" % one for one in zip(numbers, bodies))
+
+
+@contextmanager
+def pieces_of(size: int) -> Iterator[None]:
+    """Lets a report of any size be cut into pieces of so many bytes at least."""
+    with mock.patch.multiple(in_pieces, LEAST_BYTES=0, PIECE_BYTES=size):
+        with mock.patch.object(os, "sched_getaffinity", lambda _: {0, 1}):
+            yield
+
+
+class InPieces(unittest.TestCase):
+    def setUp(self) -> None:
+        room = tempfile.TemporaryDirectory()
+        self.addCleanup(room.cleanup)
+        self.file = Path(room.name) / "report"
+
+    def compare(self, text: bytes, sizes: tuple[int, ...] = (1, 300), words: list[str] = []) -> None:
+        self.file.write_bytes(text)
+        whole = run_here.companion("pops-test", str(self.file), *words)
+        for size in sizes:
+            with pieces_of(size):
+                self.assertEqual(run_here.companion("pops-test", str(self.file), *words), whole)
+
+    def test_the_same_text(self) -> None:
+        text = report(list(range(1, 60)))
+        for words in WORDS:
+            self.compare(text, (1, 300, 3000), words)
+
+    def test_numbers_with_gaps_and_joined_reports(self) -> None:
+        self.compare(report([1, 2, 5, 6, 20, 21, 1, 2, 3, 3, 3, 9, 10, 4, 5]))
+        self.compare(report([1, 2, 9000, 9001, 13_000, 13_001, 13_002]))
+
+    def test_an_input(self) -> None:
+        twins = [b"Title T %s)\nRemark %s) Move a1 b1\nPieces White Ka1 Black Kh8\nStipulation #1\n" % (it, it) for it in (b"a", b"b", b"c", b"d")]
+        text = b"BeginProblem\n" + b"NextProblem\n".join(twins * 4) + b"EndProblem\n"
+        given = self.file.with_name("in.pop")
+        given.write_bytes(text)
+        body = b"title: T %s)\n#1\nplay\n1.Ka1-b1#\nsolutions: 1\n\n"
+        items = [b"problem %d\n" % (it + 1) + body % b"abcd"[it % 4 : it % 4 + 1] for it in range(16)]
+        for left_out in ({20}, {1, 2}, {4, 8}, {3, 7, 11, 15}, set(range(5, 14))):
+            kept = b"".join(it for place, it in enumerate(items) if place not in left_out)
+            self.compare(kept, (1, 100), ["--input", str(given)])
+        self.compare(b"".join(items) + b"problem 17\n" + body % b"a", (1,), ["--input", str(given)])
+
+    def test_a_fault_at_each_line(self) -> None:
+        lines = report(list(range(1, len(BODIES) + 1))).splitlines(keepends=True)
+        for place in range(0, len(lines), 3):
+            self.compare(b"".join([*lines[:place], b"x\n", *lines[place:]]), (1,))
+            self.compare(b"".join([*lines[:place], *lines[place + 1 :]]), (1,))
+            self.compare(b"".join(lines[:place])[:-1], (1,))
+
+    def test_an_input_in_place_of_a_report(self) -> None:
+        self.compare(b"BeginProblem\n" + report([1, 2, 3]))
+
+    def test_lines_that_are_too_long(self) -> None:
+        for length in (1 << 20, (1 << 20) + 70_000):
+            self.compare(report([1, 2]) + b"problem 3\ntitle: " + b"x" * length + b"\n" + KEY + report([4]))
+
+    def test_copies_that_end_on_their_way(self) -> None:
+        text = report(list(range(1, 60)))
+        self.file.write_bytes(text)
+        whole = run_here.companion("pops-test", str(self.file))
+        work_off = forked._work_off
+
+        def ended(work: forked.Work, given: int, written: int) -> None:
+            """Ends the copy at its third piece."""
+            left = [None, None]
+
+            def some(piece: bytes) -> bytes:
+                if not left:
+                    os.kill(os.getpid(), signal.SIGKILL)
+                left.pop()
+                return work(piece)
+
+            work_off(some, given, written)
+
+        with pieces_of(1), mock.patch.object(forked, "_work_off", ended):
+            self.assertEqual(run_here.companion("pops-test", str(self.file)), whole)
+        with pieces_of(1), mock.patch.object(forked, "_forked", side_effect=BlockingIOError(11, "no more")):
+            self.assertEqual(run_here.companion("pops-test", str(self.file)), whole)
+
+    def test_it_is_cut(self) -> None:
+        self.file.write_bytes(report(list(range(1, 60))))
+        with pieces_of(1), mock.patch.object(forked.Copies, "results", autospec=True) as results:
+            results.side_effect = lambda _, pieces: ((it, None) for it in pieces)
+            run_here.companion("pops-test", "--apart", str(self.file))
+            with open(self.file, "rb") as source:
+                cutter = in_pieces.Cutter(source, [], "utf-8", True)
+                self.assertEqual(sum(1 for _ in cutter.pieces()), 58)
+        results.assert_called_once()
+
+
