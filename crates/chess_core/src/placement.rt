@@ -5,12 +5,12 @@ ghost use Rattle.chess_core.specs.Diagrams.{is_kind_on};
 ghost use Rattle.chess_core.specs.Position.{king_square, man_on, with_man, without_man};
 ghost use Rattle.chess_core.specs.ties.Words.{side_of, squares_of, word};
 
-use crate::man::{Colour, Kind, Man};
+use crate::man::{Colour, KINDS, Kind, Man};
 use crate::square::{Square, Squares};
 use std::marker::Model;
 
 // A bitboard for each kind, at the kind's number.
-type ByKind = [Squares; 8];
+type ByKind = [Squares; KINDS];
 
 // A bitboard for each colour, at the colour's number.
 type BySide = [Squares; 2];
@@ -56,7 +56,7 @@ impl Placement {
     {
         Placement {
             array: [None; 64],
-            by_kind: [0; 8],
+            by_kind: [0; KINDS],
             by_side: [0; 2],
         }
     }

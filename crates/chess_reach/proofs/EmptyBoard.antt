@@ -1,5 +1,5 @@
 -- What a man reaches on some board, it reaches on the empty one.
-use Rattle.chess_reach.proofs.Chess.{Bishop, Colour, Grasshopper, King, Kind, Knight, List, Man, Nightrider, Option, Pawn, Queen, Rook, Step, [], any_kept, arith, cases_lt, diagonal_steps, refl, guards, hops, is_occupied, is_vacant_at, knight_steps, or_left, or_right, queen_steps, reaches_as, rides, rules, straight_steps, true, ℕ, ◌||◌, ◌≡◌}
+use Rattle.chess_reach.proofs.Chess.{Bishop, Colour, Grasshopper, King, Kind, List, Man, Nightrider, Option, Queen, Rook, Step, [], any_kept, arith, cases_lt, diagonal_steps, refl, guards, hops, is_occupied, is_vacant_at, knight_steps, or_left, or_right, queen_steps, reaches_as, rides, rules, straight_steps, true, ℕ, ◌||◌, ◌≡◌}
 use Rattle.chess_attacks.proofs.rays.Ways.{hop-found, ride-found, ride-made}
 
 module _ (men : List (Option Man)) where
@@ -15,14 +15,12 @@ module _ (men : List (Option Man)) where
   -- what a man could capture on, it guards
   pub guards_reached : (c : Colour) (k : Kind) (s t : ℕ) → reaches_as men c k s t ≡ true → guards c k s t ≡ true
   unfolding reaches_as guards
-  guards_reached c King s t h = h
   guards_reached c Queen s t h = any_kept (rides men s t) (rides [] s t) queen_steps (ride_openly s t) h
   guards_reached c Rook s t h = any_kept (rides men s t) (rides [] s t) straight_steps (ride_openly s t) h
   guards_reached c Bishop s t h = any_kept (rides men s t) (rides [] s t) diagonal_steps (ride_openly s t) h
-  guards_reached c Knight s t h = h
-  guards_reached c Pawn s t h = h
   guards_reached c Grasshopper s t h = any_kept (hops men s t) (rides [] s t) queen_steps (hop_openly s t) h
   guards_reached c Nightrider s t h = any_kept (rides men s t) (rides [] s t) knight_steps (ride_openly s t) h
+  guards_reached c k s t h = h
 
   -- a king reaches the same squares on all boards
   pub king_guards : (c : Colour) (s t : ℕ) → guards c King s t ≡ reaches_as men c King s t

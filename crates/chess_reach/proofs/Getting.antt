@@ -1,5 +1,5 @@
 -- How far a man gets: a superset, move by move.
-use Rattle.chess_attacks.proofs.Chess.{Bishop, Black, Bool, Colour, Gait, Grasshopper, King, Knight, Nightrider, None, Queen, Rook, Some, Hopper, Kind, Leaper, List, Man, Option, Rider, gait_of, goes_by, hops, kind_steps, Pawn, Step, White, [], all_at, along, and_from, and_parts, arith, bit_and, bit_at, bit_not, bit_or, cases_Bool, false, false≢true, first_of_and, forward, inl, inr, is_advance, is_square, leaps, list_any, not, on_left, on_right, or_cases, or_left, or_right, pawn_capture_steps, queen_steps, rank_of, reaches_as, refl, rides, rules, second_of_and, subst, suc, sym, true, w64, word, word_has, zero, ℕ, ◌-◌, ◌^◌, ◌&&◌, ◌<◌, ◌==◌, ◌||◌, ◌∙◌, ◌∷◌, ◌≡◌}
+use Rattle.chess_attacks.proofs.Chess.{Bishop, Black, Bool, Colour, Gait, King, Knight, None, Queen, Rook, Some, Hopper, Kind, Leaper, List, Man, Option, Rider, gait_of, goes_by, hops, kind_steps, Pawn, Step, White, [], all_at, along, and_from, and_parts, arith, bit_and, bit_at, bit_not, bit_or, cases_Bool, false, false≢true, first_of_and, forward, inl, inr, is_advance, is_square, leaps, list_any, not, on_left, on_right, or_cases, or_left, or_right, pawn_capture_steps, queen_steps, rank_of, reaches_as, refl, rides, rules, second_of_and, subst, suc, sym, true, w64, word, word_has, zero, ℕ, ◌-◌, ◌^◌, ◌&&◌, ◌<◌, ◌==◌, ◌||◌, ◌∙◌, ◌∷◌, ◌≡◌}
 use Rattle.std.specs.Prelude.{◌⊎◌}
 use Rattle.chess_attacks.specs.ties.Lines.{AreReached}
 use Rattle.chess_core.specs.Position.{same_kind}
@@ -175,10 +175,8 @@ home_again White Knight s h at = grind (arith, cases_Bool (is_light s))
 home_again Black Knight s h at = grind (arith, cases_Bool (is_light s))
 home_again White Pawn s h at = file_again s h 2 at
 home_again Black Pawn s h at = file_again s h 7 at
-home_again White Grasshopper s h at = file_again s h 8 at
-home_again Black Grasshopper s h at = file_again s h 1 at
-home_again White Nightrider s h at = file_again s h 8 at
-home_again Black Nightrider s h at = file_again s h 1 at
+home_again White k s h at = file_again s h 8 at
+home_again Black k s h at = file_again s h 1 at
 
 -- who is reborn starts where it could start again
 pub starts_again : (rb : Bool) (c : Colour) (k : Kind) (s h t : ℕ) → rb ≡ true → rebirth c k s ≡ Some h → Starts rb c k h t → Starts rb c k s t

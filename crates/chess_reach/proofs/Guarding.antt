@@ -1,5 +1,5 @@
 -- The squares from which a man guards, looked at from the square that it guards.
-use Rattle.chess_attacks.proofs.Chess.{Bishop, Colour, Grasshopper, Kind, King, Knight, Nightrider, Pawn, Queen, Rook, [], bit_and, bit_at, bit_not, cases_Bool, false, gait_of, inl, inr, is_hopper, other, reaches_as, refl, same_kind-true, subst, sym, true, w64, ℕ, ◌%◌, ◌*◌, ◌<◌, ◌==◌, ◌^◌, ◌∙◌, ◌≡◌, ◌≢◌}
+use Rattle.chess_attacks.proofs.Chess.{Colour, Kind, King, Knight, Pawn, Queen, [], bit_and, bit_at, bit_not, cases_Bool, false, gait_of, inl, inr, is_hopper, other, reaches_as, refl, same_kind-true, subst, sym, true, w64, ℕ, ◌%◌, ◌*◌, ◌<◌, ◌==◌, ◌^◌, ◌∙◌, ◌≡◌, ◌≢◌}
 use Rattle.chess_attacks.proofs.rays.Flips.{reaches_back}
 use Rattle.chess_attacks.specs.ties.Lines.{AreReached}
 use Rattle.chess_core.specs.Position.{same_kind}
@@ -13,13 +13,7 @@ use Rattle.chess_reach.specs.ties.Ways.{CanBe}
 
 no_hops : (k : Kind) → is_hopper (gait_of (without_hops k)) ≡ false
 no_hops King = refl
-no_hops Queen = refl
-no_hops Rook = refl
-no_hops Bishop = refl
-no_hops Knight = refl
-no_hops Pawn = refl
-no_hops Grasshopper = refl
-no_hops Nightrider = refl
+no_hops k = refl
 
 -- from s a man of colour c and kind k guards z, other than from the king's square
 module _ (c e : Colour) (s z king i : ℕ) (enemy : e ≡ other c) (here : i ≡ king) (small : s < 64) (low : z < 64) (least : king < 64) (off : s ≢ king) where

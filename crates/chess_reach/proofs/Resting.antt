@@ -1,7 +1,7 @@
 -- Where a man can be without a move, if captured men are reborn.
-use Rattle.chess_attacks.proofs.Chess.{Bishop, Black, Bool, Colour, Grasshopper, Kind, King, Knight, Man, Nightrider, Pawn, Queen, Rook, Some, White, all_at, ap, arith, bit_and, bit_at, bit_not, bit_or, cases_Bool, eq-eqb, false, false≢true, inl, inr, on_left, on_right, range_with_len, rank_of, refl, same_kind-true, subst, sym, true, w64, ℕ, ◌%◌, ◌*◌, ◌+◌, ◌<◌, ◌==◌, ◌^◌, ◌∙◌, ◌≡◌, ◌≢◌, if◌then◌else◌, list_all}
+use Rattle.chess_attacks.proofs.Chess.{Bishop, Black, Bool, Colour, Kind, King, Knight, Man, Nightrider, Pawn, Queen, Rook, Some, White, all_at, ap, arith, bit_and, bit_at, bit_not, bit_or, cases_Bool, eq-eqb, false, false≢true, inl, inr, on_left, on_right, range_with_len, rank_of, refl, same_kind-true, subst, sym, true, w64, ℕ, ◌%◌, ◌*◌, ◌+◌, ◌<◌, ◌==◌, ◌^◌, ◌∙◌, ◌≡◌, ◌≢◌, if◌then◌else◌, list_all}
 use Rattle.std.specs.Prelude.{◌/◌, ◌||◌, ◌&&◌, not}
-use Rattle.chess_core.specs.Position.{same_kind}
+use Rattle.chess_core.specs.Position.{is_fairy, same_kind}
 use Rattle.chess_core.specs.Squares.{file_of, square_at}
 use Rattle.chess_rules.proofs.Chess.{square_at-is}
 use Rattle.chess_rules.proofs.making_moves.Stays.{rebirth_small}
@@ -115,19 +115,33 @@ unfolding rebirth
 pawns_home White f m s h small home file rank = on_rank f m s h 2 small (rebirth_small White Pawn s h home) home file rank
 pawns_home Black f m s h small home file rank = on_rank f m s h 7 small (rebirth_small Black Pawn s h home) home file rank
 
-pub grasshoppers_home : (c : Colour) (f m s h : ℕ) → s < 64 → rebirth c Grasshopper s ≡ Some h
-    → ((t : ℕ) → t < 64 → file_of t ≡ file_of s → (bit_at f t == 1) ≡ true)
-    → ((t : ℕ) → t < 64 → (bit_at m t == 1) ≡ (rank_of t == last_rank c)) → (bit_at (bit_and f m) h == 1) ≡ true
-unfolding rebirth
-grasshoppers_home White f m s h small home file rank = on_rank f m s h 8 small (rebirth_small White Grasshopper s h home) home file rank
-grasshoppers_home Black f m s h small home file rank = on_rank f m s h 1 small (rebirth_small Black Grasshopper s h home) home file rank
+-- a kind that is none of the six is fairy
+pub fairy_kind : (k : Kind) → k ≢ King → k ≢ Queen → k ≢ Rook → k ≢ Bishop → k ≢ Knight → k ≢ Pawn → is_fairy k ≡ true
+fairy_kind King k q r b n p = absurd (k refl)
+fairy_kind Queen k q r b n p = absurd (q refl)
+fairy_kind Rook k q r b n p = absurd (r refl)
+fairy_kind Bishop k q r b n p = absurd (b refl)
+fairy_kind Knight k q r b n p = absurd (n refl)
+fairy_kind Pawn k q r b n p = absurd (p refl)
+fairy_kind fairy k q r b n p = refl
 
-pub nightriders_home : (c : Colour) (f m s h : ℕ) → s < 64 → rebirth c Nightrider s ≡ Some h
+-- a fairy man is reborn at the far end of its file
+fairy_rebirth : (c : Colour) (k : Kind) (s : ℕ) → is_fairy k ≡ true → rebirth c k s ≡ square_at (file_of s) (last_rank c)
+unfolding rebirth
+fairy_rebirth c King s fairy = absurd (false≢true fairy)
+fairy_rebirth c Queen s fairy = absurd (false≢true fairy)
+fairy_rebirth c Rook s fairy = absurd (false≢true fairy)
+fairy_rebirth c Bishop s fairy = absurd (false≢true fairy)
+fairy_rebirth c Knight s fairy = absurd (false≢true fairy)
+fairy_rebirth c Pawn s fairy = absurd (false≢true fairy)
+fairy_rebirth White k s fairy = refl
+fairy_rebirth Black k s fairy = refl
+
+pub fairy_home : (c : Colour) (k : Kind) (f m s h : ℕ) → is_fairy k ≡ true → s < 64 → rebirth c k s ≡ Some h
     → ((t : ℕ) → t < 64 → file_of t ≡ file_of s → (bit_at f t == 1) ≡ true)
     → ((t : ℕ) → t < 64 → (bit_at m t == 1) ≡ (rank_of t == last_rank c)) → (bit_at (bit_and f m) h == 1) ≡ true
-unfolding rebirth
-nightriders_home White f m s h small home file rank = on_rank f m s h 8 small (rebirth_small White Nightrider s h home) home file rank
-nightriders_home Black f m s h small home file rank = on_rank f m s h 1 small (rebirth_small Black Nightrider s h home) home file rank
+fairy_home c k f m s h fairy small home file rank =
+    on_rank f m s h (last_rank c) small (rebirth_small c k s h home) (sym (fairy_rebirth c k s fairy) ∙ home) file rank
 
 -- no king is reborn
 pub king_dies : (c : Colour) (s h : ℕ) → rebirth c King s ≡ Some h → (Q : Type 0) → Q
@@ -138,16 +152,15 @@ king_dies Black s h home Q = grind (arith, home)
 -- promoted men are reborn where one of four kinds is
 pub promoted_home : (c : Colour) (k : Kind) (s h q r b g : ℕ) → k ≢ Knight → k ≢ Nightrider → k ≢ Pawn → rebirth c k s ≡ Some h
     → (rebirth c Queen s ≡ Some h → (bit_at q h == 1) ≡ true) → (rebirth c Rook s ≡ Some h → (bit_at r h == 1) ≡ true)
-    → (rebirth c Bishop s ≡ Some h → (bit_at b h == 1) ≡ true) → (rebirth c Grasshopper s ≡ Some h → (bit_at g h == 1) ≡ true)
+    → (rebirth c Bishop s ≡ Some h → (bit_at b h == 1) ≡ true) → ((j : Kind) → is_fairy j ≡ true → rebirth c j s ≡ Some h → (bit_at g h == 1) ≡ true)
     → (bit_at (bit_or (bit_or (bit_or q r) b) g) h == 1) ≡ true
-promoted_home c King s h q r b g n i p home queens rooks bishops hoppers = king_dies c s h home _
-promoted_home c Queen s h q r b g n i p home queens rooks bishops hoppers = on_left _ g h (on_left _ b h (on_left q r h (queens home)))
-promoted_home c Rook s h q r b g n i p home queens rooks bishops hoppers = on_left _ g h (on_left _ b h (on_right q r h (rooks home)))
-promoted_home c Bishop s h q r b g n i p home queens rooks bishops hoppers = on_left _ g h (on_right (bit_or q r) b h (bishops home))
-promoted_home c Knight s h q r b g n i p home queens rooks bishops hoppers = absurd (n refl)
-promoted_home c Pawn s h q r b g n i p home queens rooks bishops hoppers = absurd (p refl)
-promoted_home c Grasshopper s h q r b g n i p home queens rooks bishops hoppers = on_right (bit_or (bit_or q r) b) g h (hoppers home)
-promoted_home c Nightrider s h q r b g n i p home queens rooks bishops hoppers = absurd (i refl)
+promoted_home c King s h q r b g n i p home queens rooks bishops fairies = king_dies c s h home _
+promoted_home c Queen s h q r b g n i p home queens rooks bishops fairies = on_left _ g h (on_left _ b h (on_left q r h (queens home)))
+promoted_home c Rook s h q r b g n i p home queens rooks bishops fairies = on_left _ g h (on_left _ b h (on_right q r h (rooks home)))
+promoted_home c Bishop s h q r b g n i p home queens rooks bishops fairies = on_left _ g h (on_right (bit_or q r) b h (bishops home))
+promoted_home c Knight s h q r b g n i p home queens rooks bishops fairies = absurd (n refl)
+promoted_home c Pawn s h q r b g n i p home queens rooks bishops fairies = absurd (p refl)
+promoted_home c k s h q r b g n i p home queens rooks bishops fairies = on_right (bit_or (bit_or q r) b) g h (fairies k refl home)
 
 not_of : (k j : Kind) → same_kind k j ≡ false → k ≢ j
 not_of k j off same = grind (arith, off, same)

@@ -1,5 +1,5 @@
 -- A knight or pawn that stands doesn't check: it would have checked before the last move.
-use Rattle.chess_reach.proofs.Chess.{Bishop, Colour, Grasshopper, IsGuarded, IsWellFormed, King, Kind, Knight, List, Man, Nightrider, Option, Pawn, Position, Queen, Rook, RuleSet, Some, and_from, and_parts, ap, checks_by_leap, false, false≢true, guards, in_check, is_attacked, is_attacker, is_man, is_paralysed, king_square, man_on, not, other, reaches, reaches_as, refl, same_colour-refl, same_colour-true, some_square_true, subst, sym, true, ℕ, ◌<◌, ◌∙◌, ◌≡◌}
+use Rattle.chess_reach.proofs.Chess.{Colour, IsGuarded, IsWellFormed, King, Kind, Knight, List, Man, Option, Pawn, Position, RuleSet, Some, and_from, and_parts, ap, checks_by_leap, false, false≢true, guards, in_check, is_attacked, is_attacker, is_man, is_paralysed, king_square, man_on, not, other, reaches, reaches_as, refl, same_colour-refl, same_colour-true, some_square_true, subst, sym, true, ℕ, ◌<◌, ◌∙◌, ◌≡◌}
 use Rattle.chess_attacks.proofs.rays.OnSquares.{on_board}
 use Rattle.chess_attacks.specs.RuleSet.{like_men_paralyse}
 use Rattle.chess_reach.proofs.OneMove.{stays}
@@ -10,14 +10,9 @@ use Rattle.chess_rules.proofs.legality.StayingInCheck.{king_there, side_there}
 -- knights and pawns reach what they guard on each board
 leaper_reaches : (men : List (Option Man)) (c : Colour) (j : Kind) (s t : ℕ) → checks_by_leap j ≡ true → guards c j s t ≡ true → reaches_as men c j s t ≡ true
 unfolding guards reaches_as
-leaper_reaches men c King s t leaps h = absurd (false≢true leaps)
-leaper_reaches men c Queen s t leaps h = absurd (false≢true leaps)
-leaper_reaches men c Rook s t leaps h = absurd (false≢true leaps)
-leaper_reaches men c Bishop s t leaps h = absurd (false≢true leaps)
 leaper_reaches men c Knight s t leaps h = h
 leaper_reaches men c Pawn s t leaps h = h
-leaper_reaches men c Grasshopper s t leaps h = absurd (false≢true leaps)
-leaper_reaches men c Nightrider s t leaps h = absurd (false≢true leaps)
+leaper_reaches men c j s t leaps h = absurd (false≢true leaps)
 
 -- where men aren't paralysed, nobody is
 unparalysed : (rule : RuleSet) (men : List (Option Man)) (s : ℕ) → like_men_paralyse rule ≡ false → is_paralysed rule men s ≡ false

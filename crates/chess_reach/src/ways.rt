@@ -1,10 +1,11 @@
 //! How far a man gets in a number of moves, wherever other men are.
 ghost use Rattle.std.specs.Prelude.{◌≡◌, ◌≢◌, ◌<◌, ◌≤◌, ◌==◌, ℕ, true, [], false, Bool, Some, if◌then◌else◌};
 ghost use Rattle.std.specs.Int.{bit_at};
+ghost use Rattle.chess_core.specs.Position.{is_fairy};
 ghost use Rattle.chess_core.specs.Squares.{file_of, rank_of};
 ghost use Rattle.chess_core.specs.declared.man.Colour.{Colour};
 ghost use Rattle.chess_core.specs.declared.man.Kind.{Kind};
-ghost use Rattle.chess_core.specs.declared.man.Kind.TheVariants.{Bishop, Grasshopper, King, Knight, Nightrider, Pawn, Queen, Rook};
+ghost use Rattle.chess_core.specs.declared.man.Kind.TheVariants.{Bishop, King, Knight, Nightrider, Pawn, Queen, Rook};
 ghost use Rattle.chess_attacks.specs.Reaches.{reaches_as};
 ghost use Rattle.chess_rules.specs.Legal.{last_rank, second_rank};
 ghost use Rattle.chess_rules.specs.Play.{is_light, rebirth};
@@ -310,10 +311,9 @@ fn pawn_homes(colour: Colour, squares: Squares) -> Squares
 // Returns the squares on which fairy men are reborn that are captured on these.
 #[inline(always)]
 fn fairy_homes(colour: Colour, squares: Squares) -> Squares
-    ensures grasshoppers { (s h : ℕ) → s < 64 → (bit_at squares s == 1) ≡ true
-        → rebirth colour Grasshopper s ≡ Some h → (bit_at result h == 1) ≡ true }
-    ensures nightriders { (s h : ℕ) → s < 64 → (bit_at squares s == 1) ≡ true
-        → rebirth colour Nightrider s ≡ Some h → (bit_at result h == 1) ≡ true }
+    ensures { (kind : Kind) (s h : ℕ) → is_fairy kind ≡ true → s < 64
+        → (bit_at squares s == 1) ≡ true → rebirth colour kind s ≡ Some h
+        → (bit_at result h == 1) ≡ true }
 {
     whole_files(squares) & last_rank(colour)
 }
@@ -330,8 +330,7 @@ fn homes(colour: Colour, kind: Kind, squares: Squares) -> Squares
         Kind::Bishop => bishop_homes(colour, squares),
         Kind::Knight => knight_homes(colour, squares),
         Kind::Pawn => pawn_homes(colour, squares),
-        Kind::Grasshopper => fairy_homes(colour, squares),
-        Kind::Nightrider => fairy_homes(colour, squares),
+        _ => fairy_homes(colour, squares),
     }
 }
 
@@ -345,8 +344,8 @@ fn promoted_homes(colour: Colour, squares: Squares) -> Squares
     let queens = queen_home(colour);
     let rooks = rook_homes(colour, squares);
     let bishops = bishop_homes(colour, squares);
-    let grasshoppers = fairy_homes(colour, squares);
-    if_any(squares, queens | rooks | bishops | grasshoppers)
+    let fairy_men = fairy_homes(colour, squares);
+    if_any(squares, queens | rooks | bishops | fairy_men)
 }
 
 // Returns the squares, and those on which the man is reborn that is captured on them.

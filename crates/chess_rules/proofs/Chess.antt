@@ -11,7 +11,7 @@ pub use Rattle.chess_core.proofs.Ranges.{all_range_false, find_range_none, find_
 pub use Rattle.chess_core.proofs.Words.{square_bit, squares_none, squares_not, squares_some}
 pub use Rattle.chess_core.specs.Castling.{without_unmoved, with_unmoved}
 unfoldable pub use Rattle.chess_core.specs.Castling.{has_unmoved, mark_unmoved}
-pub use Rattle.chess_core.specs.Position.{AtMostOneKing, HasNoKing, may_promote, same_colour, same_kind, without_man, kinds}
+pub use Rattle.chess_core.specs.Position.{AtMostOneKing, HasNoKing, may_promote, promotions, same_colour, same_kind, without_man, kinds}
 pub use Rattle.chess_core.specs.Steps.{is_leaper}
 pub use Rattle.chess_core.specs.WellFormed.{IsWellFormed, is_pawn_inside, is_vacant, was_passed}
 unfoldable pub use Rattle.chess_core.specs.WellFormed.{is_en_passant_square_right, is_home}
@@ -19,7 +19,7 @@ pub use Rattle.chess_attacks.proofs.Basics.{AllPairs, AllPairs-cons, AllPairs-fi
 pub use Rattle.chess_attacks.proofs.Bits.{every_square, off_left, off_right}
 pub use Rattle.chess_attacks.proofs.Tests.{IsFirst, all_kept, find_first, find_no, implied}
 pub use Rattle.chess_attacks.specs.Attacks.{is_attacked_at, is_attacked_by_like_man}
-pub use Rattle.chess_rules.specs.Legal.{can_go, is_arrival_free, is_nil, is_promotion_right, is_pseudo_legal_of, last_rank, is_pawn_step, is_pawn_capture, promotions, second_rank, squares_between}
+pub use Rattle.chess_rules.specs.Legal.{can_go, is_arrival_free, is_nil, is_promotion_right, is_pseudo_legal_of, last_rank, is_pawn_step, is_pawn_capture, second_rank, squares_between}
 unfoldable pub use Rattle.chess_rules.specs.Legal.{can_castle, is_legal, is_mate, is_pseudo_legal, may_castle, moves, triples, is_stalemate}
 pub use Rattle.chess_rules.specs.Play.{arriving_man, by_shade, captured_man, corner, halfway, if_empty, is_castling, is_diagonal, is_double_step, man_on_at, move_man, put_at, rebirth_at, unmoved_with_rook, unmoved_without_at, without_at}
 unfoldable pub use Rattle.chess_rules.specs.Play.{position_after_by, capture_square, moved_men, position_after, rebirth, reborn_square, undo_by, undo_of, unmoved_after}
@@ -27,8 +27,8 @@ pub use Rattle.chess_attacks.specs.RuleSet.{captures_are_reborn, circe}
 pub use Rattle.chess_rules.specs.declared.legality.blockers.RiderLines.TheVariants.{Diagonal, Straight}
 pub use Rattle.chess_rules.specs.ties.Evasions.{AreEvasions, AreEvasionsFrom, has_fairy_lines_of, is_evasion, IsNoEvasion, may_be_paralysed, may_paralyse_new_kind}
 pub use Rattle.chess_rules.specs.ties.Idle.{is_legal-idle, is_legal_and-idle}
-pub use Rattle.chess_rules.specs.ties.Places.{CursorPlace, NoneMeet, HasNoMoveFrom, NamesMove, IsCursorIn, IsNextMet, IsPlaceIn, all_triples, first_after, moves_after, moves_between, per_arrival, per_origin, promotion_at}
-unfoldable pub use Rattle.chess_rules.specs.ties.Places.{first_met, met_after, met_between, place_of, triple_at}
+pub use Rattle.chess_rules.specs.ties.Places.{CursorPlace, NoneMeet, HasNoMoveFrom, NamesMove, IsCursorIn, IsNextMet, IsPlaceIn, all_triples, first_after, moves_after, moves_between, per_arrival, per_origin}
+unfoldable pub use Rattle.chess_rules.specs.ties.Places.{first_met, met_after, met_between, place_of, promotion_at, triple_at}
 pub use Rattle.chess_rules.specs.ties.Playing.{CanCastle, CanMove}
 pub use Rattle.chess_rules.specs.ties.Blockers.{has_fairy_lines, is_fairy, AreRides, is_checker_at, is_on_fairy_line_at, is_line_rider, may_expose_at, rider_along, steps_along}
 unfoldable pub use Rattle.chess_rules.specs.ties.Blockers.{has_fairy, is_rider_beyond, is_checker, is_on_fairy_line, is_plain, is_blocking, may_expose, may_be_hurdle, cannot_expose}

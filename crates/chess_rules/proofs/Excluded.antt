@@ -291,13 +291,13 @@ ends_at p s w k b on may barren = grind (arith, cases_lt, false≢true)
 
 -- a range without a move ends before the move of a rook from a1 to b1
 pub move_stage_ends_at_a_move : (w b : ℕ) → (bit_at w b1 == 1) ≡ true → HasNoMoveFrom (position (on White Rook a1 ∷ []) White) a1 w 0 b → b ≤ per_arrival
-unfolding check_after_a_move
-move_stage_ends_at_a_move w b there barren = ends_at (position (on White Rook a1 ∷ []) White) a1 w 7 b there refl barren
+unfolding check_after_a_move promotion_at
+move_stage_ends_at_a_move w b there barren = ends_at (position (on White Rook a1 ∷ []) White) a1 w per_arrival b there refl barren
 
 -- a range without a move ends before the promotion to a queen of a pawn that goes from e7 to e8
 pub move_stage_ends_at_a_promotion : (w b : ℕ) → (bit_at w e8 == 1) ≡ true → HasNoMoveFrom (position (on White Pawn e7 ∷ []) White) e7 w 0 b
     → b ≤ per_arrival * e8 + 1
-unfolding check_after_a_move
+unfolding check_after_a_move promotion_at
 move_stage_ends_at_a_promotion w b there barren = ends_at (position (on White Pawn e7 ∷ []) White) e7 w (per_arrival * e8 + 1) b there refl barren
 
 -- no move lies between a place and itself

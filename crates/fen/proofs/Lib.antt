@@ -1,4 +1,5 @@
 pub mod Basics
+pub mod LettersOfMen
 pub mod Steps
 pub mod Loop
 pub mod Castlings

@@ -2,12 +2,9 @@
 use Rattle.fen.proofs.Basics.{Bool, List, None, Option, Some, [], ap, arith, cond, cond-false, cond-true, eqb, false, get_or, inl, inr, leb, refl, suc, sym, true, zero, ℕ, ◌%◌, ◌+◌, ◌-◌, ◌<◌, ◌∙◌, ◌∷◌, ◌≡◌, ◌≤◌, drop, subst, cases_Bool, cases_eq, and_parts, and_from, eq-eqb, false_from_ne_true, leb-true, le-leb, ne_eqb, ◌++◌, ◌⊎◌}
 use Rattle.std.proofs.lemmas.Bool.{false≢true, true≢false}
 use Rattle.chess_core.specs.declared.man.Man.{Man}
-use Rattle.chess_core.specs.declared.man.Colour.{Colour}
-use Rattle.chess_core.specs.declared.man.Kind.{Kind}
-use Rattle.chess_core.specs.declared.man.Colour.TheVariants.{White, Black}
-use Rattle.chess_core.specs.declared.man.Kind.TheVariants.{King, Queen, Rook, Bishop, Knight, Pawn, Grasshopper, Nightrider}
-use Rattle.chess_core.specs.Position.{man_on, same_kind}
-use Rattle.fen.specs.Letters.{letter_of, letter_in, man_text, small_letter}
+use Rattle.chess_core.specs.Position.{man_on}
+use Rattle.fen.specs.Letters.{is_bracketed, letter_of, man_text}
+use Rattle.fen.proofs.LettersOfMen.{letter_large, letter_names}
 use Rattle.fen.specs.Fen.{is_digit, with_empty, with_square}
 use Rattle.fen.specs.ties.Reading.{FindsNoMan, FindsNoSquare, FindsSquare, IsLeft, IsRow, PassesMark, PassesNoMark, begins_with_digit, mark, square_before, text_from, with_mark, with_number}
 
@@ -19,58 +16,24 @@ heads e = ap (λ t. get_or t 0 0) e
 pub tails : {x y : ℕ} {xs ys : List ℕ} → x ∷ xs ≡ y ∷ ys → xs ≡ ys
 tails e = ap (drop 1) e
 
--- a man
-abbrev of : Colour → Kind → Man
-of c k = record { colour = c; kind = k }
-
--- letters come after all digits and marks
-large : (c : Colour) (k : Kind) → 65 < letter_in c (small_letter k)
-large White King = omega arith
-large White Queen = omega arith
-large White Rook = omega arith
-large White Bishop = omega arith
-large White Knight = omega arith
-large White Pawn = omega arith
-large White Grasshopper = omega arith
-large White Nightrider = omega arith
-large Black King = omega arith
-large Black Queen = omega arith
-large Black Rook = omega arith
-large Black Bishop = omega arith
-large Black Knight = omega arith
-large Black Pawn = omega arith
-large Black Grasshopper = omega arith
-large Black Nightrider = omega arith
-
-pub letter_large : (man : Man) → 65 < letter_of man
-letter_large man = large man.colour man.kind
-
 -- nothing is left of the text
 abbrev is_end : List ℕ → Bool
 is_end [] = true
 is_end (first ∷ rest) = false
 
--- a man's text begins with a byte that comes before or after all digits
-first_of : (c : Colour) (k : Kind) (text : List ℕ) → (first : ℕ) × (rest : List ℕ) × (man_text (of c k) ++ text ≡ first ∷ rest) × ((first < 49) ⊎ (57 < first))
-first_of White King text = (75, text, refl, inr (omega arith))
-first_of White Queen text = (81, text, refl, inr (omega arith))
-first_of White Rook text = (82, text, refl, inr (omega arith))
-first_of White Bishop text = (66, text, refl, inr (omega arith))
-first_of White Knight text = (78, text, refl, inr (omega arith))
-first_of White Pawn text = (80, text, refl, inr (omega arith))
-first_of White Grasshopper text = (71, text, refl, inr (omega arith))
-first_of White Nightrider text = (40, 78 ∷ 41 ∷ text, refl, inl (omega arith))
-first_of Black King text = (107, text, refl, inr (omega arith))
-first_of Black Queen text = (113, text, refl, inr (omega arith))
-first_of Black Rook text = (114, text, refl, inr (omega arith))
-first_of Black Bishop text = (98, text, refl, inr (omega arith))
-first_of Black Knight text = (110, text, refl, inr (omega arith))
-first_of Black Pawn text = (112, text, refl, inr (omega arith))
-first_of Black Grasshopper text = (103, text, refl, inr (omega arith))
-first_of Black Nightrider text = (40, 110 ∷ 41 ∷ text, refl, inl (omega arith))
+-- a letter without brackets, and one within
+plain_text : (man : Man) (rest : List ℕ) → is_bracketed man.kind ≡ false → man_text man ++ rest ≡ letter_of man ∷ rest
+plain_text man rest e = ap (λ b. cond b (40 ∷ letter_of man ∷ 41 ∷ []) (letter_of man ∷ []) ++ rest) e
 
+bracket_text : (man : Man) (rest : List ℕ) → is_bracketed man.kind ≡ true → man_text man ++ rest ≡ 40 ∷ letter_of man ∷ 41 ∷ rest
+bracket_text man rest e = ap (λ b. cond b (40 ∷ letter_of man ∷ 41 ∷ []) (letter_of man ∷ []) ++ rest) e
+
+-- a man's text begins with a byte that comes before or after all digits
 pub man_first : (man : Man) (text : List ℕ) → (first : ℕ) × (rest : List ℕ) × (man_text man ++ text ≡ first ∷ rest) × ((first < 49) ⊎ (57 < first))
-man_first man text = first_of man.colour man.kind text
+man_first man text = elim (cases_Bool (is_bracketed man.kind)) [
+  | inl within ↦ (40, letter_of man ∷ 41 ∷ text, bracket_text man text within, inl (omega arith))
+  | inr plain ↦ let large : 65 ≤ letter_of man = letter_large man in (letter_of man, text, plain_text man text plain, inr (omega arith))
+]
 
 pub far_digit : (first : ℕ) → ((first < 49) ⊎ (57 < first)) → is_digit first ≡ false
 far_digit first far = false_from_ne_true _ (λ digit.
@@ -184,42 +147,24 @@ finds_digit empty text first rest none is digit ends =
       only = λ other tail h. found.only other tail (sym e ∙ h);
     }
 
--- the man whose text comes first, and what is left
-abbrev kind_with : ℕ → Kind
-kind_with letter = cond (eqb letter 107) King (cond (eqb letter 113) Queen (cond (eqb letter 114) Rook (cond (eqb letter 98) Bishop
-    (cond (eqb letter 110) Knight (cond (eqb letter 112) Pawn Grasshopper)))))
-
-abbrev colour_with : ℕ → Colour
-colour_with letter = cond (leb 97 letter) Black White
-
-abbrev man_with : List ℕ → Man × List ℕ
-man_with [] = (of White King, [])
-man_with (first ∷ rest) = cond (eqb first 40) (of (colour_with (get_or rest 0 0)) Nightrider, drop 2 rest)
-    (of (colour_with first) (kind_with (cond (leb 97 first) first (first + 32))), rest)
-
-man_again : (c : Colour) (k : Kind) (rest : List ℕ) → man_with (man_text (of c k) ++ rest) ≡ (of c k, rest)
-man_again White King rest = refl
-man_again White Queen rest = refl
-man_again White Rook rest = refl
-man_again White Bishop rest = refl
-man_again White Knight rest = refl
-man_again White Pawn rest = refl
-man_again White Grasshopper rest = refl
-man_again White Nightrider rest = refl
-man_again Black King rest = refl
-man_again Black Queen rest = refl
-man_again Black Rook rest = refl
-man_again Black Bishop rest = refl
-man_again Black Knight rest = refl
-man_again Black Pawn rest = refl
-man_again Black Grasshopper rest = refl
-man_again Black Nightrider rest = refl
-
 -- men with the same text are the same
 same_man : (m n : Man) (rest more : List ℕ) → man_text m ++ rest ≡ man_text n ++ more → (m ≡ n) × (rest ≡ more)
-same_man m n rest more e =
-    let same : (m, rest) ≡ (n, more) = sym (man_again m.colour m.kind rest) ∙ ap man_with e ∙ man_again n.colour n.kind more in
-    (ap (λ p. p.0) same, ap (λ p. p.1) same)
+same_man m n rest more e = elim (cases_Bool (is_bracketed m.kind)) [
+  | inl within ↦ elim (cases_Bool (is_bracketed n.kind)) [
+    | inl too ↦
+        let f : 40 ∷ letter_of m ∷ 41 ∷ rest ≡ 40 ∷ letter_of n ∷ 41 ∷ more = sym (bracket_text m rest within) ∙ e ∙ bracket_text n more too in
+        (letter_names m n (within ∙ sym too) (heads (tails f)), tails (tails (tails f)))
+    | inr plain ↦ let f : 40 ≡ letter_of n = heads (sym (bracket_text m rest within) ∙ e ∙ plain_text n more plain) in
+        absurd (omega (arith, f, letter_large n))
+  ]
+  | inr plain ↦ elim (cases_Bool (is_bracketed n.kind)) [
+    | inl within ↦ let f : letter_of m ≡ 40 = heads (sym (plain_text m rest plain) ∙ e ∙ bracket_text n more within) in
+        absurd (omega (arith, f, letter_large m))
+    | inr too ↦
+        let f : letter_of m ∷ rest ≡ letter_of n ∷ more = sym (plain_text m rest plain) ∙ e ∙ plain_text n more too in
+        (letter_names m n (plain ∙ sym too) (heads f), tails f)
+  ]
+]
 
 -- no man's text is that of an empty square
 man_no_empty : (first : ℕ) (rest tail : List ℕ) → ((first < 49) ⊎ (57 < first)) → first ∷ rest ≡ with_empty tail → ⊥
@@ -253,19 +198,12 @@ finds_man empty text man rest none is =
       only = λ other tail h. only_man man rest other tail (sym e ∙ h);
     }
 
--- a letter without brackets, and one within
-plain_text : (man : Man) (rest : List ℕ) → same_kind man.kind Nightrider ≡ false → man_text man ++ rest ≡ letter_of man ∷ rest
-plain_text man rest e = ap (λ b. cond b (40 ∷ letter_of man ∷ 41 ∷ []) (letter_of man ∷ []) ++ rest) e
-
-bracket_text : (man : Man) (rest : List ℕ) → same_kind man.kind Nightrider ≡ true → man_text man ++ rest ≡ 40 ∷ letter_of man ∷ 41 ∷ rest
-bracket_text man rest e = ap (λ b. cond b (40 ∷ letter_of man ∷ 41 ∷ []) (letter_of man ∷ []) ++ rest) e
-
-pub plain_man : (text : List ℕ) (first : ℕ) (rest : List ℕ) (man : Man) → text ≡ first ∷ rest → (first ≡ letter_of man) × (same_kind man.kind Nightrider ≡ false)
+pub plain_man : (text : List ℕ) (first : ℕ) (rest : List ℕ) (man : Man) → text ≡ first ∷ rest → (first ≡ letter_of man) × (is_bracketed man.kind ≡ false)
     → text ≡ man_text man ++ rest
 plain_man text first rest man e h = e ∙ ap (λ x. x ∷ rest) h.0 ∙ sym (plain_text man rest h.1)
 
 pub bracket_man : (text : List ℕ) (first : ℕ) (more : List ℕ) (letter : ℕ) (last rest : List ℕ) (man : Man) → text ≡ first ∷ more → first ≡ 40 → more ≡ letter ∷ last
-    → last ≡ 41 ∷ rest → (letter ≡ letter_of man) × (same_kind man.kind Nightrider ≡ true) → text ≡ man_text man ++ rest
+    → last ≡ 41 ∷ rest → (letter ≡ letter_of man) × (is_bracketed man.kind ≡ true) → text ≡ man_text man ++ rest
 bracket_man text first more letter last rest man e f g l h =
     e ∙ rw (f, g, l, h.0) refl ∙ sym (bracket_text man rest h.1)
 
@@ -273,20 +211,20 @@ pub no_man_end : (text : List ℕ) → text ≡ [] → FindsNoMan text
 no_man_end text end = λ man rest e. true≢false (ap is_end (sym end ∙ e ∙ (man_first man rest).2))
 
 pub no_plain_man : (text : List ℕ) (first : ℕ) (rest : List ℕ) → text ≡ first ∷ rest → (first ≡ 40 → ⊥)
-    → ((man : Man) → same_kind man.kind Nightrider ≡ false → first ≡ letter_of man → ⊥) → FindsNoMan text
-no_plain_man text first rest is ne none = λ man more e. elim (cases_Bool (same_kind man.kind Nightrider)) [
-  | inl night ↦ ne (heads (sym is ∙ e ∙ bracket_text man more night))
+    → ((man : Man) → is_bracketed man.kind ≡ false → first ≡ letter_of man → ⊥) → FindsNoMan text
+no_plain_man text first rest is ne none = λ man more e. elim (cases_Bool (is_bracketed man.kind)) [
+  | inl within ↦ ne (heads (sym is ∙ e ∙ bracket_text man more within))
   | inr plain ↦ none man plain (heads (sym is ∙ e ∙ plain_text man more plain))
 ]
 
--- after a bracket comes a nightrider
+-- after a bracket comes a letter
 bracket_only : (text : List ℕ) (first : ℕ) (rest : List ℕ) → text ≡ first ∷ rest → first ≡ 40 → (man : Man) (more : List ℕ) → text ≡ man_text man ++ more
-    → (same_kind man.kind Nightrider ≡ true) × (rest ≡ letter_of man ∷ 41 ∷ more)
-bracket_only text first rest is f man more e = elim (cases_Bool (same_kind man.kind Nightrider)) [
-  | inl night ↦ (night, tails (sym is ∙ e ∙ bracket_text man more night))
+    → (is_bracketed man.kind ≡ true) × (rest ≡ letter_of man ∷ 41 ∷ more)
+bracket_only text first rest is f man more e = elim (cases_Bool (is_bracketed man.kind)) [
+  | inl within ↦ (within, tails (sym is ∙ e ∙ bracket_text man more within))
   | inr plain ↦
       let h : first ≡ letter_of man = heads (sym is ∙ e ∙ plain_text man more plain) in
-      let large : 65 < letter_of man = letter_large man in
+      let large : 65 ≤ letter_of man = letter_large man in
       absurd (omega arith)
 ]
 
@@ -297,9 +235,9 @@ pub no_right_bracket : (text : List ℕ) (first : ℕ) (rest : List ℕ) (letter
     → ((more : List ℕ) → last ≡ 41 ∷ more → ⊥) → FindsNoMan text
 no_right_bracket text first rest letter last is f g none = λ man more e. none more (tails (sym g ∙ (bracket_only text first rest is f man more e).1))
 
-pub no_nightrider : (text : List ℕ) (first : ℕ) (rest : List ℕ) (letter : ℕ) (last : List ℕ) → text ≡ first ∷ rest → first ≡ 40 → rest ≡ letter ∷ last
-    → ((man : Man) → same_kind man.kind Nightrider ≡ true → letter ≡ letter_of man → ⊥) → FindsNoMan text
-no_nightrider text first rest letter last is f g none = λ man more e.
+pub no_bracketed_man : (text : List ℕ) (first : ℕ) (rest : List ℕ) (letter : ℕ) (last : List ℕ) → text ≡ first ∷ rest → first ≡ 40 → rest ≡ letter ∷ last
+    → ((man : Man) → is_bracketed man.kind ≡ true → letter ≡ letter_of man → ⊥) → FindsNoMan text
+no_bracketed_man text first rest letter last is f g none = λ man more e.
     let b = bracket_only text first rest is f man more e in
     none man b.0 (heads (sym g ∙ b.1))
 

@@ -1,28 +1,26 @@
--- The letters of FEN, by their ASCII codes (PGN Standard, section 16.1.3; the page's for
--- grasshopper and nightrider).
-use Rattle.std.specs.Prelude.{ℕ, if◌then◌else◌, List, [], ◌∷◌}
-use Rattle.chess_core.specs.Letters.{bishop_letter, capital_letter, grasshopper_letter, king_letter, pawn_letter, queen_letter, rook_letter}
+-- The letters of FEN, by their ASCII codes (PGN Standard, section 16.1.3; for fairy men the page's).
+use Rattle.std.specs.Prelude.{ℕ, Bool, not, ◌==◌, ◌&&◌, if◌then◌else◌, List, [], ◌∷◌}
+use Rattle.std.specs.Char.{to_ascii_lowercase}
+use Rattle.chess_core.specs.Letters.{capital_letter, letter_of as letter_of_kind}
 use Rattle.chess_core.specs.Position.{same_kind}
 use Rattle.chess_core.specs.declared.man.Colour.{Colour}
 use Rattle.chess_core.specs.declared.man.Colour.TheVariants.{White, Black}
 use Rattle.chess_core.specs.declared.man.Kind.{Kind}
-use Rattle.chess_core.specs.declared.man.Kind.TheVariants.{King, Queen, Rook, Bishop, Knight, Pawn, Grasshopper, Nightrider}
+use Rattle.chess_core.specs.declared.man.Kind.TheVariants.{Knight}
 use Rattle.chess_core.specs.declared.man.Man.{Man}
 
--- `n`, the letter of knights, and in brackets of nightriders
+-- `n`, the letter of knights
 abbrev pub knight_letter : ℕ
 knight_letter = 110
 
--- the small letter of a kind of man
+-- the small letter of a kind of man: the one of Popeye's manual, but for knights `n`
 abbrev pub small_letter : Kind → ℕ
-small_letter King = king_letter
-small_letter Queen = queen_letter
-small_letter Rook = rook_letter
-small_letter Bishop = bishop_letter
 small_letter Knight = knight_letter
-small_letter Pawn = pawn_letter
-small_letter Grasshopper = grasshopper_letter
-small_letter Nightrider = knight_letter
+small_letter kind = to_ascii_lowercase (letter_of_kind kind)
+
+-- men of this kind stand in brackets: they have the letter of knights, and are none
+abbrev pub is_bracketed : Kind → Bool
+is_bracketed kind = small_letter kind == knight_letter && not (same_kind kind Knight)
 
 -- a letter as a colour's men have it: White's are capitals
 abbrev pub letter_in : Colour → ℕ → ℕ
@@ -41,10 +39,10 @@ left_bracket = 40
 abbrev pub right_bracket : ℕ
 right_bracket = 41
 
--- the text of a man: its letter, in brackets for a nightrider
+-- the text of a man: its letter, in brackets for a nightrider, whose letter is a knight's
 abbrev pub man_text : Man → List ℕ
 man_text man =
-    if same_kind man.kind Nightrider then left_bracket ∷ letter_of man ∷ right_bracket ∷ []
+    if is_bracketed man.kind then left_bracket ∷ letter_of man ∷ right_bracket ∷ []
     else letter_of man ∷ []
 
 -- the letter of the side to move: `w` or `b`

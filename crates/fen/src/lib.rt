@@ -29,6 +29,7 @@
 #![tactic(auto)]
 
 mod bytes;
+mod letters;
 mod men;
 mod not_fen;
 mod reading;

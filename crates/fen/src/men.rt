@@ -1,68 +1,64 @@
 //! The men of a text.
-ghost use Rattle.std.specs.Prelude.{ℕ, ◌≡◌, ◌<◌, MatchOption, MatchResult, None, length, ◌++◌, false, true};
-ghost use Rattle.chess_core.specs.Position.{man_on, same_kind};
+ghost use Rattle.std.specs.Prelude.{ℕ, ◌≡◌, ◌<◌, MatchOption, MatchResult, None, find, length, ◌++◌};
+ghost use Rattle.chess_core.specs.Position.{kinds, man_on};
 ghost use Rattle.chess_core.specs.declared.man.Kind.{Kind};
-ghost use Rattle.chess_core.specs.declared.man.Kind.TheVariants.{Nightrider};
 ghost use Rattle.chess_core.specs.declared.man.Man.{Man};
-ghost use Rattle.fen.specs.Letters.{letter_of, man_text, small_letter};
+ghost use Rattle.fen.specs.Letters.{is_bracketed, letter_of, man_text, small_letter};
 ghost use Rattle.fen.specs.Fen.{is_digit};
-ghost use Rattle.fen.specs.ties.Reading.{Finds, FindsNoMan, FindsNoSquare, FindsNone, FindsSquare, HasAll, IsLeft, PassesMark, PassesNoMark, begins_with_digit, mark, men_before, square_before};
+ghost use Rattle.fen.specs.ties.Reading.{Finds, FindsNoMan, FindsNoSquare, FindsNone, FindsSquare, HasAll, IsLeft, PassesMark, PassesNoMark, begins_with_digit, is_written, mark, men_before, square_before};
 
 use crate::bytes::{skip, split};
+use crate::letters::{is_bracketed, small_letter};
 use crate::not_fen::NotFen;
 use chess_core::{Colour, Diagram, Kind, Man, Square};
 
-// Returns the kind of man with this small letter that stands without brackets.
-fn kind_of(small: u8) -> Option<Kind>
-    ensures { MatchOption result
-        ((kind : Kind) → same_kind kind Nightrider ≡ false → small ≡ small_letter kind → ⊥)
-        (λ kind. (small ≡ small_letter kind) × (same_kind kind Nightrider ≡ false)) }
+// Returns whether men of this kind have this small letter, in brackets or not.
+#[tactic(auto, unfolding(crate::specs::ties::Reading::is_written))]
+fn is_written(small: u8, brackets: bool, kind: Kind) -> bool
+    ensures { result ≡ is_written small brackets kind }
 {
-    match small {
-        b'k' => Some(Kind::King),
-        b'q' => Some(Kind::Queen),
-        b'r' => Some(Kind::Rook),
-        b'b' => Some(Kind::Bishop),
-        b'n' => Some(Kind::Knight),
-        b'p' => Some(Kind::Pawn),
-        b'g' => Some(Kind::Grasshopper),
-        _ => None,
-    }
+    small_letter(kind) == small
+        && if brackets {
+            is_bracketed(kind)
+        } else {
+            !is_bracketed(kind)
+        }
 }
 
-// Returns the man with this letter that stands without brackets.
-fn man_of(letter: u8) -> Option<Man>
+// Returns the first kind whose men have this small letter, in brackets or not.
+fn first_written(small: u8, brackets: bool) -> Option<Kind>
+    ensures { result ≡ find (is_written small brackets) kinds }
+{
+    Kind::all()
+        .iter()
+        .copied()
+        .find(|kind| is_written(small, brackets, *kind))
+}
+
+// Returns the kind of man with this small letter, in brackets or not.
+#[tactic(auto, using(crate::proofs::LettersOfMen::kind_matches))]
+fn kind_of(small: u8, brackets: bool) -> Option<Kind>
     ensures { MatchOption result
-        ((man : Man) → same_kind man.kind Nightrider ≡ false → letter ≡ letter_of man → ⊥)
-        (λ man. (letter ≡ letter_of man) × (same_kind man.kind Nightrider ≡ false)) }
+        ((kind : Kind) → is_bracketed kind ≡ brackets → small ≡ small_letter kind → ⊥)
+        (λ kind. (small ≡ small_letter kind) × (is_bracketed kind ≡ brackets)) }
+{
+    first_written(small, brackets)
+}
+
+// Returns the man with this letter, in brackets or not.
+fn man_of(letter: u8, brackets: bool) -> Option<Man>
+    ensures { MatchOption result
+        ((man : Man) → is_bracketed man.kind ≡ brackets → letter ≡ letter_of man → ⊥)
+        (λ man. (letter ≡ letter_of man) × (is_bracketed man.kind ≡ brackets)) }
 {
     let (colour, small) = if letter < b'a' {
         (Colour::White, letter + 32)
     } else {
         (Colour::Black, letter)
     };
-    match kind_of(small) {
+    match kind_of(small, brackets) {
         Some(kind) => Some(Man { colour, kind }),
         None => None,
-    }
-}
-
-// Returns the nightrider with this letter in brackets.
-fn nightrider_of(letter: u8) -> Option<Man>
-    ensures { MatchOption result
-        ((man : Man) → same_kind man.kind Nightrider ≡ true → letter ≡ letter_of man → ⊥)
-        (λ man. (letter ≡ letter_of man) × (same_kind man.kind Nightrider ≡ true)) }
-{
-    match letter {
-        b'N' => Some(Man {
-            colour: Colour::White,
-            kind: Kind::Nightrider,
-        }),
-        b'n' => Some(Man {
-            colour: Colour::Black,
-            kind: Kind::Nightrider,
-        }),
-        _ => None,
     }
 }
 
@@ -73,14 +69,14 @@ fn read_man(text: &[u8]) -> Result<(Man, &[u8]), NotFen>
 {
     let (first, rest) = split(text)?;
     if first != b'(' {
-        return match man_of(first) {
+        return match man_of(first, false) {
             Some(man) => Ok((man, rest)),
             None => Err(NotFen),
         };
     }
     let (letter, rest) = split(rest)?;
     let rest = skip(rest, b')')?;
-    match nightrider_of(letter) {
+    match man_of(letter, true) {
         Some(man) => Ok((man, rest)),
         None => Err(NotFen),
     }

@@ -3,15 +3,16 @@ ghost use Rattle.std.specs.Prelude.{◌≡◌, ◌≤◌, ◌<◌, ◌+◌, ◌&
 ghost use Rattle.std.specs.Fmt.{WritesOnOk};
 ghost use Rattle.chess_core.specs.Castling.{has_unmoved};
 ghost use Rattle.chess_core.specs.Position.{man_on};
-ghost use Rattle.fen.specs.Letters.{letter_of, man_text, turn_letter};
+ghost use Rattle.fen.specs.Letters.{man_text, turn_letter};
 ghost use Rattle.fen.specs.Fen.{castling_letters, crossed_text, letter_if, or_dash};
 ghost use Rattle.fen.specs.ties.Reading.{mark, square_before, text_from};
 ghost use Rattle.fen.specs.ties.Writing.{empty_left, empty_next, mark_text, number_text, written_text};
 
+use crate::letters::{is_bracketed, letter_of};
 use crate::men::{mark, square_before};
 use crate::not_fen::NotFen;
 use crate::reading::read;
-use chess_core::{Colour, Diagram, Kind, Man, Square, Unmoved};
+use chess_core::{Colour, Diagram, Man, Square, Unmoved};
 use std::fmt;
 use std::str::FromStr;
 
@@ -56,26 +57,6 @@ impl FromStr for Fen {
     }
 }
 
-// Returns the letter of a man.
-fn letter_of(man: Man) -> u8
-    ensures value { result ≡ letter_of man }
-    ensures small { result < 128 }
-{
-    let small = match man.kind {
-        Kind::King => b'k',
-        Kind::Queen => b'q',
-        Kind::Rook => b'r',
-        Kind::Bishop => b'b',
-        Kind::Knight | Kind::Nightrider => b'n',
-        Kind::Pawn => b'p',
-        Kind::Grasshopper => b'g',
-    };
-    match man.colour {
-        Colour::White => small - 32,
-        Colour::Black => small,
-    }
-}
-
 // Returns the letter of the side to move.
 fn turn_letter(turn: Colour) -> u8
     ensures value { result ≡ turn_letter turn }
@@ -111,7 +92,7 @@ fn write_number<W: fmt::Write>(f: &mut fmt::Formatter<W>, empty: u8) -> fmt::Res
 fn write_man<W: fmt::Write>(f: &mut fmt::Formatter<W>, man: Man) -> fmt::Result
     ensures { WritesOnOk W.write_str_gives f.old result (man_text man) f.new }
 {
-    if man.kind.is(Kind::Nightrider) {
+    if is_bracketed(man.kind) {
         write_byte(f, b'(')?;
         write_byte(f, letter_of(man))?;
         write_byte(f, b')')

@@ -36,7 +36,8 @@ pub use Rattle.pop_input.specs.Ends.{ArePut, has_castling_rights, diagram_fault,
 unfoldable pub use Rattle.pop_input.specs.Ends.{castling_rights_of}
 pub use Rattle.pop_input.specs.FaultKinds.{at_line, fault_at, is_device_failure, number_of}
 pub use Rattle.pop_input.specs.Names.{closes, or_else}
-unfoldable pub use Rattle.pop_input.specs.Names.{expected_of, colour_of, command_of, condition_of, kind_of, option_of, section_of, text_word_of}
+unfoldable pub use Rattle.chess_core.specs.KindNames.{kind_of}
+unfoldable pub use Rattle.pop_input.specs.Names.{expected_of, colour_of, command_of, condition_of, option_of, section_of, text_word_of}
 pub use Rattle.pop_input.specs.Posed.{rule_of}
 pub use Rattle.pop_input.specs.Drafts.{Draft, no_men, empty_draft, put_men, draft_after, draft_of}
 pub use Rattle.pop_stipulation.specs.Stipulations.{has_king_to_mate, starting_side}

@@ -7,7 +7,8 @@ use Rattle.chess_core.specs.declared.man.Colour.{Colour}
 use Rattle.chess_core.specs.declared.man.Kind.{Kind}
 use Rattle.chess_core.specs.declared.man.Man.{Man}
 use Rattle.chess_core.specs.declared.man.Unmoved.{Unmoved}
-use Rattle.pop_input.specs.Names.{command_of, colour_of, kind_of, condition_of, option_of, or_else}
+use Rattle.chess_core.specs.KindNames.{kind_of}
+use Rattle.pop_input.specs.Names.{command_of, colour_of, condition_of, option_of, or_else}
 use Rattle.pop_input.specs.Values.{squares_named, only_square, limit_of, most_solutions, stipulation_of}
 use Rattle.pop_input.specs.declared.condition.Condition.{Condition}
 use Rattle.pop_input.specs.declared.context.Context.{Context}

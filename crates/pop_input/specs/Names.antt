@@ -1,13 +1,10 @@
 -- Keywords (Popeye manual) and their short forms (own).
-use Rattle.std.specs.Prelude.{ℕ, ◌==◌, ◌&&◌, length, nat_le, nat_eq, List, [], ◌∷◌, Bool, true, false, codes, find, map, Option, Some, None, option_map, if◌then◌else◌}
+use Rattle.std.specs.Prelude.{ℕ, ◌&&◌, length, nat_le, nat_eq, List, [], ◌∷◌, Bool, true, false, codes, find, map, Option, Some, None, option_map, if◌then◌else◌}
 use Rattle.std.specs.Char.{to_ascii_lowercase}
 use Rattle.std.specs.List.{starts_with}
 use Rattle.chess_core.specs.declared.man.Colour.{Colour}
 use Rattle.chess_core.specs.declared.man.Colour.TheVariants.{White, Black}
-use Rattle.chess_core.specs.declared.man.Kind.{Kind}
-use Rattle.chess_core.specs.declared.man.Kind.TheVariants.{King, Queen, Rook, Bishop, Knight, Pawn, Grasshopper, Nightrider}
 use Rattle.pop_text.specs.Words.{is_short_form, title_name, author_name, origin_name, remark_name}
-use Rattle.chess_core.specs.Letters.{king_letter, queen_letter, rook_letter, bishop_letter, knight_letter, pawn_letter, grasshopper_letter, nightrider_letter}
 use Rattle.pop_input.specs.declared.condition.Condition.{Condition}
 use Rattle.pop_input.specs.declared.condition.Condition.TheVariants.{Circe, Madrasi}
 use Rattle.pop_input.specs.declared.names.Section.{Section}
@@ -69,16 +66,6 @@ is_colour name text = nat_le 1 (length text)
 unfoldable pub colour_of : List ℕ → Option Colour
 colour_of text = if is_colour (codes "white") text then Some White
     else (if is_colour (codes "black") text then Some Black else None)
-
--- the kind of man with this letter, in capitals or not
-unfoldable pub kind_of : ℕ → Option Kind
-kind_of letter =
-    let small = to_ascii_lowercase letter in
-    if small == king_letter then Some King else (if small == queen_letter then Some Queen
-    else (if small == rook_letter then Some Rook else (if small == bishop_letter then Some Bishop
-    else (if small == knight_letter then Some Knight else (if small == pawn_letter then Some Pawn
-    else (if small == grasshopper_letter then Some Grasshopper
-    else (if small == nightrider_letter then Some Nightrider else None)))))))
 
 -- whether a command closes a block
 abbrev pub closes : Option Command → Bool

@@ -14,7 +14,8 @@ use Rattle.chess_core.specs.declared.man.Kind.TheVariants.{King}
 use Rattle.chess_core.specs.declared.man.Man.{Man}
 use Rattle.pop_text.specs.Words.{longest_word}
 use Rattle.pop_input.specs.Letters.{mate_sign, stalemate_sign}
-use Rattle.pop_input.specs.Names.{command_of, colour_of, kind_of, condition_of, option_of, or_else}
+use Rattle.chess_core.specs.KindNames.{kind_of}
+use Rattle.pop_input.specs.Names.{command_of, colour_of, condition_of, option_of, or_else}
 use Rattle.pop_input.specs.Values.{squares_named, only_square, is_digit, limit_of, stipulation_of}
 use Rattle.pop_input.specs.Drafts.{Draft, Role, Limit, EnPassantSquare, ForbiddenSquares, Control, Within, role_of}
 use Rattle.pop_input.specs.declared.condition.Condition.{Condition}

@@ -3,10 +3,10 @@ ghost use Rattle.std.specs.Prelude.{◌≡◌, ◌<◌, ◌≤◌, map, length, 
 ghost use Rattle.std.specs.List.{starts_with};
 ghost use Rattle.std.specs.Char.{to_ascii_lowercase};
 ghost use Rattle.pop_text.specs.Words.{is_short_form, is_text_word};
-ghost use Rattle.pop_input.specs.Names.{expected_of, colour_of, command_of, condition_of, kind_of, option_of, section_of, text_word_of};
+ghost use Rattle.pop_input.specs.Names.{expected_of, colour_of, command_of, condition_of, option_of, section_of, text_word_of};
 
 use crate::condition::Condition;
-use chess_core::man::{Colour, Kind};
+use chess_core::man::Colour;
 
 /// A section of a problem (Popeye manual). A command opens it.
 #[derive(Clone, Copy)]
@@ -212,23 +212,5 @@ pub(crate) fn colour_of(word: &[u8]) -> Option<Colour>
         Some(Colour::Black)
     } else {
         None
-    }
-}
-
-/// Returns the kind of man with this letter, in capitals or not.
-#[tactic(auto, unfolding(crate::specs::Names::kind_of))]
-pub(crate) fn kind_of(letter: u8) -> Option<Kind>
-    ensures { result ≡ kind_of letter }
-{
-    match letter.to_ascii_lowercase() {
-        b'k' => Some(Kind::King),
-        b'q' => Some(Kind::Queen),
-        b'r' => Some(Kind::Rook),
-        b'b' => Some(Kind::Bishop),
-        b's' => Some(Kind::Knight),
-        b'p' => Some(Kind::Pawn),
-        b'g' => Some(Kind::Grasshopper),
-        b'n' => Some(Kind::Nightrider),
-        _ => None,
     }
 }

@@ -5,7 +5,6 @@ ghost use Rattle.pop_text.specs.Bytes.{Writes, count_after, greatest_count};
 ghost use Rattle.pop_print.specs.Heads.{board_text, cell_of as letter_on, checked_text, condition_text as text_of_condition, form_text as text_of_form, goal_text as text_of_goal, half_text as text_of_half, head_text, item_line, labelled_text, names_text, rank_text, stipulation_line, stipulation_text};
 
 use crate::line::{LONGEST, LineBuffer};
-use crate::notation::letter_of;
 use chess_core::{Colour, Diagram, Man, Square};
 use pop_input::{Condition, Problem};
 use pop_stipulation::{Form, Goal, Stipulation};
@@ -290,7 +289,7 @@ fn coloured_letter(man: Man) -> u8
     ensures { result ≡ letter_on (Some man) }
 {
     match man.colour {
-        Colour::White => letter_of(man.kind),
-        Colour::Black => letter_of(man.kind).to_ascii_lowercase(),
+        Colour::White => man.kind.letter(),
+        Colour::Black => man.kind.letter().to_ascii_lowercase(),
     }
 }

@@ -4,7 +4,7 @@ ghost use Rattle.chess_core.specs.Move.{promotion_text};
 ghost use Rattle.pop_print.specs.Moves.{castling_text as text_of_castling, en_passant_text as text_of_en_passant, mark_text as text_of_mark, move_text, plain_move_text, rebirth_text, step_text as text_of_step};
 
 use crate::line::LineBuffer;
-use crate::notation::{colour_letter, letter_of};
+use crate::notation::colour_letter;
 use chess_core::{Kind, Man, Square};
 use pop_events::{Mark, Shown, Side};
 
@@ -85,7 +85,7 @@ impl<const N: usize> LineBuffer<N> {
         ensures short { length self.new ≤ length self.old + 2 }
     {
         match promo {
-            Some(kind) => self.add(&[b'=', letter_of(kind)]),
+            Some(kind) => self.add(&[b'=', kind.letter()]),
             None => self.add(b""),
         }
     }
@@ -100,7 +100,7 @@ impl<const N: usize> LineBuffer<N> {
                 b'[',
                 b'+',
                 colour_letter(man.colour),
-                letter_of(man.kind),
+                man.kind.letter(),
                 b'a' - 1 + square.file(),
                 b'0' + square.rank(),
                 b']',

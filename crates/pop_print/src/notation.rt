@@ -1,27 +1,10 @@
 //! The text of squares and men.
 ghost use Rattle.std.specs.Prelude.{◌++◌, ◌+◌, ◌<◌, ◌≡◌, ◌≤◌, length};
-ghost use Rattle.chess_core.specs.Letters.{letter_of as letter_of_kind};
 ghost use Rattle.chess_core.specs.SquareNames.{square_text};
 ghost use Rattle.pop_print.specs.Notation.{colour_letter as letter_of_colour, man_text};
 
 use crate::line::LineBuffer;
 use chess_core::{Colour, Kind, Square};
-
-/// Returns the capital letter of a kind of man (Popeye manual, English letters: S is the knight, N the nightrider).
-pub(crate) fn letter_of(kind: Kind) -> u8
-    ensures { result ≡ letter_of_kind kind }
-{
-    match kind {
-        Kind::King => b'K',
-        Kind::Queen => b'Q',
-        Kind::Rook => b'R',
-        Kind::Bishop => b'B',
-        Kind::Knight => b'S',
-        Kind::Pawn => b'P',
-        Kind::Grasshopper => b'G',
-        Kind::Nightrider => b'N',
-    }
-}
 
 /// Returns the letter of a colour, `w` or `b`.
 pub(crate) fn colour_letter(colour: Colour) -> u8
@@ -51,7 +34,7 @@ impl<const N: usize> LineBuffer<N> {
     {
         match kind {
             Kind::Pawn => self.add(b""),
-            kind => self.add_byte(letter_of(kind)),
+            kind => self.add_byte(kind.letter()),
         }
     }
 }

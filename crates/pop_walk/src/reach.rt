@@ -9,7 +9,8 @@ ghost use Rattle.pop_walk.specs.ties.Walk.{AreEndsAfter, IsKingOff, IsWellFormed
 
 use crate::plan::Plan;
 use arrayvec::ArrayVec;
-use chess_core::{Board, Kind, Move, Squares};
+use chess_core::{Board, Move, Squares};
+use chess_flights::attackers::has_fairy_promotions;
 use chess_reach::mating_squares;
 use chess_rules::{Rules, play, unplay};
 use pop_battle::frame::{Frame, LineEnds};
@@ -97,12 +98,7 @@ fn may_compute<R: Rules>(left: usize, board: &Board) -> bool {
     } else {
         MOST_COMPUTED
     };
-    board.side(mating).count_ones() <= most && !has_fairy_men(board)
-}
-
-/// Returns whether the diagram had grasshoppers or nightriders, so that pawns may promote to them.
-fn has_fairy_men(board: &Board) -> bool {
-    board.may_promote(Kind::Grasshopper) || board.may_promote(Kind::Nightrider)
+    board.side(mating).count_ones() <= most && !has_fairy_promotions(board)
 }
 
 /// Returns what the walk knows of the lines after a legal move, with `left` half-moves left after it: nothing

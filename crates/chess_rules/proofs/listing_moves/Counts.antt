@@ -4,7 +4,7 @@ use Rattle.std.specs.Int.Count.{ones_step}
 use Rattle.std.specs.Prelude.{count_ones}
 use Rattle.chess_rules.proofs.Chess.{AreCandidates, AreLegal, Bool, NoneMeet, HasNoMoveFrom, Move, None, Pawn, Position, RuleSet, all_triples, ap, arith, bit_at, bit_at-lt, cases_Bool, cases_eq, cases_lt, differs, false, from_bool, inl, inr, is_legal, is_legal-idle, is_man, length, length-append, length-take, man_on, moves_between, ones-le, meets_on, per_arrival, per_origin, pow_mono, promotion_at, refl, rules, shr-shr, shr_below, suc, sym, triple_at, true, zero, ℕ, ◌%◌, ◌&&◌, ◌*◌, ◌+◌, ◌-◌, ◌/◌, ◌<◌, ◌==◌, ◌^◌, ◌∙◌, ◌≡◌, ◌≤◌, met_between}
 use Rattle.chess_rules.proofs.listing_moves.Between.{between-here, between-none, between-over, between-past, between-skip, between_cut}
-use Rattle.chess_rules.proofs.listing_moves.Targeting.{arrival_from, named_by, no_promotion_here, some_named}
+use Rattle.chess_rules.proofs.listing_moves.Targeting.{first_none, arrival_from, named_by, no_promotion_here, some_named}
 use Rattle.chess_rules.proofs.listing_moves.Walks.{IsWalked, none-from, none-plain, none-to, triple_of, walk_before}
 use Rattle.chess_attacks.proofs.Bits.{off_zero}
 use Rattle.chess_attacks.proofs.Basics.{nat_le}
@@ -150,7 +150,7 @@ module _ (rule : RuleSet) (p : Position) where
               h.all,
               skipped,
               count_here (per_arrival * t) (per_origin * s + per_arrival * t) (per_origin * s + end) legal (omega (arith, next.small))
-                  refl (omega (arith, before)) (grind (arith, triple_of s (per_arrival * t), answer)),
+                  refl (omega (arith, before)) (grind (arith, triple_of s (per_arrival * t), first_none, answer)),
             );
           }
 
@@ -158,7 +158,7 @@ module _ (rule : RuleSet) (p : Position) where
       legal_to : (t k : ℕ) → t < 64 → k < per_arrival → is_legal rule p (record { from = s; to = t; promo = promotion_at k }) ≡ (k == 0 && bit_at w t == 1)
       legal_to t k lt few = elim (cases_Bool (bit_at w t == 1)) [
         | inl on ↦ elim (cases_eq k 0) [
-          | inl e ↦ rw e (legal.to t lt on ∙ sym on)
+          | inl e ↦ rw (e, first_none) (legal.to t lt on ∙ sym on)
           | inr ne ↦
               let kind = named_by (promotion_at k) (some_named k (omega (arith, ne)) few) in
               let m : Move = record { from = s; to = t; promo = promotion_at k } in

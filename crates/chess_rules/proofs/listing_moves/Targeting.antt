@@ -1,5 +1,5 @@
 -- Arrival squares: walking from one to the next misses no move.
-use Rattle.chess_rules.proofs.Chess.{Bool, IsAimed, HasNoMoveFrom, IsFirst, NamesMove, Kind, King, List, Man, Move, None, Option, Pawn, Position, RuleSet, Some, agree_below_at, along, and_from, and_parts, ap, arith, bit_at, bit_not, can_castle, cases_Bool, cond-false, cond-true, false, file_of, find, find_first, find_no, is_advance, is_arrival, is_castling, is_of_colour, is_promoting, is_promotion_right, is_pseudo_legal, is_pseudo_legal_of, is_some, is_square, is_two_files_aside, man_on, may_castle, may_arrive, or_left, or_right, per_arrival, per_origin, promotion_at, range_with_len, rank_of, reaches, reaches_as, refl, rules, same_colour-refl, same_kind, square_at, squares_same, steps_to, sym, true, w64, word, word_empty, ℕ, ◌%◌, ◌*◌, ◌+◌, ◌-◌, ◌/◌, ◌<◌, ◌==◌, ◌∙◌, ◌≡◌, ◌≤◌}
+use Rattle.chess_rules.proofs.Chess.{Bool, IsAimed, HasNoMoveFrom, IsFirst, NamesMove, Kind, King, List, Man, Move, None, Option, Pawn, Position, RuleSet, Some, agree_below_at, along, and_from, and_parts, ap, arith, bit_at, bit_not, can_castle, cases_Bool, cond-false, cond-true, false, file_of, find, find_first, find_no, is_advance, is_arrival, is_castling, is_of_colour, is_promoting, is_promotion_right, is_pseudo_legal, is_pseudo_legal_of, is_some, is_square, is_two_files_aside, man_on, may_castle, may_arrive, or_left, or_right, per_arrival, per_origin, promotion_at, range_with_len, rank_of, reaches, reaches_as, refl, rules, same_colour-refl, same_kind, square_at, squares_same, steps_to, sym, true, w64, word, word_empty, ℕ, ◌%◌, ◌*◌, ◌+◌, ◌-◌, ◌/◌, ◌<◌, ◌==◌, ◌∙◌, ◌≡◌, ◌≤◌, not}
 use Rattle.chess_rules.proofs.making_moves.Pseudo.{made}
 use Rattle.std.proofs.Math.Bool.{beq}
 
@@ -102,9 +102,18 @@ from-join p s z a b c x y = search rules
 from-missed : (p : Position) (s a b w : ℕ) → ((t : ℕ) → a / per_arrival ≤ t → per_arrival * t < b → (bit_at w t == 1) ≡ false) → HasNoMoveFrom p s w a b
 from-missed p s a b w none = search rules
 
+not_first : (n : ℕ) → 1 ≤ n → not (n == 0) ≡ true
+not_first n lo = grind arith
+
+-- the first promotion is none
+pub first_none : promotion_at 0 ≡ None
+unfolding promotion_at
+first_none = refl
+
 -- each promotion but the first names a kind
 pub some_named : (n : ℕ) → 1 ≤ n → n < per_arrival → is_some (promotion_at n) ≡ true
-some_named n lo hi = grind (arith, agree_below_at)
+unfolding promotion_at
+some_named n lo hi = agree_below_at (λ k. is_some (promotion_at k)) (λ k. not (k == 0)) per_arrival n refl hi ∙ not_first n lo
 
 -- that is, one kind
 pub named_by : (o : Option Kind) → is_some o ≡ true → (k : Kind) × (o ≡ Some k)
@@ -126,7 +135,8 @@ from-promoted p x s z t here h = record {
   fails = λ rule k lo hi on.
       let to : k / per_arrival ≡ t = omega arith in
       let first : k % per_arrival ≡ 0 = omega arith in
-      grind (arith, promotion_missing rule p x (record { from = s; to = k / per_arrival; promo = promotion_at (k % per_arrival) }) here);
+      promotion_missing rule p x (record { from = s; to = k / per_arrival; promo = promotion_at (k % per_arrival) }) here
+      (rw first first_none) (rw to h);
 }
 
 -- up to the first target
@@ -158,7 +168,7 @@ named_at p x s t n w here set at named = record { man = x; here = here; inside =
 
 -- the first promotion names no kind
 pub none_named : (n : ℕ) → n ≡ 0 → is_some (promotion_at n) ≡ false
-none_named n e = rw e refl
+none_named n e = rw (e, first_none) refl
 
 -- where none may be named it is the one without a promotion
 pub unnamed_at : (p : Position) (x : Man) (s a t n w : ℕ) → man_on p.men s ≡ Some x → is_promoting x t ≡ false

@@ -1,5 +1,7 @@
 -- The triples: what they are, their order, and that each legal move is one of them.
-use Rattle.chess_rules.proofs.Chess.{AllPairs, Bishop, Bool, Colour, Contains, Gait, Grasshopper, Hopper, Kind, King, Knight, Leaper, List, Man, Move, Nightrider, Option, Pawn, Position, Queen, Rider, Rook, RuleSet, Some, Step, [], all_triples, along, along-is, and_parts, ap, arith, can_castle, false≢true, flat_map, gait_of, get_or-range_with_len, goes_by, hops, is_nil, is_promotion_right, is_pseudo_legal, is_square, kind_steps, leaps, length, length-range_with_len, list_any, man_on, map, may_castle, may_promote, nat_lt, or_cases, per_arrival, per_origin, precedes, promotion_at, promotion_precedes, promotions, range_with_len, reaches, reaches_as, reaches_of, refl, rides, rules, squares, triple_at, triples, true, ℕ, ◌%◌, ◌&&◌, ◌*◌, ◌+◌, ◌/◌, ◌<◌, ◌==◌, ◌||◌, ◌∷◌, ◌≡◌}
+use Rattle.chess_rules.proofs.Chess.{AllPairs, Bool, Colour, Contains, Gait, Hopper, Kind, Leaper, List, Man, Move, Option, Position, Rider, RuleSet, Some, Step, [], all_triples, along, agree_below_at, along-is, and_parts, ap, arith, can_castle, false≢true, flat_map, gait_of, get_or-range_with_len, goes_by, hops, is_nil, is_promotion_right, is_pseudo_legal, is_square, kind_steps, leaps, length, length-range_with_len, list_any, man_on, map, may_castle, may_promote, nat_lt, or_cases, per_arrival, per_origin, precedes, promotion_at, promotion_precedes, promotions, range_with_len, reaches, reaches_as, reaches_of, refl, rides, rules, squares, triple_at, triples, true, ℕ, ◌%◌, ◌&&◌, ◌*◌, ◌+◌, ◌/◌, ◌<◌, ◌==◌, ◌||◌, ◌∷◌, ◌≡◌}
+use Rattle.chess_rules.specs.ties.Places.{promotion_number}
+use Rattle.std.specs.Prelude.{slice_index_or}
 use Rattle.std.proofs.lemmas.Bool.Decides.{nat_tests}
 use Rattle.chess_rules.proofs.listing_moves.Members.{first_in, none_in_nil, from_flat_map, from_map, from_range, in_flat_map, in_map, in_range, pairs_map}
 use Rattle.chess_rules.proofs.listing_moves.Places.{triples_numbered}
@@ -46,7 +48,15 @@ in_digits n = omega arith
 
 -- the promotions of triples are in the order of their numbers
 promotions_rise : (a b : ℕ) → a < per_arrival → b < per_arrival → promotion_precedes (promotion_at a) (promotion_at b) ≡ nat_lt a b
-promotions_rise a b low high = search rules
+unfolding promotion_at
+promotions_rise a b low high =
+    let all : promotion_precedes (promotion_at ((a * per_arrival + b) / per_arrival)) (promotion_at ((a * per_arrival + b) % per_arrival))
+    ≡ nat_lt ((a * per_arrival + b) / per_arrival) ((a * per_arrival + b) % per_arrival) =
+    agree_below_at (λ n. promotion_precedes (promotion_at (n / per_arrival)) (promotion_at (n % per_arrival)))
+    (λ n. nat_lt (n / per_arrival) (n % per_arrival)) (per_arrival * per_arrival) (a * per_arrival + b) refl (omega arith) in
+    let first : (a * per_arrival + b) / per_arrival ≡ a = omega arith in
+    let second : (a * per_arrival + b) % per_arrival ≡ b = omega arith in
+    rw (first, second) at all
 
 -- one triple precedes another if its number is lower
 pub triples_by_number : (j k : ℕ) → j < all_triples → k < all_triples → precedes (triple_at j) (triple_at k) ≡ nat_lt j k
@@ -103,15 +113,14 @@ castling_on_board rule p x m from h = search rules
 arrival_on_board : (rule : RuleSet) (p : Position) (x : Man) (m : Move) → m.from < 64 → IsMade rule p x m → m.to < 64
 arrival_on_board rule p x m from made = search (rules, castling_on_board, pawn_steps_to, reach_on_board, ways)
 
+numbered_low : (p : Position) (k : Kind) → may_promote p k ≡ true → promotion_number (Some k) < per_arrival
+numbered_low p k h = grind (arith, false≢true)
+
+numbered_right : (p : Position) (k : Kind) → may_promote p k ≡ true → slice_index_or promotions (promotion_number (Some k)) (Some k) ≡ Some k
+numbered_right p k h = grind (arith, false≢true)
+
 may_be_promoted : (p : Position) (k : Kind) → may_promote p k ≡ true → Contains promotions (Some k)
-may_be_promoted p King h = absurd (false≢true h)
-may_be_promoted p Queen h = (1, omega arith, refl)
-may_be_promoted p Rook h = (2, omega arith, refl)
-may_be_promoted p Bishop h = (3, omega arith, refl)
-may_be_promoted p Knight h = (4, omega arith, refl)
-may_be_promoted p Pawn h = absurd (false≢true h)
-may_be_promoted p Grasshopper h = (5, omega arith, refl)
-may_be_promoted p Nightrider h = (6, omega arith, refl)
+may_be_promoted p k h = (promotion_number (Some k), numbered_low p k h, numbered_right p k h)
 
 promotion_is_one : (p : Position) (x : Man) (m : Move) (r : Option Kind) → is_promotion_right p x m r ≡ true → Contains promotions r
 promotion_is_one p x m r h = grind (arith, may_be_promoted, and_parts)

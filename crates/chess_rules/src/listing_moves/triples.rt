@@ -1,36 +1,21 @@
 //! Triples of origin, arrival and promotion by their numbers, which are the order of moves. Cursors count
 //! triples: after a move they are at its number plus 1.
 ghost use Rattle.std.specs.Prelude.{◌≡◌, ◌<◌, ◌≤◌};
-ghost use Rattle.chess_rules.specs.ties.Places.{HasNoMoveFrom, NamesMove, all_triples, per_origin, promotion_at, triple_at};
+ghost use Rattle.chess_rules.specs.ties.Places.{HasNoMoveFrom, NamesMove, all_triples, per_origin, triple_at};
 
 use crate::legality::targets::is_promoting;
 use chess_attacks::words::next_bit;
+use chess_core::man::PROMOTIONS;
 use chess_core::{Board, Kind, Move, Square, Squares};
 
-// The number of triples with the same origin and arrival: one without a promotion, and one for each of
-// six pieces.
-pub(crate) const PER_ARRIVAL: u16 = 7;
+// The number of triples with the same origin and arrival: one for each promotion.
+pub(crate) const PER_ARRIVAL: u16 = PROMOTIONS as u16;
 
 // The number of triples with the same origin.
 pub(crate) const PER_ORIGIN: u16 = 64 * PER_ARRIVAL;
 
 // The number of all triples of origin, arrival and promotion.
 pub(crate) const TRIPLES: u16 = 64 * PER_ORIGIN;
-
-// Returns the promotion with this number; number 0 is none.
-fn promotion_at(number: u16) -> Option<Kind>
-    ensures { result ≡ promotion_at number }
-{
-    match number {
-        0 => None,
-        1 => Some(Kind::Queen),
-        2 => Some(Kind::Rook),
-        3 => Some(Kind::Bishop),
-        4 => Some(Kind::Knight),
-        5 => Some(Kind::Grasshopper),
-        _ => Some(Kind::Nightrider),
-    }
-}
 
 // Returns the triple with this number, from 0 to `TRIPLES - 1`, in the order of moves.
 pub(crate) fn move_at(number: u16) -> Move
@@ -40,7 +25,7 @@ pub(crate) fn move_at(number: u16) -> Move
     Move {
         from: Square::numbered((number / PER_ORIGIN) as u8),
         to: Square::numbered((number / PER_ARRIVAL % 64) as u8),
-        promo: promotion_at(number % PER_ARRIVAL),
+        promo: Kind::promotion((number % PER_ARRIVAL) as usize),
     }
 }
 

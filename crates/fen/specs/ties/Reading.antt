@@ -1,11 +1,12 @@
 -- Parts of a text as they are read (own).
-use Rattle.std.specs.Prelude.{ℕ, zero, suc, ◌+◌, ◌-◌, ◌*◌, ◌/◌, ◌%◌, ◌<◌, ◌≤◌, ◌≡◌, ◌==◌, Bool, false, true, if◌then◌else◌, ◌||◌, ⊤, List, [], ◌∷◌, ◌++◌, length, Option, None, IfSome, Result, MatchResult}
+use Rattle.std.specs.Prelude.{ℕ, zero, suc, ◌+◌, ◌-◌, ◌*◌, ◌/◌, ◌%◌, ◌<◌, ◌≤◌, ◌≡◌, ◌==◌, Bool, false, true, not, if◌then◌else◌, ◌&&◌, ◌||◌, ⊤, List, [], ◌∷◌, ◌++◌, length, Option, None, IfSome, Result, MatchResult}
 use Rattle.chess_core.specs.Castling.{Unmoved}
 use Rattle.chess_core.specs.Diagrams.{Diagram}
 use Rattle.chess_core.specs.Position.{man_on}
 use Rattle.chess_core.specs.declared.man.Colour.{Colour}
+use Rattle.chess_core.specs.declared.man.Kind.{Kind}
 use Rattle.chess_core.specs.declared.man.Man.{Man}
-use Rattle.fen.specs.Letters.{blank, digit_1, man_text, slash, turn_letter}
+use Rattle.fen.specs.Letters.{blank, digit_1, is_bracketed, man_text, slash, small_letter, turn_letter}
 use Rattle.fen.specs.Fen.{HasFenRights, castling_letters, crossed_text, is_digit, or_dash, with_square}
 use Rattle.fen.specs.declared.not_fen.NotFen.{NotFen}
 
@@ -55,6 +56,11 @@ pub record IsLeft (empty : ℕ) (text : List ℕ) : Type 0 where
 unfoldable pub IsRow : ℕ → List ℕ → Type 0
 IsRow n [] = ⊤
 IsRow n (first ∷ rest) = is_digit first ≡ true → (first ≤ 48 + n) × (begins_with_digit rest ≡ false)
+
+-- men of this kind have this small letter, in brackets or not
+unfoldable pub is_written : ℕ → Bool → Kind → Bool
+is_written small brackets kind =
+    small_letter kind == small && (if brackets then is_bracketed kind else not (is_bracketed kind))
 
 -- no man comes first
 abbrev pub FindsNoMan : List ℕ → Type 0

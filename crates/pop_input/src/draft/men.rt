@@ -1,9 +1,9 @@
 //! The words of the section Pieces.
 ghost use Rattle.std.specs.Prelude.{◌≡◌, ◌≤◌, ◌<◌, [], length, None, Some, Ok, Err, unwrap_or};
 ghost use Rattle.std.specs.List.{list_any};
+ghost use Rattle.chess_core.specs.KindNames.{kind_of};
 ghost use Rattle.chess_core.specs.Position.{with_man};
 ghost use Rattle.pop_text.specs.Words.{longest_word};
-ghost use Rattle.pop_input.specs.Names.{kind_of};
 ghost use Rattle.pop_input.specs.Values.{is_digit, squares_named};
 ghost use Rattle.pop_input.specs.Drafts.{Within, put_kind, put_men, draft_by};
 ghost use Rattle.pop_input.specs.WordFaults.{is_other_word, letter_fault, man_fault, men_fault, role_fault};
@@ -11,7 +11,7 @@ ghost use Rattle.pop_input.specs.declared.names.Section.TheVariants.{Pieces};
 
 use crate::draft::Draft;
 use crate::fault_kind::FaultKind;
-use crate::names::{colour_of, kind_of};
+use crate::names::colour_of;
 use crate::short_word::ShortWord;
 use crate::values::{is_digit, squares_named};
 use chess_core::man::{Kind, Man};
@@ -46,7 +46,7 @@ impl Draft {
                   (unwrap_or (squares_named text.now) []) self.old.men;
             } }
     {
-        match kind_of(letter) {
+        match Kind::of_letter(letter) {
             Some(kind) => self.take_kind(kind, text),
             None => Some(FaultKind::WordMisplaced),
         }

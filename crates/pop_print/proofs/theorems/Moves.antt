@@ -1,13 +1,13 @@
 -- The text of a move determines the move: two moves with one text castle to one side, or one man goes between the same
 -- squares and is promoted to the same kind.
 use Rattle.std.proofs.Common.{◌≡◌, ℕ, ◌+◌, ◌<◌, Bool, true, false, cond, eqb, nat_lt, List, [], ◌∷◌, ◌++◌, Option, Some, None, refl, sym, ap, ◌∙◌, arith, append_assoc, drop, get_or, ◌⊎◌, inl}
-use Rattle.std.specs.Prelude.{codes}
+use Rattle.std.specs.Prelude.{codes, find, unwrap_or, ◌==◌}
 use Rattle.std.proofs.lemmas.Bool.{and_from, and_parts, cases_Bool, cond-false, cond-true, eqb-true, le-ltb, lt-ltb, or_cases, true≢false}
 use Rattle.chess_core.specs.Squares.{file_of, rank_of}
 use Rattle.chess_core.specs.declared.man.Man.{Man}
 use Rattle.chess_core.specs.declared.man.Kind.{Kind}
-use Rattle.chess_core.specs.declared.man.Kind.TheVariants.{King, Queen, Rook, Bishop, Knight, Pawn, Grasshopper, Nightrider}
-use Rattle.chess_core.specs.Position.{Position, is_man, man_on, same_kind}
+use Rattle.chess_core.specs.declared.man.Kind.TheVariants.{King, Pawn}
+use Rattle.chess_core.specs.Position.{Position, is_man, kinds, man_on, same_kind}
 use Rattle.chess_core.specs.declared.man.Move.{Move}
 use Rattle.chess_core.specs.WellFormed.{IsWellFormed}
 use Rattle.chess_rules.specs.Legal.{is_legal, is_promotion_right, is_pseudo_legal}
@@ -28,8 +28,7 @@ use Rattle.pop_print.specs.Notation.{man_text}
 
 -- the kind with this letter
 abbrev kind_written : ℕ → Kind
-kind_written l = cond (eqb l 75) King (cond (eqb l 81) Queen (cond (eqb l 82) Rook (cond (eqb l 66) Bishop
-    (cond (eqb l 83) Knight (cond (eqb l 80) Pawn (cond (eqb l 71) Grasshopper Nightrider))))))
+kind_written l = unwrap_or (find (λ k. letter_of k == l) kinds) King
 
 letter_reports : (k : Kind) → kind_written (letter_of k) ≡ k
 letter_reports k = grind arith

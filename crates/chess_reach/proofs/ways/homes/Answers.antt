@@ -1,5 +1,5 @@
 use Rattle.std.proofs.Common.{Some, subst, ◌≡◌}
-use Rattle.chess_reach.proofs.Resting.{king_dies}
+use Rattle.chess_reach.proofs.Resting.{fairy_kind, king_dies}
 use Rattle.chess_rules.specs.Play.{rebirth}
 use Rattle.chess_reach.proofs.ways.homes.Goals as goal
 
@@ -21,8 +21,7 @@ returns-in-Knight c s h small on home = c.knight_homes.ensures s h small on (sub
 pub returns-in-Pawn : goal.returns-in-Pawn
 returns-in-Pawn c s h small on home = c.pawn_homes.ensures s h small on (subst (λ k. rebirth c.args.colour k s ≡ Some h) c.in-Pawn.is home)
 
-pub returns-in-Grasshopper : goal.returns-in-Grasshopper
-returns-in-Grasshopper c s h small on home = c.fairy_homes.ensures.grasshoppers s h small on (subst (λ k. rebirth c.args.colour k s ≡ Some h) c.in-Grasshopper.is home)
-
-pub returns-in-Nightrider : goal.returns-in-Nightrider
-returns-in-Nightrider c s h small on home = c.fairy_homes-in-Nightrider.ensures.nightriders s h small on (subst (λ k. rebirth c.args.colour k s ≡ Some h) c.in-Nightrider.is home)
+pub returns-in_default : goal.returns-in_default
+returns-in_default c s h small on home =
+    let d = c.in_default in
+    c.fairy_homes.ensures c.args.kind s h (fairy_kind c.args.kind d.not-King d.not-Queen d.not-Rook d.not-Bishop d.not-Knight d.not-Pawn) small on home

@@ -1,5 +1,5 @@
 use Rattle.chess_rules.proofs.Chess.{arith, cases_eq, cases_lt, rules}
-unfoldable use Rattle.chess_rules.specs.ties.Places.{triple_at}
+unfoldable use Rattle.chess_rules.specs.ties.Places.{promotion_at, triple_at}
 use Rattle.chess_rules.proofs.listing_moves.Walks.{none-plain, plain_aimed}
 use Rattle.chess_attacks.proofs.Bits.{off_zero}
 use Rattle.chess_rules.proofs.listing_moves.move_test.next_of_piece.Goals as goal
@@ -15,7 +15,7 @@ returns-then-number-end-clause-first g c = record {
 }
 
 pub returns-then-meets-clause-first : goal.returns-then-meets-clause-first
-unfolding triple_at
+unfolding triple_at promotion_at
 returns-then-meets-clause-first g c = record {
   low = λ lt. search (rules, plain_aimed, cases_eq, cases_lt);
   high = search (rules, plain_aimed, cases_eq, cases_lt);
