@@ -8,6 +8,7 @@ use Rattle.pop_input.specs.declared.item.Item.TheVariants.{Faulty as FaultyItem}
 use Rattle.pop_input.specs.declared.item.Last.{Last}
 use Rattle.pop_input.specs.declared.names.Command.TheVariants.{Next as NextProblem, Last as EndProblem}
 use Rattle.pop_input.specs.declared.reader.Next.{Next}
+pub use Rattle.pop_input.specs.ties.Places.{is_first}
 use Rattle.pop_input.proofs.Taking.{takes_then}
 use Rattle.pop_input.proofs.Blocks.{next_entries, last_entries, ended_entries}
 use Rattle.pop_input.proofs.Items.{BlockSoFar, word_read, takes_more}
@@ -17,12 +18,6 @@ use Rattle.pop_input.specs.declared.fault_kind.FaultKind.TheVariants.{InputTooLo
 abbrev pub block_of : Bool → Next
 block_of true = First
 block_of false = Later
-
--- whether the first block is next
-abbrev pub is_first : Next → Bool
-is_first First = true
-is_first Later = false
-is_first Nothing = false
 
 -- an entry that was read is the next item
 read_item : (old new : ReaderState) (had left : Option (List ℕ)) (entry : Entry) (last : Last) → new.next ≡ next_after last

@@ -36,7 +36,8 @@ long_no_command : (text : List ℕ) → 160 < length text → command_of text �
 unfolding command_of section_of
 long_no_command text long = grind (arith, no_short_form)
 
-long_fault : (begun : Bool) (draft : Draft) (text : List ℕ) → 160 < length text → fault_of begun draft text ≡ Some WordTooLong
+-- the fault of a word that is too long
+pub long_fault : (begun : Bool) (draft : Draft) (text : List ℕ) → 160 < length text → fault_of begun draft text ≡ Some WordTooLong
 long_fault begun draft text long = rw (lt-ltb 160 (length text) long) refl
 
 -- The texts after one more token.

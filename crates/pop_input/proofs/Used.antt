@@ -9,7 +9,8 @@ use Rattle.pop_input.proofs.Taking.{takes_then}
 
 -- Tokens.
 
-some_all : {test : ℕ → Bool} {old new : Reading} {had left : Option (List ℕ)} → UsesAll test old new had left → UsesSome old new had left
+-- bytes that meet a test were used
+pub some_all : {test : ℕ → Bool} {old new : Reading} {had left : Option (List ℕ)} → UsesAll test old new had left → UsesSome old new had left
 some_all p = record { bytes = p.bytes; uses = p.uses }
 
 -- the bytes of a gap and a run were used

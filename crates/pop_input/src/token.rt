@@ -1,10 +1,11 @@
 //! The tokens of an input: words and text lines.
-ghost use Rattle.std.specs.Prelude.{◌≤◌, length};
-ghost use Rattle.pop_text.specs.Words.{limit, window_size};
-ghost use Rattle.pop_text.specs.ties.Reading.{CallsSource, MayCall};
-ghost use Rattle.pop_input.specs.ties.Tokens.{NextToken, UsesToken};
+ghost use Rattle.std.specs.Prelude.{◌≡◌, ◌≤◌, length};
+ghost use Rattle.pop_text.specs.Words.{is_gap, limit, window_size};
+ghost use Rattle.pop_text.specs.ties.Reading.{CallsSource, MayCall, UsesAll};
+ghost use Rattle.pop_input.specs.ties.Tokens.{IsGapOver, IsPlaceOf, NextToken, UsesToken, range_of};
 
 use crate::names::{TextWord, text_word_of};
+use crate::place::Place;
 use pop_text::read_fault::ReadFault;
 use pop_text::scanner::{Found, Scanner};
 use pop_text::source::Source;
@@ -26,8 +27,62 @@ pub enum ReadToken {
     Cut(ReadFault),
 }
 
-/// Reads the next token, and stores it in `word` or `text`.
+/// Reads the next token, and stores it in `word` or `text`. Stores its range in `place` if it is a word, else the empty
+/// range after it.
 pub(crate) fn next_token<S: Source>(
+    scanner: &mut Scanner,
+    source: &mut S,
+    word: &mut Word,
+    text: &mut Text,
+    place: &mut Place,
+) -> ReadToken
+    requires { MayCall scanner.old.end (S.failures source.old) }
+    ensures token { NextToken scanner.old scanner.new (S.remaining source.old)
+        (S.remaining source.new) word.new text.new result }
+    ensures used { UsesToken scanner.old scanner.new (S.remaining source.old)
+        (S.remaining source.new) word.new result }
+    ensures place { IsPlaceOf scanner.old scanner.new (S.remaining source.old)
+        (S.remaining source.new) word.new place.new result }
+    ensures within { scanner.new.used ≤ limit }
+    ensures waits { length scanner.new.window ≤ window_size }
+    ensures calls_source { CallsSource scanner.old.end scanner.new.end (S.remaining source.old)
+        (S.remaining source.new) (S.failures source.old) (S.failures source.new) }
+{
+    let start = skip_to_token(scanner, source);
+    let token = read_token(scanner, source, word, text);
+    let end = scanner.used();
+    let range = range_of(token, start, end);
+    *place = range;
+    token
+}
+
+// Uses the gap before the next token, and returns how many bytes are used then.
+fn skip_to_token<S: Source>(scanner: &mut Scanner, source: &mut S) -> u32
+    requires { MayCall scanner.old.end (S.failures source.old) }
+    ensures used { result ≡ scanner.new.used }
+    ensures gap { UsesAll is_gap scanner.old scanner.new (S.remaining source.old)
+        (S.remaining source.new) }
+    ensures over { IsGapOver scanner.new }
+    ensures may { MayCall scanner.new.end (S.failures source.new) }
+    ensures calls_source { CallsSource scanner.old.end scanner.new.end (S.remaining source.old)
+        (S.remaining source.new) (S.failures source.old) (S.failures source.new) }
+{
+    let _next = scanner.skip_gap(source);
+    scanner.used()
+}
+
+// Returns the range of a word from `start` to `end`, and the empty range at `end` of any other token.
+fn range_of(token: ReadToken, start: u32, end: u32) -> Place
+    ensures { result ≡ range_of token start end }
+{
+    match token {
+        ReadToken::Word | ReadToken::TooLong(_) => Place { start, end },
+        ReadToken::Line(_) | ReadToken::Ended(_) | ReadToken::Cut(_) => Place { start: end, end },
+    }
+}
+
+// Reads the next token, and stores it in `word` or `text`.
+fn read_token<S: Source>(
     scanner: &mut Scanner,
     source: &mut S,
     word: &mut Word,

@@ -100,7 +100,7 @@ run_said cut line gap [] view blank solid some ends = absurd (omega arith)
 run_said cut line gap (b ∷ run) view blank solid some ends = grind (arith, append_assoc, skip_gap, take_run)
 
 -- a gap has no token
-gap_takes : {old new : Reading} {had left : Option (List ℕ)} → UsesAll is_gap old new had left → new.used ≤ limit → Takes (among old) (among new) had left []
+pub gap_takes : {old new : Reading} {had left : Option (List ℕ)} → UsesAll is_gap old new had left → new.used ≤ limit → Takes (among old) (among new) had left []
 gap_takes {old} {new} p within = grind (arith, takes p.uses within None None, skip_gap)
 
 -- if a fault comes next, no word is taken and none is left
@@ -127,6 +127,11 @@ module _ {old new : Reading} {had left : Option (List ℕ)} {number : ℕ} (run 
   word_takes true is some over = takes p.uses (grind arith) None (Some run) [] (over_said true is some over)
   word_takes false is some over = rw number_is (takes p.uses (grind arith) None None (Word new.line run ∷ []) (over_said false is some over))
 
+-- a run that is over and too long for a word is a token all the same
+pub long_takes : (old new : Reading) (had left : Option (List ℕ)) (number : ℕ) (run : List ℕ) → 160 < length run → UsesRun old new had left number run
+    → IsRunOver new → Takes (among old) (among new) had left (Word number run ∷ [])
+long_takes old new had left number run long p ends = word_takes run p false (grind (arith, no_short_form)) (omega (arith, long)) ends
+
 -- which word is taken, by the bytes used and the state after them
 pub next_of : (old new : Reading) (had left : Option (List ℕ)) (result : Result (Option Read) ReadFault) → UsesWord old new had left result
     → HoldsAfterWord new result
@@ -134,8 +139,7 @@ pub next_of : (old new : Reading) (had left : Option (List ℕ)) (result : Resul
 next_of old new had left (Ok None) p at = (gap_takes p.0 at.2, over new AtEnd (stops_at_end new at), (omega (arith, p.0.uses.used), at.2))
 next_of old new had left (Ok (Some word)) p some = grind (arith, word_takes, length-append)
 next_of old new had left (Err (TooLong line)) (run, long, p, ends) at =
-    let some : 0 < length run = omega (arith, long) in
-    (run, long, word_takes run p false (grind (arith, no_short_form)) some ends, grind (arith, length-append))
+    (run, long, long_takes old new had left line run long p ends, grind (arith, length-append))
 next_of old new had left (Err (InputTooLong line)) p at = cut_takes p.0 p.1 (InputTooLong line) at
 next_of old new had left (Err (Device line)) p at = cut_takes p.0 p.1 (Device line) at
 

@@ -92,6 +92,13 @@ impl Scanner {
         self.line
     }
 
+    /// Returns how many bytes of the input are used.
+    pub fn used(&self) -> u32
+        ensures { result ≡ self.now.used }
+    {
+        self.used
+    }
+
     // Fills the window if it is empty and the source may have more.
     #[tactic(auto, unfolding(crate::specs::Words::limit))]
     fn refill<S: Source>(&mut self, source: &mut S)
@@ -207,8 +214,13 @@ impl Scanner {
         self.advance(gap.count, gap.line_ends);
     }
 
-    // Uses blanks and line ends, and returns the next byte without using it.
-    fn skip_gap<S: Source>(&mut self, source: &mut S) -> Result<Option<u8>, ReadFault>
+    /// Uses blanks and line ends, and returns the next byte without using it, or `None` at the end of the input.
+    ///
+    /// # Errors
+    ///
+    /// `InputTooLong` or `Device` if the limit of the input or a failure of the source comes before that byte; every
+    /// later call then returns that fault.
+    pub fn skip_gap<S: Source>(&mut self, source: &mut S) -> Result<Option<u8>, ReadFault>
         requires { MayCall self.old.end (S.failures source.old) }
         ensures uses { UsesAll is_gap self.old self.new (S.remaining source.old)
             (S.remaining source.new) }

@@ -1,3 +1,4 @@
 //! The tests.
 mod adapters;
 mod agreements;
+mod places;

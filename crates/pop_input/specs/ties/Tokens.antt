@@ -1,6 +1,6 @@
 -- What `next_token` does (own).
-use Rattle.std.specs.Prelude.{◌≡◌, ◌<◌, ◌≤◌, ℕ, List, [], ◌∷◌, length, Option, Some, None, Ok, Err}
-use Rattle.pop_text.specs.Words.{Token, Word, TextLine, Tail, End as AtEnd, Long, Broken as Failing, text_of_line, longest_word}
+use Rattle.std.specs.Prelude.{◌≡◌, ◌<◌, ◌≤◌, ◌+◌, ℕ, List, [], ◌∷◌, length, Option, Some, None, Result, Ok, Err, IfOk, IfSome, false}
+use Rattle.pop_text.specs.Words.{Token, Word, TextLine, Tail, End as AtEnd, Long, Broken as Failing, is_gap, text_of_line, longest_word}
 use Rattle.pop_text.specs.ties.Reading.{Reading, Uses}
 use Rattle.pop_text.specs.ties.Runs.{IsRunOver, ComesNext, UsesRun}
 use Rattle.pop_text.specs.ties.Left.{Takes, among, IsOver, Advances, WithinLimit}
@@ -9,8 +9,16 @@ use Rattle.pop_text.specs.declared.scanner.End.TheVariants.{Broken}
 use Rattle.pop_text.specs.declared.read_fault.ReadFault.TheVariants.{TooLong as LongWord, InputTooLong, Device}
 use Rattle.pop_input.specs.Names.{text_word_of}
 use Rattle.pop_text.specs.declared.word.Word.{Word as Room}
+use Rattle.pop_input.specs.ties.Places.{place_from}
+use Rattle.pop_input.specs.declared.place.Place.{Place}
 use Rattle.pop_input.specs.declared.token.ReadToken.{ReadToken}
 use Rattle.pop_input.specs.declared.token.ReadToken.TheVariants.{Word as AWord, TooLong, Line, Ended, Cut}
+
+-- no gap comes next: a byte of a token, the end of the input, or a fault
+pub record IsGapOver (new : Reading) : Type 0 where
+  pub next : Result (Option ℕ) ReadFault
+  pub comes : ComesNext new next
+  pub other : IfOk next (λ o. IfSome o (λ b. is_gap b ≡ false))
 
 -- the call takes this token of the input
 abbrev pub TakesPart : Reading → Reading → Option (List ℕ) → Option (List ℕ) → Token → Type 0
@@ -34,15 +42,42 @@ pub record UsesSome (old new : Reading) (had left : Option (List ℕ)) : Type 0 
   pub bytes : List ℕ
   pub uses : Uses old new had left bytes
 
--- which bytes `next_token` uses: for a word exactly those up to its end; if the input ends or is cut, all up to there
+-- which bytes `next_token` uses: for a word of any length exactly those up to its end; if the input ends or is cut, all
+-- up to there
 abbrev pub UsesToken : Reading → Reading → Option (List ℕ) → Option (List ℕ) → Room → ReadToken
     → Type 0
 UsesToken old new had left word AWord = UsesRun old new had left word.line word.bytes.items
     × IsRunOver new
-UsesToken old new had left word (TooLong line) = UsesSome old new had left
+UsesToken old new had left word (TooLong line) = (run : List ℕ) × (longest_word < length run)
+    × UsesRun old new had left line run × IsRunOver new
 UsesToken old new had left word (Line keyword) = UsesSome old new had left
 UsesToken old new had left word (Ended line) = UsesSome old new had left × ComesNext new (Ok None)
 UsesToken old new had left word (Cut fault) = UsesSome old new had left × ComesNext new (Err fault)
+
+-- the place of a token: for a word the range from `start` to `end`, else the empty range at `end`
+abbrev pub range_of : ReadToken → ℕ → ℕ → Place
+range_of AWord start end = place_from start end
+range_of (TooLong line) start end = place_from start end
+range_of _ start end = place_from end end
+
+-- a gap and a run after it are used, and the place is the range of the run
+pub record UsesRunAt (old new : Reading) (had left : Option (List ℕ)) (number : ℕ) (run : List ℕ)
+    (place : Place) : Type 0 where
+  pub uses : UsesRun old new had left number run
+  pub start : place.start ≡ old.used + length uses.gap
+  pub end : place.end ≡ new.used
+
+-- the place that `next_token` stores: of a word, however long, else after the token
+abbrev pub IsPlaceOf : Reading → Reading → Option (List ℕ) → Option (List ℕ) → Room → Place
+    → ReadToken
+    → Type 0
+IsPlaceOf old new had left word place AWord = UsesRunAt old new had left word.line word.bytes.items
+    place
+IsPlaceOf old new had left word place (TooLong line) = (run : List ℕ) × (longest_word < length run)
+    × UsesRunAt old new had left line run place × IsRunOver new
+IsPlaceOf old new had left word place (Line keyword) = Unit {0}
+IsPlaceOf old new had left word place (Ended line) = place ≡ place_from new.used new.used
+IsPlaceOf old new had left word place (Cut fault) = place ≡ place_from new.used new.used
 
 -- what `next_token` does, with the word and the text that it stores
 abbrev pub NextToken : Reading → Reading → Option (List ℕ) → Option (List ℕ) → Room → List ℕ
