@@ -58,7 +58,7 @@ class FromTheCrates(unittest.TestCase):
             MEN,
             ("    Nightrider,\n}", "    Nightrider,\n    /// Leaps.\n    Camel,\n}"),
             ("Kind::Knight | Kind::Pawn => Gait", "Kind::Knight | Kind::Pawn | Kind::Camel => Gait"),
-            ('Kind::Nightrider => "N",', 'Kind::Nightrider => "N",\n            Kind::Camel => "C",'),
+            ("Kind::Nightrider => b'N',", "Kind::Nightrider => b'N',\n            Kind::Camel => b'C',"),
         )
         new = "kind_steps c Nightrider = knight_steps\nkind_steps c Camel = step_by 3 0 1 0 ∷ step_by 0 3 0 1 ∷ []"
         self.changed(root, STEPS_FILE, ("kind_steps c Nightrider = knight_steps", new))
