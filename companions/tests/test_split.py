@@ -57,7 +57,11 @@ class Told(PartProgram):
     """pops-part, asked for all parts of a phase at once."""
 
     def outcome(
-        self, words: Sequence[str], text: bytes, seconds: Optional[float] = None
+        self,
+        words: Sequence[str],
+        text: bytes,
+        seconds: Optional[float] = None,
+        spooled_if: Optional[bytes] = None,
     ) -> Outcome:
         return Outcome(0, parts_told.answer(words, text), b"", True)
 
