@@ -426,3 +426,10 @@ class Command(unittest.TestCase):
         self.assertIn("mine.db", outcome.error)
         with self.assertRaises(CollectionError):
             Collection(self.path, new=True)
+
+    def test_a_path_of_two_slashes(self) -> None:
+        problem = Path(self.path).with_name("one.pop")
+        problem.write_bytes(b"BeginProblem Pieces White Kg6 Ra1 Black Kg8 Stipulation #1 EndProblem\n")
+        outcome = run_here.companion("pops-find", f"/{self.path}", "--add", str(problem))
+        self.assertEqual((outcome.status, outcome.error), (0, ""))
+        self.assertEqual(len(Collection(self.path, new=False)), 1)

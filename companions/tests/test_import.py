@@ -500,6 +500,12 @@ class Yaml(unittest.TestCase):
             ('a: "b" c', 1),
             (r'a: "\uD8zz"', 1),
             (r'a: "\uD83D"', 1),
+            (r'a: "\uDC00\uD800"', 1),
+            ('a:\n- b\n- "\\U00110000"', 3),
+            (r'a: "\UFFFFFFFF"', 1),
+            (r'"\U00110000": a', 1),
+            (r'a: ["\D", "\U00110000"]', 1),
+            (f"a: b\n%YAML 1.{'1' * 5000}", 2),
             ("a: b: c", 1),
             ("a: b\na: c", 2),
             ("{a: b, a: c}", 1),
@@ -516,6 +522,13 @@ class Yaml(unittest.TestCase):
                 with self.assertRaises(YamlError) as caught:
                     self.value(text)
                 self.assertEqual(caught.exception.line, line)
+
+    def test_a_code_beyond_all_characters_leaves_its_problem_out_alone(self) -> None:
+        one = '---\ntitle: "{}"\nalgebraic: {{white: [Kg6, Ra1], black: [Kg8]}}\nstipulation: "#1"\n'
+        status, made, said = imported_text("".join(map(one.format, ("A", r"\U00110000"))).encode())
+        self.assertEqual((status, made.count(b"Pieces")), (1, 1))
+        why = "left out: this isn't read as YAML: a code or a number is too large"
+        self.assertEqual(said, [f"line 6, problem 2: {why}"])
 
     def test_documents(self) -> None:
         text = "%YAML 1.2\n---\na: b\n...\n# c\n--- d\n---\n---\n- e\n"

@@ -47,9 +47,10 @@ def setUpModule() -> None:
     """Puts temporary files where the paths of sockets are short enough, wherever others are."""
     environment = mock.patch.dict(os.environ, {"TMPDIR": "/tmp"})
     folder = mock.patch.object(tempfile, "tempdir", "/tmp")
-    for start, stop in ((environment.start, environment.stop), (folder.start, folder.stop)):
-        start()
-        unittest.addModuleCleanup(stop)
+    environment.start()
+    unittest.addModuleCleanup(environment.stop)
+    folder.start()
+    unittest.addModuleCleanup(folder.stop)
 
 
 def input_of(*problems: str) -> bytes:

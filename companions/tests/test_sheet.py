@@ -813,6 +813,29 @@ class Command(Case):
         self.assertEqual(refused.status, 3)
         self.assertIn("given.report is no report of pops: line 1: ", refused.error)
 
+    def test_a_report_of_more_problems(self) -> None:
+        """It is refused before pops-tries is asked for what the input lacks."""
+        report = self.room / "given.report"
+        two = OF_THE_MANUAL.replace(b"EndProblem", b"NextProblem") + OF_THE_MANUAL.split(b"\n", 1)[1]
+        report.write_bytes(support.run([support.pops()], two).output)
+        self.assertIn(b"problem 2\n", report.read_bytes())
+        words = ["--to", "text", "--report", str(report), "--pops-tries", str(self.tries)]
+        for more in ([], ["--tries", "none"]):
+            outcome = self.made(OF_THE_MANUAL, *words, *more)
+            message = "pops-sheet: the report isn't that of the input: other problems\n"
+            self.assertEqual((outcome.status, outcome.error), (3, message))
+
+    def test_a_fault_that_pops_does_not_have(self) -> None:
+        """A sheet has the report's own text of it, in each language and form."""
+        report = self.room / "given.report"
+        report.write_bytes(b"problem 1\nline 2: fault 99: an unknown fault\n\n")
+        for language in ("en", "de"):
+            for form in ("text", "html", "latex"):
+                words = ["--report", str(report), "--to", form, "--language", language]
+                outcome = self.sheet(OF_THE_MANUAL, *words)
+                self.assertEqual((outcome.status, outcome.error), (1, ""))
+                self.assertIn(b"2: an unknown fault", outcome.output)
+
     def test_a_report_without_a_problem(self) -> None:
         """pops-many leaves out what it stopped: its diagram is shown all the same."""
         report = self.room / "given.report"

@@ -6,6 +6,7 @@ import os
 import shutil
 import subprocess
 import sys
+from collections.abc import Iterable
 from pathlib import Path
 from typing import NoReturn, Optional, Union
 
@@ -287,21 +288,26 @@ def has_lines(item: SoundItem, tries: Optional[TriesItem]) -> bool:
     return solutions or tries is not None and bool(tries.tries)
 
 
-def refuse_other_texts(
-    items: list[AnyItem],
-    tries: dict[int, TriesItem],
-    given: list[GivenProblem],
-    boards: dict[int, Board],
+def refuse_other_report(
+    items: list[AnyItem], given: list[GivenProblem], boards: dict[int, Board]
 ) -> None:
-    """Raises CommandError where a text isn't of the input."""
+    """Raises CommandError where a report isn't of the input."""
     numbers = [item.number for item in items]
     if numbers != sorted(set(numbers)) or any(it > len(given) for it in numbers):
         raise CommandError(Status.DEVICE, "the report isn't that of the input: other problems")
-    shown: list[Union[SoundItem, TriesItem]] = [it for it in items if isinstance(it, SoundItem)]
-    for one in [*shown, *tries.values()]:
+    refuse_others("report", [it for it in items if isinstance(it, SoundItem)], given, boards)
+
+
+def refuse_others(
+    name: str,
+    shown: Iterable[Union[SoundItem, TriesItem]],
+    given: list[GivenProblem],
+    boards: dict[int, Board],
+) -> None:
+    """Raises CommandError where an item of a text isn't of the input."""
+    for one in shown:
         stipulation = given[one.number - 1].stipulation if one.number <= len(given) else None
         if one.stipulation != stipulation or one.board not in (None, boards.get(one.number)):
-            name = "report" if isinstance(one, SoundItem) else "text of tries"
             message = f"the {name} isn't that of the input: problem {one.number} differs"
             raise CommandError(Status.DEVICE, message)
 
@@ -347,8 +353,9 @@ def sheet(settings: Settings) -> Status:
     items = texts.items()
     warn_of_rest(NAME, settings.input, texts.input)
     warn_of_names(NAME, settings.report or settings.input, items, settings.encoding)
+    refuse_other_report(items, given, boards)
     tries = texts.tries(items) if any(map(is_battle, items)) else {}
-    refuse_other_texts(items, tries, given, boards)
+    refuse_others("text of tries", tries.values(), given, boards)
     items = with_missing(items, given)
     shown = TriesShown(settings.tries)
     made = Sheet(boards, tries, LANGUAGES[settings.language], settings.encoding, shown)

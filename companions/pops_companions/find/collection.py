@@ -302,7 +302,9 @@ class Collection:
 
 
 def _uri(path: str) -> str:
-    return "file:" + path.replace("%", "%25").replace("?", "%3f").replace("#", "%23")
+    # (two slashes at the beginning would begin the name of a host)
+    before = "//" if path.startswith("//") else ""
+    return f"file:{before}" + path.replace("%", "%25").replace("?", "%3f").replace("#", "%23")
 
 
 def _conditions(wanted: Wanted) -> tuple[list[str], list[str]]:

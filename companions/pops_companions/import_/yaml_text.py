@@ -141,7 +141,7 @@ def _parsed(text: str, first: int) -> list[Any]:
             # The slower parser names the same faults on every machine, and reads surrogates.
             pass
     try:
-        return list(_of_few_levels(yaml.parse(text, yaml.BaseLoader), first))
+        return list(_of_few_levels(_slowly_parsed(yaml.BaseLoader(text), first), first))
     except yaml.MarkedYAMLError as error:
         ends = "end of stream" in error.problem and error.context_mark is not None
         mark = error.context_mark if ends else error.problem_mark
@@ -149,6 +149,19 @@ def _parsed(text: str, first: int) -> list[Any]:
     except yaml.reader.ReaderError as error:
         line = first + text.count("\n", 0, error.position)
         raise YamlError(line, f"U+{error.character:04X} isn't allowed") from None
+
+
+def _slowly_parsed(loader: Any, first: int) -> Iterator[Any]:
+    """Yields the events of a loader of PyYAML, which refuses no code as too large by itself."""
+    while True:
+        try:
+            if not loader.check_event():
+                return
+            event = loader.get_event()
+        except (ValueError, OverflowError):
+            message = "a code or a number is too large"
+            raise YamlError(first + loader.line, message) from None
+        yield event
 
 
 def _of_few_levels(events: Iterable[Any], first: int) -> Iterator[Any]:

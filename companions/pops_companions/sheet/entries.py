@@ -9,7 +9,7 @@ from pops_companions.chess.attacks import Men
 from pops_companions.chess.men import Square
 from pops_companions.input.given import GivenProblem
 from pops_companions.input.pieces import cut
-from pops_companions.input.reading import FaultKind, read_piece
+from pops_companions.input.reading import read_piece
 from pops_companions.report.items import AnyItem, Board, FaultyItem, SoundItem
 from pops_companions.report.tries import TriesItem
 from pops_companions.sheet.languages import Language
@@ -145,8 +145,7 @@ class Sheet:
 
     def _part(self, item: AnyItem, heading: str, words: SheetWords) -> Part:
         if isinstance(item, FaultyItem):
-            fault = words.faults[FaultKind(item.fault.number)]
-            return Part(heading, (), words.line.format(item.fault.line, fault))
+            return Part(heading, (), words.line.format(item.fault.line, words.fault(item.fault)))
         board = self.boards.get(item.number)
         notes = []
         if item.unfinished == NOT_IN_REPORT:

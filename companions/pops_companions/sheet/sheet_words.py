@@ -5,6 +5,7 @@ from typing import NamedTuple
 
 from pops_companions.explain.fault_texts import fault_texts
 from pops_companions.input.reading import FaultKind
+from pops_companions.report.items import Fault
 from pops_companions.stored import stored
 
 
@@ -27,6 +28,12 @@ class SheetWords(NamedTuple):
     exchanged: str
     continued: str
     conditions: Mapping[str, str]
+
+    def fault(self, fault: Fault) -> str:
+        """Returns the text of a fault; what the report says of one that pops doesn't have."""
+        kinds = {kind.value: kind for kind in FaultKind}
+        kind = kinds.get(fault.number)
+        return fault.text if kind is None else self.faults[kind]
 
     def asked(self, text: str) -> str:
         """Returns a stipulation, with its condition in this language."""
