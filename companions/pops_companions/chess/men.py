@@ -56,7 +56,7 @@ _TABLE: list[dict[str, Any]] = stored("chess/men.json")
 LETTERS = "".join(kind.value for kind in Kind)
 FAIRY_KINDS = tuple(Kind(it["letter"]) for it in _TABLE if it["fairy"])
 GAITS = {Kind(it["letter"]): Gait(it["gait"]) for it in _TABLE}
-# Steps in files to the right and ranks up; a pawn's are those by which White captures.
+# Steps in files to the right and ranks up; a pawn's are the captures of a white pawn.
 STEPS = {Kind(it["letter"]): [(step[0], step[1]) for step in it["steps"]] for it in _TABLE}
 
 
