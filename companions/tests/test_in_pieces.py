@@ -41,7 +41,7 @@ def report(numbers: list[int]) -> bytes:
 
 @contextmanager
 def pieces_of(size: int) -> Iterator[None]:
-    """Lets a report of any size be cut into pieces of so many bytes at least."""
+    """Lets a report of any size be cut into pieces of at least `size` bytes."""
     with mock.patch.multiple(in_pieces, LEAST_BYTES=0, PIECE_BYTES=size):
         with mock.patch.object(os, "sched_getaffinity", lambda _: {0, 1}):
             yield

@@ -45,9 +45,11 @@ time.sleep(6000)
 
 def setUpModule() -> None:
     """Puts temporary files where the paths of sockets are short enough, wherever others are."""
-    for place in (mock.patch.dict(os.environ, {"TMPDIR": "/tmp"}), mock.patch.object(tempfile, "tempdir", "/tmp")):
-        place.start()
-        unittest.addModuleCleanup(place.stop)
+    environment = mock.patch.dict(os.environ, {"TMPDIR": "/tmp"})
+    folder = mock.patch.object(tempfile, "tempdir", "/tmp")
+    for start, stop in ((environment.start, environment.stop), (folder.start, folder.stop)):
+        start()
+        unittest.addModuleCleanup(stop)
 
 
 def input_of(*problems: str) -> bytes:

@@ -28,7 +28,7 @@ from pops_companions.many.child_process import Outcome
 from pops_companions.many.program import PAUSE, Program
 from pops_companions.many.progress import HowFar, Progress
 from pops_companions.many.split_problem import Cutting, Reader, SplitProblem
-from pops_companions.many.tasks import UNFINISHED, Source, Task, tasks_of
+from pops_companions.many.tasks import Source, Task, tasks_of
 from tests import made_inputs, parts_told, problems_in_parts, support
 
 MANY = support.loaded("pops-many")
@@ -45,19 +45,29 @@ class Slow(Program):
 
     cut = 0
 
-    def _one(self, text: bytes) -> tuple[int, bytes]:
-        status, report = self._of(self.outcome([], text))
-        if self.seconds is None or status != 0:
-            return status, report
+    def outcome(
+        self,
+        words: Sequence[str],
+        text: bytes,
+        seconds: Optional[float] = None,
+        spooled_if: Optional[bytes] = None,
+    ) -> Outcome:
+        run = super().outcome(words, text)
+        if seconds is None or run.status != 0:
+            return run
         Slow.cut += 1
-        return UNFINISHED, report[: len(report) // 2]
+        return run._replace(output=run.output[: len(run.output) // 2], in_time=False)
 
 
 class Told(PartProgram):
     """pops-part, asked for all parts of a phase at once."""
 
     def outcome(
-        self, words: Sequence[str], text: bytes, seconds: Optional[float] = None
+        self,
+        words: Sequence[str],
+        text: bytes,
+        seconds: Optional[float] = None,
+        spooled_if: Optional[bytes] = None,
     ) -> Outcome:
         return Outcome(0, parts_told.answer(words, text), b"", True)
 

@@ -3,6 +3,7 @@
 import csv
 import io
 import tempfile
+import tracemalloc
 import unittest
 from pathlib import Path
 
@@ -187,6 +188,29 @@ class Testing(unittest.TestCase):
         tries = f"{head}#3\nplay\n{play}tries\ntries: 0\n\n"
         told = self.judged(three, tries.encode()).output.decode()
         self.assertIn("  duals not shown: they need Variation\n", told)
+
+    def test_a_problem_that_only_the_tries_call_faulty(self) -> None:
+        outcome = self.judged(SEVERAL_THREATS, b"problem 1\nline 3: fault 10: bad stipulation\n\n")
+        self.assertEqual((outcome.status, outcome.output), (3, b""))
+        self.assertIn("calls problem 1 faulty, and the report sound", outcome.error)
+
+    def test_the_tries_of_one_problem_at_a_time(self) -> None:
+        """The memory doesn't grow with the text of tries."""
+        report = support.run([support.pops()], SEVERAL_THREATS).output.split(b"\n", 1)[1]
+        tries = plain_tries(SEVERAL_THREATS).split(b"\n", 1)[1]
+        most: dict[int, int] = {}
+        for number in (10, 200):
+            numbers = [b"problem %d\n" % it for it in range(1, number + 1)]
+            (self.room / "some.tries").write_bytes(b"".join(it + tries for it in numbers))
+            text = b"".join(it + report for it in numbers)
+            tracemalloc.start()
+            try:
+                named = ["--tries", str(self.room / "some.tries"), "-o", str(self.room / "out")]
+                self.assertEqual(run_here.companion("pops-test", *named, text=text).status, 0)
+                most[number] = tracemalloc.get_traced_memory()[1]
+            finally:
+                tracemalloc.stop()
+        self.assertLess(most[200], most[10] + 10 * len(text))
 
     def test_texts_that_dont_fit(self) -> None:
         other = plain_tries(SEVERAL_THREATS).replace(b"7 .....r..", b"7 ........")

@@ -160,7 +160,7 @@ test('outputs: why a problem is left out of YAML, in the language of the page', 
   assert.match(read(`x: ${'['.repeat(50)}${']'.repeat(50)}`), /lesbar: es sind mehr als 40 Ebenen$/);
   assert.match(read(`twins:\n  ${'b'.repeat(50)}: Move a1 b1`), /hat mehr als 40 Zeichen$/);
   speak('fr');
-  assert.deepEqual(yamlOf(text, []).lost, ['Le problème 1 a été omis : pops ne connaît pas l’énoncé r#1']);
+  assert.deepEqual(yamlOf(text, []).lost, ['Le problème 1 a été omis\u00a0: pops ne connaît pas l’énoncé r#1']);
   speak('en');
 });
 

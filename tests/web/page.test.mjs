@@ -78,8 +78,8 @@ test('page: nightriders without knights are no knights', () => {
 test('words: a number that may be 1 comes after its noun', () => {
   for (const code of Object.keys(LANGUAGES)) {
     speak(code);
-    assert.match(say('solving', { problem: '#2', seconds: 1, done: 0, parts: 1, found: 1 }), /\p{L} ?: 1$/u);
-    assert.match(say('comparedLeft', { count: 1 }), /\p{L} ?: 1,/u);
+    assert.match(say('solving', { problem: '#2', seconds: 1, done: 0, parts: 1, found: 1 }), /\p{L}\s?: 1$/u);
+    assert.match(say('comparedLeft', { count: 1 }), /\p{L}\s?: 1,/u);
   }
   speak('en');
 });
@@ -712,6 +712,10 @@ test('editing: clear removes titles, source, remarks and squares of options too,
   assert.match(textNow(), /Title A/);
 });
 
+test('words: no line of French begins with a sign that belongs to the word before it', () => {
+  for (const said of Object.values(JSON.parse(sharedParts().words).fr)) assert.doesNotMatch(said, / [:;?!»]|« /);
+});
+
 test('words: every language has every text, with the same values in it', () => {
   const [english, ...others] = Object.keys(LANGUAGES).map(code => new Set(Object.keys(JSON.parse(sharedParts().words)[code])));
   assert.equal(english.size > 150, true);
@@ -743,7 +747,7 @@ test('names: conditions, fairy men, faults and totals in each language', () => {
   speak('de');
   assert.deepEqual(said(), ['h#2.5 Circe', '#2', 'Madrasi', 'Nachtreiter', 'Zeile 3: Fehler 14: Feld erwartet', 'Lösungen: 2, dann gestoppt']);
   speak('fr');
-  assert.deepEqual(said(), ['h#2.5 Circé', '#2', 'Madrasi', 'Noctambule', 'ligne 3 : faute 14 : case attendue', 'solutions : 2, puis arrêté']);
+  assert.deepEqual(said(), ['h#2.5 Circé', '#2', 'Madrasi', 'Noctambule', 'ligne 3\u00a0: faute 14\u00a0: case attendue', 'solutions\u00a0: 2, puis arrêté']);
   speak('en');
 });
 
@@ -766,8 +770,8 @@ test('names: an import says in the page\'s language why it leaves a problem out'
   assert.deepEqual(lost(), ['Problem 1 wurde ausgelassen: pops kennt die Forderung r#2 nicht', 'Problem 1 wurde ausgelassen: der schwarze König fehlt',
     'Problem 1 b) wurde ausgelassen: auf a2 steht kein Stein, der zieht']);
   speak('fr');
-  assert.deepEqual(lost(), ['Le problème 1 a été omis : pops ne connaît pas l’énoncé r#2', 'Le problème 1 a été omis : il manque le roi noir',
-    'Le problème 1 b) a été omis : il n’y a pas de pièce en a2 à déplacer']);
+  assert.deepEqual(lost(), ['Le problème 1 a été omis\u00a0: pops ne connaît pas l’énoncé r#2', 'Le problème 1 a été omis\u00a0: il manque le roi noir',
+    'Le problème 1 b) a été omis\u00a0: il n’y a pas de pièce en a2 à déplacer']);
   speak('en');
   assert.match(lost()[1], /there is no black king/);
 });

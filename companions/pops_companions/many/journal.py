@@ -34,7 +34,7 @@ _LONGEST_HEAD = 200
 _PIECE = 1 << 20
 # (its name is made of the report's: a link by that name isn't followed)
 _OPEN = os.O_RDWR | os.O_NOFOLLOW | os.O_CLOEXEC
-_Report = Union[bytes, "memoryview[int]"]
+_Report = Union[bytes, memoryview]
 
 
 class JournalError(Exception):

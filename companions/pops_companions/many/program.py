@@ -353,6 +353,7 @@ class Program(Runs):
         try:
             child = self._started_on(task.source, errors, report)
         except FileNotFoundError:
+            report.close()
             return Result(task, UNREADABLE, b"")
         child.limit_files(MOST_SPOOLED)
         run = self._ended(child, text, None)

@@ -66,7 +66,7 @@ class LineReader:
     """
 
     def __init__(self, allowed: Allowed, line: int = 0):
-        """Begins a text, or a piece of one that so many lines are before."""
+        """Begins a text, or a piece of one, which follows `line` lines."""
         self._allowed = allowed
         self._state: State = self._problem
         self._begun = b""

@@ -94,7 +94,7 @@ class Beside:
         return judgement
 
     def may_lack(self, lacking: int) -> bool:
-        """Returns whether so many problems may be missing: with an input these are its own."""
+        """Returns whether `lacking` problems may be missing: with an input these are its own."""
         return self._input_file is not None or lacking <= _MOST_LACKING
 
     def _refuse_far(self, number: int, lacking: int) -> None:
