@@ -179,7 +179,7 @@ class Run:
         with self._lock:
             if self._ending is None:
                 self._ending = ending
-                self._child.send(SIGKILL)
+                self._child.kill()
 
     def _read(self) -> Generator[events.Event, None, None]:
         output = self._solver.output(self._child)

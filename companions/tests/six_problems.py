@@ -50,10 +50,18 @@ def _fields(folder: Path) -> list[bytes]:
 
 
 def children(process: int) -> list[int]:
-    """The processes that a process started."""
+    """The processes that a process started, but for watchers."""
     folders = Path("/proc").glob("[0-9]*")
     wanted = str(process).encode()
-    return [int(folder.name) for folder in folders if _fields(folder)[1:2] == [wanted]]
+    found = [folder for folder in folders if _fields(folder)[1:2] == [wanted]]
+    return [int(folder.name) for folder in found if not _is_watcher(folder)]
+
+
+def _is_watcher(folder: Path) -> bool:
+    try:
+        return os.fsencode(sessions.__file__) in (folder / "cmdline").read_bytes()
+    except OSError:
+        return False
 
 
 def has_worked(process: int) -> bool:

@@ -48,11 +48,29 @@ class Judging(unittest.TestCase):
         with limit_when_shown(self.room):
             return run_here.companion("pops-judge", text or str(self.text), *words)
 
+    def until_well(self, name: str, text: str, then: str = "") -> str:
+        """A program that does so at first, and once `make_well` was called what pops does, or `then`."""
+        then = then or f"exec '{support.pops()}' \"$@\""
+        return self.script(name, f"if [ -e '{self.room}/well' ]; then {then}; fi\n{text}")
+
+    def tries_until_well(self, name: str, text: str) -> str:
+        """A program that does so at first, and once `make_well` was called shows tries of the first problem."""
+        (self.room / "well").unlink(missing_ok=True)
+        return self.until_well(name, text, f"cat > /dev/null; printf '{TRIES_OF_ONE}'; exit")
+
+    def make_well(self) -> None:
+        (self.room / "well").touch()
+
+    def resumed(self, *words: str) -> support.Outcome:
+        """Goes on after `slow`, which solves problems from now on."""
+        self.make_well()
+        return self.judged("--resume", *words, pops=str(self.room / "slow"))
+
     def articles(self) -> list[test_pages.SeenArticle]:
         return test_pages.SeenPage(self.sheet.read_text("utf-8")).articles
 
     def files(self) -> list[str]:
-        return sorted(path.name for path in self.room.iterdir())
+        return sorted({path.name for path in self.room.iterdir()} - {"well"})
 
     def test_the_collection_of_known_soundness(self) -> None:
         # No pops-tries stands next to this program.
@@ -97,7 +115,7 @@ class Judging(unittest.TestCase):
     def test_a_problem_that_takes_longer_is_taken_up_again(self) -> None:
         """In its time it shows two keys of one: unsound, whatever is missing."""
         head = "problem 1\\n#1\\nplay\\n1.Ra1-a8#\\n1.Ra1-a7#\\n"
-        slow = self.script(
+        slow = self.until_well(
             "slow",
             f"text=$(cat)\ncase $text in *'A mate'*)"
             f" printf '{head}'; {shown(self.room)}; exec sleep 6000 ;; esac\n"
@@ -114,7 +132,7 @@ class Judging(unittest.TestCase):
         refused = self.judged()
         self.assertEqual(refused.status, 2)
         self.assertIn("keeps a run that was stopped: go on with --resume", refused.error)
-        again = self.judged("--resume")
+        again = self.resumed()
         self.assertEqual((again.status, again.error), (0, ""))
         self.assertEqual(again.output.decode().splitlines()[0], "problem 1: sound: #1, A mate")
         self.assertEqual(self.files(), ["sheet.html", "slow", "some.pop"])
@@ -174,9 +192,9 @@ class Judging(unittest.TestCase):
         self.assertEqual(error, f"pops-judge: {kept}\n")
 
     def slow(self, text: str) -> str:
-        """A program that shows this and finds nothing else."""
+        """A program that shows this and finds nothing else, as long as it isn't well."""
         shows = f"printf '{text}'\n{shown(self.room)}"
-        return self.script("slow", f"cat > /dev/null\n{shows}\nexec sleep 6000\n")
+        return self.until_well("slow", f"cat > /dev/null\n{shows}\nexec sleep 6000\n")
 
     def unfinished(self, *words: str) -> Path:
         """The folder of a run on a problem that took longer."""
@@ -201,7 +219,7 @@ class Judging(unittest.TestCase):
         self.assertEqual(outcome.status, 2)
         self.assertIn("sheet.html.work is in use by another run", outcome.error)
         os.close(handle)
-        self.assertEqual(self.judged("--resume").status, 0)
+        self.assertEqual(self.resumed().status, 0)
 
     def test_a_folder_of_others_is_neither_read_nor_removed(self) -> None:
         work, other = self.room / "sheet.html.work", self.room / "other"
@@ -232,7 +250,7 @@ class Judging(unittest.TestCase):
         (work / "tries-1.txt").symlink_to(foreign)
         self.assertEqual(self.judged("--resume").status, 2)
         (work / "tries-1.txt").unlink()
-        outcome = self.judged("--resume")
+        outcome = self.resumed()
         self.assertEqual(outcome.status, 0)
         self.assertIn("sheet.html.work has files of others, which stay", outcome.error)
         self.assertEqual([it.name for it in work.iterdir()], ["notes"])
@@ -244,7 +262,7 @@ class Judging(unittest.TestCase):
         work = self.unfinished(*words)
         for name in ("tries-1.txt", "solutions.report"):
             (work / name).write_bytes((work / name).read_bytes()[:100])
-        self.assertEqual(self.judged("--resume", *words).status, 0)
+        self.assertEqual(self.resumed(*words).status, 0)
         (article,) = self.articles()
         self.assertIn("1.Ra8#!", article.words)
 
@@ -259,7 +277,7 @@ class Judging(unittest.TestCase):
             self.assertIsNone(folder.kept(path))
 
     def test_a_program_of_tries_that_fails_is_told(self) -> None:
-        dies = self.script("dies", "cat > /dev/null\nkill -9 $$\n")
+        dies = self.tries_until_well("dies", "cat > /dev/null\nkill -9 $$\n")
         outcome = self.judged("--pops-tries", dies)
         self.assertEqual(outcome.status, 6)
         self.assertEqual(
@@ -267,12 +285,11 @@ class Judging(unittest.TestCase):
             "pops-judge: problem 1: pops-tries was ended by signal 9: its tries and threats are"
             " missing\npops-judge: --resume tries them again\n",
         )
-        tries = self.script("tries", f"cat > /dev/null\nprintf '{TRIES_OF_ONE}'\n")
-        self.assertEqual(self.judged("--resume", "--pops-tries", tries), (0, outcome.output, ""))
+        self.make_well()
+        self.assertEqual(self.judged("--resume", "--pops-tries", dies), (0, outcome.output, ""))
         self.assertIn("1.Ra8#!", self.articles()[0].words)
 
     def test_what_isnt_a_whole_text_of_tries_is_told_and_isnt_kept(self) -> None:
-        tries = self.script("tries", f"cat > /dev/null\nprintf '{TRIES_OF_ONE}'\n")
         head = "cat > /dev/null\nprintf 'problem 1"
         said = "problem 1: pops-tries ended with status 0: its tries and threats are missing"
         cases = (
@@ -282,15 +299,16 @@ class Judging(unittest.TestCase):
         )
         for text, status, error in cases:
             with self.subTest(text):
-                outcome = self.judged("--pops-tries", self.script("cut", text))
+                cut = self.tries_until_well("cut", text)
+                outcome = self.judged("--pops-tries", cut)
                 self.assertEqual(outcome.status, status)
                 self.assertIn(error, outcome.error)
-                again = self.judged("--resume", "--pops-tries", tries)
+                self.make_well()
+                again = self.judged("--resume", "--pops-tries", cut)
                 self.assertEqual((again.status, again.error), (0, ""))
                 self.assertIn("1.Ra8#!", self.articles()[0].words)
 
     def test_tries_of_another_problem_are_told_and_arent_kept(self) -> None:
-        tries = self.script("tries", f"cat > /dev/null\nprintf '{TRIES_OF_ONE}'\n")
         men = [b".......k", *[b"........"] * 7]
         board = b"".join(b"%d %s\\n" % (8 - place, rank) for place, rank in enumerate(men)) + b"  abcdefgh\\n"
         for other in (
@@ -298,22 +316,23 @@ class Judging(unittest.TestCase):
             TRIES_OF_ONE.replace("#1", board.decode() + "#1"),
         ):
             with self.subTest(other):
-                lies = self.script("lies", f"cat > /dev/null\nprintf '{other}'\n")
+                lies = self.tries_until_well("lies", f"cat > /dev/null\nprintf '{other}'\n")
                 outcome = self.judged("--pops-tries", lies)
                 self.assertEqual(outcome.status, 6)
                 self.assertIn("problem 1: pops-tries shows another problem", outcome.error)
-                again = self.judged("--resume", "--pops-tries", tries)
+                self.make_well()
+                again = self.judged("--resume", "--pops-tries", lies)
                 self.assertEqual((again.status, again.error), (0, ""))
                 self.assertIn("1.Ra8#!", self.articles()[0].words)
 
     def test_a_problem_that_only_the_program_of_tries_calls_faulty(self) -> None:
-        tries = self.script("tries", f"cat > /dev/null\nprintf '{TRIES_OF_ONE}'\n")
         fault = "problem 1\\nline 3: fault 10: bad stipulation\\n\\n"
-        lies = self.script("lies", f"cat > /dev/null\nprintf '{fault}'\nexit 1\n")
+        lies = self.tries_until_well("lies", f"cat > /dev/null\nprintf '{fault}'\nexit 1\n")
         outcome = self.judged("--pops-tries", lies)
         self.assertEqual(outcome.status, 6)
         self.assertIn("problem 1: pops-tries calls it faulty, and pops sound: its tries", outcome.error)
-        again = self.judged("--resume", "--pops-tries", tries)
+        self.make_well()
+        again = self.judged("--resume", "--pops-tries", lies)
         self.assertEqual((again.status, again.error), (0, ""))
         self.assertIn("1.Ra8#!", self.articles()[0].words)
 
@@ -331,11 +350,45 @@ class Judging(unittest.TestCase):
         self.text.write_bytes(ONE + TWO)
         self.assertIn("is of another text", self.judged("--resume").error)
 
+    def test_other_programs_are_not_taken_up(self) -> None:
+        work = self.unfinished()
+        slow, other = self.room.resolve() / "slow", self.script("other", "exit 1\n")
+        for said, outcome in (
+            (f"with another pops: name {slow} with --pops, or", self.judged("--resume")),
+            ("without pops-tries:", self.judged("--resume", "--pops-tries", other, pops=str(slow))),
+        ):
+            self.assertEqual((outcome.status, outcome.output), (2, b""))
+            self.assertEqual(outcome.error, f"pops-judge: {work} was begun {said} remove it\n")
+        whole = slow.read_bytes()
+        slow.write_bytes(whole + b"\n")
+        outcome = self.resumed()
+        self.assertEqual((outcome.status, outcome.output), (2, b""))
+        self.assertIn(f"was begun with {slow} before that was changed: remove it", outcome.error)
+        slow.write_bytes(whole)
+        self.assertEqual((self.resumed().status, work.exists()), (0, False))
+
+    def test_a_report_that_cannot_be_read_is_made_again(self) -> None:
+        work = self.room / "sheet.html.work"
+        wrong = f"'{support.pops()}' \"$@\" | sed 's/^solutions: 1$/solutions: 9/'\n"
+        for text, said in (
+            (wrong, "is no report of pops: line"),
+            (wrong.replace("solutions: 9", "solutions: 1").replace("sed '", "sed 's/^#1$/#2/;"), "another stipulation"),
+        ):
+            with self.subTest(said):
+                slow = self.until_well("slow", text)
+                outcome = self.judged(pops=slow)
+                self.assertEqual((outcome.status, outcome.output), (3, b""))
+                self.assertIn(said, outcome.error)
+                self.assertIn(f": remove {work}, and name other programs with --pops", outcome.error)
+                self.assertEqual([it.name for it in work.iterdir()], ["pops-judge.mark"])
+                self.assertEqual(self.resumed().status, 0)
+                (self.room / "well").unlink()
+
     def test_what_was_kept_for_another_text_is_not_believed(self) -> None:
         work = self.unfinished()
         report = b"problem 1\n#1\nplay\n1.Ra1-a7#\n1.Ra1-a8#\nsolutions: 2\n\n"
         other = WorkFolder(self.room / "other")
-        other.begin(b"another text", False)
+        other.begin(b"another text", {}, False)
         for name in ("solutions.report", "short.report"):
             (other.path / name).write_bytes(report)
             other.seal(other.path / name)
@@ -343,7 +396,7 @@ class Judging(unittest.TestCase):
             for end in ("", ".sum"):
                 (work / f"{name}{end}").write_bytes((other.path / f"{name}{end}").read_bytes())
             (work / f"{name}.journal").unlink(missing_ok=True)
-        outcome = self.judged("--resume")
+        outcome = self.resumed()
         self.assertEqual((outcome.status, outcome.error), (0, ""))
         self.assertIn("problem 1: sound", outcome.output.decode())
 

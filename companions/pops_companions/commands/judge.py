@@ -16,7 +16,7 @@ from pops_companions.input.given_source import refuse_other_text
 from pops_companions.many.program import LOOKED_FOR, MissingError, find
 from pops_companions.many.tries_program import TRIES_LOOKED_FOR, find_tries
 from pops_companions.review.beside import Beside
-from pops_companions.review.judged_groups import judged_groups
+from pops_companions.review.judged_groups import JudgedGroup, judged_groups
 from pops_companions.review.judgement_text import MOST_LINES, Tally, as_text
 from pops_companions.review.judging_run import Runs, Work
 from pops_companions.review.reading import reviewed_unfinished_report
@@ -128,6 +128,15 @@ def refuse_sheet(collection: str, sheet: str) -> None:
     raise CommandError(Status.DEVICE, f"cannot write {sheet}: {reason}")
 
 
+def judgements_of(settings: Settings, work: Work, beside: Beside) -> list[JudgedGroup]:
+    """Returns what the folder's reports say of the problems."""
+    with reviewed_unfinished_report(
+        NAME, str(work.report), work.unfinished_problems, settings.encoding
+    ) as items:
+        judgements = beside.judgements(map(work.renamed, items))
+        return list(judged_groups(judgements, beside.given, settings.encoding, settings.apart))
+
+
 def judge(settings: Settings) -> Status:
     """Runs what is needed, writes the sheet and prints the verdicts."""
     refuse_sheet(settings.collection, settings.output)
@@ -135,19 +144,16 @@ def judge(settings: Settings) -> Status:
     given = given_problems(text)
     name = "standard input" if settings.collection == STANDARD_INPUT else settings.collection
     work = Work(folder_of(settings), runs_of(settings), name)
-    work.folder.begin(text, settings.resume)
+    work.begin(text, settings.resume)
     work.solve()
     short: Optional[str] = str(work.short) if work.solve_shorter(given) else None
     tries = work.tries(text, given)
-    beside = Beside(NAME, settings.solutions, str(work.input), short, tries)
+    with work.read():
+        beside = Beside(NAME, settings.solutions, str(work.input), short, tries)
+        judged = judgements_of(settings, work, beside)
+    work.compare(twin.item for one in judged for twin in one.judgements)
     tally = Tally()
     most = None if settings.all else MOST_LINES
-    with reviewed_unfinished_report(
-        NAME, str(work.report), work.unfinished_problems, settings.encoding
-    ) as items:
-        judgements = beside.judgements(map(work.renamed, items))
-        judged = list(judged_groups(judgements, given, settings.encoding, settings.apart))
-    work.compare(twin.item for one in judged for twin in one.judgements)
     heading = settings.heading or Path(name).stem
     evidence = Evidence(boards_of(text), tries, settings.encoding, most)
     page = sheet(tally.counted(judged), tally, heading, evidence)

@@ -2,13 +2,14 @@
 
 import os
 import select
-import signal
+import subprocess
 import time
 from collections.abc import Sequence
+from contextlib import suppress
 from typing import NamedTuple, Optional
 
 from pops_companions.many.bundles import MOMENT, Bundles, items_in
-from pops_companions.many.child_process import ChildProcess
+from pops_companions.many.child_process import ChildProcess, rest_of
 from pops_companions.many.tasks import UNFINISHED, Result, Task, whole_lines
 from pops_companions.report import lines
 
@@ -62,27 +63,36 @@ class BundleRun:
         assert self._child.run.stdout is not None
         output = self._child.run.stdout.fileno()
         try:
-            self._read(output)
+            if self._read(output):
+                self._wait()
+            if self._child.is_killed:
+                self._child.end()
+                self._written.append(rest_of(output))
         except BaseException:
-            self._child.send(signal.SIGKILL)
+            self._child.kill()
             raise
         finally:
             self._child.run.stdout.close()
-            self._child.run.wait()
+            self._child.wait()
             self._child.release()
         return self._came()
 
-    def _read(self, output: int) -> None:
+    def _read(self, output: int) -> bool:
+        """Reads until the end of its output, or until it is killed; returns whether it isn't."""
         ready, end = select.poll(), select.poll()
         ready.register(output, select.POLLIN)
+        ready.register(self._child.woken, select.POLLIN)
         # (without an event of its own it reports only the end)
         end.register(output, 0)
         while not self._is_over():
-            if not ready.poll(self._milliseconds()):
+            came = ready.poll(self._milliseconds())
+            if self._child.is_killed:
+                return False
+            if not came:
                 continue
             piece = os.read(output, _PIECE)
             if not piece:
-                return
+                return True
             self._written.append(piece)
             self._times.append(time.monotonic())
             self._left -= len(piece)
@@ -90,9 +100,17 @@ class BundleRun:
                 break
             if len(piece) < _PIECE // 2:
                 end.poll(_PAUSE)
-        self._child.send(signal.SIGKILL)
-        while piece := os.read(output, _PIECE):
-            self._written.append(piece)
+        self._child.kill()
+        return False
+
+    def _wait(self) -> None:
+        """Waits for the end of a program that has closed its output, as long as it has time."""
+        while not self._is_over():
+            milliseconds = None if self._seconds is None else self._milliseconds()
+            with suppress(subprocess.TimeoutExpired):
+                self._child.run.wait(milliseconds and milliseconds / 1000)
+                return
+        self._child.kill()
 
     def _look(self) -> None:
         """Looks through what came since the last look, for which problem is at work."""
@@ -111,14 +129,14 @@ class BundleRun:
             return False
         self._look()
         if self._whole >= len(self._tasks):
-            return self._is_cut
+            return self._is_cut or self._is_out_of_time(now)
         self._is_late = self._is_out_of_time(now)
         if self._is_late or now - self._begun >= MOMENT:
             self._give_back()
         return self._is_late
 
     def _is_out_of_time(self, now: float) -> bool:
-        """Returns whether the problem at work has had its time."""
+        """Returns whether the problem at work, or the end after the last one, has had its time."""
         return self._seconds is not None and now - self._since >= self._seconds
 
     def _give_back(self) -> None:
@@ -132,8 +150,6 @@ class BundleRun:
     def _milliseconds(self) -> Optional[float]:
         """Returns how long nothing is to be done if nothing is written."""
         until = []
-        if self._whole >= len(self._tasks):
-            return None
         if self._whole + 1 < len(self._tasks):
             until.append(self._begun + MOMENT)
         if self._seconds is not None:

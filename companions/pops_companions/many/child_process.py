@@ -5,6 +5,9 @@ that end with the process, also where it is killed, and then sends SIGKILL to th
 for the reading end: the program's process group. Nothing runs between fork and exec, so threads do
 no harm. A program that is fed by a pipe has no window between its start and the setting of the
 owner: without its input it ends by itself.
+
+A script may start others in groups of their own, all in its session: a `Watcher` ends these. What has
+left the session isn't ended, and isn't waited for once the program is killed.
 """
 
 import errno
@@ -13,6 +16,7 @@ import io
 import math
 import os
 import resource
+import select
 import selectors
 import signal
 import subprocess
@@ -22,11 +26,13 @@ from collections.abc import Sequence
 from contextlib import suppress
 from typing import IO, NamedTuple, Optional, Union
 
+from pops_companions.many import sessions
+
 Stream = Union[None, int, IO[bytes]]
 # The bytes that a pipe takes at once, and the most that it can be made to take (F_SETPIPE_SZ).
 _ROOM = 1 << 16
 MOST_ROOM = 1 << 20
-_SET_ROOM = 1031
+_SET_ROOM, _GET_ROOM = 1031, 1032
 
 # The number of standard error.
 _LAST_STREAM = 2
@@ -38,6 +44,8 @@ MOST_SAID = 1 << 16
 # The most bytes of a file that a program writes its output to.
 MOST_SPOOLED = 1 << 34
 _PIECE = 1 << 16
+# With this begins a program that isn't a script.
+_NO_SCRIPT = b"\x7fELF"
 
 
 class OutputError(OSError):
@@ -117,7 +125,12 @@ class ChildProcess:
         output: Stream = subprocess.PIPE,
     ):
         """Starts the program. OSError where it can't be started."""
-        watched, self._held = pipe_of_others()
+        self._watched, self._held = pipe_of_others()
+        self._lock = threading.RLock()
+        self._watcher: Optional[sessions.Watcher] = None
+        # Whether it may have started others in groups of their own.
+        self._has_others = _is_script(words[0])
+        self.is_killed = self._is_released = False
         try:
             self.run = subprocess.Popen(
                 [_plain(words[0]), *words[1:]],
@@ -126,15 +139,15 @@ class ChildProcess:
                 stdout=output,
                 stderr=errors,
                 env=environment,
-                pass_fds=(watched,),
+                pass_fds=(self._watched,),
                 start_new_session=True,
             )
-            killed_with_holder(watched, -self.run.pid)
+            killed_with_holder(self._watched, -self.run.pid)
+            if self._has_others:
+                self._watcher = sessions.Watcher(self.run.pid)
         except BaseException:
-            os.close(self._held)
+            self._close()
             raise
-        finally:
-            os.close(watched)
 
     def outcome(
         self,
@@ -155,18 +168,20 @@ class ChildProcess:
             if self.run.stdin is not None:
                 self.feed(text or b"")
             with selectors.DefaultSelector() as streams:
+                streams.register(self.woken, selectors.EVENT_READ)
                 for stream, kept in ((self.run.stdout, output), (self.run.stderr, errors)):
                     if stream is not None:
                         streams.register(stream, selectors.EVENT_READ, kept)
-                in_time = self._take(streams, output, until)
+                in_time = self._take(streams, until)
                 if not in_time:
-                    self.send(signal.SIGKILL)
-                    self._take(streams, output, None)
+                    self.kill()
+                if self.is_killed:
+                    self.end()
+                    _take_rest(streams)
             written, said = output.value(), errors.getvalue()
             return Outcome(self.run.returncode, written, said, in_time, output.file)
         except BaseException:
-            self.send(signal.SIGKILL)
-            self.run.wait()
+            self.end()
             raise
         finally:
             for opened in (self.run.stdout, self.run.stderr):
@@ -174,28 +189,26 @@ class ChildProcess:
                     opened.close()
             self.release()
 
-    def _take(
-        self, streams: selectors.BaseSelector, output: _Output, until: Optional[float]
-    ) -> bool:
-        """Takes what the program writes until it has ended, or until its time is over; returns whether
-        it has ended.
+    def _take(self, streams: selectors.BaseSelector, until: Optional[float]) -> bool:
+        """Takes what the program writes until it has ended or is killed, or until its time is over;
+        returns whether it has time left.
 
-        What it says beyond the most is dropped. OutputError where it writes beyond the most.
+        OutputError where it writes beyond the most.
         """
         while (left := self._left(until)) is None or left > 0:
-            if not streams.get_map():
+            if len(streams.get_map()) == 1:
                 with suppress(subprocess.TimeoutExpired):
                     self.run.wait(left)
                     return True
                 continue
             for key, _ in streams.select(left):
-                piece, kept = os.read(key.fd, _PIECE), key.data
-                if not piece:
-                    streams.unregister(key.fileobj)
-                elif kept is not output:
-                    kept.write(piece[: MOST_SAID - kept.tell()])
+                if self.is_killed:
+                    return True
+                piece = os.read(key.fd, _PIECE)
+                if piece:
+                    _keep(piece, key.data)
                 else:
-                    kept.write(piece)
+                    streams.unregister(key.fileobj)
         return False
 
     def _left(self, until: Optional[float]) -> Optional[float]:
@@ -236,17 +249,90 @@ class ChildProcess:
         except BrokenPipeError:
             pass
 
+    @property
+    def woken(self) -> int:
+        """A handle that can be read once the program is killed, for those who wait for its output."""
+        return self._watched
+
     def send(self, sign: int) -> None:
         """Sends a signal to the program's process group, unless the program has ended."""
         if self.run.returncode is None:
             try:
                 os.killpg(self.run.pid, sign)
-            except ProcessLookupError:
+            except (ProcessLookupError, PermissionError):
                 pass
 
+    def kill(self) -> None:
+        """Kills the program's process group, from any thread, and wakes who waits; he calls `end`."""
+        with self._lock:
+            if self.is_killed or self._is_released:
+                return
+            if self.run.returncode is None and not self._has_others:
+                self._has_others = sessions.has_children(self.run.pid)
+            self.send(signal.SIGKILL)
+            self.is_killed = True
+            os.write(self._held, b".")
+
+    def end(self) -> None:
+        """Kills the program and its whole session, and waits for the program's end."""
+        self.kill()
+        if self._has_others:
+            # (until it is waited for, no other process gets its number)
+            with suppress(ChildProcessError):
+                os.waitid(os.P_PID, self.run.pid, os.WEXITED | os.WNOWAIT)
+            sessions.end(self.run.pid)
+        self.run.wait()
+
+    def wait(self) -> None:
+        """Waits for the program's end; ends its whole session if it is killed."""
+        self.run.wait()
+        if self.is_killed:
+            self.end()
+
     def release(self) -> None:
-        """Closes the pipe, once the program has ended."""
+        """Gives up the hold on the program, once it has ended."""
+        with self._lock:
+            self._is_released = True
+            self._close()
+
+    def _close(self) -> None:
+        os.close(self._watched)
         os.close(self._held)
+        if self._watcher is not None:
+            self._watcher.end()
+
+
+def _is_script(path: str) -> bool:
+    """Returns whether a program isn't known to be anything else than a script."""
+    try:
+        with open(path, "rb") as file:
+            return file.read(len(_NO_SCRIPT)) != _NO_SCRIPT
+    except OSError:
+        return True
+
+
+def _keep(piece: bytes, kept: "Union[_Output, io.BytesIO]") -> None:
+    """Keeps what a program wrote or said; what it says beyond the most is dropped."""
+    kept.write(piece[: MOST_SAID - kept.tell()] if isinstance(kept, io.BytesIO) else piece)
+
+
+def _take_rest(streams: selectors.BaseSelector) -> None:
+    """Takes what is left in the pipes of a program that is killed."""
+    for key in streams.get_map().values():
+        if key.data is not None:
+            _keep(rest_of(key.fd), key.data)
+
+
+def rest_of(pipe: int) -> bytes:
+    """Returns what is in a pipe now, whoever else holds it open."""
+    left = fcntl.fcntl(pipe, _GET_ROOM)
+    ready = select.poll()
+    ready.register(pipe, select.POLLIN)
+    pieces = []
+    while left > 0 and ready.poll(0) and (piece := os.read(pipe, min(left, _PIECE))):
+        pieces.append(piece)
+        left -= len(piece)
+    return b"".join(pieces)
 
 
 def killed_with_holder(watched: int, process: int) -> None:

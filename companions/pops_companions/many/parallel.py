@@ -210,6 +210,8 @@ def _take_all(child: ChildProcess, take: Callable[[bytes], None]) -> None:
         child.run.wait()
     except BaseException:
         _end(child)
+        # (others may hold it open)
+        os.set_blocking(child.run.stdout.fileno(), False)
         for line in _short_lines(child.run.stdout):
             take(line)
         raise

@@ -1,6 +1,5 @@
 """Runs of the program pops-part on this machine."""
 
-import signal
 import subprocess
 import tempfile
 from collections.abc import Callable, Generator, Iterator, Sequence
@@ -126,7 +125,7 @@ class PartProgram(Runs):
             with self._lock:
                 self._at_work[first.key] = child
                 if first.key in self._dropped:
-                    child.send(signal.SIGKILL)
+                    child.kill()
             try:
                 yield from self._written(child, first.text, pause)
             finally:
@@ -142,7 +141,7 @@ class PartProgram(Runs):
         with self._lock:
             self._dropped.add(part.key)
             if part.key in self._at_work:
-                self._at_work[part.key].send(signal.SIGKILL)
+                self._at_work[part.key].kill()
 
     def is_over(self, part: Part) -> bool:
         """Returns whether a failed part was stopped on purpose."""

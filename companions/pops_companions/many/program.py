@@ -20,6 +20,7 @@ from pops_companions.many.child_process import (
     Stream,
     has_room,
     outcome_of,
+    rest_of,
     wrote_more,
 )
 from pops_companions.many.tasks import (
@@ -221,23 +222,31 @@ class Runs:
         run, is_read = child.run, False
         assert run.stdout is not None
         output = run.stdout.fileno()
+        ready, end = select.poll(), select.poll()
+        ready.register(output, select.POLLIN)
+        ready.register(child.woken, select.POLLIN)
         # (without an event of its own it reports only the end)
-        end = select.poll()
         end.register(output, 0)
         try:
-            while True:
+            while not child.is_killed:
+                ready.poll()
+                if child.is_killed:
+                    break
                 piece = os.read(output, _PIECE)
                 if not piece:
                     break
                 yield piece
                 if len(piece) < _PIECE // 2:
                     end.poll(pause())
+            if child.is_killed:
+                child.end()
+                yield rest_of(output)
             is_read = True
         finally:
             if not is_read:
-                child.send(signal.SIGKILL)
+                child.kill()
             run.stdout.close()
-            run.wait()
+            child.wait()
             with self._lock:
                 self._running.discard(child)
             child.release()
@@ -256,7 +265,7 @@ class Runs:
         with self._lock:
             self._stopped = True
             for child in self._running:
-                child.send(signal.SIGKILL)
+                child.kill()
 
 
 class Program(Runs):

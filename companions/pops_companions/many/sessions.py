@@ -1,67 +1,95 @@
 """Ends sessions with all their processes, in any process group.
 
-GNU parallel puts each job into a process group of its own, which a `ChildProcess` doesn't end; but
-all of them are in its session. Run as a program, this module watches the program that started it:
-if that is killed, it ends the session and removes a folder.
+GNU parallel and `timeout` put what they start into a process group of its own, but all of it is in
+their session. Run as a program, this module ends a session and removes a folder; a shell waits for
+the moment at which the program that started it is killed.
 """
 
 import os
-import shutil
 import signal
 import subprocess
 import sys
-import tempfile
 import time
 from collections.abc import Iterator
 from contextlib import contextmanager
-from pathlib import Path
 
 _SECONDS_BETWEEN = 0.05
 _ROUNDS = 100
+# Becomes another program at the end of its input, unless it is killed before.
+_WAITS = 'read -r _ || exec "$@"'
 
 
 def members(session: int) -> list[int]:
     """Returns the processes of a session that haven't ended."""
     found = []
-    for folder in Path("/proc").glob("[0-9]*"):
+    for process in _processes():
         try:
-            # The name is in brackets and may hold anything; the fields follow it.
-            fields = (folder / "stat").read_bytes().rpartition(b")")[2].split()
+            with open(f"/proc/{process}/stat", "rb") as file:
+                # The name is in brackets and may hold anything; the fields follow it.
+                fields = file.read().rpartition(b")")[2].split()
         except OSError:
             continue
         if int(fields[3]) == session and fields[0] not in (b"Z", b"X"):
-            found.append(int(folder.name))
+            found.append(process)
     return found
+
+
+def _processes() -> list[int]:
+    return [int(name) for name in os.listdir("/proc") if name.isdigit()]
+
+
+def has_children(process: int) -> bool:
+    """Returns whether a process has started others that run, or whether that isn't known."""
+    folder = f"/proc/{process}/task"
+    try:
+        for thread in os.listdir(folder):
+            with open(f"{folder}/{thread}/children", "rb") as file:
+                if file.read(1):
+                    return True
+    except OSError:
+        return True
+    return False
 
 
 def end_connections(folder: str) -> None:
     """Kills the ssh processes that hold shared connections in a folder: they name it in their titles."""
     title = b"ssh: " + os.fsencode(folder) + b"/"
-    for process in Path("/proc").glob("[0-9]*"):
+    for process in _processes():
         try:
-            if (process / "cmdline").read_bytes().startswith(title):
-                os.kill(int(process.name), signal.SIGKILL)
+            with open(f"/proc/{process}/cmdline", "rb") as file:
+                is_one = file.read().startswith(title)
+            if is_one:
+                os.kill(process, signal.SIGKILL)
         except OSError:
             pass
 
 
 def end(session: int) -> None:
-    """Kills all processes of a session, new ones too."""
+    """Kills all processes of a session, new ones too, but for those of other users."""
     for _ in range(_ROUNDS):
-        left = members(session)
-        if not left:
+        if not any([_kill(process) for process in members(session)]):
             return
-        for process in left:
-            try:
-                os.kill(process, signal.SIGKILL)
-            except ProcessLookupError:
-                pass
         time.sleep(_SECONDS_BETWEEN)
+
+
+def _kill(process: int) -> bool:
+    """Kills a process; returns whether this process may do that."""
+    try:
+        os.kill(process, signal.SIGKILL)
+    except ProcessLookupError:
+        pass
+    except PermissionError:
+        return False
+    return True
 
 
 @contextmanager
 def passing_folder(prefix: str) -> Iterator[str]:
     """A new folder that goes with the block, also if a signal comes while it goes."""
+    # (loaded only by runs that need them)
+    import shutil
+    import tempfile
+
     folder = tempfile.mkdtemp(prefix=prefix)
     try:
         yield folder
@@ -79,18 +107,31 @@ def watched(session: int, folder: str) -> Iterator[None]:
     """Ends the session, unless it is 0, and the connections in the folder, and removes the folder, if
     this process is killed meanwhile.
     """
-    watcher = subprocess.Popen(
-        [sys.executable, "-I", __file__, str(session), folder],
-        stdin=subprocess.PIPE,
-        stdout=subprocess.DEVNULL,
-        start_new_session=True,
-    )
+    watcher = Watcher(session, folder)
     try:
         yield
     finally:
-        # Killed before its input ends, it does nothing.
-        watcher.kill()
-        watcher.communicate()
+        watcher.end()
+
+
+class Watcher:
+    """A process that ends a session, as `watched` does, if this process is killed before `end`."""
+
+    def __init__(self, session: int, folder: str = ""):
+        """Starts it. OSError where it can't be started."""
+        # (a shell takes less to wait than Python)
+        words = ["/bin/sh", "-c", _WAITS, "sh", sys.executable, "-I", __file__]
+        self._run = subprocess.Popen(
+            [*words, str(session), folder],
+            stdin=subprocess.PIPE,
+            stdout=subprocess.DEVNULL,
+            start_new_session=True,
+        )
+
+    def end(self) -> None:
+        """Ends the watch. (Killed before its input ends, the process does nothing.)"""
+        self._run.kill()
+        self._run.communicate()
 
 
 def main() -> None:
@@ -98,8 +139,11 @@ def main() -> None:
     sys.stdin.buffer.read()
     if int(session):
         end(int(session))
-    end_connections(folder)
-    shutil.rmtree(folder, ignore_errors=True)
+    if folder:
+        import shutil
+
+        end_connections(folder)
+        shutil.rmtree(folder, ignore_errors=True)
 
 
 if __name__ == "__main__":

@@ -6,9 +6,9 @@ They are kept in a folder until all of them are done, so that a run that was sto
 import io
 import os
 import sys
-from collections.abc import Callable, Iterable, Sequence
+from collections.abc import Callable, Iterable, Iterator, Sequence
 from concurrent.futures import ThreadPoolExecutor
-from contextlib import redirect_stderr
+from contextlib import contextmanager, redirect_stderr
 from dataclasses import dataclass, replace
 from functools import partial
 from pathlib import Path
@@ -96,6 +96,21 @@ class Work:
         self.failed: dict[int, str] = {}
         # The problems that pops-tries calls faulty.
         self._called_faulty: set[int] = set()
+
+    def begin(self, text: bytes, resume: bool) -> None:
+        """Makes the folder for an input, or takes up that of a run that was stopped."""
+        programs = {"pops": self._runs.pops, "pops-tries": self._runs.tries}
+        self.folder.begin(text, programs, resume)
+
+    @contextmanager
+    def read(self) -> Iterator[None]:
+        """Keeps nothing of what the programs wrote, if it can't be read: a later run makes it again."""
+        try:
+            yield
+        except CommandError as error:
+            self.folder.empty()
+            do = f"remove {self.folder.path}, and name other programs with --pops or --pops-tries"
+            raise CommandError(error.status, f"{error}: {do}") from None
 
     def solve(self) -> None:
         """Solves the problems."""

@@ -1,16 +1,18 @@
 """The folder that keeps what is done of a sheet until all of it is.
 
-It has a file that marks it as this program's own, with a checksum of the input. Nothing of a folder
-without that mark is read, and only files with names of its own are removed. What it keeps has checksums
-with that of the input: what was kept for another isn't taken.
+It has a file that marks it as this program's own, with checksums of the input and of the programs that
+are run. Nothing of a folder without that mark is read, and only files with names of its own are removed.
+What it keeps has checksums with that of the mark: what was kept for another isn't taken.
 """
 
 import fcntl
 import hashlib
+import json
 import os
 import re
 import stat
 import weakref
+from collections.abc import Mapping
 from contextlib import suppress
 from pathlib import Path
 from typing import NoReturn, Optional
@@ -19,7 +21,7 @@ from pops_companions import files
 from pops_companions.command import CommandError, Status
 
 _MARK = "pops-judge.mark"
-_HEAD = b"pops-judge work 2 "
+_HEAD = "pops-judge work 3"
 _OWN = re.compile(
     r"(?:pops-judge\.mark|input\.pop|short\.pop|tries-[0-9]+\.txt"
     r"|(?:solutions|short)\.report(?:\.journal|\.unfinished|\.sum)?)(?:\.[0-9a-f]{12})?"
@@ -27,10 +29,51 @@ _OWN = re.compile(
 _FOLDER = os.O_RDONLY | os.O_DIRECTORY | os.O_NOFOLLOW
 _SUM = ".sum"
 _FOREIGN = "isn't a folder of pops-judge: remove it, or name another sheet"
+_CHANGED = "has a mark that was changed, or is of another version: remove it"
+
+# The programs that are run, by their names.
+Programs = Mapping[str, Optional[str]]
 
 
 def _sum_of(text: bytes) -> bytes:
     return hashlib.sha256(text).hexdigest().encode("ascii") + b"\n"
+
+
+def _mark_of(text: bytes, programs: Programs) -> bytes:
+    """Returns the mark of an input and programs: a line for each, and a checksum of these lines."""
+    lines = [_HEAD, f"input {hashlib.sha256(text).hexdigest()}"]
+    lines += [f"{name} {_described(path)}" for name, path in programs.items()]
+    mark = "".join(line + "\n" for line in lines).encode("ascii")
+    return mark + _sum_of(mark)
+
+
+def _described(program: Optional[str]) -> str:
+    """Returns a program's path and what tells whether it was changed."""
+    if program is None:
+        return json.dumps([None, None])
+    path = os.path.realpath(program)
+    status = os.stat(path)
+    version = f"{status.st_size} {status.st_mtime_ns}"
+    if stat.S_ISREG(status.st_mode) and os.access(path, os.R_OK):
+        version = hashlib.sha256(Path(path).read_bytes()).hexdigest()
+    return json.dumps([path, version])
+
+
+def _difference(begun: list[str], now: list[str]) -> str:
+    """Returns what the lines of a mark have that is different now, and what to do."""
+    line, other = next((it for it in zip(begun, now) if it[0] != it[1]), ("", ""))
+    name, _, program = line.partition(" ")
+    if name == "input":
+        return "is of another text: remove it"
+    try:
+        before, after = json.loads(program)[0], json.loads(other.partition(" ")[2])[0]
+    except (ValueError, TypeError, LookupError):
+        return _CHANGED
+    if before is None:
+        return f"was begun without {name}: remove it"
+    if before == after:
+        return f"was begun with {before} before that was changed: remove it"
+    return f"was begun with another {name}: name {before} with --{name}, or remove it"
 
 
 class WorkFolder:
@@ -40,11 +83,11 @@ class WorkFolder:
         self.path = path
         self._mark = b""
 
-    def begin(self, text: bytes, resume: bool) -> None:
+    def begin(self, text: bytes, programs: Programs, resume: bool) -> None:
         """Makes the folder for an input, or takes up that of a run that was stopped.
 
-        CommandError where the folder can't be made, isn't this program's, isn't of this input, or has
-        a run at work.
+        CommandError where the folder can't be made, isn't this program's, isn't of this input and these
+        programs, or has a run at work.
         """
         try:
             # (where a link leads nowhere, no folder can be made)
@@ -56,8 +99,7 @@ class WorkFolder:
             message = f"cannot write {error.filename}: {error.strerror}"
             raise CommandError(Status.DEVICE, message) from None
         self._refuse_foreign()
-        mark, begun = self.path / _MARK, _HEAD + _sum_of(text)
-        self._mark = begun + _sum_of(begun)
+        mark, self._mark = self.path / _MARK, _mark_of(text, programs)
         if mark.exists():
             if not resume:
                 self._refuse("keeps a run that was stopped: go on with --resume, or remove it")
@@ -107,12 +149,13 @@ class WorkFolder:
             self._refuse(_FOREIGN)
 
     def _refuse_other(self, mark: bytes) -> None:
-        """Refuses a folder with another mark than that of the input."""
-        begun, end, checksum = mark.partition(b"\n")
-        if checksum != _sum_of(begun + end):
-            self._refuse("has a mark that was changed, or is of another version: remove it")
+        """Refuses a folder with another mark than that of the input and the programs."""
+        *lines, checksum = mark.splitlines(keepends=True) or [b""]
+        begun = [line.decode("ascii", "replace").rstrip("\n") for line in lines]
+        if checksum != _sum_of(b"".join(lines)) or begun[:1] != [_HEAD]:
+            self._refuse(_CHANGED)
         if mark != self._mark:
-            self._refuse("is of another text: remove it")
+            self._refuse(_difference(begun, self._mark.decode("ascii").splitlines()))
 
     def _refuse(self, reason: str) -> NoReturn:
         raise CommandError(Status.USAGE, f"{self.path} {reason}")
@@ -149,15 +192,19 @@ class WorkFolder:
         except FileNotFoundError:
             return False
 
-    def remove(self) -> bool:
-        """Removes what is the program's own; returns whether nothing else was in the folder."""
+    def empty(self, with_mark: bool = False) -> None:
+        """Removes what is the program's own, but for the mark, which may go last."""
         handle = os.open(self.path, _FOLDER)
         try:
             for name in sorted(os.listdir(handle), key=lambda it: it == _MARK):
-                if _OWN.fullmatch(name):
+                if _OWN.fullmatch(name) and (with_mark or name != _MARK):
                     os.unlink(name, dir_fd=handle)
         finally:
             os.close(handle)
+
+    def remove(self) -> bool:
+        """Removes what is the program's own; returns whether nothing else was in the folder."""
+        self.empty(with_mark=True)
         with suppress(OSError):
             os.rmdir(self.path)
         return not self.path.exists()

@@ -1,0 +1,124 @@
+"""Programs that a companion starts: how they are ended, and what isn't waited for."""
+
+import os
+import signal
+import tempfile
+import threading
+import unittest
+from pathlib import Path
+from subprocess import PIPE
+from unittest import mock
+
+from pops_companions.many import sessions
+from pops_companions.many.bundle_run import BundleRun
+from pops_companions.many.bundles import Bundles
+from pops_companions.many.child_process import ChildProcess, Outcome, rest_of
+from tests import support
+from tests.six_problems import wait_for
+from tests.test_bundles import MATE, input_of, tasks
+
+# A process group of its own, that `timeout` makes.
+_GROUP = "timeout 1800 sleep 1800"
+
+
+class Ended(unittest.TestCase):
+    def setUp(self) -> None:
+        room = tempfile.TemporaryDirectory()
+        self.addCleanup(room.cleanup)
+        self.room = Path(room.name)
+
+    def begun(self, text: str, as_script: bool) -> ChildProcess:
+        """A shell that does so, or a script."""
+        words = ["/bin/sh", "-c", text]
+        if as_script:
+            words = [str(self.room / "program")]
+            Path(words[0]).write_text(f"#!/bin/sh\n{text}\n", encoding="utf-8")
+            os.chmod(words[0], 0o755)
+        child = ChildProcess(words, PIPE, PIPE)
+        self.addCleanup(sessions.end, child.run.pid)
+        return child
+
+    def killed(self, child: ChildProcess, number: int) -> Outcome:
+        """The outcome of a program that is killed once it has so many processes."""
+        found: list[Outcome] = []
+        waits = threading.Thread(target=lambda: found.append(child.outcome(b"")))
+        waits.start()
+        wait_for(lambda: len(sessions.members(child.run.pid)) == number)
+        child.kill()
+        waits.join()
+        self.assertEqual(sessions.members(child.run.pid), [])
+        return found[0]
+
+    def test_what_is_in_other_process_groups(self) -> None:
+        for as_script in (False, True):
+            for text in (f"{_GROUP}; exit", f"exec >&- 2>&-; {_GROUP}; exit"):
+                with self.subTest(text, as_script=as_script):
+                    outcome = self.killed(self.begun(text, as_script), 3)
+                    self.assertEqual((outcome.status, outcome.in_time), (-signal.SIGKILL, True))
+
+    def test_what_is_over_its_time(self) -> None:
+        for as_script in (False, True):
+            child = self.begun(f"{_GROUP} & echo well; wait", as_script)
+
+            def left(child: ChildProcess, until: object) -> float:
+                return 0.05 * (len(sessions.members(child.run.pid)) < 3)
+
+            with mock.patch.object(ChildProcess, "_left", left):
+                outcome = child.outcome(b"", 1800)
+            self.assertEqual((outcome.output, outcome.in_time), (b"well\n", False))
+            self.assertEqual(sessions.members(child.run.pid), [])
+
+    def test_what_left_its_session_is_not_waited_for(self) -> None:
+        for end in ("exit 0", "wait"):
+            with self.subTest(end):
+                noted = self.room / f"noted {end}"
+                child = self.begun(f"setsid sleep 1800 & echo $! > '{noted}'; echo well; {end}", True)
+                wait_for(lambda noted=noted: noted.is_file() and noted.read_bytes().endswith(b"\n"))  # type: ignore[misc]
+                stranger = int(noted.read_bytes())
+                self.addCleanup(os.kill, stranger, signal.SIGKILL)
+                wait_for(lambda stranger=stranger: os.getsid(stranger) == stranger)  # type: ignore[misc]
+                outcome = self.killed(child, 0 if end == "exit 0" else 1)
+                self.assertEqual(outcome.output, b"well\n")
+
+    def test_what_is_in_a_pipe_that_is_open(self) -> None:
+        reading, writing = os.pipe()
+        try:
+            self.assertEqual(rest_of(reading), b"")
+            os.write(writing, b"x" * 1000)
+            self.assertEqual(rest_of(reading), b"x" * 1000)
+            os.write(writing, b"y" * 65536)
+            self.assertEqual(rest_of(reading), b"y" * 65536)
+        finally:
+            os.close(reading)
+            os.close(writing)
+
+    def test_a_bundle_that_is_whole_and_does_not_end(self) -> None:
+        """It has its seconds after the last problem, and its output is taken."""
+        bundle = tasks(input_of(MATE, MATE))
+        child = self.begun(f"'{support.pops()}'; {_GROUP}", True)
+        child.feed(input_of(MATE, MATE))
+
+        def is_out_of_time(run: BundleRun, now: float) -> bool:
+            return run._whole == 2
+
+        with mock.patch.object(BundleRun, "_is_out_of_time", is_out_of_time):
+            with mock.patch.object(BundleRun, "_milliseconds", lambda run: 50):
+                came = BundleRun(child, bundle, 1.0, Bundles(bundle, 1)).go()
+        self.assertEqual([it.tasks for it in came.results], [2])
+        self.assertIsNone(came.failed)
+        self.assertEqual(sessions.members(child.run.pid), [])
+
+    def test_a_bundle_whose_output_is_closed(self) -> None:
+        bundle = tasks(input_of(MATE, MATE))
+        child = self.begun(f"exec >&-; {_GROUP}", True)
+        child.feed(b"")
+        bundles = Bundles(bundle, 1)
+        with mock.patch("pops_companions.many.bundle_run.MOMENT", 0.0):
+            came = BundleRun(child, bundle, 0.05, bundles).go()
+        (result,) = came.results
+        self.assertEqual((result.seconds, came.failed), (0.05, None))
+        self.assertEqual(sessions.members(child.run.pid), [])
+
+
+if __name__ == "__main__":
+    unittest.main()
