@@ -39,7 +39,7 @@ class Ended(unittest.TestCase):
         return child
 
     def killed(self, child: ChildProcess, number: int) -> Outcome:
-        """The outcome of a program that is killed once it has so many processes."""
+        """The outcome of a program that is killed once it has this number of processes."""
         found: list[Outcome] = []
         waits = threading.Thread(target=lambda: found.append(child.outcome(b"")))
         waits.start()
