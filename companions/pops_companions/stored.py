@@ -1,10 +1,12 @@
 """Tables that are data, in files of the package; web/from_python.py puts them into the page."""
 
 import json
-from pathlib import Path
+import os
 from typing import Any
 
 
 def stored(path: str) -> Any:
     """Returns the table of a JSON file, by its path in the package."""
-    return json.loads((Path(__file__).parent / path).read_text("utf-8"))
+    # (without pathlib, which takes longer to load than a small run)
+    with open(os.path.join(os.path.dirname(__file__), path), encoding="utf-8") as file:
+        return json.load(file)

@@ -58,7 +58,7 @@ class Ended(unittest.TestCase):
 
     def test_what_is_over_its_time(self) -> None:
         for as_script in (False, True):
-            child = self.begun(f"{_GROUP} & echo well; wait", as_script)
+            child = self.begun(f"echo well; {_GROUP}; exit", as_script)
 
             def left(child: ChildProcess, until: object) -> float:
                 return 0.05 * (len(sessions.members(child.run.pid)) < 3)
@@ -72,7 +72,7 @@ class Ended(unittest.TestCase):
         for end in ("exit 0", "wait"):
             with self.subTest(end):
                 noted = self.room / f"noted {end}"
-                child = self.begun(f"setsid sleep 1800 & echo $! > '{noted}'; echo well; {end}", True)
+                child = self.begun(f"echo well; setsid sleep 1800 & echo $! > '{noted}'; {end}", True)
                 wait_for(lambda noted=noted: noted.is_file() and noted.read_bytes().endswith(b"\n"))  # type: ignore[misc]
                 stranger = int(noted.read_bytes())
                 self.addCleanup(os.kill, stranger, signal.SIGKILL)

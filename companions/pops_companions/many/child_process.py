@@ -265,12 +265,13 @@ class ChildProcess:
     def kill(self) -> None:
         """Kills the program's process group, from any thread, and wakes who waits; he calls `end`."""
         with self._lock:
-            if self.is_killed or self._is_released:
+            if self._is_released:
                 return
             if self.run.returncode is None and not self._has_others:
                 self._has_others = sessions.has_children(self.run.pid)
-            self.send(signal.SIGKILL)
+            # (who sees that it has ended sees then that it was killed)
             self.is_killed = True
+            self.send(signal.SIGKILL)
             os.write(self._held, b".")
 
     def end(self) -> None:

@@ -65,7 +65,7 @@ def end_connections(folder: str) -> None:
 
 
 def end(session: int) -> None:
-    """Kills all processes of a session, new ones too; processes of other users stay."""
+    """Kills all processes of a session, new ones too; other users' processes stay."""
     for _ in range(_ROUNDS):
         if not any([_kill(process) for process in members(session)]):
             return

@@ -48,7 +48,7 @@ def _mark_of(text: bytes, programs: Programs) -> bytes:
 
 
 def _described(program: Optional[str]) -> str:
-    """Returns a program's path, and what differs once it is changed."""
+    """Returns a program's path with its version, which is another one once it is changed."""
     if program is None:
         return json.dumps([None, None])
     path = os.path.realpath(program)
