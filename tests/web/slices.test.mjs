@@ -70,7 +70,7 @@ test('reading: a report that comes in two parts, cut anywhere, has the same item
       atOnce(reading.more());
       // (a line that isn't whole isn't read)
       const whole = report.slice(0, report.lastIndexOf('\n', cut - 1) + 1);
-      if (cut) assert.deepEqual(reading.items, itemsOf(whole.slice(0, -1)));
+      if (cut) assert.deepEqual(reading.items, itemsOf(whole));
       reading.add(report.slice(cut));
       atOnce(reading.more());
       assert.deepEqual(reading.items, wanted);
