@@ -18,7 +18,9 @@ export const line_of = () => 1;
 // As pops-import has it.
 const MOST_LEVELS = 40;
 
-const KEY = /^("[^"]*"|'[^']*'|[^\s"'[\]{},:#](?:[^:#]*[^\s:#])?)\s*:(?:\s+(.*))?$/;
+// A line that ends a document, and one that begins the next.
+const MARK = /^(?:---|\.\.\.\s*$)/;
+const KEY = /^("[^"]*"|'[^']*'|[^\s"'[\]{},:#](?:[^:#]*[^\s:#])?)\s*:(?:\s+([^]*))?$/;
 
 /**
  * Cuts off a comment: from a # after the last quote.
@@ -26,7 +28,7 @@ const KEY = /^("[^"]*"|'[^']*'|[^\s"'[\]{},:#](?:[^:#]*[^\s:#])?)\s*:(?:\s+(.*))
  */
 function withoutComment(line) {
   const after = Math.max(line.lastIndexOf('"'), line.lastIndexOf("'")) + 1;
-  const comment = after ? /(\s)#.*/ : /(^|\s)#.*/;
+  const comment = after ? /(\s)#[^]*/ : /(^|\s)#[^]*/;
   return (line.slice(0, after) + line.slice(after).replace(comment, '$1')).trimEnd();
 }
 
@@ -46,9 +48,9 @@ const ESCAPES = {
 };
 const ESCAPE = /\\(?:x([\da-fA-F]{2})|u([\da-fA-F]{4})|U(00(?:0[\da-fA-F]|10)[\da-fA-F]{4})|([^]))/g;
 // A text in quotes that its line doesn't end, and the line that does.
-const OPEN = /^(?:"(?:[^"\\]|\\.|\\$)*|'(?:[^']|'')*)$/;
+const OPEN = /^(?:"(?:[^"\\]|\\[^]|\\$)*|'(?:[^']|'')*)$/;
 /** @type {Record<string, RegExp>} */
-const CLOSED = { '"': /^((?:[^"\\]|\\.)*)"\s*(?:#.*)?$/, "'": /^((?:[^']|'')*)'\s*(?:#.*)?$/ };
+const CLOSED = { '"': /^((?:[^"\\]|\\[^])*)"\s*(?:#[^]*)?$/, "'": /^((?:[^']|'')*)'\s*(?:#[^]*)?$/ };
 const ESCAPED_END = /(?:^|[^\\])(?:\\\\)*\\$/;
 
 /** @param {string} text */
@@ -88,7 +90,7 @@ function folded(lines, sign) {
  * @param {string} text
  */
 function flow(text) {
-  const words = text.match(/\s*(?:"(?:[^"\\]|\\.)*"|'(?:[^']|'')*'|[[\]{},]|:(?=\s|$)|(?:[^[\]{},:]|:(?!\s|$))+)/g)?.map(it => it.trim()).filter(Boolean) ?? [];
+  const words = text.match(/\s*(?:"(?:[^"\\]|\\[^])*"|'(?:[^']|'')*'|[[\]{},]|:(?=\s|$)|(?:[^[\]{},:]|:(?!\s|$))+)/g)?.map(it => it.trim()).filter(Boolean) ?? [];
   const parts = new Parts(words);
   const value = flowValue(parts, 1);
   if (parts.next !== undefined) throw new YamlError(text);
@@ -302,8 +304,22 @@ function jsonIn(text) {
 export function documents(text) {
   const json = jsonIn(text);
   if (json !== undefined) return [{ line: 1, node: () => nodeOfJson(json, 1) }];
-  const all = text.replaceAll('\r\n', '\n').split(/^---.*$|^\.\.\.\s*$/m).filter(document => document.replace(/^%.*$/gm, '').trim());
-  return all.map(document => ({ line: 1, node: () => nodeOf(document) }));
+  const all = parted(text.replaceAll('\r\n', '\n').split('\n')).filter(lines => lines.some(line => !line.startsWith('%') && line.trim()));
+  return all.map(lines => ({ line: 1, node: () => nodeOf(lines.join('\n')) }));
+}
+
+/**
+ * Parts lines at the marks between documents.
+ * @param {string[]} lines
+ */
+function parted(lines) {
+  /** @type {string[][]} */
+  const all = [[]];
+  for (const line of lines) {
+    if (MARK.test(line)) all.push([]);
+    else all[all.length - 1].push(line);
+  }
+  return all;
 }
 
 /** @param {string} document */
