@@ -4,6 +4,7 @@ import assert from 'node:assert/strict';
 import { execFileSync } from 'node:child_process';
 import { readFileSync } from 'node:fs';
 import { test } from 'node:test';
+import { fileURLToPath } from 'node:url';
 import { py } from '../../web/python.js';
 import { documents } from '../../web/yaml.js';
 import { makeDocument } from '../helpers/page_imports.mjs';
@@ -16,11 +17,12 @@ py.re.compile = (text, flags = 0) => {
   return compile(text, flags);
 };
 const { companions } = await import('../../web/out/companions.js');
-const { imported, isOfAnother } = await import('../../web/importing.js');
+const { isOfAnother } = await import('../../web/importing.js');
 py.re.compile = compile;
 
-// Against hanging: no busy machine takes so long.
-const PATIENCE = { timeout: 600_000 };
+const HERE = fileURLToPath(new URL('.', import.meta.url));
+// Against hanging, in milliseconds: no busy machine takes so long.
+const PATIENCE = 600_000;
 const ODD = ['\u2028', '\u2029', '\x85', '\r', '\v', '\f', '\x1c', '\xa0', '\ufeff', '\n', ' ', '\t'];
 // In Python's own words: what is found first in each text, with its groups, whether all of the text is, and all that is found, unless that may be empty.
 const BY_PYTHON = `
@@ -35,6 +37,25 @@ for text, flags in cases:
     one = re.compile(text, flags)
     said.append([[found(one.search(it)), found(one.fullmatch(it)), [] if one.search("") else [found(match) for match in one.finditer(it)]] for it in texts])
 json.dump(said, sys.stdout)
+`;
+
+// A program of its own, which can be ended: it reads long texts of each sign.
+const LONG_LINES = `
+import assert from 'node:assert/strict';
+import { makeDocument } from '../helpers/page_imports.mjs';
+makeDocument();
+const { imported, isOfAnother } = await import('../../web/importing.js');
+const { documents } = await import('../../web/yaml.js');
+const { companions } = await import('../../web/out/companions.js');
+const signs = JSON.parse(process.argv[1]);
+for (const sign of signs) {
+  const text = sign.repeat(99_990);
+  for (const one of [text, text + 'algebraic', 'BeginProblem\\n' + text]) assert.equal(isOfAnother(one), false);
+  assert.equal(imported(text), null);
+  assert.throws(() => companions.readPopeye(text));
+  assert.equal(documents(text + '\\n').length, text.trim() ? 1 : 0);
+}
+console.log(signs.length, 'signs');
 `;
 
 /** Returns patterns that are written where they are used, with their flags. */
@@ -68,14 +89,9 @@ test('patterns: the same in JavaScript and Python', () => {
   });
 });
 
-test('patterns: lines of odd signs take no time that grows by the square', PATIENCE, () => {
-  for (const sign of ODD) {
-    const text = sign.repeat(99_990);
-    for (const one of [text, `${text}algebraic`, `BeginProblem\n${text}`]) assert.equal(isOfAnother(one), false);
-    assert.equal(imported(text), null);
-    assert.throws(() => companions.readPopeye(text));
-    assert.equal(documents(`${text}\n`).length, text.trim() ? 1 : 0);
-  }
+test('patterns: lines of odd signs take no time that grows by the square', () => {
+  const said = execFileSync(process.execPath, ['--input-type=module', '-e', LONG_LINES, JSON.stringify(ODD)], { cwd: HERE, encoding: 'utf8', timeout: PATIENCE });
+  assert.equal(said, `${ODD.length} signs\n`);
 });
 
 test('patterns: an odd sign ends no line', () => {
