@@ -820,7 +820,7 @@ class Command(Case):
         report.write_bytes(support.run([support.pops()], two).output)
         self.assertIn(b"problem 2\n", report.read_bytes())
         words = ["--to", "text", "--report", str(report), "--pops-tries", str(self.tries)]
-        for more in ([], ["--tries", "none"]):
+        for more in ((), ("--tries", "none")):
             outcome = self.made(OF_THE_MANUAL, *words, *more)
             message = "pops-sheet: the report isn't that of the input: other problems\n"
             self.assertEqual((outcome.status, outcome.error), (3, message))
