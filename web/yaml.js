@@ -46,17 +46,30 @@ const ESCAPES = {
   0: '\0', a: '\x07', b: '\b', t: '\t', '\t': '\t', n: '\n', v: '\v', f: '\f', r: '\r', e: '\x1b', ' ': ' ', '"': '"', '/': '/', '\\': '\\',
   N: '\x85', _: '\xa0', L: '\u2028', P: '\u2029',
 };
-const ESCAPE = /\\(?:x([\da-fA-F]{2})|u([\da-fA-F]{4})|U(00(?:0[\da-fA-F]|10)[\da-fA-F]{4})|([^]))/g;
+const ESCAPE = /\\(?:x([\da-fA-F]{2})|u([\da-fA-F]{4})|U([\da-fA-F]{8})|([^]))/g;
+// Half of a character by itself, which also stands for codes beyond all characters.
+const NO_CHARACTER = /[\ud800-\udfff]/u;
+/** @param {number} code */
+const letterOf = code => (code > 0x10ffff ? '\ud800' : String.fromCodePoint(code));
 // A text in quotes that its line doesn't end, and the line that does.
 const OPEN = /^(?:"(?:[^"\\]|\\[^]|\\$)*|'(?:[^']|'')*)$/;
 /** @type {Record<string, RegExp>} */
 const CLOSED = { '"': /^((?:[^"\\]|\\[^])*)"\s*(?:#[^]*)?$/, "'": /^((?:[^']|'')*)'\s*(?:#[^]*)?$/ };
 const ESCAPED_END = /(?:^|[^\\])(?:\\\\)*\\$/;
 
+/**
+ * Returns a text; YamlError where a code in it stands for no character.
+ * @param {string} text
+ */
+function whole(text) {
+  if (NO_CHARACTER.test(text)) throw new YamlError('a code stands for no character');
+  return text;
+}
+
 /** @param {string} text */
 function scalar(text) {
   if (/^"[^]*"$/.test(text)) {
-    return text.slice(1, -1).replace(ESCAPE, (said, two, four, eight, sign) => (sign ? ESCAPES[sign] ?? said : String.fromCodePoint(parseInt(two ?? four ?? eight, 16))));
+    return whole(text.slice(1, -1).replace(ESCAPE, (said, two, four, eight, sign) => (sign ? ESCAPES[sign] ?? said : letterOf(parseInt(two ?? four ?? eight, 16)))));
   }
   if (/^'[^]*'$/.test(text)) return text.slice(1, -1).replaceAll("''", "'");
   if (/^[&*!|>%@`]/.test(text)) throw new YamlError(text);
@@ -278,7 +291,7 @@ class YamlReader {
  * @returns {any}
  */
 function nodeOfJson(value, level) {
-  if (value === null || typeof value !== 'object') return value === null ? null : String(value);
+  if (value === null || typeof value !== 'object') return value === null ? null : whole(String(value));
   refuseLevel(level);
   if (Array.isArray(value)) return value.map(it => nodeOfJson(it, level + 1));
   return py.dict(Object.entries(value).map(([key, it]) => [key, nodeOfJson(it, level + 1)]));

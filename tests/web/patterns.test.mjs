@@ -6,7 +6,7 @@ import { readFileSync } from 'node:fs';
 import { test } from 'node:test';
 import { fileURLToPath } from 'node:url';
 import { py } from '../../web/python.js';
-import { documents } from '../../web/yaml.js';
+import { documents, YamlError } from '../../web/yaml.js';
 import { makeDocument } from '../helpers/page_imports.mjs';
 
 makeDocument();
@@ -101,4 +101,10 @@ test('patterns: an odd sign ends no line', () => {
   assert.equal(companions.begins('Remark a\nAnfangProblem'), true);
   assert.equal(documents('title: "a\u2028--- b"').length, 1);
   assert.equal(documents('title: "a\u2028b"')[0].node().get('title'), 'a\u2028b');
+});
+
+test('YAML: a code that stands for no character is refused, in JSON too', () => {
+  for (const code of ['\\U00110000', '\\UFFFFFFFF', '\\ud800', '\\udc00\\ud83d']) assert.throws(() => documents(`title: "${code}"`)[0].node(), YamlError, code);
+  assert.throws(() => documents('{"title": "\\ud800"}')[0].node(), YamlError);
+  assert.equal(documents('title: "\\ud83d\\ude00 \\U0010FFFF"')[0].node().get('title'), '\u{1f600} \u{10ffff}');
 });
