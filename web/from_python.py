@@ -458,7 +458,17 @@ class Writer:
             if not (is_module or function.attr in METHODS_ALIKE or self.has_member(function.attr)):
                 raise self.fail(node, f"the method {function.attr}")
             return f"{owner}.{function.attr}({self.arguments(node, self.method(function.attr))})"
+        if place == ("re", "compile"):
+            return self.pattern(node)
         return f"{self.value(function)}({self.arguments(node, None)})"
+
+    def pattern(self, node: ast.Call) -> str:
+        """Returns a compiled pattern. One of bytes knows only signs of ASCII."""
+        is_of_bytes = any(isinstance(it, ast.Constant) and isinstance(it.value, bytes) for it in ast.walk(node.args[0]))
+        said = [self.value(it) for it in node.args]
+        if is_of_bytes:
+            said[1:] = [f"py.joined({said[1]}, py.re.ASCII)" if said[1:] else "py.re.ASCII"]
+        return f"py.re.compile({', '.join(said)})"
 
     def signature(self, node: ast.ClassDef) -> ast.arguments:
         """Returns the arguments with which a class is called."""

@@ -7,7 +7,7 @@ import { wordsOf } from './text.js';
 import { language, say } from './words.js';
 
 const TRIES_OPTIONS = ['Try', 'Defence', 'Threat'];
-const OF_YAML = /^[^\S\n\r]*(?:- +)?algebraic[^\S\n\r]*:/m;
+const OF_YAML = /(?:^|\n)[^\S\n]*(?:- +)?algebraic[^\S\n]*:/;
 
 /**
  * Returns whether a text that begins as ours has words that only Popeye reads, or is in another language.

@@ -110,29 +110,78 @@ export const py = (() => {
     get lastgroup() { return Object.keys(this.named).find(name => this.named[name] !== undefined) ?? null; }
   }
 
-  /** Letters and digits of all languages, where Python's patterns mean them. */
-  const OF_ALL_LANGUAGES = [['[^\\W\\d_]', '\\p{L}'], ['[^\\W_]', '[\\p{L}\\p{N}]'], ['[^\\w\\n]', '[^\\p{L}\\p{N}_\\n]']];
   const IGNORECASE = 2;
   const MULTILINE = 8;
   const DOTALL = 16;
+  const ASCII = 256;
+  // What a class of signs of Python holds, within a class of JavaScript: in texts, and in bytes.
+  const OF_TEXTS = {
+    d: '\\p{Nd}', w: '\\p{L}\\p{N}_', s: '\\t-\\r\\x1c-\\x20\\x85\\xa0\\u1680\\u2000-\\u200a\\u2028\\u2029\\u202f\\u205f\\u3000',
+  };
+  const OF_BYTES = { d: '0-9', w: 'A-Za-z0-9_', s: '\\t-\\r\\x20' };
+  const PARTS_OF_PATTERN = /\[(\^?)(\]?(?:\\[^]|[^\]\\])*)\]|\\([^])|\(\?P<|[.$]/g;
+
+  /** Writes an escape of Python's: `inner` is before a class of signs, and `outer` after it. */
+  function escapeOf(letter, known, [inner, outer]) {
+    if (letter in known) return inner + known[letter] + outer;
+    return /[a-z0-9^$\\.*+?()[\]{}|/-]/i.test(letter) && (letter !== '-' || !inner) ? `\\${letter}` : letter;
+  }
+
+  /** Writes a class of signs of Python's. A negated one in a negated one, as in `[^\W\d_]`, becomes the signs of the inner one without the others. */
+  function classOf(sign, inside, known) {
+    const negated = [];
+    const rest = inside.replace(/\\([^])/g, (_, letter) => {
+      if (!/[DSW]/.test(letter)) return escapeOf(letter, known, ['', '']);
+      negated.push(known[letter.toLowerCase()]);
+      return '';
+    });
+    if (!negated.length) return `[${sign}${rest}]`;
+    if (!sign || negated.length > 1) throw new ValueError(`no translation of the class ${inside}`);
+    return `(?:${rest && `(?![${rest}])`}[${negated[0]}])`;
+  }
+
+  /** Writes a pattern of Python's in JavaScript, without flags for lines: JavaScript knows other ends of lines than Python. */
+  function patternOf(text, flags) {
+    const known = flags & ASCII ? OF_BYTES : OF_TEXTS;
+    const end = flags & MULTILINE ? '(?![^\\n])' : '(?![^\\n]|\\n[^])';
+    return text.replace(PARTS_OF_PATTERN, (part, sign, inside, letter) => {
+      if (inside !== undefined) return classOf(sign, inside, known);
+      if (letter === 'Z') return '(?![^])';
+      if (letter !== undefined) return /[DSW]/.test(letter) ? `[^${known[letter.toLowerCase()]}]` : escapeOf(letter, known, ['[', ']']);
+      return part === '.' ? flags & DOTALL ? '[^]' : '[^\\n]' : part === '$' ? end : '(?<';
+    });
+  }
 
   class Pattern {
     constructor(text, flags) {
-      const plain = OF_ALL_LANGUAGES.reduce((made, [ours, theirs]) => made.replaceAll(ours, theirs), text.replaceAll('(?P<', '(?<'));
-      this.text = plain.replace(/^\(\?i\)/, '');
-      const isFolded = (flags & IGNORECASE) !== 0 || plain !== this.text;
-      this.flags = (isFolded ? 'i' : '') + (flags & MULTILINE ? 'm' : '') + (flags & DOTALL ? 's' : '') + (plain.includes('\\p{') ? 'u' : '');
+      const isFolded = (flags & IGNORECASE) !== 0 || text.startsWith('(?i)');
+      const made = patternOf(text.replace(/^\(\?i\)/, ''), flags);
+      this.isOfLines = (flags & MULTILINE) !== 0 && made.startsWith('^');
+      this.text = this.isOfLines ? made.slice(1) : made;
+      if (flags & MULTILINE && /(?:^|[^[\\])\^/.test(this.text)) throw new ValueError(`no translation of ${text}`);
+      this.flags = (isFolded ? 'i' : '') + (/\\p\{|[^\0-\u{ffff}]|[\ud800-\udfff]/u.test(made) ? 'u' : '');
       this.made = {};
     }
 
     found(text, from, to, mark, whole) {
-      const pattern = (this.made[mark + whole] ??= new RegExp(whole ? `(?:${this.text})$` : this.text, mark + (whole ? this.flags.replace('m', '') : this.flags)));
+      const pattern = (this.made[mark + whole] ??= new RegExp(whole ? `(?:${this.text})$` : this.text, mark + this.flags));
       pattern.lastIndex = from;
       const found = pattern.exec(to === undefined ? text : text.slice(0, to));
       return found && new Match(found, found.groups ?? {});
     }
 
-    search(text, from = 0, to = undefined) { return this.found(text, from, to, 'g', ''); }
+    /** Tries the pattern where each line begins. */
+    inLines(text, from, to) {
+      let at = from && text.indexOf('\n', from - 1) + 1;
+      for (let isOver = from > 0 && at === 0; !isOver; isOver = at === 0) {
+        const found = this.found(text, at, to, 'y', '');
+        if (found) return found;
+        at = text.indexOf('\n', at) + 1;
+      }
+      return null;
+    }
+
+    search(text, from = 0, to = undefined) { return this.isOfLines ? this.inLines(text, from, to) : this.found(text, from, to, 'g', ''); }
     match(text, from = 0, to = undefined) { return this.found(text, from, to, 'y', ''); }
     fullmatch(text) { return this.found(text, 0, undefined, 'y', '$'); }
     * finditer(text, from = 0) {
@@ -142,6 +191,7 @@ export const py = (() => {
     findall(text, from = 0) { return [...this.finditer(text, from)].map(it => it.all[it.all.length > 1 ? 1 : 0]); }
     sub(made, text) {
       if (typeof made === 'function') return this.subBy(made, text);
+      if (this.isOfLines) throw new ValueError(`no translation of ${this.text}`);
       const said = made.replaceAll('$', '$$$$').replace(/\\(?:g<)?([0-9])>?/g, (_, group) => (group === '0' ? '$&' : `$${group}`));
       return text.replace(this.made.all ??= new RegExp(this.text, `g${this.flags}`), said);
     }
@@ -166,7 +216,7 @@ export const py = (() => {
 
 
   const re = {
-    IGNORECASE, MULTILINE, DOTALL, ASCII: 0, compile,
+    IGNORECASE, MULTILINE, DOTALL, ASCII, compile,
     search: (pattern, text, flags = 0) => compile(pattern, flags).search(text),
     match: (pattern, text, flags = 0) => compile(pattern, flags).match(text),
     fullmatch: (pattern, text, flags = 0) => compile(pattern, flags).fullmatch(text),

@@ -122,7 +122,7 @@ const newPhase = kind => ({ kind, isPossible: true, lines: [], solutions: [], co
  */
 function readLine(line, item) {
   const phase = item.phases.at(-1);
-  const fault = /^line ([0-9]+): fault ([0-9]+): (.*)$/.exec(line);
+  const fault = /^line ([0-9]+): fault ([0-9]+): ([^]*)$/.exec(line);
   if (phase && !phase.total && line !== 'play') return readSolution(line, phase, /** @type {SoundItem} */ (item));
   if (item.asked) {
     if (line === 'sound') item.isChecked = true;
@@ -170,7 +170,7 @@ export class ReportReading {
     } else if (item && !line) {
       item.isWhole = true;
       this.item = null;
-    } else if (item && !item.author && !item.ranks.length && !item.asked && /^(title|author): ./.test(line)) {
+    } else if (item && !item.author && !item.ranks.length && !item.asked && /^(title|author): [^]/.test(line)) {
       item[line.startsWith('title') ? 'title' : 'author'] = line.slice(line.indexOf(':') + 2);
     } else return item ? readLine(line, item) : !line;
     return true;

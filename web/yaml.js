@@ -18,7 +18,9 @@ export const line_of = () => 1;
 // As pops-import has it.
 const MOST_LEVELS = 40;
 
-const KEY = /^("[^"]*"|'[^']*'|[^\s"'[\]{},:#](?:[^:#]*[^\s:#])?)\s*:(?:\s+(.*))?$/;
+// A line that ends a document, and one that begins the next.
+const MARK = /^(?:---|\.\.\.\s*$)/;
+const KEY = /^("[^"]*"|'[^']*'|[^\s"'[\]{},:#](?:[^:#]*[^\s:#])?)\s*:(?:\s+([^]*))?$/;
 
 /**
  * Cuts off a comment: from a # after the last quote.
@@ -26,7 +28,7 @@ const KEY = /^("[^"]*"|'[^']*'|[^\s"'[\]{},:#](?:[^:#]*[^\s:#])?)\s*:(?:\s+(.*))
  */
 function withoutComment(line) {
   const after = Math.max(line.lastIndexOf('"'), line.lastIndexOf("'")) + 1;
-  const comment = after ? /(\s)#.*/ : /(^|\s)#.*/;
+  const comment = after ? /(\s)#[^]*/ : /(^|\s)#[^]*/;
   return (line.slice(0, after) + line.slice(after).replace(comment, '$1')).trimEnd();
 }
 
@@ -44,17 +46,30 @@ const ESCAPES = {
   0: '\0', a: '\x07', b: '\b', t: '\t', '\t': '\t', n: '\n', v: '\v', f: '\f', r: '\r', e: '\x1b', ' ': ' ', '"': '"', '/': '/', '\\': '\\',
   N: '\x85', _: '\xa0', L: '\u2028', P: '\u2029',
 };
-const ESCAPE = /\\(?:x([\da-fA-F]{2})|u([\da-fA-F]{4})|U(00(?:0[\da-fA-F]|10)[\da-fA-F]{4})|([^]))/g;
+const ESCAPE = /\\(?:x([\da-fA-F]{2})|u([\da-fA-F]{4})|U([\da-fA-F]{8})|([^]))/g;
+// Half of a character by itself, which also stands for codes beyond all characters.
+const NO_CHARACTER = /[\ud800-\udfff]/u;
+/** @param {number} code */
+const letterOf = code => (code > 0x10ffff ? '\ud800' : String.fromCodePoint(code));
 // A text in quotes that its line doesn't end, and the line that does.
-const OPEN = /^(?:"(?:[^"\\]|\\.|\\$)*|'(?:[^']|'')*)$/;
+const OPEN = /^(?:"(?:[^"\\]|\\[^]|\\$)*|'(?:[^']|'')*)$/;
 /** @type {Record<string, RegExp>} */
-const CLOSED = { '"': /^((?:[^"\\]|\\.)*)"\s*(?:#.*)?$/, "'": /^((?:[^']|'')*)'\s*(?:#.*)?$/ };
+const CLOSED = { '"': /^((?:[^"\\]|\\[^])*)"\s*(?:#[^]*)?$/, "'": /^((?:[^']|'')*)'\s*(?:#[^]*)?$/ };
 const ESCAPED_END = /(?:^|[^\\])(?:\\\\)*\\$/;
+
+/**
+ * Returns a text; YamlError where a code in it stands for no character.
+ * @param {string} text
+ */
+function whole(text) {
+  if (NO_CHARACTER.test(text)) throw new YamlError('a code stands for no character');
+  return text;
+}
 
 /** @param {string} text */
 function scalar(text) {
   if (/^"[^]*"$/.test(text)) {
-    return text.slice(1, -1).replace(ESCAPE, (said, two, four, eight, sign) => (sign ? ESCAPES[sign] ?? said : String.fromCodePoint(parseInt(two ?? four ?? eight, 16))));
+    return whole(text.slice(1, -1).replace(ESCAPE, (said, two, four, eight, sign) => (sign ? ESCAPES[sign] ?? said : letterOf(parseInt(two ?? four ?? eight, 16)))));
   }
   if (/^'[^]*'$/.test(text)) return text.slice(1, -1).replaceAll("''", "'");
   if (/^[&*!|>%@`]/.test(text)) throw new YamlError(text);
@@ -88,7 +103,7 @@ function folded(lines, sign) {
  * @param {string} text
  */
 function flow(text) {
-  const words = text.match(/\s*(?:"(?:[^"\\]|\\.)*"|'(?:[^']|'')*'|[[\]{},]|:(?=\s|$)|(?:[^[\]{},:]|:(?!\s|$))+)/g)?.map(it => it.trim()).filter(Boolean) ?? [];
+  const words = text.match(/\s*(?:"(?:[^"\\]|\\[^])*"|'(?:[^']|'')*'|[[\]{},]|:(?=\s|$)|(?:[^[\]{},:]|:(?!\s|$))+)/g)?.map(it => it.trim()).filter(Boolean) ?? [];
   const parts = new Parts(words);
   const value = flowValue(parts, 1);
   if (parts.next !== undefined) throw new YamlError(text);
@@ -276,7 +291,7 @@ class YamlReader {
  * @returns {any}
  */
 function nodeOfJson(value, level) {
-  if (value === null || typeof value !== 'object') return value === null ? null : String(value);
+  if (value === null || typeof value !== 'object') return value === null ? null : whole(String(value));
   refuseLevel(level);
   if (Array.isArray(value)) return value.map(it => nodeOfJson(it, level + 1));
   return py.dict(Object.entries(value).map(([key, it]) => [key, nodeOfJson(it, level + 1)]));
@@ -302,8 +317,22 @@ function jsonIn(text) {
 export function documents(text) {
   const json = jsonIn(text);
   if (json !== undefined) return [{ line: 1, node: () => nodeOfJson(json, 1) }];
-  const all = text.replaceAll('\r\n', '\n').split(/^---.*$|^\.\.\.\s*$/m).filter(document => document.replace(/^%.*$/gm, '').trim());
-  return all.map(document => ({ line: 1, node: () => nodeOf(document) }));
+  const all = parted(text.replaceAll('\r\n', '\n').split('\n')).filter(lines => lines.some(line => !line.startsWith('%') && line.trim()));
+  return all.map(lines => ({ line: 1, node: () => nodeOf(lines.join('\n')) }));
+}
+
+/**
+ * Parts lines at the marks between documents.
+ * @param {string[]} lines
+ */
+function parted(lines) {
+  /** @type {string[][]} */
+  const all = [[]];
+  for (const line of lines) {
+    if (MARK.test(line)) all.push([]);
+    else all[all.length - 1].push(line);
+  }
+  return all;
 }
 
 /** @param {string} document */

@@ -528,7 +528,7 @@ class Yaml(unittest.TestCase):
         status, made, said = imported_text("".join(map(one.format, ("A", r"\U00110000"))).encode())
         self.assertEqual((status, made.count(b"Pieces")), (1, 1))
         why = "left out: this isn't read as YAML: a code or a number is too large"
-        self.assertEqual(said, [f"line 6, problem 2: {why}"])
+        self.assertEqual(said, [f"text, line 6, problem 2: {why}"])
 
     def test_documents(self) -> None:
         text = "%YAML 1.2\n---\na: b\n...\n# c\n--- d\n---\n---\n- e\n"

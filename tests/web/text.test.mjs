@@ -1,6 +1,7 @@
 // Texts, positions, and what the page keeps: modules that need no browser.
 import assert from 'node:assert/strict';
 import { test } from 'node:test';
+import { KINDS, MAN_NAMES } from '../../web/men.js';
 import { barredAfter, halfAfter, moveBetween, promotes, stipulationAfter, withProblemAfter, partsOfStipulation, stipulationOf } from '../../web/play.js';
 import { after, changed, exchanged, fenOf, menOfRanks, placeOf, ranksOf, readFen, squareOf } from '../../web/position.js';
 import { fileNameOf, fragmentOf, keptOf, nameOfText, Steps, textOfBytes, textOfFragment, visitOf, withKept, writtenVisit } from '../../web/store.js';
@@ -18,6 +19,11 @@ test('words: values replace names in braces', () => {
   assert.equal(say('count', { number: 1 }).includes('{all}'), true);
   assert.equal(sayMan('bN'), 'black nightrider');
   assert.equal(language, 'en');
+});
+
+test('men: each letter has its name', () => {
+  assert.deepEqual(Object.keys(MAN_NAMES), [...KINDS]);
+  assert.equal(sayMan('wG'), `white ${MAN_NAMES.G}`);
 });
 
 test('text: words have places, and the rest of a text line is no word', () => {
