@@ -459,13 +459,13 @@ class Collection(unittest.TestCase):
         )
 
     def test_csv_quotes_what_a_reader_takes_for_more_cells(self) -> None:
-        titles = ("\uff1d1", "\uff0b1", "\uff0d1", "\uff201", "a; =1;b", "b,=1", '"=1', "a =1")
+        titles = ("\uff1d1", "\uff0b1", "\uff0d1", "\uff201", "a; =1;b", "b,=1", '"=1', 'a;"=1')
         items = (f"problem {it}\ntitle: {title}\n#1\nsound\n\n" for it, title in enumerate(titles, 1))
         text = "".join(items).encode()
         said = run_here.companion("pops-test", "--csv", text=text).output.decode()
         cells = [line.partition(",")[2].split(",,#1,")[0] for line in said.split("\n")[1:-1]]
         self.assertEqual(cells[:4], [f"'{title}" for title in titles[:4]])
-        self.assertEqual(cells[4:], ["\"a;' =1;b\"", '"b,=1"', '"""=1"', "a =1"])
+        self.assertEqual(cells[4:], ["\"a;' =1;b\"", '"b,=1"', '"""=1"', "\"a;'\"\"=1\""])
 
     def test_csv_has_nothing_unseen_before_what_a_spreadsheet_computes(self) -> None:
         titles = ("\u200b=1", "\ufeff=1", "\u2028=1", "\xa0=1", "\u200b \ufe62", "\ufe66", "\u200ba")

@@ -88,16 +88,14 @@ def csv_line(values: "tuple[object, ...]") -> str:
 
 def _cell(value: object) -> str:
     """Returns a cell; a text that a spreadsheet would compute has an apostrophe in front, so has the
-    text after a semicolon.
+    text after a semicolon, where a quote may open a cell.
     """
     text = "" if value is None else str(value)
     if isinstance(value, str):
-        text = _OTHER_PARTING.join(map(_uncomputed, text.split(_OTHER_PARTING)))
+        first, *others = text.split(_OTHER_PARTING)
+        later = (f"'{it}" if _is_formula(it.replace('"', "")) else it for it in others)
+        text = _OTHER_PARTING.join([f"'{first}" if _is_formula(first) else first, *later])
     return '"{}"'.format(text.replace('"', '""')) if _PARTING.search(text) else text
-
-
-def _uncomputed(text: str) -> str:
-    return f"'{text}" if _is_formula(text) else text
 
 
 def _is_formula(text: str) -> bool:
