@@ -193,6 +193,17 @@ class OnMachines(unittest.TestCase):
         self.assertEqual((outcome.status, outcome.output), (0, support.run([support.pops()], text).output))
         self.assertRegex(outcome.error, r"^pops-many: machine two left out: .*\n$")
 
+    def test_a_machine_that_floods_is_left_out(self) -> None:
+        """It writes lines without end."""
+        flood = self.write("flood", "#!/bin/sh\nexec yes '1 eAow'\n")
+        (self.room / "x.pop").write_bytes(input_of(MATE.format(1)))
+        words = ["--pops", support.pops(), "--remote-pops", "pops", "--ssh", flood]
+        words += ["--sshlogin", "one", "--jobs", "1", str(self.room / "x.pop")]
+        outcome = run_here.companion("pops-many", *words)
+        left_out = "pops-many: machine one left out: no report came back\n"
+        said = left_out + "pops-many: no machine is left\n"
+        self.assertEqual(outcome, (3, b"", said))
+
     def test_a_command_whose_name_is_no_text(self) -> None:
         folder = self.room / "\udcff"
         folder.mkdir()

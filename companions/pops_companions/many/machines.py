@@ -29,6 +29,8 @@ ROUNDS_WITHOUT_REPORT = 3
 PROBE = b"BeginProblem Pieces White Kg6 Ra1 Black Kg8 Stipulation #1 EndProblem"
 # Only where a machine hangs: the probe takes a moment, but a busy machine may need many times that.
 _SECONDS_OF_A_PROBE = 600
+# The most bytes that a machine may write of the probe, whose report has some hundred.
+_MOST_OF_A_PROBE = 1 << 20
 # The program is $0; the one word after it holds number, seconds and text of each input in turn.
 # Without --foreground timeout would leave the process group, with which GNU parallel ends a run.
 _SCRIPT = (
@@ -246,17 +248,24 @@ class Machines:
         return False
 
     def _probed(self, login: str) -> Optional[bytes]:
-        """Returns what a machine reports of the probe; None where no report came back."""
-        answers: dict[int, bytes] = {}
+        """Returns what a machine reports of the probe; None where no report came back, or much more."""
+        answers: list[bytes] = []
+        come = 0
 
         def take(line: bytes) -> None:
+            nonlocal come
+            come += len(line)
             answer = _decoded(line)
-            if answer is not None and answer[1] in (SOUND, FAULTY):
-                answers[answer[0]] = answer[2]
+            if answer is not None and answer[0] == 0 and answer[1] in (SOUND, FAULTY):
+                answers[:] = [answer[2]]
+
+        def look(_: Sequence[Ended]) -> bool:
+            return come <= _MOST_OF_A_PROBE
 
         seconds = self._program.seconds and max(self._program.seconds, _SECONDS_OF_A_PROBE)
-        self._parallel.run([login], self._script, [_word(0, PROBE, seconds)], take, shared=True)
-        return answers.get(0)
+        words = [_word(0, PROBE, seconds)]
+        self._parallel.run([login], self._script, words, take, look, shared=True)
+        return answers[0] if answers and come <= _MOST_OF_A_PROBE else None
 
     def expect_some(self) -> None:
         """Raises MachinesError where no machine is left."""

@@ -24,6 +24,8 @@ _SECONDS_TO_END = 3.0
 # How often jobs that are stopped are looked for, until none is left.
 _LOOKS = 100
 _SECONDS_BETWEEN_KILLS = 0.02
+# The last bytes of what ssh and GNU parallel said: only the last line is shown.
+_MOST_OF_ERRORS = 1 << 16
 # The most bytes of a line that comes back, which is a report in base64; a longer one is dropped.
 _LONGEST_LINE = MOST_OUTPUT // 3 * 4
 _SSH = "ssh -o BatchMode=yes -o ConnectTimeout=10 -o ServerAliveInterval=5 -o ServerAliveCountMax=3"
@@ -178,7 +180,9 @@ class Parallel:
         """The last line that ssh or GNU parallel said in the last run or the one at hand."""
         if self._room is None:
             return self._said
-        said = (self._room / "errors").read_text("utf-8", "replace").strip().splitlines()
+        with open(self._room / "errors", "rb") as errors:
+            errors.seek(max(0, os.fstat(errors.fileno()).st_size - _MOST_OF_ERRORS))
+            said = errors.read(_MOST_OF_ERRORS).decode("utf-8", "replace").strip().splitlines()
         return said[-1] if said else "no report came back"
 
 

@@ -36,7 +36,7 @@ _SCRIPT = (
     '\'BEGIN {{ $| = 1; $n = shift }} print "$n ", encode_base64($_, ""), "\\n"\' "$1"; '
     "shift 4; done"
 )
-_ENDED = re.compile(rb"ended (\d+) (.*)\n")
+_ENDED = re.compile(rb"ended ([0-9]{1,3}) (.*)\n")
 # Where nobody says how many jobs a machine takes, it may be as many: each is to have some logins.
 _PLACES_OF_A_MACHINE = 64
 
