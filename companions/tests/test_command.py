@@ -13,6 +13,7 @@ from tests import run_here, support
 # More than a pipe holds, as a page, as JSON and as problems.
 REPORT = b"problem 1\ntitle: A title\n#1\nplay\n1.Ra1-a8#\nsolutions: 1\n\n" * 2_000
 PROBLEM = b"BeginProblem\nPieces White Kg6 Ra1 Black Kg8\nStipulation #1\nEndProblem\n"
+OF_THE_PROBLEM = b"problem 1\n#1\nplay\n1.Ra1-a8#\nsolutions: 1\n\n"
 # Each companion with a missing file, `@`, for each thing that it reads; others begin with `@`.
 MISSING = (
     ("fen2pop", "-s", "#1", "--file", "@"),
@@ -35,7 +36,7 @@ MISSING = (
     ("pops-page", "--input", "@", "@report"),
     ("pops-sheet", "@"),
     ("pops-sheet", "--report", "@", "@input"),
-    ("pops-sheet", "--report", "@report", "--tries-text", "@", "@input"),
+    ("pops-sheet", "--report", "@own", "--tries-text", "@", "@input"),
     ("pops-test", "@"),
     ("pops-test", "--input", "@", "@report"),
     ("pops-test", "--tries", "@", "@report"),
@@ -110,8 +111,7 @@ class Streams(unittest.TestCase):
         self.assertEqual(len(set(texts.values())), 1, texts)
 
     def test_a_dash_is_standard_input(self) -> None:
-        report = b"problem 1\n#1\nplay\n1.Ra1-a8#\nsolutions: 1\n\n"
-        problem = b"BeginProblem\nPieces White Kg6 Ra1 Black Kg8\nStipulation #1\nEndProblem\n"
+        report, problem = OF_THE_PROBLEM, PROBLEM
         cases: tuple[tuple[str, list[str], bytes], ...] = (
             ("pops2json", [], report),
             ("pops-page", [], report),
@@ -131,7 +131,7 @@ class Streams(unittest.TestCase):
         for companion, *words in MISSING:
             for name in ("missing", "bad\udcff", ""):
                 with self.subTest(companion, words=words, name=name), tempfile.TemporaryDirectory() as room:
-                    for file, text in (("report", REPORT), ("input", PROBLEM)):
+                    for file, text in (("report", REPORT), ("own", OF_THE_PROBLEM), ("input", PROBLEM)):
                         Path(room, file).write_bytes(text)
                     missing = os.path.join(room, name) if name else ""
                     given = [missing if it == "@" else it.replace("@", f"{room}/") for it in words]
