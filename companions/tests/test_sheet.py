@@ -814,7 +814,7 @@ class Command(Case):
         self.assertIn("given.report is no report of pops: line 1: ", refused.error)
 
     def test_a_report_of_more_problems(self) -> None:
-        """It is refused before pops-tries is asked for what the input lacks."""
+        """It is refused before pops-tries runs."""
         report = self.room / "given.report"
         two = OF_THE_MANUAL.replace(b"EndProblem", b"NextProblem") + OF_THE_MANUAL.split(b"\n", 1)[1]
         report.write_bytes(support.run([support.pops()], two).output)
