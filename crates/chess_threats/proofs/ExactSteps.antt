@@ -10,11 +10,11 @@ use Rattle.chess_core.specs.Steps.{gait_of}
 use Rattle.chess_threats.proofs.Barring.{attacked_there, hurdle_is, safe_there}
 
 -- no grasshopper is among the men of an empty word
-pub none_hops : (a : Attackers) → a.grasshoppers ≡ 0 → AreUnhopping a
+pub none_hops : (a : Attackers) → a.squares.grasshoppers ≡ 0 → AreUnhopping a
 none_hops a none = record {
   plain = λ s x i.
       let kind = same_kind-true x.kind Grasshopper in
-      grind (arith, no_hopper, cases_Bool (same_kind x.kind Grasshopper), kind, none_at a.grasshoppers s none, i.on);
+      grind (arith, no_hopper, cases_Bool (same_kind x.kind Grasshopper), kind, none_at a.squares.grasshoppers s none, i.on);
 }
 
 -- for `plain_squares`, where captured men are reborn: a square next to the king without a hurdle

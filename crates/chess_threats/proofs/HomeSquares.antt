@@ -1,5 +1,5 @@
 -- Home squares of captured men, and squares closed to a king.
-use Rattle.chess_threats.proofs.Chess.{AreClosed, AreHomes, AreHomesOf, Bishop, Black, Colour, Grasshopper, Kind, King, Knight, List, Man, Nightrider, Option, Pawn, Position, Queen, Rook, RuleSet, Some, White, agree_below_at, arith, bit_at, bit_or, captures_are_reborn, cases_Bool, eq-eqb, false, false≢true, file_of, is_man, is_of_colour, is_some, is_square, man_on, not, on_left, on_right, other, rank_of, rebirth, rebirth_small, refl, rules, same_kind, side_of, square_at, square_at-is, squares_of, true, word, word_has, ℕ, ◌<◌, ◌==◌, ◌||◌, ◌≡◌, ◌⊎◌}
+use Rattle.chess_threats.proofs.Chess.{AreClosed, AreHomes, AreHomesOf, Bishop, Black, Colour, Kind, King, Knight, List, Man, Option, Pawn, Position, Queen, Rook, RuleSet, Some, White, agree_below_at, arith, bit_at, bit_or, captures_are_reborn, cases_Bool, eq-eqb, false, false≢true, file_of, is_man, is_of_colour, is_some, is_square, man_on, not, on_left, on_right, other, rank_of, rebirth, rebirth_small, refl, rules, same_kind, side_of, square_at, square_at-is, squares_of, true, word, word_has, ℕ, ◌<◌, ◌==◌, ◌||◌, ◌≡◌, ◌⊎◌, ByKind, value_for}
 use Rattle.chess_flights.proofs.Bitboards.{none_on}
 
 -- the words of `homes_of`
@@ -48,15 +48,11 @@ no_homes_are men c k l w are none = record {
       grind (arith, none_on l s none, word_has (λ q. is_man (man_on men q) c k) l s are small, eq-eqb);
 }
 
--- for `home_squares`: all kinds, since a king isn't captured
-pub all_homes : (men : List (Option Man)) (c : Colour) (q r b n p g d : ℕ) → AreHomesOf men c Queen q → AreHomesOf men c Rook r → AreHomesOf men c Bishop b
-    → AreHomesOf men c Knight n → AreHomesOf men c Pawn p → AreHomesOf men c Grasshopper g → AreHomesOf men c Nightrider d
-    → AreHomes men c (bit_or (bit_or (bit_or (bit_or (bit_or (bit_or q r) b) n) p) g) d)
-unfolding rebirth
-all_homes men c q r b n p g d queens rooks bishops knights pawns hoppers riders = record {
-  homes = λ s t z small here mine home.
-      let at = λ (k : Kind) (w : ℕ) (h : AreHomesOf men c k w). h.homes s t z small here mine in
-      grind (arith, on_left, on_right, at _ _ queens, at _ _ rooks, at _ _ bishops, at _ _ knights, at _ _ pawns, at _ _ hoppers, at _ _ riders, home);
+-- for `home_squares`
+pub all_homes : (men : List (Option Man)) (c : Colour) (each : ByKind ℕ) (w : ℕ) → ((k : Kind) → AreHomesOf men c k (value_for each k))
+    → ((k : Kind) (s : ℕ) → (bit_at (value_for each k) s == 1) ≡ true → (bit_at w s == 1) ≡ true) → AreHomes men c w
+all_homes men c each w homes all = record {
+  homes = λ s r z small here mine home. all z.kind r ((homes z.kind).homes s r z small here mine refl home);
 }
 
 -- for `closed_squares`: without Circe

@@ -1,5 +1,5 @@
 -- King attacks, castling squares and the king zone.
-use Rattle.chess_threats.proofs.Chess.{AreAdjacent, AreAttackers, AreCaptureSquares, AreCastlingSquares, AreClosed, AreFree, AreHurdles, AreReached, AreSpringboards, AreHopTargets, AreThreats, AreWeak, Attackers, Bishop, Bool, Colour, KingZone, Grasshopper, IsAttacker, IsCastlingHarmless, IsKingZone, IsHurdle, IsReached, IsRiskAt, IsShut, IsKingAttack, IsKingAttackOf, IsUnhopped, IsWellFormed, IsWhole, Kind, King, List, Man, MayRide, Nightrider, None, Option, Position, Queen, Risk, Rook, RuleSet, KingAttack, Some, White, and_parts, arith, bit_and, bit_at, bit_not, bit_or, corner, eqb-true, every_square_on, false, false_by, false≢true, find_no, has_unmoved, inl, inr, is_fairy, is_man, is_on_some, is_rider, is_square, king_square, king_there, leaps, list_any, list_any-append, man_on, men_on, ne_eqb, occupied_squares, off_left, off_right, on_first, on_left, on_right, or_cases, other, queen_steps, reached_over, reaches_as, refl, rules, side_of, square_is, squares, squares_for, squares_of, straight_steps, true, w64, word, word_has, ℕ, KeepsOne, ◌&&◌, ◌+◌, ◌-◌, ◌<◌, ◌==◌, ◌^◌, ◌||◌, ◌∙◌, ◌≡◌, ◌≢◌, ◌⊎◌}
+use Rattle.chess_threats.proofs.Chess.{AreAdjacent, AreAttackers, AreCaptureSquares, AreCastlingSquares, AreClosed, AreFree, AreHurdles, AreReached, AreSpringboards, AreHopTargets, AreThreats, AreWeak, Attackers, Bishop, Bool, Colour, KingZone, Grasshopper, IsAttacker, IsCastlingHarmless, IsKingZone, IsHurdle, IsReached, IsRiskAt, IsShut, IsKingAttack, IsKingAttackOf, IsUnhopped, IsWellFormed, IsWhole, Kind, King, List, Man, MayRide, Nightrider, None, Option, Position, Queen, Risk, Rook, RuleSet, KingAttack, Some, White, and_parts, arith, bit_and, bit_at, bit_not, bit_or, corner, eqb-true, every_square_on, false, false_by, false≢true, find_no, has_unmoved, inl, inr, moves_on_fairy_lines, is_man, is_on_some, is_rider, is_square, king_square, king_there, leaps, list_any, list_any-append, man_on, men_on, ne_eqb, occupied_squares, off_left, off_right, on_first, on_left, on_right, or_cases, other, queen_steps, reached_over, reaches_as, refl, rules, side_of, square_is, squares, squares_for, squares_of, straight_steps, true, w64, word, word_has, ℕ, KeepsOne, ◌&&◌, ◌+◌, ◌-◌, ◌<◌, ◌==◌, ◌^◌, ◌||◌, ◌∙◌, ◌≡◌, ◌≢◌, ◌⊎◌}
 use Rattle.chess_core.specs.Position.{may_promote}
 use Rattle.chess_flights.specs.ties.Attackers.{is_promotion}
 use Rattle.chess_threats.specs.ties.KingAttack.{AreNeeded}
@@ -10,15 +10,15 @@ use Rattle.chess_flights.proofs.Hurdles.{on_one, reached_is, reached_left, reach
 use Rattle.chess_flights.proofs.Bitboards.{off_denied, denied_on, none_at, none_on, on_both}
 use Rattle.chess_flights.proofs.Fleeing.{on_second}
 use Rattle.chess_threats.proofs.Springboards.{grasshopper_on, unsprung_right}
-use Rattle.chess_threats.proofs.Risks.{weak_left}
+use Rattle.chess_threats.proofs.Risks.{weak_too}
 
 -- for `capture_squares`: no attacker is on a closed square, and none is a hopper
-pub captures_are : (v : KingAttack) (k n : ℕ) → n ≡ word (λ t. list_any (leaps k t) queen_steps) → bit_and v.closed v.enemies ≡ 0 → v.men.grasshoppers ≡ 0
+pub captures_are : (v : KingAttack) (k n : ℕ) → n ≡ word (λ t. list_any (leaps k t) queen_steps) → bit_and v.closed v.enemies ≡ 0 → v.men.squares.grasshoppers ≡ 0
     → AreCaptureSquares v k n
 captures_are v k n near none plain = record {
   next = λ f small on. search (rules, word_has);
   off = λ f s on small enemy. search (rules, false_by, none_at (bit_and v.closed v.enemies), on_both);
-  plain = λ f s z on i. search (rules, false_by, none_at v.men.grasshoppers, grasshopper_on);
+  plain = λ f s z on i. search (rules, false_by, none_at v.men.squares.grasshoppers, grasshopper_on);
 }
 
 -- for fewer squares next to the king
@@ -44,7 +44,7 @@ springs_are v k n s j b near own landings = search (rules, fewer_adjacent, on_le
 pub field_is : (v : KingAttack) (k c r b l w : ℕ) (i : HopTargets) → AreHopTargets v k i → v.hurdles < 2 ^ 64
     → ((men : List (Option Man)) → v.hurdles ≡ occupied_squares men → r ≡ word (reaches_as men White Rook k))
     → ((men : List (Option Man)) → v.hurdles ≡ occupied_squares men → b ≡ word (reaches_as men White Bishop k))
-    → (v.men.nightriders ≢ 0 → (c : Colour) → IsReached v.hurdles (record { colour = c; kind = Nightrider }) k l)
+    → (v.men.squares.nightriders ≢ 0 → (c : Colour) → IsReached v.hurdles (record { colour = c; kind = Nightrider }) k l)
     → AreCaptureSquares v k c → ArePromotions v.men.colour v.men.fairy_promotions k w
     → IsKingZone v (record {
       king = k;
@@ -79,16 +79,16 @@ field_is v k c r b l w i hop_targets hurdles rook bishop riders captures promoti
   by c Nightrider may = reached_right v.hurdles _ k (bit_or r b) l (riders (may.1 refl) c)
   by c _ may = absurd (false≢true may.0)
 
-plain_among : (a : Attackers) (s : ℕ) (x : Man) → IsAttacker a x s → (bit_or a.grasshoppers a.nightriders == 0) ≡ true → is_fairy x.kind ≡ false
+plain_among : (a : Attackers) (s : ℕ) (x : Man) → IsAttacker a x s → (bit_or a.squares.grasshoppers a.squares.nightriders == 0) ≡ true → moves_on_fairy_lines x.kind ≡ false
 plain_among a s x i none = by x.kind i.on where
-  by : (k : Kind) → (bit_at (squares_for a k) s == 1) ≡ true → is_fairy k ≡ false
-  by Grasshopper on = absurd (none_on _ s none (on_left a.grasshoppers a.nightriders s on))
-  by Nightrider on = absurd (none_on _ s none (on_right a.grasshoppers a.nightriders s on))
+  by : (k : Kind) → (bit_at (squares_for a k) s == 1) ≡ true → moves_on_fairy_lines k ≡ false
+  by Grasshopper on = absurd (none_on _ s none (on_left a.squares.grasshoppers a.squares.nightriders s on))
+  by Nightrider on = absurd (none_on _ s none (on_right a.squares.grasshoppers a.squares.nightriders s on))
   by _ on = refl
 
 -- for `castling_is_harmless`, by the words of rooks and kings
 pub harmless_castling : (v : KingAttack) (g : KingZone) (l : ℕ) → l ≡ word (is_on_some straight_steps g.king)
-    → (v.castled == 0 || ((bit_and l v.castled == 0 && bit_and g.lines v.men.kings == 0) && bit_or v.men.grasshoppers v.men.nightriders == 0)) ≡ true
+    → (v.castled == 0 || ((bit_and l v.castled == 0 && bit_and g.lines v.men.squares.kings == 0) && bit_or v.men.squares.grasshoppers v.men.squares.nightriders == 0)) ≡ true
     → IsCastlingHarmless v g
 harmless_castling v g l lines h = elim (or_cases _ _ h) [
   | inl none ↦ record {
@@ -101,7 +101,7 @@ harmless_castling v g l lines h = elim (or_cases _ _ h) [
       record {
         rooks = λ q small on. false_by _ (λ y. none_on (bit_and l v.castled) q both.0
             (on_both l v.castled q (word_has (is_on_some straight_steps g.king) l q lines small ∙ y) on));
-        kings = λ q s small on king. false_by _ (λ y. none_on (bit_and g.lines v.men.kings) s both.1 (on_both g.lines v.men.kings s y king));
+        kings = λ q s small on king. false_by _ (λ y. none_on (bit_and g.lines v.men.squares.kings) s both.1 (on_both g.lines v.men.squares.kings s y king));
         fairies = λ q s x on i. plain_among v.men s x i (and_parts _ _ all).1;
       }
 ]
@@ -118,7 +118,7 @@ risk_is v k g r o king king_zone castling all free only fits = record {
   lines = λ a b small critical off. off_right r.lines g.lines a off;
   unsprung = λ b small off. record { springboards = _; are = king_zone.hop_targets.own; free = rw king free; within = λ h on. on };
   hops = λ b small off ne. search (rules, denied_on, eqb-true, false_by, off_right, king, word_has);
-  weak = λ s x i. weak_left v g r (record { critical = bit_and g.hops (bit_not w64 o); lines = g.lines }) s x (all.weak s x i);
+  weak = λ s x i. weak_too v g r _ s x (off_left r.critical _) (off_left r.lines g.lines) (all.weak s x i);
 }
 
 -- with the lines of all riders
@@ -200,7 +200,7 @@ king_castles_to p c k long short king far near well =
 -- for `king_attack_of`
 pub king_attack_fits : (rule : RuleSet) (p : Position) (v : KingAttack) → v.men.colour ≡ other p.turn → king_square p.men p.turn ≡ Some v.king
     → v.own ≡ side_of p.men p.turn
-    → v.enemies ≡ side_of p.men v.men.colour → AreAttackers p.men v.men → v.men.kings ≡ squares_of p.men v.men.colour King
+    → v.enemies ≡ side_of p.men v.men.colour → AreAttackers p.men v.men → v.men.squares.kings ≡ squares_of p.men v.men.colour King
     → AreCastlingSquares p v.men.colour v.castled → AreClosed rule p v.closed
     → ((k : Kind) → may_promote p k ≡ true → is_promotion v.men.fairy_promotions k ≡ true) → IsKingAttackOf rule p v
 unfolding squares_of

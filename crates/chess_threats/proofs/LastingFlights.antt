@@ -1,16 +1,16 @@
 -- Flights that one move can't take.
-use Rattle.chess_threats.proofs.Chess.{AreApproached, AreAttackers, AreGuarded, AreNear, Attackers, Bishop, Colour, Grasshopper, IfSome, IsAttacker, IsLeft, IsMade, IsWellFormed, KeepsOne, Kind, King, Knight, LeaveOne, Man, Move, Nightrider, Option, Pawn, Position, Queen, Rook, RuleSet, Some, [], after_well_formed, all_triples, and_parts, arith, arrival_needed, arrived, arriving_colour, arriving_man, bit_and, bit_at, bit_not, bit_or, captures_are_reborn, cases_Bool, castle_of, eq-eqb, eqb-true, every_square_on, false, false_by, false_from_ne_true, false≢true, find, find_first, inl, inr, is_arrival_free, is_castling, is_promoting, is_pseudo_legal, is_square, king_after, king_is_after, king_square, length, made, maker, man_on, mates, mates_after, may_go_aimed, off_left, off_right, off_zero, on_board, on_first, on_left, on_right, or_lt, other, other_twice, position_after, range_with_len, reaches_as, refl, rules, same_colour-refl, same_kind, same_kind-true, simple_after, subst, sym, triple_at, true, w64, word, word_has, ℕ, ◌<◌, ◌==◌, ◌^◌, ◌∙◌, ◌≡◌, ◌≢◌}
+use Rattle.chess_threats.proofs.Chess.{AreApproached, AreAttackers, AreGuarded, AreNear, Attackers, Bishop, Colour, IfSome, IsAttacker, IsLeft, IsMade, IsWellFormed, KeepsOne, Kind, King, LeaveOne, Man, Move, Option, Pawn, Position, Rook, RuleSet, Some, [], after_well_formed, all_triples, and_parts, arith, arrival_needed, arrived, arriving_colour, arriving_man, bit_and, bit_at, bit_not, bit_or, captures_are_reborn, cases_Bool, castle_of, eq-eqb, eqb-true, every_square_on, false, false_by, false_from_ne_true, false≢true, find, find_first, inl, inr, is_arrival_free, is_castling, is_promoting, is_pseudo_legal, is_square, king_after, king_is_after, king_square, length, made, maker, man_on, mates, mates_after, may_go_aimed, off_left, off_right, off_zero, on_board, on_first, on_left, on_right, or_lt, other, other_twice, position_after, range_with_len, reaches_as, refl, rules, same_colour-refl, same_kind, same_kind-true, simple_after, subst, sym, triple_at, true, w64, word, word_has, ℕ, ◌<◌, ◌==◌, ◌^◌, ◌∙◌, ◌≡◌, ◌≢◌, ByKind, value_for}
 use Rattle.chess_flights.proofs.Becoming.{becomes, counted_left, promotes_still}
 use Rattle.chess_flights.proofs.KindByKind.{HoldsOf, man_is, of_all, of_kind}
 use Rattle.chess_core.specs.Position.{may_promote}
 use Rattle.chess_flights.specs.ties.Attackers.{is_promotion}
 use Rattle.chess_threats.specs.declared.lasting_flights.OpenTargets.{OpenTargets}
-use Rattle.chess_threats.specs.ties.LastingFlights.{AreOpenTargets, AreTargets, LeavesOne, targets_for}
+use Rattle.chess_threats.specs.ties.LastingFlights.{AreKindTargets, AreOpenTargets, AreTargets, AreTargetsOf, LeavesOne}
 use Rattle.chess_flights.specs.ties.Approaches.{counts_as}
 use Rattle.chess_rules.proofs.listing_moves.OpenBoard.{piece_targets}
 use Rattle.chess_attacks.specs.ties.Lines.{AreReached}
 use Rattle.chess_rules.specs.ties.Targets.{may_arrive}
-use Rattle.chess_flights.proofs.Promotions.{last_rank_on}
+use Rattle.chess_flights.proofs.Promotions.{last_rank_on, promotes_on}
 use Rattle.chess_flights.proofs.Bitboards.{off_denied, on_both}
 use Rattle.chess_flights.proofs.Fleeing.{IsKingOn, king_waits, no_mate_with_flight, step_to}
 use Rattle.chess_rules.proofs.listing_moves.Places.{met_after-end, met_after-none}
@@ -33,99 +33,61 @@ pub targets_right : (x : Man) (s a b : ℕ) → ((p : Position) (t : ℕ) → t 
     → AreTargets x s (bit_or a b)
 targets_right x s a b h = record { inside = λ p t small may. on_right a b t (h p t small may) }
 
--- for `all_open_targets`
-pub all_guard : (a : Attackers) (k q r b n p g y : ℕ) → HoldsOf a (λ x s. AreReached x s k) King → HoldsOf a (λ x s. AreReached x s q) Queen
-    → HoldsOf a (λ x s. AreReached x s r) Rook → HoldsOf a (λ x s. AreReached x s b) Bishop → HoldsOf a (λ x s. AreReached x s n) Knight
-    → HoldsOf a (λ x s. AreReached x s p) Pawn → HoldsOf a (λ x s. AreReached x s g) Grasshopper → HoldsOf a (λ x s. AreReached x s y) Nightrider
-    → AreGuarded a (bit_or (bit_or (bit_or (bit_or (bit_or (bit_or (bit_or k q) r) b) n) p) g) y)
-all_guard a k q r b n p g y kings queens rooks bishops knights pawns grasshoppers nightriders =
-    let words = bit_or (bit_or (bit_or (bit_or (bit_or (bit_or (bit_or k q) r) b) n) p) g) y in
-    record { guards = search (rules, of_all a (λ x s. AreReached x s words), reached_left, reached_right) depth 12 }
+-- a promoted man counts as one to which a pawn promotes, and that counts as itself
+counts_once : (b : Bool) (k : Kind) → is_promotion b k ≡ true → (counts_as (counts_as k) ≡ counts_as k) × (is_promotion b (counts_as k) ≡ true)
+counts_once b Rook may = (refl, refl)
+counts_once b Bishop may = (refl, refl)
+counts_once b k may = (refl, may)
 
--- the targets, from what each kind reaches and the squares to which kings, knights and pawns go
-abbrev reported : ℕ → ℕ → ℕ → ℕ → ℕ → ℕ → ℕ → ℕ → ℕ → ℕ → OpenTargets
-reported k q r b h p g y f w = record {
-  kings = k;
-  queens = bit_or q (bit_and p 18374686479671623935);
-  rooks = r;
-  bishops = b;
-  knights = h;
-  pawns = p;
-  grasshoppers = bit_or g f;
-  nightriders = bit_or y f;
-  guarded = w;
-}
+-- for `KindTargets`: a pawn's are its advances, and nothing promotes to a king or pawn
+module _ (a : Attackers) (p : ℕ) where
+  pub unpromoting : (k : Kind) (r w : ℕ) → is_promotion a.fairy_promotions k ≡ false → AreTargetsOf a k w → AreKindTargets a p k r w
+  unpromoting k r w never are = record { inside = λ reached. are; promoted = λ same may. absurd (false≢true (sym never ∙ may)) }
 
-module _ (a : Attackers) where
-  -- for a kind other than pawn and king the targets are what it reaches, and more
-  piece_targets_of : (k : Kind) (w v : ℕ) → same_kind k Pawn ≡ false → same_kind k King ≡ false → HoldsOf a (λ x s. AreReached x s w) k
-      → HoldsOf a (λ x s. AreTargets x s (bit_or w v)) k
-  piece_targets_of k w v none piece h s small on = record {
-    inside = λ p t low may. on_left w v t (piece_targets p (record { colour = a.colour; kind = k }) s t w low may (h s small on) none piece);
+  -- a piece's are what it reaches
+  pub reached_targets : (k : Kind) (r : ℕ) → same_kind k Pawn ≡ false → same_kind k King ≡ false
+      → (counts_as k ≡ k → is_promotion a.fairy_promotions k ≡ false) → AreKindTargets a p k r r
+  reached_targets k r piece mortal never = record {
+    inside = λ reached s small on. record { inside = λ v t low may. piece_targets v _ s t r low may (reached s small on) piece mortal };
+    promoted = λ same may. absurd (false≢true (sym (never same) ∙ may));
   }
 
-  -- without more
-  plain_targets_of : (k : Kind) (w : ℕ) → same_kind k Pawn ≡ false → same_kind k King ≡ false → HoldsOf a (λ x s. AreReached x s w) k
-      → HoldsOf a (λ x s. AreTargets x s w) k
-  plain_targets_of k w none piece h s small on = record {
-    inside = λ p t low may. piece_targets p (record { colour = a.colour; kind = k }) s t w low may (h s small on) none piece;
+  -- and the squares where a pawn promotes
+  pub promoting_targets : (k : Kind) (r : ℕ) → same_kind k Pawn ≡ false → same_kind k King ≡ false
+      → AreKindTargets a p k r (bit_or r (bit_and p 18374686479671623935))
+  promoting_targets k r piece mortal = record {
+    inside = λ reached s small on. record {
+      inside = λ v t low may. on_left r _ t (piece_targets v _ s t r low may (reached s small on) piece mortal);
+    };
+    promoted = λ same may x t low goes on. on_right r _ t (on_both p 18374686479671623935 t on (promotes_on x t low goes));
   }
 
-  -- for `all_open_targets`: the squares of the last ranks to which pawns go also count for what they become
-  pub are_open_targets : (k q r b n h p g y f w : ℕ) → AreGuarded a w → HoldsOf a (λ x s. AreTargets x s k) King → HoldsOf a (λ x s. AreReached x s q) Queen
-      → HoldsOf a (λ x s. AreReached x s r) Rook → HoldsOf a (λ x s. AreReached x s b) Bishop → HoldsOf a (λ x s. AreReached x s n) Knight
-      → HoldsOf a (λ x s. AreTargets x s p) Pawn → HoldsOf a (λ x s. AreReached x s g) Grasshopper → HoldsOf a (λ x s. AreReached x s y) Nightrider
-      → h ≡ bit_or n (bit_and p 18374686479671623935) → (a.fairy_promotions ≡ true → f ≡ bit_and p 18374686479671623935)
-      → AreOpenTargets a (reported k q r b h p g y f w)
-  are_open_targets k q r b n h p g y f w guards kings queens rooks bishops knights pawns grasshoppers nightriders knights_too fairies = record {
-    guards = guards;
-    targets = of_all a (λ x s. AreTargets x s (targets_for (reported k q r b h p g y f w) x.kind)) kings (piece_targets_of Queen q _ refl refl queens)
-        (plain_targets_of Rook r refl refl rooks) (plain_targets_of Bishop b refl refl bishops) knights_go pawns
-        (piece_targets_of Grasshopper g f refl refl grasshoppers) (piece_targets_of Nightrider y f refl refl nightriders);
+  -- for `all_open_targets`
+  pub are_open_targets : (r o : ByKind ℕ) (w : ℕ) → ((k : Kind) → HoldsOf a (λ x s. AreReached x s (value_for r k)) k) → AreTargetsOf a Pawn p
+      → ((k : Kind) → AreKindTargets a p k (value_for r k) (value_for o k))
+      → ((k : Kind) (s : ℕ) → (bit_at (value_for r k) s == 1) ≡ true → (bit_at w s == 1) ≡ true) → AreOpenTargets a (record { squares = o; guarded = w })
+  are_open_targets r o w reached advances each all = record {
+    guards = record {
+      guards = of_all a (λ x s. AreReached x s w) (λ k s small on. record { inside = λ men t low h. all k t ((reached k s small on).inside men t low h) });
+    };
+    targets = of_all a (λ x s. AreTargets x s (value_for o x.kind)) (λ k. (each k).inside (reached k));
     promoted = λ s x i. record {
       inside = λ v z t low may last become.
           let pawn = same_kind-true x.kind Pawn (and_parts _ _ last).0 in
-          let goes = (of_kind a (λ x s. AreTargets x s p) Pawn s x pawns i pawn).inside v t low may in
-          by z.kind t (on_both p 18374686479671623935 t goes (last_rank_on x.colour t low (and_parts _ _ last).1)) (become.promoted last);
+          let goes = (of_kind a (λ x s. AreTargets x s p) Pawn s x advances i pawn).inside v t low may in
+          let counted = counts_once a.fairy_promotions z.kind (become.promoted last) in
+          (each (counts_as z.kind)).promoted counted.0 counted.1 x t low last goes;
     };
-  } where
-    knights_go : HoldsOf a (λ x s. AreTargets x s h) Knight
-    knights_go = rw knights_too (piece_targets_of Knight n _ refl refl knights)
-
-    by : (j : Kind) (t : ℕ) → (bit_at (bit_and p 18374686479671623935) t == 1) ≡ true → is_promotion a.fairy_promotions j ≡ true
-        → (bit_at (targets_for (reported k q r b h p g y f w) (counts_as j)) t == 1) ≡ true
-    by Queen t on may = on_right q _ t on
-    by Rook t on may = on_right q _ t on
-    by Bishop t on may = on_right q _ t on
-    by Knight t on may = let here : (bit_at h t == 1) ≡ true = rw knights_too (on_right n _ t on) in here
-    by Grasshopper t on may = on_right g f t (rw (fairies may) on)
-    by Nightrider t on may = on_right y f t (rw (fairies may) on)
-    by _ t on may = absurd (false≢true may)
+  }
 
 -- for `unknown`: all squares
-abbrev all_at_once : ℕ → OpenTargets
-all_at_once w = record {
-  kings = w;
-  queens = w;
-  rooks = w;
-  bishops = w;
-  knights = w;
-  pawns = w;
-  grasshoppers = w;
-  nightriders = w;
-  guarded = w;
-}
-
-all_for : (w : ℕ) (k : Kind) → targets_for (all_at_once w) k ≡ w
-all_for w k = grind arith
-
-pub unknown_targets : (a : Attackers) (w : ℕ) → w ≡ bit_not w64 0 → AreOpenTargets a (all_at_once w)
-unknown_targets a w all =
+pub unknown_targets : (a : Attackers) (o : ByKind ℕ) (w : ℕ) → w ≡ bit_not w64 0 → ((k : Kind) → value_for o k ≡ w) → AreOpenTargets a (record { squares = o; guarded = w })
+unknown_targets a o w all each =
     let on : (t : ℕ) → t < 64 → (bit_at w t == 1) ≡ true = search (rules, every_square_on, all) in
     record {
       guards = record { guards = λ s x i. record { inside = λ men t low r. on t low } };
-      targets = λ s x i. record { inside = λ p t low may. rw (all_for w x.kind) (on t low) };
-      promoted = λ s x i. record { inside = λ p z t low may last become. rw (all_for w (counts_as z.kind)) (on t low) };
+      targets = λ s x i. record { inside = λ p t low may. rw (each x.kind) (on t low) };
+      promoted = λ s x i. record { inside = λ p z t low may last become. rw (each (counts_as z.kind)) (on t low) };
     }
 
 -- for targets off the last ranks: no pawn promotes there
@@ -160,35 +122,23 @@ untaken_left w a o f t x are only fits on small off =
     search (rules, apart, are.inside, off_left a o t off, false_from_ne_true, false≢true)
 
 -- for `leave_one`: men that don't castle and leave one square wherever a kind's targets are
-module _ (a : Attackers) (o : OpenTargets) (w : ℕ) (are : AreOpenTargets a o) where
-  abbrev LeavesOneOf : Kind → Type 0
-  LeavesOneOf k = (t : ℕ) → t < 64 → (bit_at (targets_for o k) t == 1) ≡ true → (f : ℕ) × IsLeft w (record { colour = a.colour; kind = k }) t f
-
-  pub all_leave : ((s : ℕ) → (bit_at a.kings s == 1) ≡ true → (s ≢ 4) × (s ≢ 60)) → LeavesOneOf King → LeavesOneOf Queen → LeavesOneOf Rook
-      → LeavesOneOf Bishop → LeavesOneOf Knight → LeavesOneOf Pawn → LeavesOneOf Grasshopper → LeavesOneOf Nightrider → LeaveOne a w
-  all_leave away kings queens rooks bishops knights pawns grasshoppers nightriders = record {
-    leaves = λ s x i. record {
-      left = λ p z t low may become. elim (cases_Bool (is_promoting x t)) [
-        | inl last ↦
-            let one = by (counts_as z.kind) t low ((are.promoted s x i).inside p z t low may last become) in
-            let mine = sym (become.mine ∙ i.mine) in
-            (one.0, counted_left w t one.0 z (subst (λ (c : Colour). IsLeft w (record { colour = c; kind = counts_as z.kind }) t one.0) mine one.1))
-        | inr stays ↦
-            let one = by x.kind t low ((are.targets s x i).inside p t low may) in
-            (one.0, subst (λ (y : Man). IsLeft w y t one.0) (man_is z a.colour x.kind (become.mine ∙ i.mine) (become.same stays)) one.1)
-      ];
-      away = λ king. away s (rw (same_kind-true x.kind King king) at i.on);
-    };
-  } where
-    by : (k : Kind) → LeavesOneOf k
-    by King = kings
-    by Queen = queens
-    by Rook = rooks
-    by Bishop = bishops
-    by Knight = knights
-    by Pawn = pawns
-    by Grasshopper = grasshoppers
-    by Nightrider = nightriders
+pub all_leave : (a : Attackers) (o : OpenTargets) (w : ℕ) → AreOpenTargets a o → ((s : ℕ) → (bit_at a.squares.kings s == 1) ≡ true → (s ≢ 4) × (s ≢ 60))
+    → ((k : Kind) (t : ℕ) → t < 64 → (bit_at (value_for o.squares k) t == 1) ≡ true → (f : ℕ) × IsLeft w (record { colour = a.colour; kind = k }) t f)
+    → LeaveOne a w
+all_leave a o w are away each = record {
+  leaves = λ s x i. record {
+    left = λ p z t low may become. elim (cases_Bool (is_promoting x t)) [
+      | inl last ↦
+          let one = each (counts_as z.kind) t low ((are.promoted s x i).inside p z t low may last become) in
+          let mine = sym (become.mine ∙ i.mine) in
+          (one.0, counted_left w t one.0 z (subst (λ (c : Colour). IsLeft w (record { colour = c; kind = counts_as z.kind }) t one.0) mine one.1))
+      | inr stays ↦
+          let one = each x.kind t low ((are.targets s x i).inside p t low may) in
+          (one.0, subst (λ (y : Man). IsLeft w y t one.0) (man_is z a.colour x.kind (become.mine ∙ i.mine) (become.same stays)) one.1)
+    ];
+    away = λ king. away s (rw (same_kind-true x.kind King king) at i.on);
+  };
+}
 
 -- for `keeps_one`: the squares that nobody guards can't all be taken
 pub keeps_one : (a : Attackers) (w g : ℕ) → g < 2 ^ 64 → AreGuarded a g → LeaveOne a (bit_and w (bit_not w64 g)) → KeepsOne a w

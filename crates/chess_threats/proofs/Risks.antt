@@ -1,8 +1,8 @@
 -- Bitboards of risks: where a defender's arrival might allow mate.
-use Rattle.chess_threats.proofs.Chess.{AreApproached, AreApproaches, AreArrivals, AreGuardsWithout, AreWeak, Bishop, Colour, KingZone, Grasshopper, IsCheckWord, IsHarmless, IsNoCheck, IsReached, IsUnguarded, IsWeak, Kind, King, Knight, List, Man, Nightrider, Option, Pawn, Position, Queen, Risk, Rook, KingAttack, ap, arith, bit_and, bit_at, bit_or, false, false_by, false≢true, gait_of, inl, is_hopper, king_is_no_pawn, may_arrive, no_pawn_arrives, not, occupied_squares, off_left, off_right, other, reaches_as, refl, rules, same_kind, same_kind-true, squares, squares_for, sym, true, true_from_ne_false, word, ℕ, IsArrival, ◌<◌, ◌==◌, ◌^◌, ◌∙◌, ◌≡◌}
+use Rattle.chess_threats.proofs.Chess.{AreApproached, AreApproaches, AreArrivals, AreGuardsWithout, AreWeak, Colour, KingZone, Grasshopper, IsCheckWord, IsHarmless, IsNoCheck, IsReached, IsUnguarded, IsWeak, Kind, King, List, Man, Option, Pawn, Position, Risk, KingAttack, ap, arith, bit_and, bit_at, bit_or, false, false_by, false≢true, gait_of, inl, is_hopper, king_is_no_pawn, may_arrive, no_pawn_arrives, not, occupied_squares, off_left, off_right, other, reaches_as, refl, rules, same_kind, same_kind-true, squares, sym, true, true_from_ne_false, word, ℕ, IsArrival, ◌<◌, ◌==◌, ◌^◌, ◌∙◌, ◌≡◌, ByKind, value_for}
 use Rattle.chess_threats.specs.declared.guards_without.Guards.{Guards}
 use Rattle.chess_flights.proofs.Hurdles.{on_one, reached_is}
-use Rattle.chess_flights.proofs.KindByKind.{man_is, of_all}
+use Rattle.chess_flights.proofs.KindByKind.{HoldsOf, man_is, of_all}
 use Rattle.chess_flights.proofs.Bitboards.{on_both, none_at, none_on}
 use Rattle.chess_flights.proofs.Standing.{no_hopper}
 
@@ -55,10 +55,6 @@ pawn_idly v g checks x s w pawn before small off none =
     idly v g checks _ x s (λ t i. pawn_targets x g checks t
     (grind (arith, false_by, joined t, none_at, idle, come.approach i.position s t small i.small i.goes))) (off_left g.lines w s off)
 
--- risks together
-abbrev Both : Risk → Risk → Risk
-Both q r = record { critical = bit_or q.critical r.critical; lines = bit_or q.lines r.lines }
-
 -- for men that are harmless and give no check now
 pub weak_is : (v : KingAttack) (g : KingZone) (r : Risk) (x : Man) (checks s : ℕ) → IsCheckWord v.hurdles g.king x checks
     → (is_hopper (gait_of x.kind) ≡ false → (bit_at checks s == 1) ≡ false) → IsHarmless v g checks r x s → IsWeak v g r x s
@@ -89,21 +85,26 @@ check_lines d k w x j kind plain h = record {
 pub check_hops : (d k w : ℕ) (x : Man) → same_kind x.kind Grasshopper ≡ true → AreApproached x k w → IsCheckWord d k x w
 check_hops d k w x kind are = search (rules, same_kind-true)
 
--- each attacker, kind by kind
 module _ (v : KingAttack) (g : KingZone) where
-  abbrev WeakAs : Kind → Risk → Type 0
-  WeakAs j r = (s : ℕ) → s < 64 → (bit_at (squares_for v.men j) s == 1) ≡ true → IsWeak v g r (record { colour = v.men.colour; kind = j }) s
-
-  -- risks that are joined
-  pub weak_left : (q r : Risk) (s : ℕ) (x : Man) → IsWeak v g q x s → IsWeak v g (Both q r) x s
-  weak_left q r s x h = record { weak = λ a b low small off. h.weak a b low small (search (rules, off_left, off.lines, off.critical)) }
-
-  weak_right : (q r : Risk) (s : ℕ) (x : Man) → IsWeak v g r x s → IsWeak v g (Both q r) x s
-  weak_right q r s x h = record { weak = λ a b low small off. h.weak a b low small (search (rules, off_right, off.lines, off.critical)) }
+  -- for a greater risk
+  pub weak_too : (q r : Risk) (s : ℕ) (x : Man) → ((t : ℕ) → (bit_at r.critical t == 1) ≡ false → (bit_at q.critical t == 1) ≡ false)
+      → ((t : ℕ) → (bit_at r.lines t == 1) ≡ false → (bit_at q.lines t == 1) ≡ false) → IsWeak v g q x s → IsWeak v g r x s
+  weak_too q r s x critical lines h = record {
+    weak = λ a b low small off. h.weak a b low small (record { lines = λ on. lines a (off.lines on); critical = critical b off.critical });
+  }
 
   -- for `risk_of_all`
-  pub all_weak : (K Q R B N P G Y : Risk) → WeakAs King K → WeakAs Queen Q → WeakAs Rook R → WeakAs Bishop B → WeakAs Knight N → WeakAs Pawn P
-      → WeakAs Grasshopper G → WeakAs Nightrider Y → AreWeak v g (Both (Both (Both (Both (Both (Both (Both K Q) R) B) N) P) G) Y)
-  all_weak K Q R B N P G Y kings queens rooks bishops knights pawns grasshoppers nightriders =
-      let W : Man → ℕ → Type 0 = λ x s. IsWeak v g (Both (Both (Both (Both (Both (Both (Both K Q) R) B) N) P) G) Y) x s in
-      record { weak = search (of_all v.men W, weak_left, weak_right, kings, queens, rooks, bishops, knights, pawns, grasshoppers, nightriders) depth 14 }
+  pub all_weak : (risks : ByKind Risk) (c l : ByKind ℕ) (critical lines : ℕ)
+      → ((k : Kind) → HoldsOf v.men (λ x s. IsWeak v g (value_for risks k) x s) k)
+      → ((k : Kind) → value_for c k ≡ (value_for risks k).critical) → ((k : Kind) → value_for l k ≡ (value_for risks k).lines)
+      → ((k : Kind) (s : ℕ) → (bit_at (value_for c k) s == 1) ≡ true → (bit_at critical s == 1) ≡ true)
+      → ((k : Kind) (s : ℕ) → (bit_at (value_for l k) s == 1) ≡ true → (bit_at lines s == 1) ≡ true)
+      → AreWeak v g (record { critical = critical; lines = lines })
+  all_weak risks c l critical lines each of_c of_l all_c all_l =
+      let off = λ (w u t : ℕ) (more : (bit_at w t == 1) ≡ true → (bit_at u t == 1) ≡ true) (out : (bit_at u t == 1) ≡ false).
+          false_by (bit_at w t == 1) (λ on. false≢true (sym out ∙ more on)) in
+      record {
+        weak = of_all v.men (λ x s. IsWeak v g (record { critical = critical; lines = lines }) x s) (λ k s small on.
+            weak_too (value_for risks k) (record { critical = critical; lines = lines }) s _ (λ t. rw (← of_c k) (off _ critical t (all_c k t)))
+            (λ t. rw (← of_l k) (off _ lines t (all_l k t))) (each k s small on));
+      }

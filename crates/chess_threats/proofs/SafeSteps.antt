@@ -1,5 +1,5 @@
 -- King's steps after which no attacker that checks takes all flights.
-use Rattle.chess_threats.proofs.Chess.{AreAdjacent, AreGuardsWithout, AreReached, Attackers, Bishop, Colour, Grasshopper, IsArrival, IsAttacker, IsCastlingHarmless, IsKingZone, IsFlight, IsLeft, IsNear, IsRiskAt, IsSafeStep, IsSparedStep, IsUnguarded, IsWeak, KeepsFlight, Kind, King, KingAttack, KingZone, Knight, Man, Nightrider, Pawn, Queen, Risk, Rook, RuleSet, Some, ap, arith, bit_and, bit_at, bit_not, bit_or, cases_Bool, eq-eqb, eqb-true, every_square_on, false, false_by, false≢true, gait_of, inl, inr, is_hopper, is_leaper, is_promoting, is_rider, is_square, men_on, not, not-false, off_left, off_right, off_zero, on_first, on_left, on_right, or_lt, other, reached_over, reaches_back, refl, same_kind, subst, sym, true, w64, word, word_has, ℕ, ◌<◌, ◌==◌, ◌^◌, ◌∙◌, ◌≡◌, ◌≢◌, ◌⊎◌}
+use Rattle.chess_threats.proofs.Chess.{AreAdjacent, AreGuardsWithout, AreReached, Colour, IsArrival, IsAttacker, IsCastlingHarmless, IsKingZone, IsFlight, IsLeft, IsNear, IsRiskAt, IsSafeStep, IsSparedStep, IsUnguarded, IsWeak, KeepsFlight, Kind, King, KingAttack, KingZone, Man, Risk, RuleSet, Some, ap, arith, bit_and, bit_at, bit_not, bit_or, cases_Bool, eq-eqb, eqb-true, every_square_on, false, false_by, false≢true, gait_of, inl, inr, is_hopper, is_leaper, is_promoting, is_rider, is_square, men_on, not, not-false, off_left, off_right, off_zero, on_first, or_lt, other, reached_over, reaches_back, refl, same_kind, subst, sym, true, w64, word, word_has, ℕ, ◌<◌, ◌==◌, ◌^◌, ◌∙◌, ◌≡◌, ◌≢◌, ◌⊎◌, value_for}
 use Rattle.chess_threats.specs.declared.lasting_flights.OpenTargets.{OpenTargets}
 use Rattle.chess_flights.specs.ties.Attackers.{is_promotion}
 use Rattle.chess_threats.specs.ties.KingAttack.{IsMild, AreChecksMet, AreGuardsThrough, ArePlainAttackers, AreUnhopping, IsCalm, IsCheckMet}
@@ -14,17 +14,9 @@ use Rattle.chess_flights.proofs.KindByKind.{man_is, of_all}
 use Rattle.chess_threats.proofs.Risks.{king_targets}
 use Rattle.chess_threats.proofs.Springboards.{landing_anywhere, none_sprung}
 
--- for `squares_of_all`: each attacker's square is one of its kind's
-pub all_on : (a : Attackers) (s : ℕ) (x : Man) → IsAttacker a x s
-    → (bit_at (bit_or (bit_or (bit_or (bit_or (bit_or (bit_or (bit_or a.kings a.queens) a.rooks) a.bishops) a.knights) a.pawns) a.grasshoppers) a.nightriders) s == 1) ≡ true
-all_on a s x i =
-    let w = bit_or (bit_or (bit_or (bit_or (bit_or (bit_or (bit_or a.kings a.queens) a.rooks) a.bishops) a.knights) a.pawns) a.grasshoppers) a.nightriders in
-    let P : Man → ℕ → Type 0 = λ x s. (bit_at w s == 1) ≡ true in
-    let each : (s : ℕ) (x : Man) → IsAttacker a x s → P x s = search (of_all a P, on_left, on_right) depth 12 in
-    each s x i
-
 -- for `guards_through`
-pub guards_through_are : (v : KingAttack) (n r l : ℕ) → n < 2 ^ 64 → ((s : ℕ) (x : Man) → IsAttacker v.men x s → (bit_at n s == 1) ≡ true)
+pub guards_through_are : (v : KingAttack) (n r l : ℕ) → n < 2 ^ 64
+    → ((k : Kind) (s : ℕ) → (bit_at (value_for v.men.squares k) s == 1) ≡ true → (bit_at n s == 1) ≡ true)
     → AreReached (bit_and v.hurdles (bit_not w64 n)) v.men (bit_not w64 0) is_rider r
     → AreReached (bit_and v.hurdles (bit_not w64 n)) v.men (bit_not w64 0) is_leaper l → AreGuardsThrough v (bit_or r l)
 unfolding reached_over
@@ -33,7 +25,7 @@ guards_through_are v n r l fits stand rides leapt =
     record {
       hurdles = d;
       kept = λ e small on. on_first v.hurdles _ e on;
-      off = λ s x i. false_by _ (λ on. false≢true (sym (off_denied v.hurdles n s fits i.small on) ∙ stand s x i));
+      off = λ s x i. false_by _ (λ on. false≢true (sym (off_denied v.hurdles n s fits i.small on) ∙ stand x.kind s i.on));
       guards = λ s x i plain. record {
         inside = λ t small h.
             let near : IsNear x s (bit_not w64 0) = record { square = t; small = small; on = every_square_on t small; men = men_on d; reaches = h } in
@@ -41,30 +33,14 @@ guards_through_are v n r l fits stand rides leapt =
       };
     }
 
--- for `all_checks_leave_one`: kind by kind
-pub by_kind : (P : Kind → Type 0) → P Queen → P Rook → P Bishop → P Knight → P Pawn → P Nightrider → (j : Kind) → same_kind j King ≡ false
-    → is_hopper (gait_of j) ≡ false → P j
-by_kind P q r b n p y Queen king hop = q
-by_kind P q r b n p y Rook king hop = r
-by_kind P q r b n p y Bishop king hop = b
-by_kind P q r b n p y Knight king hop = n
-by_kind P q r b n p y Pawn king hop = p
-by_kind P q r b n p y Nightrider king hop = y
-by_kind P q r b n p y King king hop = absurd (false≢true (sym king))
-by_kind P q r b n p y Grasshopper king hop = absurd (false≢true (sym hop))
-
 -- where a queen's check is met, so is a rook's or a bishop's
 counted_met : (w t k : ℕ) (z : Man) → IsCheckMet w (record { colour = z.colour; kind = counts_as z.kind }) t k → IsCheckMet w z t k
 counted_met w t k z (inl never) = inl (λ men. false_by _ (λ r. false≢true (sym (never men) ∙ reaches_counted men z.colour z.kind t k r)))
 counted_met w t k z (inr one) = inr (one.0, counted_left w t one.0 z one.1)
 
--- a promoted man counts as a queen or a knight
-counts_plainly : (j : Kind) → is_promotion false j ≡ true → (same_kind (counts_as j) King ≡ false) × (is_hopper (gait_of (counts_as j)) ≡ false)
-counts_plainly Queen may = (refl, refl)
-counts_plainly Rook may = (refl, refl)
-counts_plainly Bishop may = (refl, refl)
-counts_plainly Knight may = (refl, refl)
-counts_plainly _ may = absurd (false≢true may)
+-- a promoted man counts as no king
+counts_mortally : (b : Bool) (j : Kind) → is_promotion b j ≡ true → same_kind (counts_as j) King ≡ false
+counts_mortally b j may = grind (arith, false≢true)
 
 -- a rider is no hopper
 rider_plain : (j : Kind) → is_rider j ≡ true → is_hopper (gait_of j) ≡ false
@@ -190,14 +166,14 @@ module _ (v : KingAttack) (w k near : ℕ) (through : AreGuardsThrough v w) (pla
       -- what a pawn becomes
       promoted : (t : ℕ) (c : IsArrival v.hurdles x s t) (z : Man) → MayBecome v.men.fairy_promotions x t z → is_promoting x t ≡ true → IsCheckMet left z t k
       promoted t c z become goes =
-          let may = counts_plainly z.kind (rw plain.promotions at (become.promoted goes)) in
+          let mortal = counts_mortally v.men.fairy_promotions z.kind (become.promoted goes) in
           counted_met left t k z (subst (λ (y : Colour). IsCheckMet left (record { colour = y; kind = counts_as z.kind }) t k) (sym (become.mine ∙ i.mine))
-          (leaves.met (counts_as z.kind) may.0 may.1 t c.small ((are.promoted s x i).inside c.position z t c.small c.goes goes become)))
+          (leaves.met (counts_as z.kind) mortal t c.small ((are.promoted s x i).inside c.position z t c.small c.goes goes become)))
 
       -- a piece, or a pawn that stays one
       unpromoted : (t : ℕ) (c : IsArrival v.hurdles x s t) → same_kind x.kind King ≡ false → IsCheckMet left x t k
       unpromoted t c piece = subst (λ (y : Man). IsCheckMet left y t k) (man_is x v.men.colour x.kind i.mine refl)
-          (leaves.met x.kind piece (unhopping.plain s x i) t c.small ((are.targets s x i).inside c.position t c.small c.goes))
+          (leaves.met x.kind piece t c.small ((are.targets s x i).inside c.position t c.small c.goes))
 
       mild : IsMild v g checks x s a b
       mild = record {

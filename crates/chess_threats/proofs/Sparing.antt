@@ -1,5 +1,5 @@
 -- No reply mates after a defender's move without risk.
-use Rattle.chess_threats.proofs.Chess.{AreFree, AreLaterHurdles, Colour, KingZone, IsArrival, IsAttacker, IsCaptured, IsCastlingHarmless, IsCheckWord, IsFlight, IsHome, IsHurdle, IsMade, IsMereMove, IsNear, IsOff, IsPlainMove, IsQuiet, IsReborn, IsRiskAt, IsShut, IsShutAt, IsKingAttack, IsKingAttackOf, IsUnguarded, IsUnhopped, IsWeakAt, IsWellFormed, Kind, King, List, Man, MayRide, Move, Nightrider, None, Option, Pawn, Position, Risk, RuleSet, KingAttack, Some, [], after_well_formed, all_triples, and_from, and_left, and_parts, and_right, ap, arith, arrival_needed, arrived, arriving_colour, arriving_king, arriving_man, bit_at, capture_of_piece, capture_square, captured_enemy, captured_man, captures_are_reborn, cases_Bool, cases_eq, castle_of, corner, eq-eqb, eqb-true, false, false_by, false_from_ne_true, false≢true, file_of, gait_of, halfway, has_flight, has_unmoved, in_check, inl, inr, is_absent, is_arrival_free, is_attacked, is_attacked_at, is_attacker, is_castling, is_double_step, is_fairy, is_hopper, is_legal, is_man, is_of_colour, is_promoting, is_pseudo_legal, is_rider, is_some, is_square, king-back, king_after, king_is, king_is_after, king_square, king_stands, king_there, leaps, list_any, made, maker, man_on, man_there, mates, mates_after, may_check_from, may_arrive, may_go_aimed, men_on, moved_men, moved_plainly, off_second, off_zero, on_board, or_cases, or_parts, other, other_twice, position_after, position_after_by, queen_steps, reached_over, reaches_as, reaches_back, rebirth, reborn_is, reborn_square, refl, rules, same_colour, same_colour-refl, same_colour-true, same_kind, same_kind-true, side_of, simple_after, square_is, subst, sym, taken, there_now, true, word, word_has, ℕ, or_left, or_right, true_from_ne_false, ◌-◌, ◌<◌, ◌==◌, ◌||◌, ◌∙◌, ◌≡◌, ◌≢◌, ◌⊎◌}
+use Rattle.chess_threats.proofs.Chess.{AreFree, AreLaterHurdles, Colour, KingZone, IsArrival, IsAttacker, IsCaptured, IsCastlingHarmless, IsCheckWord, IsFlight, IsHome, IsHurdle, IsMade, IsMereMove, IsNear, IsOff, IsPlainMove, IsQuiet, IsReborn, IsRiskAt, IsShut, IsShutAt, IsKingAttack, IsKingAttackOf, IsUnguarded, IsUnhopped, IsWeakAt, IsWellFormed, Kind, King, List, Man, MayRide, Move, Nightrider, None, Option, Pawn, Position, Risk, RuleSet, KingAttack, Some, [], after_well_formed, all_triples, and_from, and_left, and_parts, and_right, ap, arith, arrival_needed, arrived, arriving_colour, arriving_king, arriving_man, bit_at, capture_of_piece, capture_square, captured_enemy, captured_man, captures_are_reborn, cases_Bool, cases_eq, castle_of, corner, eq-eqb, eqb-true, false, false_by, false_from_ne_true, false≢true, file_of, gait_of, halfway, has_flight, has_unmoved, in_check, inl, inr, is_absent, is_arrival_free, is_attacked, is_attacked_at, is_attacker, is_castling, is_double_step, moves_on_fairy_lines, is_hopper, is_legal, is_man, is_of_colour, is_promoting, is_pseudo_legal, is_rider, is_some, is_square, king-back, king_after, king_is, king_is_after, king_square, king_stands, king_there, leaps, list_any, made, maker, man_on, man_there, mates, mates_after, may_check_from, may_arrive, may_go_aimed, men_on, moved_men, moved_plainly, off_second, off_zero, on_board, or_cases, or_parts, other, other_twice, position_after, position_after_by, queen_steps, reached_over, reaches_as, reaches_back, rebirth, reborn_is, reborn_square, refl, rules, same_colour, same_colour-refl, same_colour-true, same_kind, same_kind-true, side_of, simple_after, square_is, subst, sym, taken, there_now, true, word, word_has, ℕ, or_left, or_right, true_from_ne_false, ◌-◌, ◌<◌, ◌==◌, ◌||◌, ◌∙◌, ◌≡◌, ◌≢◌, ◌⊎◌}
 use Rattle.chess_flights.proofs.Standing.{after_is, and_left_king, arrival_small, captured_there, castle_unmoved, free_man, has_one, king_reaches, mine_again, moved_stays, no_rebirth, nobody_strikes, not_mine, not_mine_enemy, piece_reaches, same_man, some_side, some_stays, stays_there, stood, stood_reborn, unfree, unnamed}
 use Rattle.chess_flights.proofs.Becoming.{becomes, promotes_still}
 use Rattle.chess_flights.proofs.Hurdles.{later, later_but}
@@ -11,7 +11,7 @@ use Rattle.chess_flights.proofs.Mating.{no_mate_quietly, not_mating, turn_after}
 use Rattle.chess_threats.proofs.QuietCastling.{castles_quietly}
 use Rattle.chess_flights.specs.ties.Approaches.{MayBecome}
 
-no_fairy_hops : (k : Kind) → is_fairy k ≡ false → is_hopper (gait_of k) ≡ false
+no_fairy_hops : (k : Kind) → moves_on_fairy_lines k ≡ false → is_hopper (gait_of k) ≡ false
 no_fairy_hops k plain = grind arith
 
 man_of : (o : Option Man) → is_some o ≡ true → (z : Man) × (o ≡ Some z)
@@ -115,7 +115,7 @@ module _ (rule : RuleSet) (p : Position) (m : Move) (x : Man) (v : KingAttack) (
   lined c j t inside may h = (rw i.at.king at (i.at.is.lines c j may)).inside t inside h
 
   may_ride : (s : ℕ) (z : Man) → IsAttacker v.men z s → is_rider z.kind ≡ true → MayRide v z.kind
-  may_ride s z a rider = (rider, λ kind none. none_at v.men.nightriders s none (rw (same_kind-true z.kind Nightrider kind) at a.on))
+  may_ride s z a rider = (rider, λ kind none. none_at v.men.squares.nightriders s none (rw (same_kind-true z.kind Nightrider kind) at a.on))
 
   -- no line from the king ends on the square that the defender leaves
   shut_off : (c : Colour) (j : Kind) → MayRide v j → (bit_at v.hurdles m.from == 1) ≡ true → reaches_as (men_on v.hurdles) c j k m.from ≡ true → ⊥
@@ -198,20 +198,20 @@ module _ (rule : RuleSet) (p : Position) (m : Move) (x : Man) (v : KingAttack) (
       harmless : IsCastlingHarmless v g
       harmless = i.at.castling m.to small i.off.critical
 
-      unseen_from : (j : Kind) → is_fairy j ≡ false → is_rider j ≡ true → reaches_as q.men p.turn j k n.from ≡ false
+      unseen_from : (j : Kind) → moves_on_fairy_lines j ≡ false → is_rider j ≡ true → reaches_as q.men p.turn j k n.from ≡ false
       unseen_from j plain rider = false_by _ (λ h.
-          let may : MayRide v j = (rider, λ kind. absurd (false≢true (sym plain ∙ ap is_fairy (same_kind-true j Nightrider kind)))) in
+          let may : MayRide v j = (rider, λ kind. absurd (false≢true (sym plain ∙ ap moves_on_fairy_lines (same_kind-true j Nightrider kind)))) in
           let off = harmless.kings (halfway n) n.from from_small half_on (grind (arith, same_kind-true y.kind King king_y, is_y.on)) in
           false≢true (sym off ∙ lined p.turn j n.from from_small may (later v.hurdles q.men p.turn j k n.from (no_fairy_hops j plain)
           (λ r e low on reach. stays_q e low on (λ same. shut_off p.turn j may (rw same at on) (rw same at reach))) h)))
 
       -- there is no fairy man
-      no_fairy : (j : Kind) → is_fairy j ≡ true → (s : ℕ) → s < 64 → is_man (man_on q.men s) (other p.turn) j ≡ false
+      no_fairy : (j : Kind) → moves_on_fairy_lines j ≡ true → (s : ℕ) → s < 64 → is_man (man_on q.men s) (other p.turn) j ≡ false
       no_fairy j fairy s inside = false_by _ (λ h.
           let z = man_there (man_on q.men s) (other p.turn) j h in
           let both = and_parts (same_colour z.0.colour (other p.turn)) (same_kind z.0.kind j) (rw z.1 at h) in
           let a = attacker s z.0 inside z.1 (same_colour-true _ _ both.0) in
-          false≢true (sym (harmless.fairies (halfway n) s z.0 half_on a) ∙ ap is_fairy (same_kind-true z.0.kind j both.1) ∙ fairy))
+          false≢true (sym (harmless.fairies (halfway n) s z.0 half_on a) ∙ ap moves_on_fairy_lines (same_kind-true z.0.kind j both.1) ∙ fairy))
 
       -- no enemy reaches the king now
       calm : (s : ℕ) (z : Man) → s < 64 → man_on q.men s ≡ Some z → z.colour ≡ other p.turn → reaches_as q.men z.colour z.kind s k ≡ false

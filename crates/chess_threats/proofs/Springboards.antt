@@ -9,12 +9,12 @@ pub hopper_is : (k : Kind) → is_hopper (gait_of k) ≡ true → k ≡ Grasshop
 hopper_is k hop = grind (arith, false≢true)
 
 -- an attacker that is a hopper is on a square of the grasshoppers' bitboard
-pub grasshopper_on : (a : Attackers) (q : ℕ) (z : Man) → IsAttacker a z q → is_hopper (gait_of z.kind) ≡ true → (bit_at a.grasshoppers q == 1) ≡ true
+pub grasshopper_on : (a : Attackers) (q : ℕ) (z : Man) → IsAttacker a z q → is_hopper (gait_of z.kind) ≡ true → (bit_at a.squares.grasshoppers q == 1) ≡ true
 grasshopper_on a q z i hop = rw (hopper_is z.kind hop) at i.on
 
 -- for attackers without a grasshopper: nothing is sprung
-pub none_sprung : (a : Attackers) (t : ℕ) → a.grasshoppers ≡ 0 → AreSpringboards a t 0
-none_sprung a t none = record { sprung = λ men q z i hop reach. absurd (none_at a.grasshoppers q none (grasshopper_on a q z i hop)) }
+pub none_sprung : (a : Attackers) (t : ℕ) → a.squares.grasshoppers ≡ 0 → AreSpringboards a t 0
+none_sprung a t none = record { sprung = λ men q z i hop reach. absurd (none_at a.squares.grasshoppers q none (grasshopper_on a q z i hop)) }
 
 -- a direction that meets a test, and with it a list that has it
 pub some_direction : (p : Step → Bool) (xs : List Direction) → list_any p (map step_of xs) ≡ true
@@ -68,19 +68,19 @@ module _ (men : List (Option Man)) (q t o : ℕ) (inside : t < 64) (only : o ≡
 -- for `springboards_of`
 module _ (a : Attackers) (t o l d n r b : ℕ) (inside : t < 64) (only : o ≡ word (λ s. is_square (Some t) s)) (lines : l ≡ word (is_on_some straight_steps t))
     (slants : d ≡ word (is_on_some diagonal_steps t)) (near : n ≡ word (λ q. list_any (leaps t q) queen_steps))
-    (rooks : (s : ℕ) → s < 64 → (bit_at (bit_and a.grasshoppers l) s == 1) ≡ true → IsNear (record { colour = a.colour; kind = Rook }) s n
+    (rooks : (s : ℕ) → s < 64 → (bit_at (bit_and a.squares.grasshoppers l) s == 1) ≡ true → IsNear (record { colour = a.colour; kind = Rook }) s n
     → IsReached o (record { colour = a.colour; kind = Rook }) s r)
-    (bishops : (s : ℕ) → s < 64 → (bit_at (bit_and a.grasshoppers d) s == 1) ≡ true → IsNear (record { colour = a.colour; kind = Bishop }) s n
+    (bishops : (s : ℕ) → s < 64 → (bit_at (bit_and a.squares.grasshoppers d) s == 1) ≡ true → IsNear (record { colour = a.colour; kind = Bishop }) s n
     → IsReached o (record { colour = a.colour; kind = Bishop }) s b) where
   abbrev Boards : ℕ
   Boards = bit_and (bit_or (bit_and r l) (bit_and b d)) n
 
   -- a hop along straight lines, or along diagonals: w are the squares of these lines, and u those that the hoppers reach there
-  hopped : (men : List (Option Man)) (q : ℕ) (k : Kind) (xs : List Direction) (w u : ℕ) → q < 64 → (bit_at a.grasshoppers q == 1) ≡ true
+  hopped : (men : List (Option Man)) (q : ℕ) (k : Kind) (xs : List Direction) (w u : ℕ) → q < 64 → (bit_at a.squares.grasshoppers q == 1) ≡ true
       → w ≡ word (is_on_some (map step_of xs) t)
       → ((s : ℕ) → s < 64 → list_any (rides (men_on 0) s t) (map step_of xs) ≡ true → list_any (rides (men_on 0) t s) (map step_of xs) ≡ true)
       → ((f : ℕ) → list_any (rides (men_on o) q f) (map step_of xs) ≡ true → reached_over o (record { colour = a.colour; kind = k }) q f ≡ true)
-      → ((s : ℕ) → s < 64 → (bit_at (bit_and a.grasshoppers w) s == 1) ≡ true → IsNear (record { colour = a.colour; kind = k }) s n
+      → ((s : ℕ) → s < 64 → (bit_at (bit_and a.squares.grasshoppers w) s == 1) ≡ true → IsNear (record { colour = a.colour; kind = k }) s n
       → IsReached o (record { colour = a.colour; kind = k }) s u)
       → ((f : ℕ) → list_any (leaps f t) (map step_of xs) ≡ true → list_any (leaps f t) queen_steps ≡ true)
       → ((f : ℕ) → (bit_at (bit_and u w) f == 1) ≡ true → (bit_at (bit_or (bit_and r l) (bit_and b d)) f == 1) ≡ true)
@@ -93,7 +93,7 @@ module _ (a : Attackers) (t o l d n r b : ℕ) (inside : t < 64) (only : o ≡ w
       let next = word_has (λ q. list_any (leaps t q) queen_steps) n f near i.small ∙ sym (king-back f t i.small inside) ∙ step in
       let lined : (s : ℕ) → s < 64 → list_any (rides (men_on 0) s t) (map step_of xs) ≡ true → (bit_at w s == 1) ≡ true = λ s small ride.
       word_has (is_on_some (map step_of xs) t) w s along small ∙ rides_on (men_on 0) t s (map step_of xs) (back s small ride) in
-      let from = on_both a.grasshoppers w q on (lined q low (any_kept (hops men q t) (rides (men_on 0) q t) (map step_of xs) (hop_openly men q t) h)) in
+      let from = on_both a.squares.grasshoppers w q on (lined q low (any_kept (hops men q t) (rides (men_on 0) q t) (map step_of xs) (hop_openly men q t) h)) in
       let reached = reach q low from (record { square = f; small = i.small; on = next; men = men_on o; reaches = over f i.ride }) in
       record {
         square = f;
@@ -142,11 +142,11 @@ pub landing_is : (v : KingAttack) (k t w o f : ℕ) → o ≡ word (λ s. is_squ
 landing_is v k t w o f only are free small on = search (rules, eqb-true, word_has)
 
 -- for attackers without a grasshopper
-pub landing_anywhere : (v : KingAttack) (k t : ℕ) → v.men.grasshoppers ≡ 0 → IsUnhopped v k t 0
+pub landing_anywhere : (v : KingAttack) (k t : ℕ) → v.men.squares.grasshoppers ≡ 0 → IsUnhopped v k t 0
 landing_anywhere v k t none = search (rules, none_at, none_sprung)
 
 -- for `may_spring`, where no other man is a hopper
-pub no_other : (a : Attackers) (s o : ℕ) → o ≡ word (λ q. is_square (Some s) q) → o < 2 ^ 64 → bit_and a.grasshoppers (bit_not w64 o) ≡ 0
+pub no_other : (a : Attackers) (s o : ℕ) → o ≡ word (λ q. is_square (Some s) q) → o < 2 ^ 64 → bit_and a.squares.grasshoppers (bit_not w64 o) ≡ 0
     → (q : ℕ) (z : Man) → IsAttacker a z q → s ≢ q → is_hopper (gait_of z.kind) ≡ true → ⊥
-no_other a s o only fits none q z i ne hop = none_at _ q none (denied_on a.grasshoppers o q fits i.small (grasshopper_on a q z i hop)
+no_other a s o only fits none q z i ne hop = none_at _ q none (denied_on a.squares.grasshoppers o q fits i.small (grasshopper_on a q z i hop)
     (search (rules, false_by, eqb-true, word_has)))

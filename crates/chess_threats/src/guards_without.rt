@@ -1,13 +1,15 @@
 //! The squares that attackers reach over hurdles after one of them has left.
-ghost use Rattle.std.specs.Prelude.{◌≢◌, ℕ};
+ghost use Rattle.std.specs.Prelude.{◌≡◌, ◌≢◌, ℕ};
+ghost use Rattle.std.specs.Int.Bits.{bit_and};
 ghost use Rattle.chess_core.specs.declared.man.Man.{Man};
 ghost use Rattle.chess_flights.specs.ties.Attackers.{IsAttacker};
 ghost use Rattle.chess_threats.specs.ties.KingAttack.{AreGuardsWithout};
 
 use crate::king_attack::KingAttack;
 use chess_attacks::words::only;
-use chess_core::{Man, Square, Squares};
+use chess_core::{Kind, Man, Square, Squares};
 use chess_flights::attackers::Attackers;
+use chess_flights::by_kind::{ForKind, for_each_kind};
 use chess_flights::guards::{leapt_squares, rider_reach};
 
 // The squares that attackers reach (`guarded`), and the squares that riders among them reach (`ridden`).
@@ -17,20 +19,30 @@ pub(crate) struct Guards {
     pub(crate) guarded: Squares,
 }
 
+// The squares of a kind that are among these.
+#[derive(Drop)]
+struct Among {
+    squares: Squares,
+}
+
+impl ForKind<Squares> for Among {
+    type Out = Squares;
+
+    ghost holds = { λ f k squares w. w ≡ bit_and squares f.squares };
+
+    #[inline(always)]
+    fn of(&self, _kind: Kind, squares: Squares) -> Squares {
+        squares & self.squares
+    }
+}
+
 // Returns the attackers without the one on `gone`.
 fn without(men: &Attackers, gone: Square) -> Attackers
     ensures { (s : ℕ) (x : Man) → IsAttacker men.now x s → gone ≢ s → IsAttacker result x s }
 {
-    let others = !only(Some(gone));
+    let squares = !only(Some(gone));
     Attackers {
-        kings: men.kings & others,
-        queens: men.queens & others,
-        rooks: men.rooks & others,
-        bishops: men.bishops & others,
-        knights: men.knights & others,
-        pawns: men.pawns & others,
-        grasshoppers: men.grasshoppers & others,
-        nightriders: men.nightriders & others,
+        squares: for_each_kind(&Among { squares }, &men.squares),
         ..*men
     }
 }

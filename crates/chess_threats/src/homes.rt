@@ -11,6 +11,7 @@ ghost use Rattle.chess_rules.specs.Play.{rebirth};
 use chess_attacks::Rules;
 use chess_attacks::words::{only, pop_first};
 use chess_core::{Board, Colour, Kind, Square, Squares};
+use chess_flights::by_kind::{ForKind, for_all, for_each_kind, union_of};
 
 // Returns all home squares of the colour's men of a kind other than pawn (Popeye manual, Circe).
 #[tactic(auto, using(crate::proofs::HomeSquares::home_on))]
@@ -60,19 +61,29 @@ fn pawn_homes(colour: Colour, pawns: Squares) -> Squares
     homes
 }
 
-// Returns the home squares of the colour's men of this kind, if there are any.
+// The home squares of the colour's men of a kind, if there are any.
+#[derive(Drop)]
+struct Homes<'a> {
+    board: &'a Board,
+    colour: Colour,
+}
+
 #[tactic(auto, using(crate::proofs::HomeSquares::no_homes_are, crate::proofs::HomeSquares::pawn_homes_are))]
-fn homes_on(board: &Board, colour: Colour, kind: Kind) -> Squares
-    ensures { AreHomesOf board.now.men colour kind result }
-{
-    let men = board.squares(colour, kind);
-    if kind.is(Kind::Pawn) {
-        return pawn_homes(colour, men);
+impl ForKind<()> for Homes<'_> {
+    type Out = Squares;
+
+    ghost holds = { λ f k _ w. AreHomesOf f.board.now.men f.colour k w };
+
+    fn of(&self, kind: Kind, _value: ()) -> Squares {
+        let men = self.board.squares(self.colour, kind);
+        if kind.is(Kind::Pawn) {
+            return pawn_homes(self.colour, men);
+        }
+        if men == 0 {
+            return 0;
+        }
+        homes_of(self.colour, kind)
     }
-    if men == 0 {
-        return 0;
-    }
-    homes_of(colour, kind)
 }
 
 // Returns the home squares of the colour's men.
@@ -80,13 +91,7 @@ fn homes_on(board: &Board, colour: Colour, kind: Kind) -> Squares
 fn home_squares(board: &Board, colour: Colour) -> Squares
     ensures { AreHomes board.now.men colour result }
 {
-    homes_on(board, colour, Kind::Queen)
-        | homes_on(board, colour, Kind::Rook)
-        | homes_on(board, colour, Kind::Bishop)
-        | homes_on(board, colour, Kind::Knight)
-        | homes_on(board, colour, Kind::Pawn)
-        | homes_on(board, colour, Kind::Grasshopper)
-        | homes_on(board, colour, Kind::Nightrider)
+    union_of(&for_each_kind(&Homes { board, colour }, &for_all(())))
 }
 
 // Returns the squares to which the king of the side to move isn't assumed to flee: the squares of its

@@ -6,6 +6,7 @@ ghost use Rattle.std.specs.Int.{bit_at};
 ghost use Rattle.chess_core.specs.Castling.{has_unmoved};
 ghost use Rattle.chess_core.specs.Position.{king_square};
 ghost use Rattle.chess_core.specs.WellFormed.{IsWellFormed};
+ghost use Rattle.chess_core.specs.ties.Words.{squares_of};
 ghost use Rattle.chess_threats.specs.ties.KingAttack.{AreCastlingSquares, AreHurdles, IsHurdle, IsLifted, IsKingAttack, IsKingAttackOf, IsWhole};
 
 use crate::homes::closed_squares;
@@ -13,6 +14,7 @@ use chess_attacks::Rules;
 use chess_attacks::words::{contains, only};
 use chess_core::{Board, Colour, Kind, Square, Squares};
 use chess_flights::attackers::{Attackers, attackers_on, has_fairy_promotions};
+use chess_flights::by_kind::{ForKind, is_for_all};
 
 // The men around the defender's king, which is on `king`: the squares of the defender's men (`own`), of
 // the attackers (`enemies`) and of the hurdles; the attackers by kind (`men`); the squares to which an
@@ -127,27 +129,37 @@ pub(crate) fn lifted_from(king_attack: &KingAttack, from: Square) -> KingAttack
     }
 }
 
+// Whether the squares of a kind are those of the colour's men on the board.
+#[derive(Drop)]
+struct StandOn<'a> {
+    board: &'a Board,
+    colour: Colour,
+}
+
+impl ForKind<Squares> for StandOn<'_> {
+    type Out = bool;
+
+    ghost holds = { λ f k squares yes. yes ≡ true → squares ≡ squares_of f.board.now.men f.colour k };
+
+    #[inline(always)]
+    fn of(&self, kind: Kind, squares: Squares) -> bool {
+        squares == self.board.squares(self.colour, kind)
+    }
+}
+
 // Returns whether `king_attack` describes the board, with the defender to move.
 pub(crate) fn is_of<R: Rules>(king_attack: &KingAttack, board: &Board) -> bool
     requires { IsWellFormed board.now }
     ensures { result ≡ true → IsKingAttackOf R.rule board.now king_attack.now }
 {
-    let men = &king_attack.men;
-    let colour = men.colour;
+    let colour = king_attack.men.colour;
     if !colour.is(board.turn().other()) || board.king_of(board.turn()) != Some(king_attack.king) {
         return false;
     }
     (king_attack.own == board.side(board.turn()))
         & (king_attack.enemies == board.side(colour))
-        & (men.kings == board.squares(colour, Kind::King))
-        & (men.queens == board.squares(colour, Kind::Queen))
-        & (men.rooks == board.squares(colour, Kind::Rook))
-        & (men.bishops == board.squares(colour, Kind::Bishop))
-        & (men.knights == board.squares(colour, Kind::Knight))
-        & (men.pawns == board.squares(colour, Kind::Pawn))
-        & (men.grasshoppers == board.squares(colour, Kind::Grasshopper))
-        & (men.nightriders == board.squares(colour, Kind::Nightrider))
-        & (men.fairy_promotions == has_fairy_promotions(board))
+        & is_for_all(&StandOn { board, colour }, &king_attack.men.squares)
+        & (king_attack.men.fairy_promotions == has_fairy_promotions(board))
         & (king_attack.castled == castling_squares(board, colour))
         & (king_attack.closed == closed_squares::<R>(board))
 }

@@ -64,7 +64,7 @@ pub(crate) struct HopTargets {
 pub(crate) fn adjacent_squares(king_attack: &KingAttack, king: Square) -> Squares
     ensures { AreAdjacent king_attack.now king result }
 {
-    king_leaps(king) & !king_attack.closed & !king_attack.men.kings
+    king_leaps(king) & !king_attack.closed & !king_attack.men.squares.kings
 }
 
 // Returns the squares next to the king where it may capture, attacked or not. Returns none in Circe,
@@ -73,7 +73,7 @@ pub(crate) fn adjacent_squares(king_attack: &KingAttack, king: Square) -> Square
 fn capture_squares(king_attack: &KingAttack, king: Square) -> Squares
     ensures { AreCaptureSquares king_attack.now king result }
 {
-    if king_attack.closed & king_attack.enemies != 0 || king_attack.men.grasshoppers != 0 {
+    if king_attack.closed & king_attack.enemies != 0 || king_attack.men.squares.grasshoppers != 0 {
         return 0;
     }
     king_leaps(king)
@@ -83,10 +83,10 @@ fn capture_squares(king_attack: &KingAttack, king: Square) -> Squares
 // have no nightrider.
 #[tactic(auto, using(chess_flights::proofs::Hurdles::reached_is), unfolding(chess_flights::specs::ties::Guards::reached_over, chess_attacks::specs::Reaches::reaches_as))]
 pub(crate) fn nightrider_lines(king_attack: &KingAttack, king: Square) -> Squares
-    ensures { king_attack.now.men.nightriders ≢ 0 → (c : Colour)
+    ensures { king_attack.now.men.squares.nightriders ≢ 0 → (c : Colour)
         → IsReached king_attack.now.hurdles (record { colour = c; kind = Nightrider }) king result }
 {
-    if king_attack.men.nightriders == 0 {
+    if king_attack.men.squares.nightriders == 0 {
         return 0;
     }
     reach_over(king_attack.hurdles, Colour::White, Kind::Nightrider, king)
@@ -99,15 +99,15 @@ fn springboards_of(men: &Attackers, to: Square) -> Squares
     ensures { AreSpringboards men.now to result }
 {
     to.show_below_64();
-    if men.grasshoppers == 0 {
+    if men.squares.grasshoppers == 0 {
         return 0;
     }
     let near = king_leaps(to);
     let straight = straight_lines(to);
     let diagonal = diagonal_lines(to);
     let over = only(Some(to));
-    let rooks = men.grasshoppers & straight;
-    let bishops = men.grasshoppers & diagonal;
+    let rooks = men.squares.grasshoppers & straight;
+    let bishops = men.squares.grasshoppers & diagonal;
     let before = reach_of(over, men.colour, Kind::Rook, rooks, near) & straight;
     let aslant = reach_of(over, men.colour, Kind::Bishop, bishops, near) & diagonal;
     (before | aslant) & near
@@ -146,7 +146,7 @@ fn landings_among(king_attack: &KingAttack, king: Square, squares: Squares) -> L
     ensures { (f : ℕ) → f < 64 → (bit_at result.squares f == 1) ≡ true
         → IsUnhopped king_attack.now king f result.springboards }
 {
-    if king_attack.men.grasshoppers == 0 {
+    if king_attack.men.squares.grasshoppers == 0 {
         return Landings {
             squares,
             springboards: 0,
@@ -184,7 +184,7 @@ pub(crate) fn hop_targets_of(king_attack: &KingAttack, king: Square) -> HopTarge
 // springboards.
 #[tactic(auto, using(crate::proofs::Springboards::landing_anywhere, crate::proofs::Springboards::none_sprung))]
 pub(crate) fn no_hop_targets(king_attack: &KingAttack, king: Square) -> HopTargets
-    requires { king_attack.now.men.grasshoppers ≡ 0 }
+    requires { king_attack.now.men.squares.grasshoppers ≡ 0 }
     ensures { AreHopTargets king_attack.now king result }
 {
     HopTargets {
@@ -203,7 +203,7 @@ pub(crate) fn king_zone_of(
     riders: Squares,
     hop_targets: &HopTargets,
 ) -> KingZone
-    requires riders { king_attack.now.men.nightriders ≢ 0 → (c : Colour)
+    requires riders { king_attack.now.men.squares.nightriders ≢ 0 → (c : Colour)
         → IsReached king_attack.now.hurdles (record { colour = c; kind = Nightrider }) king riders }
     requires hop_targets { AreHopTargets king_attack.now king hop_targets.now }
     ensures king { result.king ≡ king }
@@ -229,14 +229,14 @@ pub(crate) fn king_zone_of(
 }
 
 // Returns whether no castling by the attackers gives check: neither by the rook on its new square, nor
-// by another man once the king has left. Returns `false` if they may castle and have fairy men.
+// by another man once the king has left. Returns `false` if they may castle and have fairy riders or hoppers.
 #[tactic(auto, using(crate::proofs::KingAttacks::harmless_castling))]
 pub(crate) fn castling_is_harmless(king_attack: &KingAttack, king_zone: &KingZone) -> bool
     ensures { result ≡ true → IsCastlingHarmless king_attack.now king_zone.now }
 {
     let rooks = straight_lines(king_zone.king) & king_attack.castled;
-    let kings = king_zone.lines & king_attack.men.kings;
-    let fairies = king_attack.men.grasshoppers | king_attack.men.nightriders;
+    let kings = king_zone.lines & king_attack.men.squares.kings;
+    let fairies = king_attack.men.squares.grasshoppers | king_attack.men.squares.nightriders;
     (king_attack.castled == 0) | ((rooks == 0) & (kings == 0) & (fairies == 0))
 }
 

@@ -3,9 +3,10 @@
 ghost use Rattle.std.specs.Prelude.{◌≡◌, ◌≢◌, ◌<◌, ◌==◌, ℕ, IfSome, true, false};
 ghost use Rattle.std.specs.Int.{bit_at};
 ghost use Rattle.chess_core.specs.SquareNames.{e1, e8};
+ghost use Rattle.chess_core.specs.declared.man.Kind.TheVariants.{Pawn};
 ghost use Rattle.chess_core.specs.declared.man.Man.{Man};
 ghost use Rattle.chess_flights.specs.declared.attackers.Attackers.{Attackers};
-ghost use Rattle.chess_threats.specs.ties.LastingFlights.{AreOpenTargets, AreTargets, KeepsOne, LeaveOne};
+ghost use Rattle.chess_threats.specs.ties.LastingFlights.{AreKindTargets, AreOpenTargets, AreTargets, AreTargetsOf, KeepsOne, LeaveOne};
 ghost use Rattle.chess_flights.specs.ties.Approaches.{IsLeft};
 ghost use Rattle.chess_rules.specs.ties.Exposure.{king_after};
 ghost use Rattle.chess_attacks.specs.ties.Lines.{AreReached};
@@ -16,21 +17,15 @@ use chess_core::square::LAST_RANKS;
 use chess_core::{Board, Colour, Kind, Man, Move, Square, Squares};
 use chess_flights::approach_squares::open_approaches;
 use chess_flights::attackers::Attackers;
+use chess_flights::by_kind::{ByKind, ForKind, for_all, for_each_kind, is_for_all, union_of};
 use chess_rules::unblocked_targets;
 
 // Supersets of the squares where each kind of a side's men may be after one move on an otherwise empty
-// board, and of the squares that they reach now. A promoted rook or bishop counts as a queen, which reaches
-// all that they do.
+// board (`squares`), and of the squares that they reach now (`guarded`). A promoted rook or bishop counts
+// as a queen, which reaches all that they do.
 #[derive(Clone, Copy)]
 pub(crate) struct OpenTargets {
-    pub(crate) kings: Squares,
-    pub(crate) queens: Squares,
-    pub(crate) rooks: Squares,
-    pub(crate) bishops: Squares,
-    pub(crate) knights: Squares,
-    pub(crate) pawns: Squares,
-    pub(crate) grasshoppers: Squares,
-    pub(crate) nightriders: Squares,
+    pub(crate) squares: ByKind<Squares>,
     pub(crate) guarded: Squares,
 }
 
@@ -41,37 +36,40 @@ impl OpenTargets {
         ensures { (a : Attackers) → AreOpenTargets a result }
     {
         OpenTargets {
-            kings: !0,
-            queens: !0,
-            rooks: !0,
-            bishops: !0,
-            knights: !0,
-            pawns: !0,
-            grasshoppers: !0,
-            nightriders: !0,
+            squares: for_all(!0),
             guarded: !0,
         }
     }
 }
 
-// Returns the squares that men of this kind on `squares` reach, each alone on the board.
+// The squares that men of a kind reach, each alone on the board.
+#[derive(Drop)]
+struct OpenReach {
+    colour: Colour,
+}
+
 #[tactic(auto, using(chess_attacks::proofs::HoldTaken::taken_all, chess_attacks::proofs::HoldTaken::taken_none, chess_attacks::proofs::HoldTaken::rest_falls, chess_flights::proofs::Bitboards::none_on))]
-#[inline(always)]
-fn open_reach_of(colour: Colour, kind: Kind, squares: Squares) -> Squares
-    ensures { (s : ℕ) → s < 64 → (bit_at squares s == 1) ≡ true
-        → AreReached (record { colour = colour; kind = kind }) s result }
-{
-    if squares == 0 {
-        return 0;
+impl ForKind<Squares> for OpenReach {
+    type Out = Squares;
+
+    ghost holds = { λ f k squares w. (s : ℕ) → s < 64 → (bit_at squares s == 1) ≡ true
+        → AreReached (record { colour = f.colour; kind = k }) s w };
+
+    #[inline(always)]
+    fn of(&self, kind: Kind, squares: Squares) -> Squares {
+        if squares == 0 {
+            return 0;
+        }
+        let colour = self.colour;
+        let man = Man { colour, kind };
+        let mut reached = 0u64;
+        let mut rest = squares;
+        while let Some(from) = pop_first(&mut rest) {
+            let more = unblocked_reach(man, from);
+            reached |= more;
+        }
+        reached
     }
-    let man = Man { colour, kind };
-    let mut reached = 0u64;
-    let mut rest = squares;
-    while let Some(from) = pop_first(&mut rest) {
-        let more = unblocked_reach(man, from);
-        reached |= more;
-    }
-    reached
 }
 
 // Returns the squares to which men of this kind on `squares` could go, including pawn advances and
@@ -95,12 +93,35 @@ fn open_targets_of(colour: Colour, kind: Kind, squares: Squares) -> Squares
     targets
 }
 
-// Returns `promoted`, the squares where pawns promote, if they may promote to fairy men; otherwise none.
-#[tactic(auto)]
-fn fairy_targets(men: &Attackers, promoted: Squares) -> Squares
-    ensures { men.now.fairy_promotions ≡ true → result ≡ promoted }
-{
-    if men.fairy_promotions { promoted } else { 0 }
+// The targets of a kind, from the squares that its men reach. `advances` are those of the pawns.
+#[derive(Drop)]
+struct KindTargets<'a> {
+    men: &'a Attackers,
+    advances: Squares,
+}
+
+impl ForKind<Squares> for KindTargets<'_> {
+    type Out = Squares;
+
+    ghost fits = { λ f. AreTargetsOf f.men.now Pawn f.advances };
+
+    ghost holds = { λ f k reached w. AreKindTargets f.men.now f.advances k reached w };
+
+    #[inline(always)]
+    fn of(&self, kind: Kind, reached: Squares) -> Squares {
+        let men = self.men;
+        match kind {
+            Kind::King => open_targets_of(men.colour, kind, men.squares.kings),
+            Kind::Pawn => self.advances,
+            Kind::Rook | Kind::Bishop => reached,
+            _ => {
+                if kind.is_fairy() && !men.fairy_promotions {
+                    return reached;
+                }
+                reached | self.advances & LAST_RANKS
+            }
+        }
+    }
 }
 
 // Returns the targets of the men. For pieces other than kings these are the squares that they reach and
@@ -109,27 +130,12 @@ fn fairy_targets(men: &Attackers, promoted: Squares) -> Squares
 pub(crate) fn all_open_targets(men: &Attackers) -> OpenTargets
     ensures { AreOpenTargets men.now result }
 {
-    let kings = open_reach_of(men.colour, Kind::King, men.kings);
-    let queens = open_reach_of(men.colour, Kind::Queen, men.queens);
-    let rooks = open_reach_of(men.colour, Kind::Rook, men.rooks);
-    let bishops = open_reach_of(men.colour, Kind::Bishop, men.bishops);
-    let knights = open_reach_of(men.colour, Kind::Knight, men.knights);
-    let pawns = open_reach_of(men.colour, Kind::Pawn, men.pawns);
-    let grasshoppers = open_reach_of(men.colour, Kind::Grasshopper, men.grasshoppers);
-    let nightriders = open_reach_of(men.colour, Kind::Nightrider, men.nightriders);
-    let advances = open_targets_of(men.colour, Kind::Pawn, men.pawns);
-    let promoted = advances & LAST_RANKS;
-    let fairies = fairy_targets(men, promoted);
+    let colour = men.colour;
+    let reached = for_each_kind(&OpenReach { colour }, &men.squares);
+    let advances = open_targets_of(colour, Kind::Pawn, men.squares.pawns);
     OpenTargets {
-        kings: open_targets_of(men.colour, Kind::King, men.kings),
-        queens: queens | promoted,
-        rooks,
-        bishops,
-        knights: knights | promoted,
-        pawns: advances,
-        grasshoppers: grasshoppers | fairies,
-        nightriders: nightriders | fairies,
-        guarded: kings | queens | rooks | bishops | knights | pawns | grasshoppers | nightriders,
+        squares: for_each_kind(&KindTargets { men, advances }, &reached),
+        guarded: union_of(&reached),
     }
 }
 
@@ -148,10 +154,10 @@ const KINGS_HOMES: Squares = 0x1000_0000_0000_0010;
 #[tactic(auto, using(crate::proofs::LastingFlights::off_homes))]
 #[inline(always)]
 fn never_castle(men: &Attackers) -> bool
-    ensures { result ≡ true → (s : ℕ) → (bit_at men.now.kings s == 1) ≡ true
+    ensures { result ≡ true → (s : ℕ) → (bit_at men.now.squares.kings s == 1) ≡ true
         → (s ≢ e1) × (s ≢ e8) }
 {
-    men.kings & KINGS_HOMES == 0
+    men.squares.kings & KINGS_HOMES == 0
 }
 
 // Returns the squares where the man takes this flight: the flight itself, and the squares from which it
@@ -198,26 +204,33 @@ fn leaves_one_among(squares: Squares, man: Man, targets: Squares) -> bool
     leaves_one_each(squares, man, taken & taking_squares(man, last))
 }
 
-// Returns whether one of `squares` remains wherever among `targets` a man of this kind arrives; `true`
-// without targets.
+// Whether one of `squares` remains wherever among its targets a man of a kind arrives; `true` without
+// targets.
+#[derive(Drop)]
+pub(crate) struct LeavesOne {
+    pub(crate) squares: Squares,
+    pub(crate) colour: Colour,
+}
+
 #[tactic(auto, using(chess_flights::proofs::Bitboards::none_on))]
-#[inline(always)]
-pub(crate) fn kind_leaves_one(
-    squares: Squares,
-    colour: Colour,
-    kind: Kind,
-    targets: Squares,
-) -> bool
-    ensures { result ≡ true → (t : ℕ) → t < 64 → (bit_at targets t == 1) ≡ true
-        → (f : ℕ) × IsLeft squares (record { colour = colour; kind = kind }) t f }
-{
-    if targets == 0 {
-        return true;
+impl ForKind<Squares> for LeavesOne {
+    type Out = bool;
+
+    ghost holds = { λ l k targets yes. yes ≡ true → (t : ℕ) → t < 64 → (bit_at targets t == 1) ≡ true
+        → (f : ℕ) × IsLeft l.squares (record { colour = l.colour; kind = k }) t f };
+
+    #[inline(always)]
+    fn of(&self, kind: Kind, targets: Squares) -> bool {
+        if targets == 0 {
+            return true;
+        }
+        let colour = self.colour;
+        leaves_one_among(self.squares, Man { colour, kind }, targets)
     }
-    leaves_one_among(squares, Man { colour, kind }, targets)
 }
 
 // Returns whether one of the squares remains wherever any of the men goes, whatever a pawn promotes to.
+#[tactic(auto, using(crate::proofs::LastingFlights::all_leave))]
 #[inline(always)]
 fn leave_one(squares: Squares, men: &Attackers, targets: &OpenTargets) -> bool
     requires { AreOpenTargets men.now targets.now }
@@ -226,28 +239,8 @@ fn leave_one(squares: Squares, men: &Attackers, targets: &OpenTargets) -> bool
     if !never_castle(men) {
         return false;
     }
-    if !kind_leaves_one(squares, men.colour, Kind::Queen, targets.queens) {
-        return false;
-    }
-    if !kind_leaves_one(squares, men.colour, Kind::Rook, targets.rooks) {
-        return false;
-    }
-    if !kind_leaves_one(squares, men.colour, Kind::Bishop, targets.bishops) {
-        return false;
-    }
-    if !kind_leaves_one(squares, men.colour, Kind::Knight, targets.knights) {
-        return false;
-    }
-    if !kind_leaves_one(squares, men.colour, Kind::Pawn, targets.pawns) {
-        return false;
-    }
-    if !kind_leaves_one(squares, men.colour, Kind::Grasshopper, targets.grasshoppers) {
-        return false;
-    }
-    if !kind_leaves_one(squares, men.colour, Kind::Nightrider, targets.nightriders) {
-        return false;
-    }
-    kind_leaves_one(squares, men.colour, Kind::King, targets.kings)
+    let colour = men.colour;
+    is_for_all(&LeavesOne { squares, colour }, &targets.squares)
 }
 
 // Returns the square of the mover's king after this man's move, without castling.

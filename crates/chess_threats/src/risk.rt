@@ -26,6 +26,7 @@ use chess_core::square::LAST_RANKS;
 use chess_core::{Colour, Kind, Man, Square, Squares};
 use chess_flights::approach_squares::open_approaches;
 use chess_flights::attackers::Attackers;
+use chess_flights::by_kind::{ForKind, for_each_kind, union_of};
 use chess_flights::guards::{reach_from, rider_reach};
 use chess_flights::pawn_approaches::pawns_before;
 use chess_rules::unblocked_targets;
@@ -212,7 +213,7 @@ fn may_spring(
         → IsAttacker king_attack.now.men z q → from ≢ q → is_hopper (gait_of z.kind) ≡ true
         → (bit_at king_zone.now.hops t == 1) ≡ false }
 {
-    let others = king_attack.men.grasshoppers & !only(Some(from));
+    let others = king_attack.men.squares.grasshoppers & !only(Some(from));
     others != 0 && king_zone.hops & squares != 0
 }
 
@@ -372,35 +373,62 @@ fn check_now(man: Man, checks: Squares, squares: Squares) -> bool
     checks & squares != 0
 }
 
-// Returns the risk of the attackers of this kind, which are on `squares`. If one gives check now, every
-// square is critical.
+// The risk of the attackers of a kind. If one gives check now, every square is critical.
+#[derive(Drop)]
+struct KindRisk<'a> {
+    king_attack: &'a KingAttack,
+    king_zone: &'a KingZone,
+}
+
 #[tactic(auto, using(chess_rules::proofs::listing_moves::Targeting::every_square_on, chess_flights::proofs::Bitboards::none_at))]
-#[inline(always)]
-fn risk_of(king_attack: &KingAttack, king_zone: &KingZone, kind: Kind, squares: Squares) -> Risk
-    requires { IsKingZone king_attack.now king_zone.now }
-    ensures { (s : ℕ) → s < 64 → (bit_at squares s == 1) ≡ true
-        → IsWeak king_attack.now king_zone.now result
-        (record { colour = king_attack.now.men.colour; kind = kind }) s }
-{
-    if squares == 0 {
-        return Risk {
-            critical: 0,
-            lines: 0,
+impl ForKind<Squares> for KindRisk<'_> {
+    type Out = Risk;
+
+    ghost fits = { λ f. IsKingZone f.king_attack.now f.king_zone.now };
+
+    ghost holds = { λ f k squares r. (s : ℕ) → s < 64 → (bit_at squares s == 1) ≡ true
+        → IsWeak f.king_attack.now f.king_zone.now r
+        (record { colour = f.king_attack.now.men.colour; kind = k }) s };
+
+    #[inline(always)]
+    fn of(&self, kind: Kind, squares: Squares) -> Risk {
+        if squares == 0 {
+            return Risk {
+                critical: 0,
+                lines: 0,
+            };
+        }
+        let man = Man {
+            colour: self.king_attack.men.colour,
+            kind,
         };
+        let checks = check_squares_over(self.king_attack, self.king_zone, man);
+        if check_now(man, checks, squares) {
+            return Risk {
+                critical: !0,
+                lines: 0,
+            };
+        }
+        let suspects = squares & suspect_squares(self.king_zone, man, checks);
+        risk_together(self.king_attack, self.king_zone, man, suspects, checks)
     }
-    let man = Man {
-        colour: king_attack.men.colour,
-        kind,
-    };
-    let checks = check_squares_over(king_attack, king_zone, man);
-    if check_now(man, checks, squares) {
-        return Risk {
-            critical: !0,
-            lines: 0,
-        };
+}
+
+// The lines of a kind's risk, or else its critical squares.
+#[derive(Drop)]
+struct RiskPart {
+    lines: bool,
+}
+
+impl ForKind<Risk> for RiskPart {
+    type Out = Squares;
+
+    ghost holds = { λ f k r w. w ≡ if f.lines then r.lines else r.critical };
+
+    #[inline(always)]
+    fn of(&self, _kind: Kind, risk: Risk) -> Squares {
+        if self.lines { risk.lines } else { risk.critical }
     }
-    let suspects = squares & suspect_squares(king_zone, man, checks);
-    risk_together(king_attack, king_zone, man, suspects, checks)
 }
 
 // Returns the squares that are a risk for one kind of attacker or another.
@@ -410,32 +438,14 @@ fn risk_of_all(king_attack: &KingAttack, king_zone: &KingZone) -> Risk
     requires { IsKingZone king_attack.now king_zone.now }
     ensures { AreWeak king_attack.now king_zone.now result }
 {
-    let men = &king_attack.men;
-    let kings = risk_of(king_attack, king_zone, Kind::King, men.kings);
-    let queens = risk_of(king_attack, king_zone, Kind::Queen, men.queens);
-    let rooks = risk_of(king_attack, king_zone, Kind::Rook, men.rooks);
-    let bishops = risk_of(king_attack, king_zone, Kind::Bishop, men.bishops);
-    let knights = risk_of(king_attack, king_zone, Kind::Knight, men.knights);
-    let pawns = risk_of(king_attack, king_zone, Kind::Pawn, men.pawns);
-    let grasshoppers = risk_of(king_attack, king_zone, Kind::Grasshopper, men.grasshoppers);
-    let nightriders = risk_of(king_attack, king_zone, Kind::Nightrider, men.nightriders);
+    let kind_risk = KindRisk {
+        king_attack,
+        king_zone,
+    };
+    let risks = for_each_kind(&kind_risk, &king_attack.men.squares);
     Risk {
-        critical: kings.critical
-            | queens.critical
-            | rooks.critical
-            | bishops.critical
-            | knights.critical
-            | pawns.critical
-            | grasshoppers.critical
-            | nightriders.critical,
-        lines: kings.lines
-            | queens.lines
-            | rooks.lines
-            | bishops.lines
-            | knights.lines
-            | pawns.lines
-            | grasshoppers.lines
-            | nightriders.lines,
+        critical: union_of(&for_each_kind(&RiskPart { lines: false }, &risks)),
+        lines: union_of(&for_each_kind(&RiskPart { lines: true }, &risks)),
     }
 }
 
@@ -449,7 +459,7 @@ fn risk_with(
     riders: Squares,
     hop_targets: &HopTargets,
 ) -> Risk
-    requires riders { king_attack.now.men.nightriders ≢ 0 → (c : Colour)
+    requires riders { king_attack.now.men.squares.nightriders ≢ 0 → (c : Colour)
         → IsReached king_attack.now.hurdles (record { colour = c; kind = Nightrider }) king riders }
     requires hop_targets { AreHopTargets king_attack.now king hop_targets.now }
     ensures { IsRiskAt king_attack.now king result }
@@ -488,7 +498,8 @@ fn risk_beside_fairies(king_attack: &KingAttack, king: Square) -> Risk
 pub(crate) fn risk_at(king_attack: &KingAttack, king: Square) -> Risk
     ensures { IsRiskAt king_attack.now king result }
 {
-    if king_attack.men.grasshoppers == 0 && king_attack.men.nightriders == 0 {
+    let men = &king_attack.men.squares;
+    if men.grasshoppers == 0 && men.nightriders == 0 {
         let hop_targets = no_hop_targets(king_attack, king);
         return risk_with(king_attack, king, 0, &hop_targets);
     }

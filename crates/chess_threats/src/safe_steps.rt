@@ -1,36 +1,21 @@
 //! King's steps that one cheap test shows to be safe: no attacker that could give check next takes all flights.
 ghost use Rattle.std.specs.Prelude.{◌≡◌, ◌<◌, ◌==◌, ℕ, true, false};
 ghost use Rattle.std.specs.Int.{bit_at};
-ghost use Rattle.chess_core.specs.declared.man.Man.{Man};
-ghost use Rattle.chess_flights.specs.ties.Attackers.{IsAttacker};
+ghost use Rattle.chess_core.specs.Position.{same_kind};
+ghost use Rattle.chess_core.specs.declared.man.Kind.TheVariants.{King};
 ghost use Rattle.chess_threats.specs.ties.LastingFlights.{AreOpenTargets};
 ghost use Rattle.chess_threats.specs.ties.KingAttack.{AreGuardsThrough, AreChecksMet, ArePlainAttackers, IsCheckMet, IsSafeStep};
 
 use crate::king_attack::KingAttack;
 use crate::king_zone::{MOST_ATTACKERS, adjacent_squares};
-use crate::lasting_flights::{OpenTargets, kind_leaves_one};
+use crate::lasting_flights::{LeavesOne, OpenTargets};
 use chess_attacks::Rules;
 use chess_attacks::words::{contains, only, pop_first};
-use chess_core::{Colour, Kind, Man, Square, Squares};
+use chess_core::{Kind, Man, Square, Squares};
 use chess_flights::approach_squares::open_approaches;
 use chess_flights::attackers::Attackers;
+use chess_flights::by_kind::{ForKind, is_for_all, union_of};
 use chess_flights::guards::{leapt_squares, rider_reach};
-
-// Returns the attackers' squares, of all kinds together.
-#[tactic(auto, using(crate::proofs::SafeSteps::all_on))]
-#[inline(always)]
-fn squares_of_all(men: &Attackers) -> Squares
-    ensures { (s : ℕ) (x : Man) → IsAttacker men.now x s → (bit_at result s == 1) ≡ true }
-{
-    men.kings
-        | men.queens
-        | men.rooks
-        | men.bishops
-        | men.knights
-        | men.pawns
-        | men.grasshoppers
-        | men.nightriders
-}
 
 // Returns the squares that the attackers reach if none of them stops a line: whichever of them leaves, the
 // others reach no more.
@@ -40,7 +25,7 @@ fn guards_through(king_attack: &KingAttack) -> Squares
     ensures { AreGuardsThrough king_attack.now result }
 {
     let men = &king_attack.men;
-    let hurdles = king_attack.hurdles & !squares_of_all(men);
+    let hurdles = king_attack.hurdles & !union_of(&men.squares);
     let ridden = rider_reach(hurdles, men, !0);
     ridden | leapt_squares(hurdles, men, !0)
 }
@@ -49,7 +34,7 @@ fn guards_through(king_attack: &KingAttack) -> Squares
 fn are_plain(king_attack: &KingAttack) -> bool
     ensures { result ≡ true → ArePlainAttackers king_attack.now }
 {
-    if king_attack.men.grasshoppers != 0 {
+    if king_attack.men.squares.grasshoppers != 0 {
         return false;
     }
     if king_attack.men.fairy_promotions {
@@ -58,28 +43,34 @@ fn are_plain(king_attack: &KingAttack) -> bool
     king_attack.castled == 0 && king_attack.enemies.count_ones() <= MOST_ATTACKERS
 }
 
-// Returns whether one of `squares` remains wherever among `targets` a man of this kind arrives, if it might
-// give check there to a king on `king`.
-#[inline(always)]
-fn checks_leave_one(
-    squares: Squares,
-    colour: Colour,
-    kind: Kind,
-    targets: Squares,
+// Whether one square remains wherever among its targets a man of a kind other than king arrives, if it
+// might give check there to a king on `king`.
+#[derive(Drop)]
+struct ChecksLeaveOne {
+    leaves: LeavesOne,
     king: Square,
-) -> bool
-    ensures { result ≡ true → (t : ℕ) → t < 64 → (bit_at targets t == 1) ≡ true
-        → IsCheckMet squares (record { colour = colour; kind = kind }) t king }
-{
-    if targets == 0 {
-        return true;
-    }
-    let checks = open_approaches(Man { colour, kind }, king);
-    kind_leaves_one(squares, colour, kind, targets & checks)
 }
 
-// Returns whether one of `squares` remains wherever an attacker other than a king or grasshopper arrives on a
-// target, if it might give check there to a king on `king`. A pawn that promotes arrives as a queen or knight.
+impl ForKind<Squares> for ChecksLeaveOne {
+    type Out = bool;
+
+    ghost holds = { λ c k targets yes. yes ≡ true → same_kind k King ≡ false → (t : ℕ) → t < 64
+        → (bit_at targets t == 1) ≡ true
+        → IsCheckMet c.leaves.squares (record { colour = c.leaves.colour; kind = k }) t c.king };
+
+    #[inline(always)]
+    fn of(&self, kind: Kind, targets: Squares) -> bool {
+        if kind.is(Kind::King) || targets == 0 {
+            return true;
+        }
+        let colour = self.leaves.colour;
+        let checks = open_approaches(Man { colour, kind }, self.king);
+        self.leaves.of(kind, targets & checks)
+    }
+}
+
+// Returns whether one of `squares` remains wherever an attacker other than a king arrives on a target, if it
+// might give check there to a king on `king`. A pawn that promotes counts as a man of the kind that it becomes.
 #[inline(always)]
 fn all_checks_leave_one(
     men: &Attackers,
@@ -90,22 +81,8 @@ fn all_checks_leave_one(
     ensures { result ≡ true → AreChecksMet men.now targets.now squares king }
 {
     let colour = men.colour;
-    if !checks_leave_one(squares, colour, Kind::Queen, targets.queens, king) {
-        return false;
-    }
-    if !checks_leave_one(squares, colour, Kind::Rook, targets.rooks, king) {
-        return false;
-    }
-    if !checks_leave_one(squares, colour, Kind::Bishop, targets.bishops, king) {
-        return false;
-    }
-    if !checks_leave_one(squares, colour, Kind::Knight, targets.knights, king) {
-        return false;
-    }
-    if !checks_leave_one(squares, colour, Kind::Pawn, targets.pawns, king) {
-        return false;
-    }
-    checks_leave_one(squares, colour, Kind::Nightrider, targets.nightriders, king)
+    let leaves = LeavesOne { squares, colour };
+    is_for_all(&ChecksLeaveOne { leaves, king }, &targets.squares)
 }
 
 // Returns whether the king's step to `to` is safe if nobody is there: no attacker reaches it now, and after

@@ -117,7 +117,7 @@ fn reached_squares(king_attack: &KingAttack, region: Squares) -> Squares
 fn reports_steps(king_attack: &KingAttack) -> bool
     ensures { result ≡ true → AreUnhopping king_attack.now.men }
 {
-    king_attack.men.grasshoppers == 0 && king_attack.enemies.count_ones() <= MOST_ATTACKERS
+    king_attack.men.squares.grasshoppers == 0 && king_attack.enemies.count_ones() <= MOST_ATTACKERS
 }
 
 // Returns the squares next to the king; in Circe only the empty ones.

@@ -1,13 +1,13 @@
 -- King attacks: the men around a king, and what they reach over hurdles, the squares of all men but the
 -- king (own).
-use Rattle.std.specs.Prelude.{◌≡◌, ◌≢◌, ◌<◌, ◌==◌, ◌⊎◌, ◌+◌, ◌-◌, ℕ, true, false, List, Option, Some, is_some}
+use Rattle.std.specs.Prelude.{◌≡◌, ◌≢◌, ◌<◌, ◌==◌, ◌⊎◌, ◌+◌, ◌-◌, ◌&&◌, ℕ, Bool, true, false, not, List, Option, Some, is_some}
 use Rattle.std.specs.Int.{bit_at}
 use Rattle.std.specs.Int.Bits.{bit_and}
 use Rattle.std.specs.List.{list_any}
 use Rattle.chess_core.specs.Castling.{has_unmoved}
 use Rattle.chess_core.specs.Position.{Position, is_fairy, is_man, is_of_colour, king_square, man_on, may_promote, other, same_kind}
 use Rattle.chess_core.specs.Squares.{file_of}
-use Rattle.chess_core.specs.Steps.{gait_of, is_hopper, queen_steps, straight_steps}
+use Rattle.chess_core.specs.Steps.{gait_of, is_hopper, is_leaper, queen_steps, straight_steps}
 use Rattle.chess_core.specs.declared.man.Colour.{Colour}
 use Rattle.chess_core.specs.declared.man.Kind.{Kind}
 use Rattle.chess_core.specs.declared.man.Kind.TheVariants.{King, Rook, Bishop, Pawn, Nightrider}
@@ -21,9 +21,10 @@ use Rattle.chess_threats.specs.declared.king_attack.KingAttack.{KingAttack}
 use Rattle.chess_threats.specs.declared.king_zone.HopTargets.{HopTargets}
 use Rattle.chess_threats.specs.declared.steps.StepCache.{StepCache}
 use Rattle.chess_flights.specs.ties.Attackers.{AreAttackers, IsAttacker, is_promotion}
+use Rattle.chess_flights.specs.ties.ByKind.{value_for}
 use Rattle.chess_threats.specs.declared.lasting_flights.OpenTargets.{OpenTargets}
 use Rattle.chess_flights.specs.ties.Approaches.{AreApproached, IsLeft, MayBecome, ArePromotions}
-use Rattle.chess_threats.specs.ties.LastingFlights.{KeepsOne, targets_for}
+use Rattle.chess_threats.specs.ties.LastingFlights.{KeepsOne}
 use Rattle.chess_rules.specs.Play.{rebirth}
 use Rattle.chess_attacks.specs.Reaches.{leaps, reaches_as}
 use Rattle.chess_attacks.specs.RuleSet.{RuleSet, captures_are_reborn, like_men_paralyse}
@@ -100,7 +101,7 @@ pub record IsKingAttackOf (rule : RuleSet) (p : Position) (v : KingAttack) : Typ
   pub enemies : v.enemies ≡ side_of p.men (other p.turn)
   pub king : Some v.king ≡ king_square p.men p.turn
   pub kings : (s : ℕ) → s < 64 → is_man (man_on p.men s) (other p.turn) King ≡ true
-      → (bit_at v.men.kings s == 1) ≡ true
+      → (bit_at v.men.squares.kings s == 1) ≡ true
   pub castled : AreCastlingSquares p (other p.turn) v.castled
   pub closed : AreClosed rule p v.closed
   pub promotions : (k : Kind) → may_promote p k ≡ true
@@ -297,7 +298,7 @@ pub record AreWeak (v : KingAttack) (g : KingZone) (r : Risk) : Type 0 where
 pub record AreAdjacent (v : KingAttack) (k w : ℕ) : Type 0 where
   pub next : (f : ℕ) → f < 64 → (bit_at w f == 1) ≡ true → list_any (leaps k f) queen_steps ≡ true
   pub free : (f : ℕ) → f < 64 → (bit_at w f == 1) ≡ true → (bit_at v.closed f == 1) ≡ false
-  pub kings : (f : ℕ) → f < 64 → (bit_at w f == 1) ≡ true → (bit_at v.men.kings f == 1) ≡ false
+  pub kings : (f : ℕ) → f < 64 → (bit_at w f == 1) ≡ true → (bit_at v.men.squares.kings f == 1) ≡ false
 
 -- w holds squares next to k, but none if an attacker is on a closed square or is a hopper
 pub record AreCaptureSquares (v : KingAttack) (k w : ℕ) : Type 0 where
@@ -309,7 +310,7 @@ pub record AreCaptureSquares (v : KingAttack) (k w : ℕ) : Type 0 where
 
 -- men of this kind are riders; nightriders only if the attackers have one
 abbrev pub MayRide : KingAttack → Kind → Type 0
-MayRide v k = (is_rider k ≡ true) × (same_kind k Nightrider ≡ true → v.men.nightriders ≢ 0)
+MayRide v k = (is_rider k ≡ true) × (same_kind k Nightrider ≡ true → v.men.squares.nightriders ≢ 0)
 
 -- squares next to k that hoppers reach only over springboards; the springboards of k, and all springboards
 pub record AreHopTargets (v : KingAttack) (k : ℕ) (i : HopTargets) : Type 0 where
@@ -332,15 +333,19 @@ pub record IsKingZone (v : KingAttack) (g : KingZone) : Type 0 where
       → IsReached v.hurdles (record { colour = c; kind = k }) g.king g.lines
   pub promotions : ArePromotions v.men.colour v.men.fairy_promotions g.king g.promotions
 
+-- fairy men of this kind move along lines
+abbrev pub moves_on_fairy_lines : Kind → Bool
+moves_on_fairy_lines k = is_fairy k && not (is_leaper (gait_of k))
+
 -- no rook checks from a square to which it may castle, no king leaves a line of the zone, and there is no
--- fairy man
+-- fairy man but leapers
 pub record IsCastlingHarmless (v : KingAttack) (g : KingZone) : Type 0 where
   pub rooks : (h : ℕ) → h < 64 → (bit_at v.castled h == 1) ≡ true
       → is_on_some straight_steps g.king h ≡ false
   pub kings : (h s : ℕ) → s < 64 → (bit_at v.castled h == 1) ≡ true
-      → (bit_at v.men.kings s == 1) ≡ true → (bit_at g.lines s == 1) ≡ false
+      → (bit_at v.men.squares.kings s == 1) ≡ true → (bit_at g.lines s == 1) ≡ false
   pub fairies : (h s : ℕ) (x : Man) → (bit_at v.castled h == 1) ≡ true → IsAttacker v.men x s
-      → is_fairy x.kind ≡ false
+      → moves_on_fairy_lines x.kind ≡ false
 
 -- the risk of a defender whose king is on k: after each of its moves outside this risk no reply mates
 pub record IsRiskAt (v : KingAttack) (k : ℕ) (r : Risk) : Type 0 where
@@ -419,7 +424,7 @@ pub record IsBarred (rule : RuleSet) (v : KingAttack) (t : ℕ) : Type 0 where
 -- the attackers may not castle, are no hoppers and promote to no fairy man
 pub record ArePlainAttackers (v : KingAttack) : Type 0 where
   pub castled : v.castled ≡ 0
-  pub grasshoppers : v.men.grasshoppers ≡ 0
+  pub grasshoppers : v.men.squares.grasshoppers ≡ 0
   pub promotions : v.men.fairy_promotions ≡ false
 
 -- w holds the squares that the attackers reach over hurdles none of which is an attacker
@@ -436,10 +441,10 @@ IsCheckMet w x t k =
     ((men : List (Option Man)) → reaches_as men x.colour x.kind t k ≡ false)
     ⊎ ((f : ℕ) × IsLeft w x t f)
 
--- wherever an attacker that is neither king nor hopper arrives on a target, its check to a king on k is met
+-- wherever an attacker other than a king arrives on a target, its check to a king on k is met
 pub record AreChecksMet (a : Attackers) (o : OpenTargets) (w k : ℕ) : Type 0 where
-  pub met : (j : Kind) → same_kind j King ≡ false → is_hopper (gait_of j) ≡ false → (t : ℕ)
-      → t < 64 → (bit_at (targets_for o j) t == 1) ≡ true
+  pub met : (j : Kind) → same_kind j King ≡ false → (t : ℕ)
+      → t < 64 → (bit_at (value_for o.squares j) t == 1) ≡ true
       → IsCheckMet w (record { colour = a.colour; kind = j }) t k
 
 -- except in Circe, the king keeps a flight after its step to t, whatever is played next

@@ -7,12 +7,13 @@ use Rattle.chess_core.specs.Position.{Position, is_man, is_of_colour, man_on, ot
 use Rattle.chess_core.specs.SquareNames.{e1, e8}
 use Rattle.chess_core.specs.Steps.{queen_steps}
 use Rattle.chess_core.specs.declared.man.Kind.{Kind}
-use Rattle.chess_core.specs.declared.man.Kind.TheVariants.{King, Queen, Rook, Bishop, Knight, Pawn, Grasshopper, Nightrider}
+use Rattle.chess_core.specs.declared.man.Kind.TheVariants.{King}
 use Rattle.chess_core.specs.declared.man.Man.{Man}
 use Rattle.chess_core.specs.declared.man.Move.{Move}
 use Rattle.chess_flights.specs.declared.attackers.Attackers.{Attackers}
 use Rattle.chess_threats.specs.declared.lasting_flights.OpenTargets.{OpenTargets}
-use Rattle.chess_flights.specs.ties.Attackers.{IsAttacker}
+use Rattle.chess_flights.specs.ties.Attackers.{IsAttacker, is_promotion, squares_for}
+use Rattle.chess_flights.specs.ties.ByKind.{value_for}
 use Rattle.chess_attacks.specs.Reaches.{leaps}
 use Rattle.chess_attacks.specs.ties.Lines.{AreReached}
 use Rattle.chess_rules.specs.ties.Targets.{is_promoting, may_arrive}
@@ -27,28 +28,32 @@ pub record AreTargets (x : Man) (s w : ℕ) : Type 0 where
   pub inside : (p : Position) (t : ℕ) → t < 64 → may_arrive p x s t ≡ true
       → (bit_at w t == 1) ≡ true
 
--- the squares where men of a kind may go
-abbrev pub targets_for : OpenTargets → Kind → ℕ
-targets_for o King = o.kings
-targets_for o Queen = o.queens
-targets_for o Rook = o.rooks
-targets_for o Bishop = o.bishops
-targets_for o Knight = o.knights
-targets_for o Pawn = o.pawns
-targets_for o Grasshopper = o.grasshoppers
-targets_for o Nightrider = o.nightriders
+-- w holds the targets of the men of this kind
+abbrev pub AreTargetsOf : Attackers → Kind → ℕ → Type 0
+AreTargetsOf a k w =
+    (s : ℕ) → s < 64 → (bit_at (squares_for a k) s == 1) ≡ true
+    → AreTargets (record { colour = a.colour; kind = k }) s w
+
+-- w holds the targets of the men of this kind, if r holds what they reach, and where a pawn with these
+-- advances promotes to this kind
+pub record AreKindTargets (a : Attackers) (advances : ℕ) (k : Kind) (r w : ℕ) : Type 0 where
+  pub inside : ((s : ℕ) → s < 64 → (bit_at (squares_for a k) s == 1) ≡ true
+      → AreReached (record { colour = a.colour; kind = k }) s r) → AreTargetsOf a k w
+  pub promoted : counts_as k ≡ k → is_promotion a.fairy_promotions k ≡ true → (x : Man) (t : ℕ)
+      → t < 64 → is_promoting x t ≡ true → (bit_at advances t == 1) ≡ true
+      → (bit_at w t == 1) ≡ true
 
 -- the targets of each kind hold the squares where x from s promotes to a man that counts as this kind
 pub record ArePromoted (b : Bool) (o : OpenTargets) (x : Man) (s : ℕ) : Type 0 where
   pub inside : (p : Position) (z : Man) (t : ℕ) → t < 64 → may_arrive p x s t ≡ true
       → is_promoting x t ≡ true → MayBecome b x t z
-      → (bit_at (targets_for o (counts_as z.kind)) t == 1) ≡ true
+      → (bit_at (value_for o.squares (counts_as z.kind)) t == 1) ≡ true
 
 -- the targets of each of these men are among those for its kind, the targets of promoting pawns are among
 -- those for what they become, and all that these men reach now is guarded
 pub record AreOpenTargets (a : Attackers) (o : OpenTargets) : Type 0 where
   pub guards : AreGuarded a o.guarded
-  pub targets : (s : ℕ) (x : Man) → IsAttacker a x s → AreTargets x s (targets_for o x.kind)
+  pub targets : (s : ℕ) (x : Man) → IsAttacker a x s → AreTargets x s (value_for o.squares x.kind)
   pub promoted : (s : ℕ) (x : Man) → IsAttacker a x s → ArePromoted a.fairy_promotions o x s
 
 -- wherever x goes from s, and whatever it becomes there, a square of w remains; and x can't castle

@@ -1,6 +1,6 @@
 use Rattle.chess_threats.proofs.Chess.{rules, taken_map, taken_on}
 use Rattle.chess_threats.proofs.LastingFlights.{reached_left, reached_right}
-use Rattle.chess_threats.proofs.lasting_flights.open_reach_of.Goals as goal
+use Rattle.chess_threats.proofs.lasting_flights.OpenReachForKindSquares.of.Goals as goal
 
 pub loop-from-preserved : goal.loop-from-preserved
 loop-from-preserved c =
