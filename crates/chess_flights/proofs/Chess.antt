@@ -29,13 +29,15 @@ pub use Rattle.chess_attacks.proofs.rays.Ends.{square_is, back, return_square}
 pub use Rattle.chess_attacks.proofs.rays.Flips.{king-back, reaches_back}
 pub use Rattle.chess_attacks.proofs.Basics.{Bool, List, None, Option, Some, [], agree_below, agree_below_at, and_from, and_left, and_parts, and_right, ap, arith, bit_and, bit_at, bit_at-lt, bit_at_and, bit_at_or, bit_not, bit_or, cases_Bool, cases_eq, cases_lt, cond-false, cond-true, eq-eqb, eqb-true, false, false_from_ne_true, false≢true, find, if◌then◌else◌, inl, inr, is_some, length, length-set, list_all, list_any, list_any-append, not, not-true, or_cases, or_from, or_left, or_parts, or_right, range_with_len, refl, rules, subst, suc, sym, true, w64, zero, ℕ, ◌%◌, ◌&&◌, ◌*◌, ◌+◌, ◌-◌, ◌/◌, ◌<◌, ◌==◌, ◌^◌, ◌||◌, ◌∙◌, ◌∷◌, ◌≡◌, ◌≢◌, ◌≤◌, ◌⊎◌}
 pub use Rattle.chess_attacks.proofs.HoldTaken.{HoldTaken, taken_map, taken_next, taken_on}
-pub use Rattle.chess_flights.specs.ties.Guards.{AreReached, IsAttackedOver, IsNear, IsReached, IsReachedFrom, is_leaper, is_rider}
+pub use Rattle.chess_flights.specs.ties.Guards.{AreReached, IsAttackedOver, IsKindReach, IsNear, IsReached, IsReachedFrom, is_leaper, is_rider}
 unfoldable pub use Rattle.chess_flights.specs.ties.Guards.{reached_over}
 pub use Rattle.chess_flights.specs.ties.Attackers.{AreAttackers, IsAttacker, squares_for}
+pub use Rattle.chess_flights.specs.ties.ByKind.{value_for}
 pub use Rattle.chess_core.specs.Steps.{is_hopper}
 pub use Rattle.chess_attacks.proofs.rays.Landing.{StandAlike, no_reach_there, reaches_alike}
 pub use Rattle.chess_attacks.proofs.attacks.Attacking.{attacked_plainly, goes_on, some_square_same}
 pub use Rattle.chess_flights.specs.declared.attackers.Attackers.{Attackers}
+pub use Rattle.chess_flights.specs.declared.by_kind.ByKind.{ByKind}
 pub use Rattle.chess_rules.proofs.theorems.Moves.{legal_moves_are_triples, moves_are_the_legal_moves, moves_are_the_legal_triples}
 pub use Rattle.std.proofs.lemmas.Nat.Bits.{bit_at_cat_high, bit_at_cat_low, bit_at_not}
 unfoldable pub use Rattle.chess_rules.specs.Play.{unmoved_after}

@@ -1,8 +1,8 @@
 -- What men reach over hurdles, and what they reach later on the board.
-use Rattle.chess_flights.proofs.Chess.{AreReached, Attackers, Bishop, Bool, Colour, Grasshopper, IsAttackedOver, IsNear, IsReached, IsReachedFrom, Kind, King, Knight, List, Man, Nightrider, None, Option, Pawn, Queen, Rook, Some, Step, [], along, arith, bit_at, bit_at-lt, bit_at_or, bit_or, cases_Bool, cases_eq, diagonal_steps, eq-eqb, eqb-true, false, false≢true, find, find_first, gait_of, inl, inr, is_hopper, is_leaper, is_rider, is_some, is_vacant_at, knight_steps, leaps, list_any, man_on, men_on, not, not-true, occupied_squares, on_left, on_right, or_cases, or_left, or_right, other, queen_steps, range_with_len, reached_over, reaches_as, refl, ride-found, ride-made, rides, rules, same_kind, same_kind-true, squares_for, straight_steps, suc, sym, true, word, word_has, zero, ℕ, ◌-◌, ◌<◌, ◌==◌, ◌^◌, ◌||◌, ◌∙◌, ◌∷◌, ◌≡◌, ◌≢◌, ◌≤◌, ◌⊎◌}
+use Rattle.chess_flights.proofs.Chess.{AreReached, Attackers, Bishop, Bool, Colour, Grasshopper, IsAttackedOver, IsNear, IsReached, IsReachedFrom, Kind, List, Man, Nightrider, None, Option, Queen, Rook, Some, Step, [], along, arith, bit_at, bit_at-lt, bit_at_or, bit_or, cases_Bool, cases_eq, diagonal_steps, eq-eqb, eqb-true, false, false≢true, find, find_first, gait_of, inl, inr, is_hopper, is_leaper, is_rider, is_some, is_vacant_at, knight_steps, leaps, list_any, man_on, men_on, not, not-true, occupied_squares, on_left, on_right, or_cases, or_left, or_right, other, queen_steps, range_with_len, reached_over, reaches_as, refl, ride-found, ride-made, rides, rules, squares_for, straight_steps, suc, sym, true, word, word_has, zero, ℕ, ◌-◌, ◌<◌, ◌==◌, ◌^◌, ◌||◌, ◌∙◌, ◌∷◌, ◌≡◌, ◌≢◌, ◌≤◌, ◌⊎◌, ByKind, IsKindReach, value_for}
 use Rattle.chess_attacks.proofs.rays.OnSquares.{empty_on, occupied_on}
 use Rattle.chess_attacks.specs.ties.Taking.{IsPopped}
-use Rattle.chess_flights.proofs.KindByKind.{of_kind}
+use Rattle.chess_flights.proofs.KindByKind.{of_all}
 
 -- for words that are joined: the first has what it reached
 pub reached_left : (d : ℕ) (x : Man) (s a b : ℕ) → IsReached d x s a → IsReached d x s (bit_or a b)
@@ -46,17 +46,13 @@ rest_on w rest k left h next = record { within = λ s small on. grind (arith, ca
 pub rest_here : (w rest k left : ℕ) → IsRest w rest → IsPopped rest k left → (bit_at w k == 1) ≡ true
 rest_here w rest k left h next = h.within k next.small next.here
 
--- the squares that the attackers reach, kind by kind
+module _ (d : ℕ) (a : Attackers) where
+  -- a man that is reached is attacked
+  pub attacked_by : (k : Kind) (t : ℕ) → IsReachedFrom d (record { colour = a.colour; kind = k }) (squares_for a k) t → IsAttackedOver d a t
+  attacked_by k t r = search rules
+
+-- the squares that the attackers reach
 module _ (d : ℕ) (a : Attackers) (region : ℕ) where
-  abbrev ReachAs : Kind → ℕ → Type 0
-  ReachAs k w = (s : ℕ) → s < 64 → (bit_at (squares_for a k) s == 1) ≡ true → IsNear (record { colour = a.colour; kind = k }) s region
-      → IsReached d (record { colour = a.colour; kind = k }) s w
-
-  of_one : (k : Kind) (w : ℕ) → ReachAs k w → AreReached d a region (same_kind k) w
-  of_one k w h = record {
-    reach = λ s x i same near. of_kind a (λ y q. IsNear y q region → IsReached d y q w) k s x h i (sym (same_kind-true k x.kind same)) near;
-  }
-
   of_either : (j k l : Kind → Bool) (q r : ℕ) → ((i : Kind) → l i ≡ true → (j i || k i) ≡ true) → AreReached d a region j q → AreReached d a region k r
       → AreReached d a region l (bit_or q r)
   of_either j k l q r more first second = record {
@@ -66,30 +62,25 @@ module _ (d : ℕ) (a : Attackers) (region : ℕ) where
     ];
   }
 
-  -- for `rider_reach`
-  pub riders_reach : (q r b n : ℕ) → ReachAs Queen q → ReachAs Rook r → ReachAs Bishop b → ReachAs Nightrider n
-      → AreReached d a region is_rider (bit_or (bit_or (bit_or q r) b) n)
-  riders_reach q r b n queens rooks bishops nightriders =
-      of_either (λ k. (same_kind Queen k || same_kind Rook k) || same_kind Bishop k) (same_kind Nightrider) is_rider _ n (λ i e. grind arith)
-      (of_either (λ k. same_kind Queen k || same_kind Rook k) (same_kind Bishop) _ _ b (λ i e. e)
-      (of_either (same_kind Queen) (same_kind Rook) _ q r (λ i e. e) (of_one Queen q queens) (of_one Rook r rooks)) (of_one Bishop b bishops))
-      (of_one Nightrider n nightriders)
-
-  -- for `leapt_squares`
-  pub leapers_reach : (n p k : ℕ) → ReachAs Knight n → ReachAs Pawn p → ReachAs King k → AreReached d a region is_leaper (bit_or (bit_or n p) k)
-  leapers_reach n p k knights pawns kings =
-      of_either (λ k. same_kind Knight k || same_kind Pawn k) (same_kind King) is_leaper _ k (λ i e. grind arith)
-      (of_either (same_kind Knight) (same_kind Pawn) _ n p (λ i e. e) (of_one Knight n knights) (of_one Pawn p pawns)) (of_one King k kings)
-
-  -- for both together: all but hoppers
+  -- riders and leapers together: all but hoppers
   pub all_reach : (r l : ℕ) → AreReached d a region is_rider r → AreReached d a region is_leaper l
       → AreReached d a region (λ k. not (is_hopper (gait_of k))) (bit_or r l)
   all_reach r l rides leaps = search (rules, of_either)
 
-module _ (d : ℕ) (a : Attackers) where
-  -- the converse: a man that is reached is attacked
-  pub attacked_by : (k : Kind) (t : ℕ) → IsReachedFrom d (record { colour = a.colour; kind = k }) (squares_for a k) t → IsAttackedOver d a t
-  attacked_by k t r = search rules
+  -- for `gait_reach`: kind by kind
+  module _ (counts : Kind → Bool) (each : ByKind ℕ)
+      (reach : (k : Kind) → IsKindReach d region counts (record { colour = a.colour; kind = k }) (squares_for a k) (value_for each k)) (w : ℕ) where
+    pub kinds_reach : ((k : Kind) (s : ℕ) → (bit_at (value_for each k) s == 1) ≡ true → (bit_at w s == 1) ≡ true) → AreReached d a region counts w
+    kinds_reach all = record {
+      reach = λ s x i one near. record {
+        inside = λ t small r. all x.kind t ((of_all a (λ y q. counts y.kind ≡ true → IsNear y q region → IsReached d y q (value_for each y.kind))
+            (λ k q low on same. (reach k).all same q low on) s x i one near).inside t small r);
+      };
+    }
+
+    pub kinds_attack : ((s : ℕ) → (bit_at w s == 1) ≡ true → (k : Kind) × ((bit_at (value_for each k) s == 1) ≡ true)) → (t : ℕ) → t < 64
+        → (bit_at w t == 1) ≡ true → IsAttackedOver d a t
+    kinds_attack alone t small on = let one = alone t on in attacked_by d a one.0 t ((reach one.0).alone t small one.1)
 
 -- where all hurdles that a man reaches over the hurdles still stand, it reaches no more than over them
 module _ (d : ℕ) (men : List (Option Man)) where

@@ -1,5 +1,5 @@
 -- A property of the attackers of each kind is a property of all attackers.
-use Rattle.chess_flights.proofs.Chess.{Attackers, Bishop, Colour, Grasshopper, IsAttacker, Kind, King, Knight, Man, Nightrider, Pawn, Queen, Rook, ap, bit_at, refl, squares_for, subst, sym, true, ℕ, ◌<◌, ◌==◌, ◌∙◌, ◌≡◌, AreAttackers, List, Option, Some, arith, eq-eqb, is_man, man_on, squares_of, word_has}
+use Rattle.chess_flights.proofs.Chess.{Attackers, Colour, IsAttacker, Kind, Man, ap, bit_at, refl, squares_for, subst, sym, true, ℕ, ◌<◌, ◌==◌, ◌∙◌, ◌≡◌, AreAttackers, List, Option, Some, arith, eq-eqb, is_man, man_on, squares_of, word_has}
 use Rattle.chess_flights.proofs.Bitboards.{man_of_word}
 
 -- the man on a square is of its colour and kind
@@ -11,12 +11,9 @@ pub man_is : (x : Man) (c : Colour) (k : Kind) → x.colour ≡ c → x.kind ≡
 man_is x c k colour kind = rw (← colour, ← kind) refl
 
 -- the men of the board
-pub attackers_are : (men : List (Option Man)) (a : Attackers) → a.kings ≡ squares_of men a.colour King → a.queens ≡ squares_of men a.colour Queen
-    → a.rooks ≡ squares_of men a.colour Rook → a.bishops ≡ squares_of men a.colour Bishop → a.knights ≡ squares_of men a.colour Knight
-    → a.pawns ≡ squares_of men a.colour Pawn → a.grasshoppers ≡ squares_of men a.colour Grasshopper
-    → a.nightriders ≡ squares_of men a.colour Nightrider → AreAttackers men a
+pub attackers_are : (men : List (Option Man)) (a : Attackers) → ((k : Kind) → squares_for a k ≡ squares_of men a.colour k) → AreAttackers men a
 unfolding squares_of
-attackers_are men a kings queens rooks bishops knights pawns grasshoppers nightriders = grind (arith, man_is, man_of_word, man_there, word_has)
+attackers_are men a are = grind (arith, man_is, man_of_word, man_there, word_has, are)
 
 module _ (a : Attackers) (P : Man → ℕ → Type 0) where
   -- P holds of the attackers of one kind, square by square
@@ -28,16 +25,6 @@ module _ (a : Attackers) (P : Man → ℕ → Type 0) where
   of_kind k s x h i kind =
       subst (λ (y : Man). P y s) (man_is x a.colour k i.mine kind) (h s i.small (ap (λ (j : Kind). bit_at (squares_for a j) s == 1) (sym kind) ∙ i.on))
 
-  -- what holds of each of the eight kinds holds of every attacker
-  pub of_all : HoldsOf King → HoldsOf Queen → HoldsOf Rook → HoldsOf Bishop → HoldsOf Knight → HoldsOf Pawn → HoldsOf Grasshopper → HoldsOf Nightrider
-      → (s : ℕ) (x : Man) → IsAttacker a x s → P x s
-  of_all kings queens rooks bishops knights pawns grasshoppers nightriders s x i = of_kind x.kind s x (by x.kind) i refl where
-    by : (k : Kind) → HoldsOf k
-    by King = kings
-    by Queen = queens
-    by Rook = rooks
-    by Bishop = bishops
-    by Knight = knights
-    by Pawn = pawns
-    by Grasshopper = grasshoppers
-    by Nightrider = nightriders
+  -- what holds of each kind holds of every attacker
+  pub of_all : ((k : Kind) → HoldsOf k) → (s : ℕ) (x : Man) → IsAttacker a x s → P x s
+  of_all holds s x i = of_kind x.kind s x (holds x.kind) i refl

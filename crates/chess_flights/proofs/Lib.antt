@@ -13,3 +13,4 @@ pub mod Promotions
 pub mod QuietFilter
 pub mod Standing
 pub mod Stepping
+pub mod Unions

@@ -1,5 +1,6 @@
 pub mod Approaches
 pub mod Attackers
+pub mod ByKind
 pub mod Checks
 pub mod Flights
 pub mod FreeSteps

@@ -2,12 +2,14 @@
 ghost use Rattle.std.specs.Prelude.{◌≡◌, ◌<◌, ◌==◌, ℕ, true};
 ghost use Rattle.std.specs.Int.{bit_at};
 ghost use Rattle.chess_core.specs.declared.man.Man.{Man};
-ghost use Rattle.chess_flights.specs.ties.Guards.{AreReached, IsAttackedOver, IsNear, IsReached, IsReachedFrom, is_leaper, is_rider, reached_over};
+ghost use Rattle.chess_flights.specs.ties.Guards.{AreReached, IsAttackedOver, IsKindReach, IsNear, IsReached, IsReachedFrom, is_leaper, is_rider, moves_as, reached_over};
 
 use crate::attackers::Attackers;
+use crate::by_kind::{ForKind, for_each_kind, union_of};
 use chess_attacks::reach::reach_over;
 use chess_attacks::unblocked::unblocked_reach;
 use chess_attacks::words::pop_first;
+use chess_core::man::Gait;
 use chess_core::{Colour, Kind, Man, Square, Squares};
 
 /// Returns the squares that the man on `from` reaches over the hurdles.
@@ -74,36 +76,68 @@ pub fn reach_of(
     reach_together(hurdles, Man { colour, kind }, squares, region)
 }
 
+// The squares that leapers, or else riders, near the region reach over the hurdles.
+#[derive(Drop)]
+struct GaitReach {
+    hurdles: Squares,
+    colour: Colour,
+    region: Squares,
+    leapers: bool,
+}
+
+impl ForKind<Squares> for GaitReach {
+    type Out = Squares;
+
+    ghost holds = { λ f k s w. IsKindReach f.hurdles f.region (moves_as f.leapers)
+        (record { colour = f.colour; kind = k }) s w };
+
+    #[inline(always)]
+    fn of(&self, kind: Kind, squares: Squares) -> Squares {
+        let counts = match kind.gait() {
+            Gait::Leaper => self.leapers,
+            Gait::Rider => !self.leapers,
+            Gait::Hopper => false,
+        };
+        if !counts {
+            return 0;
+        }
+        reach_of(self.hurdles, self.colour, kind, squares, self.region)
+    }
+}
+
+// Returns the squares that leapers, or else riders, near the region reach over the hurdles.
+#[tactic(auto, using(crate::proofs::Hurdles::kinds_attack, crate::proofs::Hurdles::kinds_reach))]
+#[inline(always)]
+fn gait_reach(hurdles: Squares, men: &Attackers, region: Squares, leapers: bool) -> Squares
+    ensures all { AreReached hurdles men.now region (moves_as leapers) result }
+    ensures alone { (t : ℕ) → t < 64 → (bit_at result t == 1) ≡ true
+        → IsAttackedOver hurdles men.now t }
+{
+    let colour = men.colour;
+    let reach = GaitReach {
+        hurdles,
+        colour,
+        region,
+        leapers,
+    };
+    union_of(&for_each_kind(&reach, &men.squares))
+}
+
 /// Returns the squares that riders near the region reach over the hurdles.
-#[tactic(auto, using(crate::proofs::Hurdles::riders_reach))]
 #[inline(always)]
 pub fn rider_reach(hurdles: Squares, men: &Attackers, region: Squares) -> Squares
     ensures all { AreReached hurdles men.now region is_rider result }
     ensures alone { (t : ℕ) → t < 64 → (bit_at result t == 1) ≡ true
         → IsAttackedOver hurdles men.now t }
 {
-    let queens = reach_of(hurdles, men.colour, Kind::Queen, men.queens, region);
-    let rooks = reach_of(hurdles, men.colour, Kind::Rook, men.rooks, region);
-    let bishops = reach_of(hurdles, men.colour, Kind::Bishop, men.bishops, region);
-    let nightriders = reach_of(
-        hurdles,
-        men.colour,
-        Kind::Nightrider,
-        men.nightriders,
-        region,
-    );
-    queens | rooks | bishops | nightriders
+    gait_reach(hurdles, men, region, false)
 }
 
-/// Returns the squares that knights, pawns and kings near the region reach.
-#[tactic(auto, using(crate::proofs::Hurdles::leapers_reach))]
+/// Returns the squares that leapers near the region reach.
 pub fn leapt_squares(hurdles: Squares, men: &Attackers, region: Squares) -> Squares
     ensures all { AreReached hurdles men.now region is_leaper result }
     ensures alone { (t : ℕ) → t < 64 → (bit_at result t == 1) ≡ true
         → IsAttackedOver hurdles men.now t }
 {
-    let knights = reach_of(hurdles, men.colour, Kind::Knight, men.knights, region);
-    let pawns = reach_of(hurdles, men.colour, Kind::Pawn, men.pawns, region);
-    let kings = reach_of(hurdles, men.colour, Kind::King, men.kings, region);
-    knights | pawns | kings
+    gait_reach(hurdles, men, region, true)
 }

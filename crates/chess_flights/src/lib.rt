@@ -30,6 +30,7 @@
 
 pub mod approach_squares;
 pub mod attackers;
+pub mod by_kind;
 pub mod flights;
 pub mod free_steps;
 pub mod guards;

@@ -1,5 +1,5 @@
 -- A move that doesn't arrive where its man may give check gives none.
-use Rattle.chess_mates.proofs.Chess.{AreCastlingTargets, AreCheckSquares, AreCheckTargets, CheckSquares, Colour, IsMade, IsWellFormed, King, Man, Move, Pawn, Position, Rook, RuleSet, Some, and_parts, ap, are_rebirths_quiet, arith, arrival_needed, bit_at, bit_or, cannot_expose, captures_are_reborn, cases_Bool, castling_steps, check_squares_for, enemy, false, false_by, halfway, in_check, inl, inr, is_castling, is_pseudo_legal, may_be_made, is_some, is_square, is_two_files_aside, made, man_on, may_check_from, may_expose, may_arrive, may_go_aimed, may_be_hurdle, off_left, off_right, other, position_after, refl, rules, same_kind, steps_to, sym, true, word, word_has, ℕ, ◌+◌, ◌/◌, ◌<◌, ◌==◌, ◌∙◌, ◌≡◌, List, Option, rule_of_checks, is_promoting, arriving_man, arrived, other_twice, false≢true, Bool, Kind, along-is, bit_and, off_second, or_cases, ◌%◌, ◌*◌, ◌^◌, ◌⊎◌}
+use Rattle.chess_mates.proofs.Chess.{AreCastlingTargets, AreCheckSquares, AreCheckTargets, CheckSquares, Colour, IsMade, IsWellFormed, King, Man, Move, Pawn, Position, Rook, RuleSet, Some, and_parts, ap, are_rebirths_quiet, arith, arrival_needed, bit_at, bit_or, cannot_expose, captures_are_reborn, cases_Bool, castling_steps, value_for, enemy, false, false_by, halfway, in_check, inl, inr, is_castling, is_pseudo_legal, may_be_made, is_some, is_square, is_two_files_aside, made, man_on, may_check_from, may_expose, may_arrive, may_go_aimed, may_be_hurdle, off_left, off_right, other, position_after, refl, rules, same_kind, steps_to, sym, true, word, word_has, ℕ, ◌+◌, ◌/◌, ◌<◌, ◌==◌, ◌∙◌, ◌≡◌, List, Option, rule_of_checks, is_promoting, arriving_man, arrived, other_twice, false≢true, Bool, Kind, along-is, bit_and, off_second, or_cases, ◌%◌, ◌*◌, ◌^◌, ◌⊎◌}
 use Rattle.chess_rules.proofs.legality.EvasionTargets.{plain_elsewhere}
 use Rattle.chess_flights.proofs.CastlingChecks.{castling_gives_no_check}
 use Rattle.chess_flights.proofs.Becoming.{becomes}
@@ -15,12 +15,12 @@ use Rattle.chess_core.specs.Position.{may_promote}
 
 -- for the word of castlings that may give check
 pub castling_targets_are : (v : CheckSquares) (s a : ℕ) → s < 64 → a ≡ word (is_two_files_aside s)
-    → AreCastlingTargets v s (bit_and a (bit_or (v.straight * 2 ^ 1 % 2 ^ 64) (v.straight / 2 ^ 1)))
+    → AreCastlingTargets v s (bit_and a (bit_or (v.kinds.rooks * 2 ^ 1 % 2 ^ 64) (v.kinds.rooks / 2 ^ 1)))
 castling_targets_are v s a small are = record {
   elsewhere = λ t lt aside off.
       let both = off_second a _ t off (word_has (is_two_files_aside s) a t are lt ∙ aside) in
       let far : (t ≡ s + 2) ⊎ (s ≡ t + 2) = search (rules, along-is, or_cases) in
-      grind (arith, far, bit_up v.straight 1 t, bit_down v.straight 1 t, off_left, off_right, both);
+      grind (arith, far, bit_up v.kinds.rooks 1 t, bit_down v.kinds.rooks 1 t, off_left, off_right, both);
 }
 
 -- for `promotion_targets`: all squares of the last ranks
@@ -41,7 +41,7 @@ known_rule rule men e plain = rw plain refl
 -- where a rebirth may give check
 module _ (rule : RuleSet) (p : Position) (x : Man) (s : CheckSquares) (f : ℕ) (well : IsWellFormed p) (here : man_on p.men f ≡ Some x)
     (checks : AreCheckSquares p.men (other p.turn) s) (inside : f < 64) (covered : (bit_at s.blocker_squares f == 1) ≡ false) (a b c d : ℕ)
-    (checked_from : a ≡ check_squares_for s x.kind) (crossed : b ≡ word (λ t. is_square p.crossed t))
+    (checked_from : a ≡ value_for s.kinds x.kind) (crossed : b ≡ word (λ t. is_square p.crossed t))
     (promotes : same_kind x.kind Pawn ≡ true → ArePromotionTargets rule p s c) (castles : same_kind x.kind King ≡ true → AreCastlingTargets s f c)
     (reborn : are_rebirths_quiet rule p.men p.turn ≡ false → captures_are_reborn rule ≡ true → d ≡ word (λ t. is_some (man_on p.men t))) where
   module _ (m : Move) (at : m.from ≡ f) (small : m.to < 64) (may : is_pseudo_legal rule p m ≡ true)
@@ -68,8 +68,8 @@ module _ (rule : RuleSet) (p : Position) (x : Man) (s : CheckSquares) (f : ℕ) 
         let king : same_kind x.kind King ≡ true = (and_parts _ _ (and_parts _ _ y).0).0 in
         let beside : is_two_files_aside f m.to ≡ true = grind (arith, castling_steps x m small y, at) in
         castling_gives_no_check rule p x m well is y (other p.turn) (not_mine_enemy x p.turn is.mine) origin_stays aside (apart king)
-        (sym (word_has (may_check_from p.men (other p.turn) (enemy (other p.turn) Rook)) s.straight (halfway m) checks.straight (omega arith))
-        ∙ ap (λ n. bit_at s.straight ((n + m.to) / 2) == 1) at ∙ (castles king).elsewhere m.to small beside off.2)
+        (sym (word_has (may_check_from p.men (other p.turn) (enemy (other p.turn) Rook)) s.kinds.rooks (halfway m) (checks.kinds Rook refl) (omega arith))
+        ∙ ap (λ n. bit_at s.kinds.rooks ((n + m.to) / 2) == 1) at ∙ (castles king).elsewhere m.to small beside off.2)
 
     -- a move other than castling exposes no king
     covered_still : is_castling x m ≡ false → cannot_expose (rule_of_checks rule p.men p.turn) p (other p.turn) m ≡ true

@@ -7,7 +7,8 @@ pub use Rattle.chess_rules.proofs.Chess.{AtMostOneKing, IsPlaceIn, along-is, cir
 pub use Rattle.chess_rules.proofs.Chess.{moves_after, moves_between}
 unfoldable pub use Rattle.chess_rules.proofs.Chess.{is_arrival, is_on_fairy_line, steps_to, cannot_expose, is_blocking, triples}
 pub use Rattle.chess_mates.specs.declared.checks.CheckSquares.{CheckSquares}
-pub use Rattle.chess_mates.specs.ties.CheckSquares.{AreCastlingTargets, AreCheckOrigins, AreCheckSquares, AreCheckTargets, check_squares_for, own_man, rule_of_checks}
+pub use Rattle.chess_mates.specs.ties.CheckSquares.{AreCastlingTargets, AreCheckOrigins, AreCheckSquares, AreCheckTargets, own_man, rule_of_checks}
+pub use Rattle.chess_flights.specs.ties.ByKind.{value_for}
 pub use Rattle.chess_flights.specs.ties.Checks.{is_absent}
 unfoldable pub use Rattle.chess_mates.specs.ties.CheckSquares.{are_rebirths_quiet}
 pub use Rattle.chess_flights.specs.ties.Flights.{AreUnsafe}

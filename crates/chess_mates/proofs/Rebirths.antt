@@ -1,5 +1,5 @@
 -- A reborn man gives check to its own king only as a grasshopper's hurdle.
-use Rattle.chess_mates.proofs.Chess.{AreCheckSquares, AtMostOneKing, CheckSquares, Colour, Grasshopper, IsWellFormed, Kind, King, List, Man, Move, None, Option, Position, RuleSet, Some, Step, all_kept, along, and_from, and_parts, any_kept, are_rebirths_quiet, arith, arrived, bit_at, can_castle, cannot_expose, capture_square, captured_enemy, captured_mortal, cases_Bool, check_squares_for, circe, cond-false, cond-true, false, false_from_ne_true, false≢true, in_check, is_absent, is_attacked, is_attacker, is_castling, is_clear, is_man, is_man-without, is_paralysed, is_pseudo_legal, is_square, is_vacant_at, king_is, length, list_all, made, man_on, man_on-with_cases, man_on_at, man_there, may_castle, may_check_from, moved_men, moved_sound, not-true, on_board, orthodox, other, other_twice, position_after, put_at, range_with_len, reaches, reaches_as, reborn_square, refl, rides, rule_of_checks, rules, same_colour, same_kind, some_square_false, some_square_true, sym, true, unreborn_after, with_man, without_man, ℕ, ◌&&◌, ◌-◌, ◌<◌, ◌==◌, ◌∙◌, ◌≡◌}
+use Rattle.chess_mates.proofs.Chess.{AreCheckSquares, AtMostOneKing, CheckSquares, Colour, Grasshopper, IsWellFormed, Kind, King, List, Man, Move, None, Option, Position, RuleSet, Some, Step, all_kept, along, and_from, and_parts, any_kept, are_rebirths_quiet, arith, arrived, bit_at, can_castle, cannot_expose, capture_square, captured_enemy, captured_mortal, cases_Bool, value_for, circe, cond-false, cond-true, false, false_from_ne_true, false≢true, in_check, is_absent, is_attacked, is_attacker, is_castling, is_clear, is_man, is_man-without, is_paralysed, is_pseudo_legal, is_square, is_vacant_at, king_is, length, list_all, made, man_on, man_on-with_cases, man_on_at, man_there, may_castle, may_check_from, moved_men, moved_sound, not-true, on_board, orthodox, other, other_twice, position_after, put_at, range_with_len, reaches, reaches_as, reborn_square, refl, rides, rule_of_checks, rules, same_colour, same_kind, some_square_false, some_square_true, sym, true, unreborn_after, with_man, without_man, ℕ, ◌&&◌, ◌-◌, ◌<◌, ◌==◌, ◌∙◌, ◌≡◌}
 use Rattle.chess_mates.proofs.Checking.{no_check}
 use Rattle.chess_flights.proofs.CastlingChecks.{unchecked}
 use Rattle.chess_flights.proofs.Standing.{after_is}
@@ -83,7 +83,7 @@ rebirth_gives_no_check p x m well may here unpromoted absent safe =
 
 -- a move that gives no check by the rules of checks gives none
 pub no_check_by_rebirth : (rule : RuleSet) (p : Position) (x : Man) (m : Move) (s : CheckSquares) (w : ℕ) → IsWellFormed p → is_pseudo_legal rule p m ≡ true
-    → man_on p.men m.from ≡ Some x → AreCheckSquares p.men (other p.turn) s → w ≡ check_squares_for s x.kind → m.to < 64 → (bit_at w m.to == 1) ≡ false
+    → man_on p.men m.from ≡ Some x → AreCheckSquares p.men (other p.turn) s → w ≡ value_for s.kinds x.kind → m.to < 64 → (bit_at w m.to == 1) ≡ false
     → (same_kind x.kind King ≡ true → may_check_from p.men (other p.turn) x m.to ≡ false) → m.promo ≡ None
     → cannot_expose (rule_of_checks rule p.men p.turn) p (other p.turn) m ≡ true → in_check rule (position_after rule p m).men (other p.turn) ≡ false
 unfolding are_rebirths_quiet

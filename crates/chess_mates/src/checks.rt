@@ -6,7 +6,7 @@ ghost use Rattle.chess_core.specs.declared.man.Kind.TheVariants.{Bishop, King, P
 ghost use Rattle.chess_core.specs.WellFormed.{IsWellFormed};
 ghost use Rattle.chess_core.specs.ties.Words.{word};
 ghost use Rattle.chess_attacks.specs.Attacks.{in_check};
-ghost use Rattle.chess_mates.specs.ties.CheckSquares.{AreCastlingTargets, AreCheckSquares, ArePromotionTargets, AreCheckTargets, check_squares_for, own_man, are_rebirths_quiet, rule_of_checks};
+ghost use Rattle.chess_mates.specs.ties.CheckSquares.{AreCastlingTargets, AreCheckSquares, ArePromotionTargets, AreCheckTargets, own_man, are_rebirths_quiet, rule_of_checks};
 ghost use Rattle.chess_flights.specs.ties.Checks.{enemy, is_absent, may_check_from};
 ghost use Rattle.chess_flights.specs.ties.Approaches.{ArePromotions};
 ghost use Rattle.chess_rules.specs.ties.Blockers.{cannot_expose, may_expose, may_be_hurdle};
@@ -24,24 +24,20 @@ use chess_core::square::LAST_RANKS;
 use chess_core::{Board, Colour, Kind, Man, Move, Square, Squares};
 use chess_flights::approach_squares::promotion_squares;
 use chess_flights::attackers::has_fairy_promotions;
+use chess_flights::by_kind::{ByKind, ForKind, for_all, for_each_kind, value_for};
 use chess_flights::flights::covered_squares;
 use chess_rules::{cannot_expose, fairy_lines, rebirth_captures, safety_from, unblocked_targets};
 
 /// What decides whether a move in a position may give check: the squares from which a move may expose
-/// the king (`blocker_squares`); the lines to the king that carry a fairy man; for each kind, the
-/// squares from which a man of this kind may give check (a queen from `straight` and `diagonal`); and
-/// the squares on which a pawn may promote to an orthodox man that checks the king on some board
-/// (`promotions`). A king itself gives no check: next to the other king it would be in check.
+/// the king (`blocker_squares`); the lines to the king that carry a fairy man; the squares from which a man
+/// of each kind may give check (`kinds`); and the squares on which a pawn may promote to an orthodox man
+/// that checks the king on some board (`promotions`). A king itself gives no check: next to the other king
+/// it would be in check.
 #[derive(Clone, Copy)]
 pub(crate) struct CheckSquares {
     blocker_squares: Squares,
     fairy_lines: Squares,
-    straight: Squares,
-    diagonal: Squares,
-    knight: Squares,
-    pawn: Squares,
-    grasshopper: Squares,
-    nightrider: Squares,
+    kinds: ByKind<Squares>,
     promotions: Squares,
 }
 
@@ -105,6 +101,38 @@ fn promotions_seen(board: &Board, colour: Colour) -> Squares
     promotion_squares(colour.other(), false, king)
 }
 
+// The squares from which an enemy may give check to the colour's king by a legal move, kind by kind.
+// `straight` and `diagonal` are those of a rook and a bishop.
+#[derive(Drop)]
+struct ChecksOfKind<'a> {
+    board: &'a Board,
+    colour: Colour,
+    straight: Squares,
+    diagonal: Squares,
+}
+
+#[tactic(auto, using(crate::proofs::Checking::queen_squares))]
+impl ForKind<()> for ChecksOfKind<'_> {
+    type Out = Squares;
+
+    ghost fits = { λ f. (f.straight ≡ word (may_check_from f.board.now.men f.colour (enemy f.colour Rook)))
+        × (f.diagonal ≡ word (may_check_from f.board.now.men f.colour (enemy f.colour Bishop))) };
+
+    ghost holds = { λ f k _ w. same_kind k King ≡ false
+        → w ≡ word (may_check_from f.board.now.men f.colour (enemy f.colour k)) };
+
+    #[inline(always)]
+    fn of(&self, kind: Kind, _value: ()) -> Squares {
+        match kind {
+            Kind::King => 0,
+            Kind::Queen => self.straight | self.diagonal,
+            Kind::Rook => self.straight,
+            Kind::Bishop => self.diagonal,
+            _ => check_squares_of(self.board, self.colour, kind),
+        }
+    }
+}
+
 // Returns what decides whether a move may give check to the colour's king.
 #[inline(always)]
 pub(crate) fn check_squares(board: &Board, colour: Colour) -> CheckSquares
@@ -113,32 +141,17 @@ pub(crate) fn check_squares(board: &Board, colour: Colour) -> CheckSquares
     let lines = fairy_lines(board, colour);
     let straight = check_squares_of(board, colour, Kind::Rook);
     let diagonal = check_squares_of(board, colour, Kind::Bishop);
+    let checks = ChecksOfKind {
+        board,
+        colour,
+        straight,
+        diagonal,
+    };
     CheckSquares {
         blocker_squares: blockers_from(board, colour, straight, diagonal, lines),
         fairy_lines: lines,
-        straight,
-        diagonal,
-        knight: check_squares_of(board, colour, Kind::Knight),
-        pawn: check_squares_of(board, colour, Kind::Pawn),
-        grasshopper: check_squares_of(board, colour, Kind::Grasshopper),
-        nightrider: check_squares_of(board, colour, Kind::Nightrider),
+        kinds: for_each_kind(&checks, &for_all(())),
         promotions: promotions_seen(board, colour),
-    }
-}
-
-// Returns the squares from which a man of this kind may give check by a legal move.
-fn check_squares_for(squares: &CheckSquares, kind: Kind) -> Squares
-    ensures { result ≡ check_squares_for squares.now kind }
-{
-    match kind {
-        Kind::King => 0,
-        Kind::Queen => squares.straight | squares.diagonal,
-        Kind::Rook => squares.straight,
-        Kind::Bishop => squares.diagonal,
-        Kind::Knight => squares.knight,
-        Kind::Pawn => squares.pawn,
-        Kind::Grasshopper => squares.grasshopper,
-        Kind::Nightrider => squares.nightrider,
     }
 }
 
@@ -177,7 +190,7 @@ pub(crate) fn may_check_from_everywhere<R: Rules>(board: &Board, squares: &Check
 fn castling_targets(squares: &CheckSquares, from: Square) -> Squares
     ensures { AreCastlingTargets squares.now from result }
 {
-    let checked_from = squares.straight;
+    let checked_from = squares.kinds.rooks;
     squares_aside(from) & (checked_from << 1 | checked_from >> 1)
 }
 
@@ -232,7 +245,7 @@ pub(crate) fn targets_off_blockers<R: Rules>(
         → (bit_at squares.now.blocker_squares s == 1) ≡ false
         → AreCheckTargets R.rule board.now s result }
 {
-    let checked_from = check_squares_for(squares, kind);
+    let checked_from = value_for(&squares.kinds, kind);
     checked_from
         | only(board.crossed())
         | special_targets::<R>(board, squares, kind, king)
@@ -332,7 +345,7 @@ pub(crate) fn may_check<R: Rules>(board: &Board, squares: &CheckSquares, m: &Mov
         return may_check_promoted::<R>(board, squares, man, m);
     }
     m.to.show_below_64();
-    let from_there = check_squares_for(squares, man.kind);
+    let from_there = value_for(&squares.kinds, man.kind);
     contains(from_there, m.to) || may_discover::<R>(board, squares, *m)
 }
 

@@ -3,20 +3,14 @@ use Rattle.std.specs.Prelude.{◌≡◌, ◌<◌, ◌==◌, ◌||◌, ℕ, Bool,
 use Rattle.std.specs.Int.{bit_at}
 use Rattle.chess_core.specs.Position.{is_fairy, man_on}
 use Rattle.chess_core.specs.declared.man.Kind.{Kind}
-use Rattle.chess_core.specs.declared.man.Kind.TheVariants.{King, Queen, Rook, Bishop, Knight, Pawn, Grasshopper, Nightrider}
+use Rattle.chess_core.specs.declared.man.Kind.TheVariants.{King, Pawn}
 use Rattle.chess_core.specs.declared.man.Man.{Man}
 use Rattle.chess_flights.specs.declared.attackers.Attackers.{Attackers}
+use Rattle.chess_flights.specs.ties.ByKind.{value_for}
 
 -- the squares of the men of a kind
 abbrev pub squares_for : Attackers → Kind → ℕ
-squares_for a King = a.kings
-squares_for a Queen = a.queens
-squares_for a Rook = a.rooks
-squares_for a Bishop = a.bishops
-squares_for a Knight = a.knights
-squares_for a Pawn = a.pawns
-squares_for a Grasshopper = a.grasshoppers
-squares_for a Nightrider = a.nightriders
+squares_for a k = value_for a.squares k
 
 -- x on s is one of these men, by their squares
 pub record IsAttacker (a : Attackers) (x : Man) (s : ℕ) : Type 0 where

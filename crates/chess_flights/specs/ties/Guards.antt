@@ -1,8 +1,8 @@
 -- What men reach over hurdles (own).
-use Rattle.std.specs.Prelude.{◌≡◌, ◌<◌, ◌==◌, ℕ, Bool, true, false, List, Option}
+use Rattle.std.specs.Prelude.{◌≡◌, ◌<◌, ◌==◌, ◌&&◌, ℕ, Bool, true, false, not, List, Option}
 use Rattle.std.specs.Int.{bit_at}
+use Rattle.chess_core.specs.Steps.{gait_of, is_hopper, is_leaper as is_leaping}
 use Rattle.chess_core.specs.declared.man.Kind.{Kind}
-use Rattle.chess_core.specs.declared.man.Kind.TheVariants.{King, Queen, Rook, Bishop, Knight, Pawn, Nightrider}
 use Rattle.chess_core.specs.declared.man.Man.{Man}
 use Rattle.chess_flights.specs.declared.attackers.Attackers.{Attackers}
 use Rattle.chess_flights.specs.ties.Attackers.{IsAttacker}
@@ -19,18 +19,16 @@ pub record IsReached (d : ℕ) (x : Man) (s w : ℕ) : Type 0 where
 
 -- men of this kind move along lines
 abbrev pub is_rider : Kind → Bool
-is_rider Nightrider = true
-is_rider Queen = true
-is_rider Rook = true
-is_rider Bishop = true
-is_rider _ = false
+is_rider k = not (is_leaping (gait_of k)) && not (is_hopper (gait_of k))
 
 -- men of this kind move by one step or leap
 abbrev pub is_leaper : Kind → Bool
-is_leaper King = true
-is_leaper Knight = true
-is_leaper Pawn = true
-is_leaper _ = false
+is_leaper k = is_leaping (gait_of k)
+
+-- men of this kind are leapers if b, else riders
+abbrev pub moves_as : Bool → Kind → Bool
+moves_as true = is_leaper
+moves_as false = is_rider
 
 -- x on s could reach a square of the region on some board
 pub record IsNear (x : Man) (s region : ℕ) : Type 0 where
@@ -53,6 +51,14 @@ pub record IsReachedFrom (d : ℕ) (x : Man) (squares t : ℕ) : Type 0 where
   pub small : from < 64
   pub on : (bit_at squares from == 1) ≡ true
   pub reaches : reached_over d x from t ≡ true
+
+-- w holds the squares that men like x on these squares reach over the hurdles, and no others: men near the
+-- region, if their kind counts
+pub record IsKindReach (d region : ℕ) (counts : Kind → Bool) (x : Man) (squares w : ℕ) : Type
+    0 where
+  pub all : counts x.kind ≡ true → (s : ℕ) → s < 64 → (bit_at squares s == 1) ≡ true
+      → IsNear x s region → IsReached d x s w
+  pub alone : (t : ℕ) → t < 64 → (bit_at w t == 1) ≡ true → IsReachedFrom d x squares t
 
 -- one of the attackers reaches t over the hurdles
 pub record IsAttackedOver (d : ℕ) (a : Attackers) (t : ℕ) : Type 0 where

@@ -1,16 +1,16 @@
 -- Squares from which a move may give check (own).
 use Rattle.std.specs.Prelude.{◌≡◌, ℕ, ◌+◌, ◌/◌, ◌<◌, Bool, true, false, ◌&&◌, ◌==◌, List, Option, Some, if◌then◌else◌}
 use Rattle.std.specs.Int.{bit_at}
-use Rattle.std.specs.Int.Bits.{bit_or}
-use Rattle.chess_core.specs.Position.{Position, king_square, may_promote, other}
+use Rattle.chess_core.specs.Position.{Position, king_square, may_promote, other, same_kind}
 use Rattle.chess_core.specs.ties.Words.{word}
 use Rattle.chess_core.specs.declared.man.Man.{Man}
 use Rattle.chess_core.specs.declared.man.Move.{Move}
 use Rattle.chess_core.specs.declared.man.Colour.{Colour}
 use Rattle.chess_core.specs.declared.man.Kind.{Kind}
-use Rattle.chess_core.specs.declared.man.Kind.TheVariants.{King, Queen, Rook, Bishop, Knight, Pawn, Grasshopper, Nightrider}
+use Rattle.chess_core.specs.declared.man.Kind.TheVariants.{King, Grasshopper}
 use Rattle.chess_mates.specs.declared.checks.CheckSquares.{CheckSquares}
 use Rattle.chess_flights.specs.ties.Attackers.{is_promotion}
+use Rattle.chess_flights.specs.ties.ByKind.{value_for}
 use Rattle.chess_flights.specs.ties.Approaches.{ArePromotions}
 use Rattle.chess_attacks.specs.Attacks.{in_check}
 use Rattle.chess_rules.specs.Legal.{is_legal}
@@ -41,25 +41,10 @@ pub record AreCheckSquares (men : List (Option Man)) (c : Colour)
     (s : CheckSquares) : Type 0 where
   pub blocker_squares : s.blocker_squares ≡ word (may_expose men c)
   pub fairy_lines : s.fairy_lines ≡ word (may_be_hurdle men c)
-  pub straight : s.straight ≡ word (may_check_from men c (enemy c Rook))
-  pub diagonal : s.diagonal ≡ word (may_check_from men c (enemy c Bishop))
-  pub knight : s.knight ≡ word (may_check_from men c (enemy c Knight))
-  pub pawn : s.pawn ≡ word (may_check_from men c (enemy c Pawn))
-  pub grasshopper : s.grasshopper ≡ word (may_check_from men c (enemy c Grasshopper))
-  pub nightrider : s.nightrider ≡ word (may_check_from men c (enemy c Nightrider))
+  pub kinds : (k : Kind) → same_kind k King ≡ false
+      → value_for s.kinds k ≡ word (may_check_from men c (enemy c k))
   pub promotions : (k : ℕ) → king_square men c ≡ Some k
       → ArePromotions (other c) false k s.promotions
-
--- the check squares for a kind; none for a king, which would be in check itself where it gives check
-abbrev pub check_squares_for : CheckSquares → Kind → ℕ
-check_squares_for s King = 0
-check_squares_for s Queen = bit_or s.straight s.diagonal
-check_squares_for s Rook = s.straight
-check_squares_for s Bishop = s.diagonal
-check_squares_for s Knight = s.knight
-check_squares_for s Pawn = s.pawn
-check_squares_for s Grasshopper = s.grasshopper
-check_squares_for s Nightrider = s.nightrider
 
 -- no pawn may promote to a fairy man, captures only remove men, and t isn't one of the squares on which
 -- a promoted pawn may give check
@@ -83,7 +68,7 @@ pub record AreCheckTargets (rule : RuleSet) (p : Position) (s w : ℕ) : Type 0 
 -- a rook gives no check from halfway between s and a square two files to either side that isn't in w
 pub record AreCastlingTargets (v : CheckSquares) (s w : ℕ) : Type 0 where
   pub elsewhere : (t : ℕ) → t < 64 → is_two_files_aside s t ≡ true → (bit_at w t == 1) ≡ false
-      → (bit_at v.straight ((s + t) / 2) == 1) ≡ false
+      → (bit_at v.kinds.rooks ((s + t) / 2) == 1) ≡ false
 
 -- a legal move from a square outside w gives no check
 pub record AreCheckOrigins (rule : RuleSet) (p : Position) (w : ℕ) : Type 0 where

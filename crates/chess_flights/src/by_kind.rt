@@ -1,0 +1,123 @@
+//! A value for each kind of man. No other module lists the kinds: what is computed for each kind is a
+//! `ForKind`, for any kind.
+ghost use Rattle.std.specs.Prelude.{◌≡◌, ◌==◌, ℕ, true};
+ghost use Rattle.std.specs.Int.{bit_at};
+ghost use Rattle.chess_core.specs.declared.man.Kind.{Kind};
+ghost use Rattle.chess_flights.specs.ties.ByKind.{value_for};
+
+use chess_core::{Kind, Squares};
+
+/// A value for each kind.
+#[derive(Clone, Copy)]
+pub struct ByKind<T> {
+    pub kings: T,
+    pub queens: T,
+    pub rooks: T,
+    pub bishops: T,
+    pub knights: T,
+    pub pawns: T,
+    pub grasshoppers: T,
+    pub nightriders: T,
+}
+
+/// A computation for one kind, from the value for it. `holds` says what the result means, and `fits` what it
+/// requires.
+pub trait ForKind<T> {
+    ghost use Rattle.chess_core.specs.declared.man.Kind.{Kind};
+
+    type Out;
+
+    ghost fits: { Self → Type 0 } = { λ _. Unit {0} };
+
+    ghost holds: { Self → Kind → T → Self.Out → Type 0 };
+
+    fn of(&self, kind: Kind, value: T) -> Self::Out
+        requires { fits self.now }
+        ensures { holds self.now kind value result };
+}
+
+/// Returns the same value for each kind.
+#[inline(always)]
+pub fn for_all<T: Copy>(value: T) -> ByKind<T>
+    ensures { (k : Kind) → value_for result k ≡ value }
+{
+    ByKind {
+        kings: value,
+        queens: value,
+        rooks: value,
+        bishops: value,
+        knights: value,
+        pawns: value,
+        grasshoppers: value,
+        nightriders: value,
+    }
+}
+
+/// Returns the value for this kind.
+#[inline(always)]
+pub fn value_for<T: Copy>(values: &ByKind<T>, kind: Kind) -> T
+    ensures { result ≡ value_for values.now kind }
+{
+    match kind {
+        Kind::King => values.kings,
+        Kind::Queen => values.queens,
+        Kind::Rook => values.rooks,
+        Kind::Bishop => values.bishops,
+        Kind::Knight => values.knights,
+        Kind::Pawn => values.pawns,
+        Kind::Grasshopper => values.grasshoppers,
+        Kind::Nightrider => values.nightriders,
+    }
+}
+
+/// Computes `f` for each kind.
+#[inline(always)]
+pub fn for_each_kind<T: Copy, F: ForKind<T>>(f: &F, values: &ByKind<T>) -> ByKind<F::Out>
+    requires { F.fits f.now }
+    ensures { (k : Kind) → F.holds f.now k (value_for values.now k) (value_for result k) }
+{
+    ByKind {
+        kings: f.of(Kind::King, values.kings),
+        queens: f.of(Kind::Queen, values.queens),
+        rooks: f.of(Kind::Rook, values.rooks),
+        bishops: f.of(Kind::Bishop, values.bishops),
+        knights: f.of(Kind::Knight, values.knights),
+        pawns: f.of(Kind::Pawn, values.pawns),
+        grasshoppers: f.of(Kind::Grasshopper, values.grasshoppers),
+        nightriders: f.of(Kind::Nightrider, values.nightriders),
+    }
+}
+
+/// Returns whether `f` is true for each kind. Stops at the first kind for which it is false.
+#[inline(always)]
+pub fn is_for_all<T: Copy, F: ForKind<T, Out = bool>>(f: &F, values: &ByKind<T>) -> bool
+    requires { F.fits f.now }
+    ensures { result ≡ true → (k : Kind) → F.holds f.now k (value_for values.now k) true }
+{
+    f.of(Kind::Queen, values.queens)
+        && f.of(Kind::Rook, values.rooks)
+        && f.of(Kind::Bishop, values.bishops)
+        && f.of(Kind::Knight, values.knights)
+        && f.of(Kind::Pawn, values.pawns)
+        && f.of(Kind::Grasshopper, values.grasshoppers)
+        && f.of(Kind::Nightrider, values.nightriders)
+        && f.of(Kind::King, values.kings)
+}
+
+/// Returns the squares of all kinds.
+#[inline(always)]
+pub fn union_of(squares: &ByKind<Squares>) -> Squares
+    ensures all { (k : Kind) (s : ℕ) → (bit_at (value_for squares.now k) s == 1) ≡ true
+        → (bit_at result s == 1) ≡ true }
+    ensures alone { (s : ℕ) → (bit_at result s == 1) ≡ true
+        → (k : Kind) × ((bit_at (value_for squares.now k) s == 1) ≡ true) }
+{
+    squares.kings
+        | squares.queens
+        | squares.rooks
+        | squares.bishops
+        | squares.knights
+        | squares.pawns
+        | squares.grasshoppers
+        | squares.nightriders
+}
