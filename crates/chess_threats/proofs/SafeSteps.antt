@@ -1,5 +1,5 @@
 -- King's steps after which no attacker that checks takes all flights.
-use Rattle.chess_threats.proofs.Chess.{AreAdjacent, AreGuardsWithout, AreReached, Colour, IsArrival, IsAttacker, IsCastlingHarmless, IsKingZone, IsFlight, IsLeft, IsNear, IsRiskAt, IsSafeStep, IsSparedStep, IsUnguarded, IsWeak, KeepsFlight, Kind, King, KingAttack, KingZone, Man, Risk, RuleSet, Some, ap, arith, bit_and, bit_at, bit_not, bit_or, cases_Bool, eq-eqb, eqb-true, every_square_on, false, false_by, false≢true, gait_of, inl, inr, is_hopper, is_leaper, is_promoting, is_rider, is_square, men_on, not, not-false, off_left, off_right, off_zero, on_first, or_lt, other, reached_over, reaches_back, refl, same_kind, subst, sym, true, w64, word, word_has, ℕ, ◌<◌, ◌==◌, ◌^◌, ◌∙◌, ◌≡◌, ◌≢◌, ◌⊎◌, value_for}
+use Rattle.chess_threats.proofs.Chess.{AreAdjacent, AreGuardsWithout, AreReached, Colour, IsArrival, IsAttacker, IsCastlingHarmless, IsKingZone, IsFlight, IsLeft, IsNear, IsRiskAt, IsSafeStep, IsSparedStep, IsUnguarded, IsWeak, KeepsFlight, Kind, King, KingAttack, KingZone, Man, Risk, RuleSet, Some, ap, arith, bit_and, bit_at, bit_not, bit_or, cases_Bool, eq-eqb, eqb-true, every_square_on, false, false_by, false≢true, gait_of, inl, inr, is_hopper, is_leaper, is_promoting, is_rider, is_square, men_on, not, not-false, off_left, off_right, off_zero, on_first, or_lt, other, reached_over, reaches_back, refl, same_kind, subst, sym, true, w64, word, word_has, ℕ, ◌<◌, ◌==◌, ◌^◌, ◌∙◌, ◌≡◌, ◌≢◌, ◌⊎◌, value_for, Bool}
 use Rattle.chess_threats.specs.declared.lasting_flights.OpenTargets.{OpenTargets}
 use Rattle.chess_flights.specs.ties.Attackers.{is_promotion}
 use Rattle.chess_threats.specs.ties.KingAttack.{IsMild, AreChecksMet, AreGuardsThrough, ArePlainAttackers, AreUnhopping, IsCalm, IsCheckMet}

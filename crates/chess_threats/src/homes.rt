@@ -87,7 +87,6 @@ impl ForKind<()> for Homes<'_> {
 }
 
 // Returns the home squares of the colour's men.
-#[tactic(auto, using(crate::proofs::HomeSquares::all_homes))]
 fn home_squares(board: &Board, colour: Colour) -> Squares
     ensures { AreHomes board.now.men colour result }
 {

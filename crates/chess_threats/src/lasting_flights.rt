@@ -230,7 +230,6 @@ impl ForKind<Squares> for LeavesOne {
 }
 
 // Returns whether one of the squares remains wherever any of the men goes, whatever a pawn promotes to.
-#[tactic(auto, using(crate::proofs::LastingFlights::all_leave))]
 #[inline(always)]
 fn leave_one(squares: Squares, men: &Attackers, targets: &OpenTargets) -> bool
     requires { AreOpenTargets men.now targets.now }

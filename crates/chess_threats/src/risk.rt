@@ -1,6 +1,6 @@
 //! The risk of a king: the squares where the arrival of a man of its side might allow mate, computed
 //! before that side moves.
-ghost use Rattle.std.specs.Prelude.{◌≡◌, ◌≢◌, ◌<◌, ◌==◌, ℕ, IfSome, true, false};
+ghost use Rattle.std.specs.Prelude.{◌≡◌, ◌≢◌, ◌<◌, ◌==◌, if◌then◌else◌, ℕ, IfSome, true, false};
 ghost use Rattle.std.specs.Int.{bit_at};
 ghost use Rattle.chess_core.specs.Steps.{gait_of, is_hopper};
 ghost use Rattle.chess_core.specs.declared.man.Kind.TheVariants.{Nightrider};
@@ -432,7 +432,6 @@ impl ForKind<Risk> for RiskPart {
 }
 
 // Returns the squares that are a risk for one kind of attacker or another.
-#[tactic(auto, using(crate::proofs::Risks::all_weak))]
 #[inline(always)]
 fn risk_of_all(king_attack: &KingAttack, king_zone: &KingZone) -> Risk
     requires { IsKingZone king_attack.now king_zone.now }

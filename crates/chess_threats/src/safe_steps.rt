@@ -30,14 +30,11 @@ fn guards_through(king_attack: &KingAttack) -> Squares
     ridden | leapt_squares(hurdles, men, !0)
 }
 
-// Returns whether the attackers are few, may not castle, and have no grasshopper and no fairy promotion.
+// Returns whether the attackers are few, may not castle, and have no grasshopper.
 fn are_plain(king_attack: &KingAttack) -> bool
     ensures { result ≡ true → ArePlainAttackers king_attack.now }
 {
     if king_attack.men.squares.grasshoppers != 0 {
-        return false;
-    }
-    if king_attack.men.fairy_promotions {
         return false;
     }
     king_attack.castled == 0 && king_attack.enemies.count_ones() <= MOST_ATTACKERS
@@ -60,7 +57,10 @@ impl ForKind<Squares> for ChecksLeaveOne {
 
     #[inline(always)]
     fn of(&self, kind: Kind, targets: Squares) -> bool {
-        if kind.is(Kind::King) || targets == 0 {
+        if kind.is(Kind::King) {
+            return true;
+        }
+        if targets == 0 {
             return true;
         }
         let colour = self.leaves.colour;

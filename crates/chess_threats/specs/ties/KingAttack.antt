@@ -421,11 +421,10 @@ pub record IsBarred (rule : RuleSet) (v : KingAttack) (t : ℕ) : Type 0 where
   pub free : (bit_at v.hurdles t == 1) ≡ false
   pub attacked : IsAttackedOver v.hurdles v.men t
 
--- the attackers may not castle, are no hoppers and promote to no fairy man
+-- the attackers may not castle and are no hoppers
 pub record ArePlainAttackers (v : KingAttack) : Type 0 where
   pub castled : v.castled ≡ 0
   pub grasshoppers : v.men.squares.grasshoppers ≡ 0
-  pub promotions : v.men.fairy_promotions ≡ false
 
 -- w holds the squares that the attackers reach over hurdles none of which is an attacker
 pub record AreGuardsThrough (v : KingAttack) (w : ℕ) : Type 0 where
