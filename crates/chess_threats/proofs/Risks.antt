@@ -102,7 +102,7 @@ module _ (v : KingAttack) (g : KingZone) where
       → AreWeak v g (record { critical = critical; lines = lines })
   all_weak risks c l critical lines each of_c of_l all_c all_l =
       let off = λ (w u t : ℕ) (more : (bit_at w t == 1) ≡ true → (bit_at u t == 1) ≡ true) (out : (bit_at u t == 1) ≡ false).
-          false_by (bit_at w t == 1) (λ on. false≢true (sym out ∙ more on)) in
+      false_by (bit_at w t == 1) (λ on. false≢true (sym out ∙ more on)) in
       record {
         weak = of_all v.men (λ x s. IsWeak v g (record { critical = critical; lines = lines }) x s) (λ k s small on.
             weak_too (value_for risks k) (record { critical = critical; lines = lines }) s _ (λ t. rw (← of_c k) (off _ critical t (all_c k t)))

@@ -10,7 +10,7 @@ use Rattle.chess_flights.proofs.Becoming.{counted_left, reaches_counted, unchang
 use Rattle.chess_threats.proofs.ExactSteps.{none_hops}
 use Rattle.chess_flights.proofs.Bitboards.{off_denied, on_both, denied_on, none_at}
 use Rattle.chess_flights.proofs.Hurdles.{all_reach, later}
-use Rattle.chess_flights.proofs.KindByKind.{man_is, of_all}
+use Rattle.chess_flights.proofs.KindByKind.{man_is}
 use Rattle.chess_threats.proofs.Risks.{king_targets}
 use Rattle.chess_threats.proofs.Springboards.{landing_anywhere, none_sprung}
 

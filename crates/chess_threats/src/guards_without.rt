@@ -1,13 +1,11 @@
 //! The squares that attackers reach over hurdles after one of them has left.
-ghost use Rattle.std.specs.Prelude.{◌≡◌, ◌≢◌, ℕ};
+ghost use Rattle.std.specs.Prelude.{◌≡◌};
 ghost use Rattle.std.specs.Int.Bits.{bit_and};
-ghost use Rattle.chess_core.specs.declared.man.Man.{Man};
-ghost use Rattle.chess_flights.specs.ties.Attackers.{IsAttacker};
 ghost use Rattle.chess_threats.specs.ties.KingAttack.{AreGuardsWithout};
 
 use crate::king_attack::KingAttack;
 use chess_attacks::words::only;
-use chess_core::{Kind, Man, Square, Squares};
+use chess_core::{Kind, Square, Squares};
 use chess_flights::attackers::Attackers;
 use chess_flights::by_kind::{ForKind, for_each_kind};
 use chess_flights::guards::{leapt_squares, rider_reach};
@@ -36,23 +34,16 @@ impl ForKind<Squares> for Among {
     }
 }
 
-// Returns the attackers without the one on `gone`.
-fn without(men: &Attackers, gone: Square) -> Attackers
-    ensures { (s : ℕ) (x : Man) → IsAttacker men.now x s → gone ≢ s → IsAttacker result x s }
-{
-    let squares = !only(Some(gone));
-    Attackers {
-        squares: for_each_kind(&Among { squares }, &men.squares),
-        ..*men
-    }
-}
-
 // Returns the squares that attackers near the region reach after the one on `from` has left.
 pub(crate) fn guards_without(king_attack: &KingAttack, from: Square, region: Squares) -> Guards
     ensures { AreGuardsWithout king_attack.now from region result }
 {
-    let hurdles = king_attack.hurdles & !only(Some(from));
-    let men = without(&king_attack.men, from);
+    let squares = !only(Some(from));
+    let hurdles = king_attack.hurdles & squares;
+    let men = Attackers {
+        squares: for_each_kind(&Among { squares }, &king_attack.men.squares),
+        ..king_attack.men
+    };
     let ridden = rider_reach(hurdles, &men, region);
     Guards {
         ridden,

@@ -114,12 +114,8 @@ impl ForKind<Squares> for KindTargets<'_> {
             Kind::King => open_targets_of(men.colour, kind, men.squares.kings),
             Kind::Pawn => self.advances,
             Kind::Rook | Kind::Bishop => reached,
-            _ => {
-                if kind.is_fairy() && !men.fairy_promotions {
-                    return reached;
-                }
-                reached | self.advances & LAST_RANKS
-            }
+            _ if kind.is_fairy() && !men.fairy_promotions => reached,
+            _ => reached | self.advances & LAST_RANKS,
         }
     }
 }

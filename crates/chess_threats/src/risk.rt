@@ -427,7 +427,11 @@ impl ForKind<Risk> for RiskPart {
 
     #[inline(always)]
     fn of(&self, _kind: Kind, risk: Risk) -> Squares {
-        if self.lines { risk.lines } else { risk.critical }
+        if self.lines {
+            risk.lines
+        } else {
+            risk.critical
+        }
     }
 }
 
