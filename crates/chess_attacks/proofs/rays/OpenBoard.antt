@@ -25,11 +25,9 @@ module _ (x : Man) (s : ℕ) where
     ];
   }
 
-  -- a knight's leaps, a king's steps and a pawn's captures
-  pub leap_reach : (k : Kind) (test : ℕ → Bool) (l : ℕ) → x.kind ≡ k → gait_of k ≡ Leaper → l ≡ word test
-      → ((t : ℕ) → list_any (leaps s t) (kind_steps x.colour k) ≡ test t) → AreReached x s l
-  unfolding reaches_as
-  leap_reach k test l kind leaper squares same = search (rules, word_has)
+  -- a leaper's squares
+  pub leap_reach : (l : ℕ) → ((men : List (Option Man)) → l ≡ word (reaches_as men x.colour x.kind s)) → AreReached x s l
+  leap_reach l squares = search (rules, word_has, squares)
 
   -- a nightrider's, over no hurdle
   pub nightrider_reach : (w : ℕ) → x.kind ≡ Nightrider
