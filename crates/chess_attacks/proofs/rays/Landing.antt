@@ -1,5 +1,5 @@
 -- What a man reaches doesn't depend on the man on the square that it reaches.
-use Rattle.chess_attacks.proofs.Basics.{Bool, List, Option, Some, [], and_left, and_parts, arith, cases_Bool, false, false_from_ne_true, is_some, list_all, list_any, or_from, range_with_len, refl, rules, suc, zero, ℕ, ◌&&◌, ◌+◌, ◌-◌, ◌<◌, ◌||◌, ◌∙◌, ◌∷◌, ◌≡◌, ◌≢◌, ◌≤◌}
+use Rattle.chess_attacks.proofs.Basics.{Bool, List, Option, Some, [], and_left, and_parts, arith, cases_Bool, false, false_from_ne_true, is_some, list_all, list_any, or_from, range_with_len, refl, rules, suc, true, zero, ℕ, ◌&&◌, ◌+◌, ◌-◌, ◌<◌, ◌||◌, ◌∙◌, ◌∷◌, ◌≡◌, ◌≢◌, ◌≤◌}
 use Rattle.chess_attacks.proofs.Chess.{Colour, Gait, Hopper, Kind, Leaper, Man, Rider, Step, along, any_range_false, any_range_same, gait_of, goes_by, hops, is_clear, is_occupied, is_square, kind_steps, leaps, man_on, place, reaches_as, rides}
 use Rattle.chess_attacks.proofs.rays.Ends.{square_is, stays}
 use Rattle.chess_attacks.proofs.rays.Ahead.{Ordered, moves_on, ordered_on}

@@ -1,5 +1,5 @@
 -- A superset of what a man reaches on each board: `unblocked_reach` misses no square.
-use Rattle.chess_attacks.proofs.Chess.{Bool, Grasshopper, Kind, Leaper, List, Man, Nightrider, Option, Queen, Rider, arith, bit_or, diagonal_steps, gait_of, inl, inr, is_on_some, kind_steps, leaps, list_any, list_any-append, men_on, AreReached, occupied_squares, on_left, on_right, or_cases, reaches_as, refl, rides, rules, straight_steps, sym, true, word, word_has, ℕ, ◌∙◌, ◌≡◌}
+use Rattle.chess_attacks.proofs.Chess.{Grasshopper, Kind, List, Man, Nightrider, Option, Queen, Rider, arith, bit_or, diagonal_steps, gait_of, inl, inr, is_on_some, kind_steps, list_any, list_any-append, men_on, AreReached, occupied_squares, on_left, on_right, or_cases, reaches_as, refl, rides, rules, straight_steps, sym, true, word, word_has, ℕ, ◌∙◌, ◌≡◌}
 use Rattle.chess_attacks.proofs.attacks.Attacking.{goes_on}
 use Rattle.chess_attacks.proofs.rays.OnSquares.{hops_openly, occupied_on, rides_openly}
 
