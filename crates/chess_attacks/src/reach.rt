@@ -5,7 +5,7 @@ ghost use Rattle.chess_core.specs.declared.man.Man.{Man};
 ghost use Rattle.chess_attacks.specs.ties.Lines.{occupied_squares};
 ghost use Rattle.chess_attacks.specs.Reaches.{reaches, reaches_as};
 
-use crate::leaps::{king_leaps, knight_leaps, pawn_leaps};
+use crate::leaps::leaps_of;
 use crate::lines::{
     diagonal_rides, knight_rides, occupied, queen_hops, queen_rides, straight_rides,
 };
@@ -21,14 +21,12 @@ pub fn reach_over(occupied: Squares, colour: Colour, kind: Kind, from: Square) -
         → result ≡ word (reaches_as men colour kind from) }
 {
     match kind {
-        Kind::King => king_leaps(from),
         Kind::Queen => queen_rides(occupied, from),
         Kind::Rook => straight_rides(occupied, from),
         Kind::Bishop => diagonal_rides(occupied, from),
-        Kind::Knight => knight_leaps(from),
-        Kind::Pawn => pawn_leaps(colour, from),
         Kind::Grasshopper => queen_hops(occupied, from),
         Kind::Nightrider => knight_rides(occupied, from),
+        _ => leaps_of(colour, kind, from),
     }
 }
 

@@ -1,7 +1,7 @@
 //! Where a man could go on some board, whoever else stands there.
 ghost use Rattle.chess_attacks.specs.ties.Lines.{AreReached};
 
-use crate::leaps::{king_leaps, knight_leaps, pawn_leaps};
+use crate::leaps::leaps_of;
 use crate::lines::{diagonal_lines, straight_lines};
 use crate::reach::reach_over;
 use chess_core::{Kind, Man, Square, Squares};
@@ -16,9 +16,7 @@ pub fn unblocked_reach(man: Man, from: Square) -> Squares
         Kind::Queen | Kind::Grasshopper => straight_lines(from) | diagonal_lines(from),
         Kind::Rook => straight_lines(from),
         Kind::Bishop => diagonal_lines(from),
-        Kind::Knight => knight_leaps(from),
-        Kind::Pawn => pawn_leaps(man.colour, from),
-        Kind::King => king_leaps(from),
         Kind::Nightrider => reach_over(0, man.colour, Kind::Nightrider, from),
+        _ => leaps_of(man.colour, man.kind, from),
     }
 }

@@ -1,5 +1,5 @@
 -- Attackers of a square, found by looking outward from it.
-use Rattle.chess_attacks.proofs.Chess.{Bishop, Bool, Colour, Grasshopper, Hopper, Kind, King, Knight, List, Man, Nightrider, Option, Pawn, Queen, Rook, RuleSet, Step, [], and_left, any_kept, any_range_same, any_range_true, arith, bit_and, bit_at, bit_or, diagonal_steps, differs, eq-eqb, like_men_paralyse, attacks_like, is_attacked_by_like, false, false_from_ne_true, false≢true, first_of_and, gait_of, hopped_from, hops, is_ahead, is_attacked, is_attacker, is_fairy_man, is_leaping_man, is_man, is_met, is_of_colour, is_on_some, is_paralysed, is_reached, joined, list_any, list_any-append, man_on, not, other, queen_steps, reaches, reaches_as, reaches_of, refl, rides, rules, same_colour-true, same_kind-true, second_of_and, shared, some_square, some_square_known, squares, squares_of, squares_same, straight_steps, sym, true, word, word_empty, word_has, word_lacks, ℕ, ◌&&◌, ◌<◌, ◌==◌, ◌||◌, ◌∙◌, ◌∷◌, ◌≡◌, bit_not, w64}
+use Rattle.chess_attacks.proofs.Chess.{Bishop, Bool, Colour, Grasshopper, Hopper, Kind, King, Knight, List, Man, Option, Pawn, Queen, Rook, RuleSet, Step, [], and_left, any_kept, any_range_same, any_range_true, arith, bit_and, bit_at, bit_or, diagonal_steps, differs, eq-eqb, like_men_paralyse, attacks_like, is_attacked_by_like, false, false_from_ne_true, false≢true, first_of_and, gait_of, hopped_from, hops, is_ahead, is_attacked, is_attacker, is_fairy_man, is_leaping_man, is_man, is_met, is_of_colour, is_on_some, is_paralysed, is_reached, joined, list_any, list_any-append, man_on, not, other, queen_steps, reaches, reaches_as, reaches_of, refl, rides, rules, same_colour-true, same_kind-true, second_of_and, shared, some_square, some_square_known, squares, squares_of, squares_same, straight_steps, sym, true, word, word_empty, word_has, word_lacks, ℕ, ◌&&◌, ◌<◌, ◌==◌, ◌||◌, ◌∙◌, ◌∷◌, ◌≡◌, bit_not, w64}
 use Rattle.chess_attacks.proofs.rays.Flips.{diagonal-back, hops-turned, queen_rides-back, reaches_back, straight-back}
 use Rattle.chess_attacks.proofs.rays.Ways.{ride_on-found}
 use Rattle.chess_attacks.proofs.Bits.{every_square}
@@ -172,19 +172,9 @@ hoppers_none men c t g l d q h i j z =
     let lined : word (λ s. is_man (man_on men s) c Grasshopper && is_near t s) ≡ 0 = sym (shared _ _ _ _ h (joined _ _ _ _ i j)) ∙ z in
     word_empty _ (λ s b. grind (arith, hops_near, reaches_of_man, word_lacks _ lined s b))
 
--- a fairy man is of one of the fairy kinds
-fairy_by_kind : (o : Option Man) (c : Colour) (r : Bool) → ((is_man o c Grasshopper && r) || (is_man o c Nightrider && r)) ≡ (is_fairy_man o c && r)
-fairy_by_kind o c r = grind arith
-
--- the fairy men kind by kind
-pub fairy_are : (men : List (Option Man)) (c : Colour) (t g f : ℕ) → g ≡ word (comer men c t Grasshopper) → f ≡ word (comer men c t Nightrider)
-    → bit_or g f ≡ word (fairy_comer men c t)
-fairy_are men c t g f hg hf = joined _ _ _ _ hg hf ∙ squares_same _ _ (λ s b. fairy_by_kind (man_on men s) c (reaches men s t))
-
--- where there are neither, no fairy man reaches t
-pub fairy_none : (men : List (Option Man)) (c : Colour) (t g f : ℕ) → g ≡ squares_of men c Grasshopper → f ≡ squares_of men c Nightrider → g ≡ 0 → f ≡ 0
-    → 0 ≡ word (fairy_comer men c t)
-fairy_none men c t g f hg hf zg zf = fairy_are men c t 0 0 (reached_none men c Grasshopper t g hg zg) (reached_none men c Nightrider t f hf zf)
+-- where there are none, no fairy man reaches t
+pub fairy_none : (men : List (Option Man)) (c : Colour) (t w : ℕ) → w ≡ word (λ s. is_fairy_man (man_on men s) c) → w ≡ 0 → 0 ≡ word (fairy_comer men c t)
+fairy_none men c t w h z = word_empty _ (λ s b. and_left (is_fairy_man (man_on men s) c) (reaches men s t) (word_lacks (λ s. is_fairy_man (man_on men s) c) (sym h ∙ z) s b))
 
 -- attack by the men that reach the square and aren't paralysed
 pub attacked_by : (rule : RuleSet) (men : List (Option Man)) (t w : ℕ) (c : Colour) → w ≡ word (λ s. is_of_colour (man_on men s) c && reaches men s t)

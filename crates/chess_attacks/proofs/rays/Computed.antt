@@ -1,10 +1,11 @@
 -- The tables of lines and leaps, computed.
-use Rattle.chess_attacks.proofs.Chess.{Black, Direction, East, List, None, North, NorthEast, NorthWest, Option, Some, South, SouthEast, SouthWest, Step, West, White, [], along, ap, arith, bit_or, cases_lt, cond-false, cond-true, diagonal_steps, differs, direction_number, false, forward, four, get_or, get_or-map-range_with_len, if◌then◌else◌, is_advance, is_ahead, is_on_some, is_square, is_two_files_aside, knight_steps, le-ltb, leaps, list_any, lt-ltb, map, pawn_capture_steps, queen_steps, range_with_len, ray, refl, rules, squares_either, step_by, step_of, straight_steps, sym, word, word_empty, word_only, ℕ, ◌%◌, ◌*◌, ◌<◌, ◌^◌, ◌||◌, ◌∙◌, ◌∷◌, ◌≡◌}
-use Rattle.chess_attacks.specs.declared.geometry.TheConstants.{ASIDE, BLACK_CAPTURES, BLACK_STEPS, DIAGONAL_LINES, KNIGHT_LEAPS, NEIGHBOURS, RAYS, STRAIGHT_LINES, WHITE_CAPTURES, WHITE_STEPS}
+use Rattle.chess_attacks.proofs.Chess.{Black, Direction, East, List, None, North, NorthEast, NorthWest, Option, Some, South, SouthEast, SouthWest, Step, West, White, [], along, ap, arith, bit_or, cases_lt, cond-false, cond-true, diagonal_steps, differs, direction_number, false, forward, four, get_or, get_or-map-range_with_len, if◌then◌else◌, is_advance, is_ahead, is_on_some, is_square, is_two_files_aside, le-ltb, list_any, lt-ltb, map, range_with_len, ray, refl, rules, squares_either, step_by, step_of, straight_steps, sym, word, word_empty, word_only, ℕ, ◌%◌, ◌*◌, ◌<◌, ◌^◌, ◌||◌, ◌∙◌, ◌∷◌, ◌≡◌}
+use Rattle.chess_attacks.specs.declared.geometry.TheConstants.{DIAGONAL_LINES, RAYS, STRAIGHT_LINES}
+use Rattle.chess_attacks.specs.declared.leaps.TheConstants.{ASIDE, BLACK_STEPS, WHITE_STEPS}
 use Rattle.std.proofs.Math.Dec.{ltb}
 
 -- the word of a square, if there is one on the board
-abbrev one : Option ℕ → ℕ
+abbrev pub one : Option ℕ → ℕ
 one None = 0
 one (Some q) = if ltb q 64 then 1 * 2 ^ q % 2 ^ 64 else 0
 
@@ -12,7 +13,7 @@ one_is : (o : Option ℕ) → one o ≡ word (is_square o)
 one_is o = search (rules, word_empty, cases_lt, cond-true, ltb, lt-ltb, word_only, cond-false, le-ltb, differs)
 
 -- the bitboard of a list of squares: each square is computed once, and not tested against all 64
-abbrev each : List (Option ℕ) → ℕ
+abbrev pub each : List (Option ℕ) → ℕ
 each [] = 0
 each (o ∷ os) = bit_or (one o) (each os)
 
@@ -27,7 +28,7 @@ two_is o u = (λ j. bit_or (one_is o j) (one_is u j)) ∙ squares_either (is_squ
 abbrev line : Step → ℕ → ℕ
 line d s = each (map (λ k. along s d k) (range_with_len 1 7))
 
-abbrev near : List Step → ℕ → ℕ
+abbrev pub near : List Step → ℕ → ℕ
 near ds s = each (map (λ d. along s d 1) ds)
 
 -- a row of the table holds the lines of its direction from all squares
@@ -48,29 +49,9 @@ ray_at x s i none d same small =
     ∙ each_is (map (λ k. along s (step_of x) k) (range_with_len 1 7))
 
 -- an entry of a table of steps is the word of the squares a step away
-near_at : (ds : List Step) (table : List ℕ) (s i d : ℕ) → table ≡ map (near ds) (range_with_len 0 64) → i ≡ s → i < 64
+pub near_at : (ds : List Step) (table : List ℕ) (s i d : ℕ) → table ≡ map (near ds) (range_with_len 0 64) → i ≡ s → i < 64
     → get_or table i d ≡ word (λ t. list_any (λ o. is_square o t) (map (λ d. along s d 1) ds))
 near_at ds table s i d is same small = entry (near ds) table s i d is same small ∙ each_is (map (λ d. along s d 1) ds)
-
--- the table of a king's steps
-pub neighbours_at : (s i d : ℕ) → i ≡ s → i < 64 → get_or NEIGHBOURS i d ≡ word (λ t. list_any (leaps s t) queen_steps)
-unfolding leaps along
-neighbours_at s i d = near_at queen_steps NEIGHBOURS s i d refl
-
--- the table of a knight's
-pub knight_leaps_at : (s i d : ℕ) → i ≡ s → i < 64 → get_or KNIGHT_LEAPS i d ≡ word (λ t. list_any (leaps s t) knight_steps)
-unfolding leaps along
-knight_leaps_at s i d = near_at knight_steps KNIGHT_LEAPS s i d refl
-
--- the table of the squares that a White pawn attacks
-pub white_captures_at : (s i d : ℕ) → i ≡ s → i < 64 → get_or WHITE_CAPTURES i d ≡ word (λ t. list_any (leaps s t) (pawn_capture_steps White))
-unfolding leaps along
-white_captures_at s i d = near_at (pawn_capture_steps White) WHITE_CAPTURES s i d refl
-
--- the table of the squares that a Black pawn attacks
-pub black_captures_at : (s i d : ℕ) → i ≡ s → i < 64 → get_or BLACK_CAPTURES i d ≡ word (λ t. list_any (leaps s t) (pawn_capture_steps Black))
-unfolding leaps along
-black_captures_at s i d = near_at (pawn_capture_steps Black) BLACK_CAPTURES s i d refl
 
 abbrev nowhere : ℕ → Option ℕ
 nowhere s = None

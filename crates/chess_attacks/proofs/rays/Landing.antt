@@ -1,9 +1,8 @@
 -- What a man reaches doesn't depend on the man on the square that it reaches.
-use Rattle.chess_attacks.proofs.Basics.{Bool, List, Option, Some, [], and_left, arith, cases_Bool, false, false_from_ne_true, is_some, list_all, list_any, or_from, range_with_len, refl, rules, suc, zero, ℕ, ◌&&◌, ◌+◌, ◌-◌, ◌<◌, ◌||◌, ◌∙◌, ◌∷◌, ◌≡◌, ◌≢◌, ◌≤◌}
-use Rattle.chess_attacks.proofs.Chess.{Bishop, Black, Colour, Direction, East, Gait, Hopper, Kind, Knight, Leaper, Man, Nightrider, North, NorthEast, NorthWest, Pawn, Rider, Rook, South, SouthEast, SouthWest, Step, West, White, along, any_range_false, any_range_same, gait_of, goes_by, hops, is_clear, is_occupied, is_square, kind_steps, leaps, man_on, place, reaches_as, rides, step_of}
+use Rattle.chess_attacks.proofs.Basics.{Bool, List, Option, Some, [], and_left, and_parts, arith, cases_Bool, false, false_from_ne_true, is_some, list_all, list_any, or_from, range_with_len, refl, rules, suc, true, zero, ℕ, ◌&&◌, ◌+◌, ◌-◌, ◌<◌, ◌||◌, ◌∙◌, ◌∷◌, ◌≡◌, ◌≢◌, ◌≤◌}
+use Rattle.chess_attacks.proofs.Chess.{Colour, Gait, Hopper, Kind, Leaper, Man, Rider, Step, along, any_range_false, any_range_same, gait_of, goes_by, hops, is_clear, is_occupied, is_square, kind_steps, leaps, man_on, place, reaches_as, rides}
 use Rattle.chess_attacks.proofs.rays.Ends.{square_is, stays}
-use Rattle.chess_attacks.proofs.rays.Lined.{knight_directions, queen_directions}
-use Rattle.chess_attacks.proofs.rays.Ahead.{Ordered, ordered}
+use Rattle.chess_attacks.proofs.rays.Ahead.{Ordered, moves_on, ordered_on}
 
 -- two boards have men on equal squares, except perhaps t
 pub record StandAlike (men others : List (Option Man)) (t : ℕ) : Type 0 where
@@ -22,21 +21,18 @@ clear_alike : (men others : List (Option Man)) (s t : ℕ) (d : Step) (k n : ℕ
 unfolding is_clear
 clear_alike men others s t d k n o a at lt = search (rules, all_range_same, not_yet)
 
--- tests of steps that agree in each direction agree on all steps of a kind
-same_along : (xs : List Direction) (f g : Step → Bool) → ((x : Direction) → f (step_of x) ≡ g (step_of x))
-    → list_any (λ x. f (step_of x)) xs ≡ list_any (λ x. g (step_of x)) xs
-same_along [] f g h = refl
-same_along (x ∷ xs) f g h = (λ j. h x j || same_along xs f g h j)
+same_along : (ds : List Step) (f g : Step → Bool) → ((d : Step) → Ordered d → f d ≡ g d) → list_all moves_on ds ≡ true → list_any f ds ≡ list_any g ds
+same_along [] f g h on = refl
+same_along (d ∷ ds) f g h on = let both = and_parts (moves_on d) (list_all moves_on ds) on in
+    (λ j. h d (ordered_on d both.0) j || same_along ds f g h both.1 j)
 
-same_steps : (f g : Step → Bool) → ((x : Direction) → f (step_of x) ≡ g (step_of x)) → (c : Colour) (k : Kind)
-    → list_any f (kind_steps c k) ≡ list_any g (kind_steps c k)
-same_steps f g h c Rook = same_along (East ∷ West ∷ North ∷ South ∷ []) f g h
-same_steps f g h c Bishop = same_along (NorthEast ∷ SouthEast ∷ NorthWest ∷ SouthWest ∷ []) f g h
-same_steps f g h c Knight = same_along knight_directions f g h
-same_steps f g h c Nightrider = same_along knight_directions f g h
-same_steps f g h White Pawn = same_along (NorthWest ∷ NorthEast ∷ []) f g h
-same_steps f g h Black Pawn = same_along (SouthWest ∷ SouthEast ∷ []) f g h
-same_steps f g h c k = same_along queen_directions f g h
+-- the steps of each kind lead from square to square
+steps_move_on : (c : Colour) (k : Kind) → list_all moves_on (kind_steps c k) ≡ true
+steps_move_on c k = grind arith
+
+-- tests of steps that agree on each step of a line in order agree on all steps of a kind
+same_steps : (f g : Step → Bool) → ((d : Step) → Ordered d → f d ≡ g d) → (c : Colour) (k : Kind) → list_any f (kind_steps c k) ≡ list_any g (kind_steps c k)
+same_steps f g h c k = same_along (kind_steps c k) f g h (steps_move_on c k)
 
 ways_alike : (g : Gait) (men others : _) (s t : ℕ) (d : Step) → Ordered d → StandAlike men others t → goes_by g men s t d ≡ goes_by g others s t d
 unfolding rides hops
@@ -53,7 +49,7 @@ ways_alike Hopper men others s t d o a = any_range_same (λ k. is_square (along 
 pub reaches_alike : (men others : _) (c : Colour) (j : Kind) (s t : ℕ) → StandAlike men others t → reaches_as men c j s t ≡ reaches_as others c j s t
 unfolding reaches_as
 reaches_alike men others c j s t a =
-    same_steps (goes_by (gait_of j) men s t) (goes_by (gait_of j) others s t) (λ x. ways_alike (gait_of j) men others s t (step_of x) (ordered x) a) c j
+    same_steps (goes_by (gait_of j) men s t) (goes_by (gait_of j) others s t) (λ d o. ways_alike (gait_of j) men others s t d o a) c j
 
 -- where no step of the list meets the test
 pub any_false : (f : Step → Bool) (ds : List Step) → ((d : Step) → f d ≡ false) → list_any f ds ≡ false
@@ -72,5 +68,5 @@ no_way_back g men s d o small = search (rules, no_return, any_range_false, and_l
 -- no man reaches its own square
 pub no_reach_there : (men : List (Option Man)) (c : Colour) (j : Kind) (s : ℕ) → s < 64 → reaches_as men c j s s ≡ false
 unfolding reaches_as
-no_reach_there men c j s small = same_steps (goes_by (gait_of j) men s s) (λ d. false) (λ x. no_way_back (gait_of j) men s (step_of x) (ordered x) small) c j
+no_reach_there men c j s small = same_steps (goes_by (gait_of j) men s s) (λ d. false) (λ d o. no_way_back (gait_of j) men s d o small) c j
     ∙ any_false (λ d. false) (kind_steps c j) (λ d. refl)

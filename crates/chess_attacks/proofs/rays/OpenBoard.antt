@@ -1,5 +1,5 @@
 -- A superset of what a man reaches on each board: `unblocked_reach` misses no square.
-use Rattle.chess_attacks.proofs.Chess.{Bool, Grasshopper, Kind, Leaper, List, Man, Nightrider, Option, Queen, Rider, arith, bit_or, diagonal_steps, gait_of, inl, inr, is_on_some, kind_steps, leaps, list_any, list_any-append, men_on, AreReached, occupied_squares, on_left, on_right, or_cases, reaches_as, refl, rides, rules, straight_steps, sym, true, word, word_has, ℕ, ◌∙◌, ◌≡◌}
+use Rattle.chess_attacks.proofs.Chess.{Grasshopper, Kind, List, Man, Nightrider, Option, Queen, Rider, arith, bit_or, diagonal_steps, gait_of, inl, inr, is_on_some, kind_steps, list_any, list_any-append, men_on, AreReached, occupied_squares, on_left, on_right, or_cases, reaches_as, refl, rides, rules, straight_steps, sym, true, word, word_has, ℕ, ◌∙◌, ◌≡◌}
 use Rattle.chess_attacks.proofs.attacks.Attacking.{goes_on}
 use Rattle.chess_attacks.proofs.rays.OnSquares.{hops_openly, occupied_on, rides_openly}
 
@@ -25,11 +25,9 @@ module _ (x : Man) (s : ℕ) where
     ];
   }
 
-  -- a knight's leaps, a king's steps and a pawn's captures
-  pub leap_reach : (k : Kind) (test : ℕ → Bool) (l : ℕ) → x.kind ≡ k → gait_of k ≡ Leaper → l ≡ word test
-      → ((t : ℕ) → list_any (leaps s t) (kind_steps x.colour k) ≡ test t) → AreReached x s l
-  unfolding reaches_as
-  leap_reach k test l kind leaper squares same = search (rules, word_has)
+  -- a leaper's squares
+  pub leap_reach : (l : ℕ) → ((men : List (Option Man)) → l ≡ word (reaches_as men x.colour x.kind s)) → AreReached x s l
+  leap_reach l squares = search (rules, word_has, squares)
 
   -- a nightrider's, over no hurdle
   pub nightrider_reach : (w : ℕ) → x.kind ≡ Nightrider

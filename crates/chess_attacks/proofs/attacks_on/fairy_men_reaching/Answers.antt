@@ -1,6 +1,5 @@
-use Rattle.std.proofs.Common.{rules}
-use Rattle.chess_attacks.proofs.attacks.Attacking.{fairy_are}
+use Rattle.chess_attacks.proofs.Chess.{arith, joined, squares_same, ◌∙◌}
 use Rattle.chess_attacks.proofs.attacks_on.fairy_men_reaching.Goals as goal
 
 pub returns : goal.returns
-returns c = search (rules, fairy_are, c.hoppers_reaching.ensures, c.reaching_among.ensures)
+returns c = λ men seen. joined _ _ _ _ (c.hoppers_reaching.ensures men seen) (c.reaching_kind.ensures men seen) ∙ squares_same _ _ (λ s b. grind arith)
