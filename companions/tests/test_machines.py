@@ -220,7 +220,7 @@ class OnMachines(unittest.TestCase):
                 self.assertRegex(outcome.error, r"^pops-many: machine two failed and is left out: .*\n$")
 
     def test_the_number_of_jobs_that_a_machine_takes(self) -> None:
-        """A machine that answers without end is cut short."""
+        """What a machine says without end is cut short."""
         end = self.room / "whole"
         ssh = self.write(
             "many_ssh",

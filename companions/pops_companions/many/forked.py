@@ -183,7 +183,7 @@ class Copies:
 
     def __init__(self, work: Work, number: int):
         self._copies: list[_Copy] = []
-        # Pieces whose copies were ended on them, and the numbers of all such pieces so far.
+        # Pieces whose copies were ended on them: the ones to give again, and the numbers of all so far.
         self._again: list[Given] = []
         self._lost: set[int] = set()
         with suppress(OSError):

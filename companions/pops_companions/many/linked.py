@@ -3,7 +3,7 @@
 import struct
 from typing import BinaryIO, Optional
 
-# Of an ELF file with 64 bits, small bytes first: its head, a segment, an entry of the dynamic section.
+# The head of an ELF file with 64 bits, small bytes first, a segment, an entry of the dynamic section.
 _BEGIN = b"\x7fELF\x02\x01"
 _HEAD = struct.Struct("<32xQ14xHH6x")
 _SEGMENT = struct.Struct("<I4xQQ8xQ16x")

@@ -37,8 +37,8 @@ _SSH = "ssh -o BatchMode=yes -o ConnectTimeout=10 -o ServerAliveInterval=5 -o Se
 UNLESS_OVER = '[ ! -e "$PARALLEL_HOME/over-$PARALLEL_SEQ" ] || exit 0; '
 _NUMBER = "PARALLEL_SEQ"
 # In place of ssh. Where GNU parallel asks a machine how many jobs it takes, five bytes are read, and
-# more than 256 are as many as 256: as many logins are tried at once. Of others so many bytes are read,
-# and what ssh says is a file of at most 2048 blocks: one more byte ends ssh.
+# more than 256 are as many as 256: it tries that many logins at once. Other logins have a limit, and
+# what ssh says is a file of at most 2048 blocks: one more byte ends ssh. A line that is cut has an end.
 _LOGIN = """case $* in *"parallel --number-of-"*)
   number=$({ssh} "$@" < /dev/null | head -c 5)
   case $number in "" | *[!0-9]* | ?????*) exit 0 ;; esac
@@ -51,6 +51,7 @@ said=$PARALLEL_HOME/said-$PARALLEL_SEQ
 ulimit -f 2048
 exec 4>&1
 status=$({{ {{ {ssh} "$@" 2> "$said" 3>&- 4>&-; echo $? >&3; }} | {limit} >&4 3>&-; }} 3>&1)
+echo
 tail -c 1000 "$said" >&2
 rm -f "$said"
 exit "$status"
@@ -159,7 +160,8 @@ class Parallel:
         limit = f"dd bs=65536 iflag=count_bytes count={_MOST_OF_A_LOGIN} status=none"
         command = _LOGIN.format(unless=UNLESS_OVER, limit=limit, ssh=self._ssh + options)
         (room / "ssh").write_bytes(os.fsencode(command))
-        child = ChildProcess(self._command(room, script), subprocess.DEVNULL, subprocess.PIPE, _environment(room))
+        words = self._command(room, script)
+        child = ChildProcess(words, subprocess.DEVNULL, subprocess.PIPE, _environment(room))
         self._room, self._session, self._said = room, child.run.pid, b""
         return child
 

@@ -35,7 +35,8 @@ _SCRIPT = (
     '"$0" --item 1 --phase "$2" --part "$3" --depth {depth}; '
     'printf "ended %d %s\\n" "$?" "$PARALLEL_SSHLOGIN"; }} | '
     "perl -MMIME::Base64 -ne "
-    '\'BEGIN {{ $| = 1; $n = shift }} print "$n ", encode_base64($_, ""), "\\n"\' "$1"; '
+    # (an empty line comes first: the line before, of a job that was ended, may have no end)
+    '\'BEGIN {{ $| = 1; $n = shift }} print "\\n$n ", encode_base64($_, ""), "\\n"\' "$1"; '
     "shift 4; done"
 )
 _ENDED = re.compile(rb"ended ([0-9]{1,3}) (.*)\n")

@@ -1,6 +1,6 @@
 """Texts of problems that show after their boards what an earlier one showed: only number and names are theirs.
 
-A report of many small problems has few such texts, and most of the time would go into reading them
+A report of many small problems has few different ones, and most of the time would go into reading them
 again. What isn't surely judged alike is left to the reader of reports.
 """
 
@@ -16,7 +16,7 @@ from pops_companions.review.naming import joined_name
 from pops_companions.show.titles import is_text, printable, shown
 from pops_companions.show.twins import label_and_title
 
-# The most bytes that a problem has after its board, and the most such texts that are kept.
+# The most bytes that a problem has after its board, and the most texts of these that are kept.
 _LONGEST = 512
 _MOST = 8192
 
@@ -41,8 +41,8 @@ class _One(NamedTuple):
 
 
 class Like(NamedTuple):
-    """Problems in turn: where they end, the last number, texts, how many have each verdict, the numbers of those
-    whose names aren't in the encoding.
+    """Problems in turn: where they end, the last number, texts, how many have each verdict, the numbers of
+    the ones whose names aren't in the encoding.
     """
 
     end: int
