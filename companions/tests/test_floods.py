@@ -6,10 +6,12 @@ import unittest
 from pathlib import Path
 from unittest import mock
 
+from pops_companions.command import CommandError
+from pops_companions.commands.sheet import pdf_of
 from pops_companions.many.batches import Batch
 from pops_companions.many.child_process import MOST_SAID, OutputError, outcome_of
 from pops_companions.many.part_program import PartProgram
-from pops_companions.many.parts import Part
+from pops_companions.many.parts import Part, PartsError
 from pops_companions.many.program import RunError
 from pops_companions.many.tasks import Source, tasks_of
 from tests import run_here, support
@@ -114,3 +116,22 @@ class Floods(unittest.TestCase):
             with mock.patch("pops_companions.many.part_program.MOST_OUTPUT", LEAST):
                 with self.assertRaisesRegex(RunError, "it wrote more than"):
                     list(PartProgram(self.script(flood), 1).reports(Batch([part])))
+
+    def test_a_list_of_parts_with_long_numbers(self) -> None:
+        listed = self.script(f"echo '1: play {'9' * 5000}'")
+        with self.assertRaisesRegex(PartsError, "lists no parts"):
+            PartProgram(listed, 1).phases(MATE)
+
+    def test_a_browser_that_writes_too_long_a_page(self) -> None:
+        (self.room / "bin").mkdir()
+        browser = self.room / "bin" / "chromium"
+        browser.write_text(
+            "#!/bin/sh\nfor word do case $word in --print-to-pdf=*) truncate -s 8192 \"${word#*=}\" ;; esac; done\n"
+        )
+        browser.chmod(0o755)
+        with mock.patch.dict("os.environ", {"PATH": f"{self.room}/bin:/usr/bin:/bin"}):
+            with mock.patch("pops_companions.commands.sheet.BROWSERS", ("chromium",)):
+                self.assertEqual(pdf_of("<p>"), bytes(8192))
+                with mock.patch("pops_companions.commands.sheet.MOST_OUTPUT", LEAST):
+                    with self.assertRaisesRegex(CommandError, "it wrote more than"):
+                        pdf_of("<p>")

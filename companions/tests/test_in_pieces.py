@@ -4,13 +4,17 @@ import os
 import signal
 import tempfile
 import unittest
-from contextlib import contextmanager
+from contextlib import contextmanager, suppress
+from itertools import product
 from pathlib import Path
 from typing import Iterator
 from unittest import mock
 
 from pops_companions.many import forked
-from pops_companions.review import in_pieces
+from pops_companions.report import reader
+from pops_companions.report.reader import ReportReader
+from pops_companions.review import in_pieces, judging
+from pops_companions.show import twins
 from tests import run_here, support
 
 BOARD = b"".join(b"%d ........\n" % rank for rank in range(8, 0, -1)) + b"  abcdefgh\n"
@@ -117,6 +121,75 @@ class InPieces(unittest.TestCase):
             self.assertEqual(run_here.companion("pops-test", str(self.file)), whole)
         with pieces_of(1), mock.patch.object(forked, "_forked", side_effect=BlockingIOError(11, "no more")):
             self.assertEqual(run_here.companion("pops-test", str(self.file)), whole)
+
+    def test_one_copy_that_is_ended(self) -> None:
+        """Another one does its piece; this process does none."""
+        ended = self.file.with_name("ended")
+
+        def work(piece: bytes) -> bytes:
+            if piece == b"7":
+                with suppress(FileExistsError):
+                    ended.mkdir()
+                    os.kill(os.getpid(), signal.SIGKILL)
+            return b"done " + piece
+
+        pieces = [b"%d" % number for number in range(40)]
+        with forked.Copies(work, 3) as copies:
+            results = list(copies.results(iter(pieces)))
+        self.assertEqual(results, [(piece, b"done " + piece) for piece in pieces])
+        self.assertTrue(ended.exists())
+
+    def test_a_piece_that_ends_each_copy(self) -> None:
+        def work(piece: bytes) -> bytes:
+            if piece == b"7":
+                os.kill(os.getpid(), signal.SIGKILL)
+            return b"done " + piece
+
+        pieces = [b"%d" % number for number in range(40)]
+        for copies_made, left in ((3, True), (2, False), (1, False)):
+            with forked.Copies(work, copies_made) as copies:
+                results = dict(copies.results(iter(pieces)))
+            self.assertEqual(list(results), pieces)
+            self.assertIsNone(results.pop(b"7"))
+            self.assertEqual(results[b"39"], b"done 39" if left else None)
+
+    def test_no_copy_works_after_one_failed(self) -> None:
+        def work(piece: bytes) -> bytes:
+            raise ValueError
+
+        pieces = [b"%d" % number for number in range(40)]
+        with forked.Copies(work, 3) as copies:
+            results = copies.results(iter(pieces))
+            self.assertEqual(next(results), (b"0", None))
+            copies.stop()
+            self.assertEqual([piece for piece, _ in results], pieces[1:])
+
+    def test_problems_that_show_the_same(self) -> None:
+        """They share what they show, and judgements; else nothing differs."""
+        names = (b"", b"title: One\n", b"title: \xff\nauthor: \xc3\xa4\n", b"title: Some a)\n", b"title: duplex\n", b"author: a\x01\n")
+        boards = (BOARD, BOARD.replace(b"8 ...", b"8 QQQ"), BOARD.replace(b"8 ...", b"8 NN."), BOARD.replace(b"5 ....", b"5 nS.k"), b"")
+        shown = [KEY, KEY.replace(b"#2", b"s#2"), KEY.replace(b"#2", b"s#2 Circe"), KEY.replace(b", s", b"\nx"), BODIES[8], BODIES[12]]
+        bodies = [b"".join(parts) for parts in product(names, boards, shown)] * 3
+        bodies[100:100] = [BODIES[6], BODIES[9]]
+        text = b"".join(b"problem %d\n%s" % (number + 1, body) for number, body in enumerate(bodies))
+        text += text.partition(b"problem 300\n")[2]
+        self.file.write_bytes(text)
+        for words in (*WORDS, ["--encoding", "utf-16"]):
+            with mock.patch.object(reader, "_MOST_TAILS", 0), mock.patch.object(judging, "_MOST_KEPT", 0):
+                whole = run_here.companion("pops-test", str(self.file), *words)
+            self.assertEqual(run_here.companion("pops-test", str(self.file), *words), whole)
+            for processors in ({0}, {0, 1}):
+                with pieces_of(3000), mock.patch.object(os, "sched_getaffinity", lambda _: processors):
+                    self.assertEqual(run_here.companion("pops-test", str(self.file), *words), whole)
+
+    def test_problems_that_show_the_same_are_judged_once(self) -> None:
+        body = b"title: %d\n" + BOARD + KEY
+        self.file.write_bytes(b"".join((b"problem %d\n" + body) % (number, number) for number in range(1, 400)))
+        for module, name, most in ((judging, "judged", 2), (ReportReader, "_items_of", 3), (twins, "_named", 100)):
+            with pieces_of(8000), mock.patch.object(os, "sched_getaffinity", lambda _: {0}):
+                with mock.patch.object(module, name, autospec=True, side_effect=getattr(module, name)) as made:
+                    run_here.companion("pops-test", str(self.file))
+            self.assertLessEqual(made.call_count, most)
 
     def test_it_is_cut(self) -> None:
         self.file.write_bytes(report(list(range(1, 60))))

@@ -14,6 +14,7 @@ from unittest import mock
 from pops_companions.many import sessions
 from pops_companions.many.connections import Connections
 from pops_companions.many.machines import bundles_of
+from pops_companions.many.parallel import _LOGIN
 from pops_companions.many.tasks import Source, tasks_of
 from tests import run_here, support
 from tests.six_problems import wait_for
@@ -203,6 +204,42 @@ class OnMachines(unittest.TestCase):
         left_out = "pops-many: machine one left out: no report came back\n"
         said = left_out + "pops-many: no machine is left\n"
         self.assertEqual(outcome, (3, b"", said))
+
+    def test_a_machine_that_floods_later_is_left_out(self) -> None:
+        """It reports the probe, and writes without end of other problems, or says so."""
+        for flood in ("exec yes", "exec yes >&2"):
+            with self.subTest(flood):
+                script = f'text=$(cat)\ncase $MACHINE-$text in two*Title*) {flood} ;; esac\n'
+                script += f'printf "%s" "$text" | \'{support.pops()}\' "$@"\n'
+                there = self.write("there", f"#!/bin/sh\n{script}")
+                text = input_of(*[MATE.format(number) for number in range(400)])
+                with mock.patch("pops_companions.many.parallel._MOST_OF_A_LOGIN", 1 << 20):
+                    outcome = self.many(text, there)
+                wanted = support.run([support.pops()], text).output
+                self.assertEqual((outcome.status, outcome.output), (0, wanted))
+                self.assertRegex(outcome.error, r"^pops-many: machine two failed and is left out: .*\n$")
+
+    def test_the_number_of_jobs_that_a_machine_takes(self) -> None:
+        """What a machine says without end is cut short."""
+        end = self.room / "whole"
+        ssh = self.write(
+            "many_ssh",
+            "#!/bin/sh\ncase $* in *--number-of-*)\n"
+            f"  head -c 100000000 /dev/zero | tr '\\0' 9 && head -c 100000000 /dev/zero && touch '{end}'\n"
+            "  exit 0 ;;\nesac\n" + _SSH.format(room=self.room).partition("\n")[2],
+        )
+        text = input_of(*[MATE.format(number) for number in range(3)])
+        (self.room / "x.pop").write_bytes(text)
+        words = ["--pops", support.pops(), "--remote-pops", support.pops(), "--sshlogin", "one"]
+        outcome = run_here.companion("pops-many", *words, "--ssh", f"bash {ssh}", str(self.room / "x.pop"))
+        self.assertEqual(outcome, (0, support.run([support.pops()], text).output, ""))
+        self.assertFalse(end.exists())
+
+    def test_the_answers_that_are_taken(self) -> None:
+        for answer, taken in {"8": "8", "64": "64", "999": "256", "1024": "256", "9" * 30: "", "": "", "no": "", "-1": ""}.items():
+            login = _LOGIN.format(unless="", limit="cat", ssh=f"sh -c 'echo {answer}' sh")
+            words = ["sh", "-c", login, "sh", "one", "--", "exec", "parallel --number-of-threads"]
+            self.assertEqual(support.run(words).output.decode().rstrip("\n"), taken)
 
     def test_a_command_whose_name_is_no_text(self) -> None:
         folder = self.room / "\udcff"

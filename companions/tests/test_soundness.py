@@ -467,6 +467,16 @@ class Collection(unittest.TestCase):
         self.assertEqual(cells[:4], [f"'{title}" for title in titles[:4]])
         self.assertEqual(cells[4:], ["\"a;' =1;b\"", '"b,=1"', '"""=1"', "\"a;'\"\"=1\""])
 
+    def test_csv_has_nothing_that_is_computed_after_a_tab(self) -> None:
+        """For readers that part cells at tabs, or lines at other signs, and know no quotes in them."""
+        titles = ("a\t=1+1", "\t=1", "a\t\t@b\t+1", "a\r-1", "a;\t=1", 'a\t"=1', "a\tb=1")
+        items = (f"problem {it}\ntitle: {title}\nauthor: {title}\n#1\nsound\n\n" for it, title in enumerate(titles, 1))
+        said = run_here.companion("pops-test", "--csv", text="".join(items).encode()).output.decode()
+        for cell in re.split("[;\t\r\n]", said):
+            self.assertNotRegex(cell, '^"*[=+@-]')
+        cells = [row["title"] for row in csv.DictReader(io.StringIO(said, newline=""))]
+        self.assertEqual([cells[place] for place in (0, 6)], ["a\t'=1+1", "a\tb=1"])
+
     def test_csv_has_nothing_unseen_before_what_a_spreadsheet_computes(self) -> None:
         titles = ("\u200b=1", "\ufeff=1", "\u2028=1", "\xa0=1", "\u200b \ufe62", "\ufe66", "\u200ba")
         items = (f"problem {it}\ntitle: {title}\n#1\nsound\n\n" for it, title in enumerate(titles, 1))

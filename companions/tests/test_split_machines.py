@@ -6,10 +6,12 @@ import signal
 import time
 import unittest
 from pathlib import Path
+from unittest import mock
 
 from pops_companions.many.machines import logins_of
 from pops_companions.many.parallel import machine_of
-from tests import support
+from tests import run_here, support
+from tests.shown_limit import limit_when_shown
 from tests.six_problems import wait_for
 from tests.split_room import SplitRoom
 
@@ -79,6 +81,46 @@ class Fails(Machines):
         self.is_solved(outcome)
         self.assertIn(f"part 2 of the play of {self.where} failed on machine ", outcome.error)
         (self.room / "failed").rmdir()
+
+    def flooded(self, pattern: str, then: str, logins: str) -> support.Outcome:
+        """A run on machines, which may write few bytes of a part."""
+        words = self.words_there(self.pops_part(pattern, then), logins=logins)
+        with mock.patch("pops_companions.many.remote_parts.MOST_OUTPUT", 1 << 12):
+            with limit_when_shown(self.room):
+                return run_here.companion("pops-many", *words)
+
+    def test_a_part_that_floods_is_tried_elsewhere(self) -> None:
+        for flood in ("yes", "tr '\\0' x < /dev/zero | fold -w 900"):
+            with self.subTest(flood):
+                once = f"[ \"$MACHINE\" ] && mkdir '{self.room}/failed' 2> /dev/null"
+                outcome = self.flooded("problem-play-2", f"if {once}; then {flood}; fi", "one,2/two")
+                self.is_solved(outcome)
+                self.assertRegex(
+                    outcome.error,
+                    r"^pops-many: part 2 of the play of problem 1 \(.*, line 1\) failed on machine (one|two):"
+                    r" tried elsewhere: it wrote more than \d+ MiB\n$",
+                )
+                (self.room / "failed").rmdir()
+                self.forget()
+
+    def test_all_parts_at_work_have_a_limit(self) -> None:
+        with mock.patch("pops_companions.many.remote_parts._MOST_HELD", 1 << 10):
+            once = f"[ \"$MACHINE\" ] && mkdir '{self.room}/failed' 2> /dev/null"
+            outcome = self.flooded("problem-play-2", f"if {once}; then yes; fi", "one")
+        self.is_solved(outcome)
+        self.assertIn("failed on machine one: tried elsewhere: it wrote more than ", outcome.error)
+        (self.room / "failed").rmdir()
+
+    def test_a_machine_that_floods_at_its_probe_is_left_out(self) -> None:
+        # (the second floods with lines of no part)
+        floods = {"two": "yes", "three": "yes '7 eAow' > /proc/$(ps -o ppid= $$ | tr -d ' ')/fd/1"}
+        for machine, flood in floods.items():
+            with self.subTest(machine):
+                then = f'if [ "$MACHINE" = {machine} ]; then {flood}; fi'
+                outcome = self.flooded("probe-*", then, f"one,{machine}")
+                self.is_solved(outcome)
+                self.assertRegex(outcome.error, rf"^pops-many: machine {machine} left out: .*\n$")
+                self.forget()
 
     def test_a_machine_that_fails_twice_is_left_out(self) -> None:
         noted = f"{self.room}/failed"

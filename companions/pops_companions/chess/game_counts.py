@@ -10,17 +10,21 @@ _PAWNS = 8
 # How many men of a kind a side begins with; bishops are counted by the colour of their squares.
 _BEGUN = {Kind.QUEEN: 1, Kind.ROOK: 2, Kind.KNIGHT: 2}
 # The most men of a kind, by their letter, that surely have begun: two bishops may be of one colour.
-_SURELY_BEGUN = (("P", _PAWNS), ("Q", 1), ("R", 2), ("S", 2), ("B", 1))
+_SURELY_BEGUN = [
+    (letter, most)
+    for pair, most in (("Pp", _PAWNS), ("Qq", 1), ("Rr", 2), ("Ss", 2), ("Bb", 1))
+    for letter in pair
+]
 
 
 def surely_begun(letters: str) -> bool:
     """Returns whether the men of a printed board's letters are few enough of each kind and side for a
     game without promotions.
     """
-    return all(
-        letters.count(letter) <= most and letters.count(letter.lower()) <= most
-        for letter, most in _SURELY_BEGUN
-    )
+    for letter, most in _SURELY_BEGUN:
+        if letters.count(letter) > most:
+            return False
+    return True
 
 
 def impossible_counts(men: Mapping[Square, Man]) -> Iterator[str]:

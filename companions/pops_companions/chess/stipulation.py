@@ -14,6 +14,9 @@ class Play(Enum):
     SELF = "self"
     HELP = "help"
 
+    # (a member is its own only equal; Enum's hash takes longer)
+    __hash__ = object.__hash__
+
 
 class Goal(Enum):
     """What the play is about; its value is the sign in the stipulation."""
@@ -35,6 +38,7 @@ class Condition(Enum):
 
 _STIPULATION = re.compile(r"([sh]?)([#=])(0|[1-9][0-9]{0,2})(\.5)?", re.ASCII)
 _PLAYS = {"": Play.DIRECT, "s": Play.SELF, "h": Play.HELP}
+_LETTERS = {play: letter for letter, play in _PLAYS.items()}
 
 
 @dataclass(frozen=True)
@@ -63,8 +67,7 @@ class Stipulation:
 
     @property
     def text(self) -> str:
-        letter = {play: letter for letter, play in _PLAYS.items()}[self.play]
-        return f"{letter}{self.goal.value}{self.moves}{'.5' if self.half_more else ''}"
+        return f"{_LETTERS[self.play]}{self.goal.value}{self.moves}{'.5' if self.half_more else ''}"
 
     @property
     def half_moves(self) -> int:

@@ -16,7 +16,7 @@ from pops_companions.command import CommandError, Status
 from pops_companions.input.given import GivenProblem, given_problems
 from pops_companions.input.given_source import refuse_other_text, warn_of_rest
 from pops_companions.many import sessions
-from pops_companions.many.child_process import ChildProcess, Outcome
+from pops_companions.many.child_process import MOST_OUTPUT, ChildProcess, Outcome, wrote_more
 from pops_companions.many.program import LOOKED_FOR, MissingError, find
 from pops_companions.many.tries_program import TRIES_LOOKED_FOR, TriesProgram, find_tries
 from pops_companions.report.items import AnyItem, Board, FaultyItem, HeadlessItem, SoundItem
@@ -343,6 +343,8 @@ def pdf_of(page: str) -> bytes:
         done = printed([browser, *words], room)
         if done.status != 0 or not target.is_file():
             raise CommandError(Status.DEVICE, f"{browser} ended with {done.status}")
+        if target.stat().st_size > MOST_OUTPUT:
+            raise CommandError(Status.DEVICE, f"{browser}: {wrote_more(MOST_OUTPUT)}")
         return target.read_bytes()
 
 

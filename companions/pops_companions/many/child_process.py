@@ -6,8 +6,9 @@ for the reading end: the program's process group. Nothing runs between fork and 
 no harm. A program that is fed by a pipe has no window between its start and the setting of the
 owner: without its input it ends by itself.
 
-A script may start others in groups of their own, all in its session: a `Watcher` ends these. What has
-left the session isn't ended, and isn't waited for once the program is killed.
+A program may start others in groups or sessions of their own, unless it surely starts none: a `Watcher`
+ends these. What has left the session and its environment isn't ended, and isn't waited for once the
+program is killed.
 """
 
 import errno
@@ -27,6 +28,7 @@ from contextlib import suppress
 from typing import IO, NamedTuple, Optional, Union
 
 from pops_companions.many import sessions
+from pops_companions.many.linked import starts_none
 
 Stream = Union[None, int, IO[bytes]]
 # The bytes that a pipe takes at once, and the most that it can be made to take (F_SETPIPE_SZ).
@@ -44,8 +46,6 @@ MOST_SAID = 1 << 16
 # The most bytes of a file that a program writes its output to.
 MOST_SPOOLED = 1 << 34
 _PIECE = 1 << 16
-# With this begins a program that isn't a script.
-_NO_SCRIPT = b"\x7fELF"
 
 
 class OutputError(OSError):
@@ -128,8 +128,11 @@ class ChildProcess:
         self._watched, self._held = pipe_of_others()
         self._lock = threading.RLock()
         self._watcher: Optional[sessions.Watcher] = None
-        # Whether it may have started others in groups of their own.
-        self._has_others = _is_script(words[0])
+        # Whether it may have started others in groups of their own, and the mark of those in sessions.
+        self._has_others = not starts_none(words[0])
+        self._mark = sessions.new_mark() if self._has_others else ""
+        if self._mark:
+            environment = {**(environment or os.environ), self._mark: "1"}
         self.is_killed = self._is_released = False
         try:
             self.run = subprocess.Popen(
@@ -144,7 +147,7 @@ class ChildProcess:
             )
             killed_with_holder(self._watched, -self.run.pid)
             if self._has_others:
-                self._watcher = sessions.Watcher(self.run.pid)
+                self._watcher = sessions.Watcher(self.run.pid, mark=self._mark)
         except BaseException:
             self._close()
             raise
@@ -281,7 +284,7 @@ class ChildProcess:
             # (until it is waited for, no other process gets its number)
             with suppress(ChildProcessError):
                 os.waitid(os.P_PID, self.run.pid, os.WEXITED | os.WNOWAIT)
-            sessions.end(self.run.pid)
+            sessions.end(self.run.pid, self._mark)
         self.run.wait()
 
     def wait(self) -> None:
@@ -301,15 +304,6 @@ class ChildProcess:
         os.close(self._held)
         if self._watcher is not None:
             self._watcher.end()
-
-
-def _is_script(path: str) -> bool:
-    """Returns whether a program isn't known to be anything else than a script."""
-    try:
-        with open(path, "rb") as file:
-            return file.read(len(_NO_SCRIPT)) != _NO_SCRIPT
-    except OSError:
-        return True
 
 
 def _keep(piece: bytes, kept: "Union[_Output, io.BytesIO]") -> None:

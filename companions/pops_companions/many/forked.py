@@ -151,11 +151,41 @@ def _has_come(handles: list[int], milliseconds: Optional[int] = None) -> list[in
     return [handle for handle, _ in poll.poll(milliseconds)]
 
 
+class Alone:
+    """This process in place of copies of it."""
+
+    def __init__(self, work: Work):
+        self._work = work
+        self._is_stopped = False
+
+    def __enter__(self) -> "Alone":
+        return self
+
+    def __exit__(self, *_: object) -> None:
+        pass
+
+    def stop(self) -> None:
+        """The pieces that are left have no results."""
+        self._is_stopped = True
+
+    def results(self, pieces: Iterator[bytes]) -> Iterator[tuple[bytes, Optional[bytes]]]:
+        """Yields each piece with its result; without one, where the work failed on it."""
+        for piece in pieces:
+            result = None
+            if not self._is_stopped:
+                with suppress(Exception):
+                    result = self._work(piece)
+            yield piece, result
+
+
 class Copies:
     """Copies of this process for one kind of work."""
 
     def __init__(self, work: Work, number: int):
         self._copies: list[_Copy] = []
+        # Pieces whose copies were ended on them: the ones to give again, and the numbers of all so far.
+        self._again: list[Given] = []
+        self._lost: set[int] = set()
         with suppress(OSError):
             for _ in range(number):
                 self._copies.append(_Copy(work, self._copies))
@@ -167,13 +197,30 @@ class Copies:
         for copy in self._copies:
             copy.end()
 
+    def stop(self) -> None:
+        """Ends all copies; the pieces that are left have no results."""
+        for copy in self._copies:
+            if copy.piece is not None:
+                self._again.append(copy.piece)
+            copy.end()
+        self._copies.clear()
+
     def results(self, pieces: Iterator[bytes]) -> Iterator[tuple[bytes, Optional[bytes]]]:
-        """Yields each piece with its result in their order; without one, where a copy failed on it."""
+        """Yields each piece with its result in their order; without one, where the work failed on it, or
+        two copies were ended on it, or none is left.
+        """
         done: dict[int, tuple[bytes, Optional[bytes]]] = {}
         shown = given = 0
         is_over = False
         while not is_over or shown < given:
             idle = [it for it in self._copies if it.piece is None]
+            if self._again and (idle or not self._copies):
+                number, piece_again = self._again.pop()
+                if idle:
+                    idle[0].give((number, piece_again))
+                else:
+                    done[number] = (piece_again, None)
+                continue
             if not is_over and (idle or not self._copies) and given - shown <= self._most_ahead:
                 piece = next(pieces, None)
                 is_over = piece is None
@@ -194,13 +241,20 @@ class Copies:
         return _MOST_AHEAD * len(self._copies)
 
     def _ready(self) -> Iterator[tuple[int, tuple[bytes, Optional[bytes]]]]:
-        """Waits for a result; yields the ones that are there. A copy that was ended gets no more."""
+        """Waits for a result; yields the ones that are there. A copy that was ended gets no more, and
+        another one its piece.
+        """
         busy = {it.results: it for it in self._copies if it.piece is not None}
         for handle in _has_come(list(busy)):
             copy = busy[handle]
             assert copy.piece is not None
             (number, piece), copy.piece = copy.piece, None
-            yield number, (piece, copy.result())
+            result = copy.result()
             if copy.has_ended:
                 self._copies.remove(copy)
                 copy.end()
+            if copy.has_ended and number not in self._lost:
+                self._lost.add(number)
+                self._again.append((number, piece))
+            else:
+                yield number, (piece, result)

@@ -30,7 +30,7 @@ PROBE = b"BeginProblem Pieces White Kg6 Ra1 Black Kg8 Stipulation #1 EndProblem"
 # Only where a machine hangs: the probe takes a moment, but a busy machine may need many times that.
 _SECONDS_OF_A_PROBE = 600
 # The most bytes that a machine may write of the probe, whose report has some hundred.
-_MOST_OF_A_PROBE = 1 << 20
+MOST_OF_A_PROBE = 1 << 20
 # The program is $0; the one word after it holds number, seconds and text of each input in turn.
 # Without --foreground timeout would leave the process group, with which GNU parallel ends a run.
 _SCRIPT = (
@@ -260,12 +260,12 @@ class Machines:
                 answers[:] = [answer[2]]
 
         def look(_: Sequence[Ended]) -> bool:
-            return come <= _MOST_OF_A_PROBE
+            return come <= MOST_OF_A_PROBE
 
         seconds = self._program.seconds and max(self._program.seconds, _SECONDS_OF_A_PROBE)
         words = [_word(0, PROBE, seconds)]
         self._parallel.run([login], self._script, words, take, look, shared=True)
-        return answers[0] if answers and come <= _MOST_OF_A_PROBE else None
+        return answers[0] if answers and come <= MOST_OF_A_PROBE else None
 
     def expect_some(self) -> None:
         """Raises MachinesError where no machine is left."""

@@ -5,6 +5,7 @@ each job knows its number from GNU parallel, and a file of this number stops it.
 """
 
 import os
+import select
 import shlex
 import shutil
 import signal
@@ -16,7 +17,7 @@ from pathlib import Path
 from typing import IO, NamedTuple, Optional
 
 from pops_companions.many import sessions
-from pops_companions.many.child_process import MOST_OUTPUT, ChildProcess, outcome_of
+from pops_companions.many.child_process import MOST_OUTPUT, ChildProcess, outcome_of, rest_of
 from pops_companions.many.connections import Connections
 
 _SECONDS_BETWEEN_LOOKS = 0.3
@@ -26,12 +27,35 @@ _LOOKS = 100
 _SECONDS_BETWEEN_KILLS = 0.02
 # The last bytes of what ssh and GNU parallel said: only the last line is shown.
 _MOST_OF_ERRORS = 1 << 16
+_MILLISECONDS_BETWEEN_READS = 300
+# The most bytes that come from a login, of which GNU parallel keeps a line in memory.
+_MOST_OF_A_LOGIN = 1 << 29
 # The most bytes of a line that comes back, which is a report in base64; a longer one is dropped.
 _LONGEST_LINE = MOST_OUTPUT // 3 * 4
 _SSH = "ssh -o BatchMode=yes -o ConnectTimeout=10 -o ServerAliveInterval=5 -o ServerAliveCountMax=3"
 # Ends a job that isn't to begin, before its login and, on this machine, before its script.
 UNLESS_OVER = '[ ! -e "$PARALLEL_HOME/over-$PARALLEL_SEQ" ] || exit 0; '
 _NUMBER = "PARALLEL_SEQ"
+# In place of ssh. Where GNU parallel asks a machine how many jobs it takes, five bytes are read, and
+# more than 256 are as many as 256: it tries that many logins at once. Other logins have a limit, and
+# what ssh says is a file of at most 2048 blocks: one more byte ends ssh. A line that is cut has an end.
+_LOGIN = """case $* in *"parallel --number-of-"*)
+  number=$({ssh} "$@" < /dev/null | head -c 5)
+  case $number in "" | *[!0-9]* | ?????*) exit 0 ;; esac
+  [ "$number" -le 256 ] || number=256
+  echo "$number"
+  exit 0 ;;
+esac
+{unless}
+said=$PARALLEL_HOME/said-$PARALLEL_SEQ
+ulimit -f 2048
+exec 4>&1
+status=$({{ {{ {ssh} "$@" 2> "$said" 3>&- 4>&-; echo $? >&3; }} | {limit} >&4 3>&-; }} 3>&1)
+echo
+tail -c 1000 "$said" >&2
+rm -f "$said"
+exit "$status"
+"""
 
 
 class ParallelError(Exception):
@@ -93,7 +117,7 @@ class Parallel:
         # About the run at hand.
         self._room: Optional[Path] = None
         self._session = 0
-        self._said = ""
+        self._said = b""
 
     def run(
         self,
@@ -113,25 +137,33 @@ class Parallel:
         with sessions.passing_folder("pops-many-") as name:
             room = Path(name)
             (room / "tasks").write_text("".join(line + "\n" for line in lines), "ascii")
-            options = self._connections.options if shared else ""
-            command = f'{UNLESS_OVER}exec {self._ssh}{options} "$@"\n'
-            (room / "ssh").write_bytes(os.fsencode(command))
             _write_logins(room, logins)
-            environment = _environment(room)
-            with open(room / "errors", "wb") as errors:
-                words = self._command(room, script)
-                child = ChildProcess(words, subprocess.DEVNULL, errors, environment)
-            self._room, self._session = room, child.run.pid
+            child = self._started(room, script, self._connections.options if shared else "")
             with sessions.watched(self._session, name):
                 looks = threading.Thread(target=_look, args=(child, room, logins, look))
+                errors = threading.Thread(target=self._hear, args=(child,))
                 looks.start()
+                errors.start()
                 try:
                     _take_all(child, take)
                 finally:
                     looks.join()
+                    errors.join()
+                    assert child.run.stdout is not None
+                    child.run.stdout.close()
                     child.release()
-                    self._said = self.last_error
                     self._room = None
+
+    def _started(self, room: Path, script: Sequence[str], options: str) -> ChildProcess:
+        """Starts GNU parallel, with more options of ssh."""
+        # (it hands each piece on at once)
+        limit = f"dd bs=65536 iflag=count_bytes count={_MOST_OF_A_LOGIN} status=none"
+        command = _LOGIN.format(unless=UNLESS_OVER, limit=limit, ssh=self._ssh + options)
+        (room / "ssh").write_bytes(os.fsencode(command))
+        words = self._command(room, script)
+        child = ChildProcess(words, subprocess.DEVNULL, subprocess.PIPE, _environment(room))
+        self._room, self._session, self._said = room, child.run.pid, b""
+        return child
 
     def close(self) -> None:
         """Ends the connections that logins share."""
@@ -175,14 +207,24 @@ class Parallel:
                 pass
         return may_be_left
 
+    def _hear(self, child: ChildProcess) -> None:
+        """Keeps the end of what ssh and GNU parallel say, until GNU parallel has ended."""
+        assert child.run.stderr is not None
+        with child.run.stderr as errors:
+            ready = select.poll()
+            ready.register(errors, select.POLLIN)
+            while child.run.poll() is None:
+                if ready.poll(_MILLISECONDS_BETWEEN_READS):
+                    piece = os.read(errors.fileno(), _MOST_OF_ERRORS)
+                    if not piece:
+                        return
+                    self._said = (self._said + piece)[-_MOST_OF_ERRORS:]
+            self._said = (self._said + rest_of(errors.fileno()))[-_MOST_OF_ERRORS:]
+
     @property
     def last_error(self) -> str:
         """The last line that ssh or GNU parallel said in the last run or the one at hand."""
-        if self._room is None:
-            return self._said
-        with open(self._room / "errors", "rb") as errors:
-            errors.seek(max(0, os.fstat(errors.fileno()).st_size - _MOST_OF_ERRORS))
-            said = errors.read(_MOST_OF_ERRORS).decode("utf-8", "replace").strip().splitlines()
+        said = self._said.decode("utf-8", "replace").strip().splitlines()
         return said[-1] if said else "no report came back"
 
 

@@ -18,7 +18,9 @@ MOST_PARTS = 100_000
 _LONGEST_LINE = 1 << 16
 
 _SOUND = lines.SOUND + b"\n\n"
-_LIST = re.compile(rb"1: (?:set (?:(?P<set>\d+)|(?P<barred>not possible)), )?play (?P<play>\d+)\n")
+_LIST = re.compile(
+    rb"1: (?:set (?:(?P<set>[0-9]{1,18})|(?P<barred>not possible)), )?play (?P<play>[0-9]{1,18})\n"
+)
 
 
 class PartsError(Exception):

@@ -7,11 +7,13 @@ writes comes back line by line, as soon as it is written, and last how it ended.
 import base64
 import binascii
 import re
-from collections.abc import Callable, Iterable, Sequence
+from collections.abc import Callable, Iterable, Iterator, Sequence
 from typing import NamedTuple, Optional
 
+from pops_companions.many.child_process import MOST_OUTPUT, wrote_more
 from pops_companions.many.machines import (
     FAILURES,
+    MOST_OF_A_PROBE,
     PROBE,
     ROUNDS_WITHOUT_REPORT,
     Machines,
@@ -33,12 +35,15 @@ _SCRIPT = (
     '"$0" --item 1 --phase "$2" --part "$3" --depth {depth}; '
     'printf "ended %d %s\\n" "$?" "$PARALLEL_SSHLOGIN"; }} | '
     "perl -MMIME::Base64 -ne "
-    '\'BEGIN {{ $| = 1; $n = shift }} print "$n ", encode_base64($_, ""), "\\n"\' "$1"; '
+    # (an empty line comes first: the line before, of a job that was ended, may have no end)
+    '\'BEGIN {{ $| = 1; $n = shift }} print "\\n$n ", encode_base64($_, ""), "\\n"\' "$1"; '
     "shift 4; done"
 )
 _ENDED = re.compile(rb"ended ([0-9]{1,3}) (.*)\n")
 # Where nobody says how many jobs a machine takes, it may be as many: each is to have some logins.
 _PLACES_OF_A_MACHINE = 64
+# The most bytes that are kept of all parts that are at work.
+_MOST_HELD = 4 * MOST_OUTPUT
 
 
 def _word(number: int, part: Part) -> str:
@@ -57,11 +62,45 @@ def _decoded(line: bytes) -> Optional[tuple[int, bytes]]:
 
 class Handling(NamedTuple):
     """What is done with parts. `keep` takes a part that is done and returns whether others no longer
-    matter, `fail` reports parts that failed on a machine, with the reason."""
+    matter, `fail` reports parts that failed on a machine, with the reason. A part has at most `most`
+    bytes."""
 
     keep: Callable[[Part, bytes], bool]
     fail: Callable[[Sequence[Part], str, str], None]
     is_needless: Callable[[Part], bool]
+    most: int
+
+
+class _Written:
+    """What came back of parts so far, by their numbers."""
+
+    def __init__(self, most: int):
+        """`most` bytes are kept of a part."""
+        self._most = most
+        self._lines: dict[int, list[bytes]] = {}
+        self._sizes: dict[int, int] = {}
+        self._held = 0
+
+    def add(self, number: int, text: bytes) -> Optional[int]:
+        """Adds a line of a part. Returns a part that wrote too much, which it drops."""
+        self._lines.setdefault(number, []).append(text)
+        self._sizes[number] = self._sizes.get(number, 0) + len(text)
+        self._held += len(text)
+        if self._sizes[number] <= self._most and self._held <= _MOST_HELD:
+            return None
+        longest = max(self._sizes, key=self._sizes.__getitem__)
+        self.drop(longest)
+        return longest
+
+    def drop(self, number: int) -> None:
+        self._lines.pop(number, None)
+        self._held -= self._sizes.pop(number, 0)
+
+    def of(self, number: int) -> bytes:
+        return b"".join(self._lines.get(number, []))
+
+    def __iter__(self) -> Iterator[int]:
+        return iter(self._lines)
 
 
 class _Round:
@@ -80,7 +119,10 @@ class _Round:
         self._watch = watch
         self._handling = handling
         self._open = set(range(len(parts)))
-        self._written: dict[int, list[bytes]] = {}
+        self._written = _Written(handling.most)
+        # The parts that wrote too much, and the bytes of lines that aren't of an open part.
+        self._flooded: set[int] = set()
+        self.useless = 0
         logins = logins_of([_word(number, part) for number, part in enumerate(parts)], places)
         self.lines = [" ".join(words) for words in logins]
         # The numbers of the parts of each job, and the job of each part.
@@ -95,22 +137,25 @@ class _Round:
     def take(self, line: bytes) -> None:
         """Takes a line that came back."""
         decoded = _decoded(line)
-        if decoded is None or decoded[0] not in self._open:
+        if decoded is None or decoded[0] not in self._open or decoded[0] in self._flooded:
+            self.useless += len(line)
             return
         number, text = decoded
         ended = _ENDED.fullmatch(text)
-        if ended is None:
-            self._written.setdefault(number, []).append(text)
-        else:
+        if ended is not None:
             self._open.remove(number)
             self._end(number, int(ended[1]), ended[2].decode("utf-8", "replace"))
+        elif (flooded := self._written.add(number, text)) is not None:
+            # (which machine it is says the job that ends so)
+            self._flooded.add(flooded)
+            self._parallel.stop([self._job_of[flooded]])
 
     def _end(self, number: int, status: int, machine: str) -> None:
         part = self._parts[number]
-        report = b"".join(self._written.get(number, []))
+        report = self._written.of(number)
         fewer = False
         if status == SOUND and count_in(report) is not None:
-            del self._written[number]
+            self._written.drop(number)
             self._watch.note(machine, True)
             fewer = self._handling.keep(part, report)
         elif not self._handling.is_needless(part):
@@ -137,19 +182,21 @@ class _Round:
                 self._watch.note(job.machine, False)
 
     def close(self) -> None:
-        """Ends the round, after all jobs: a broken login failed at the first of its open parts."""
-        failed: dict[str, list[Part]] = {}
+        """Ends the round, after all jobs: a broken login failed at the first of its open parts, or at
+        those that wrote too much."""
+        failed: dict[tuple[str, str], list[Part]] = {}
         for job, machine, _ in self._broken:
             left = [number for number in self._jobs[job] if number in self._open]
-            if left:
-                failed.setdefault(machine, []).append(self._parts[left[0]])
-        for machine, parts in failed.items():
-            self._handling.fail(parts, machine, self._parallel.last_error)
+            flooded = [number for number in left if number in self._flooded]
+            reason = wrote_more(self._handling.most) if flooded else self._parallel.last_error
+            for number in flooded or left[:1]:
+                failed.setdefault((machine, reason), []).append(self._parts[number])
+        for (machine, reason), parts in failed.items():
+            self._handling.fail(parts, machine, reason)
 
     def begun(self) -> dict[Key, bytes]:
         """Returns what came back of parts that failed."""
-        written = self._written.items()
-        return {self._parts[number].key: b"".join(lines) for number, lines in written}
+        return {self._parts[number].key: self._written.of(number) for number in self._written}
 
 
 class RemoteParts:
@@ -209,7 +256,8 @@ class RemoteParts:
         def fail(parts: Sequence[Part], machine: str, reason: str) -> None:
             reasons.append(reason)
 
-        self._hand_out([part], [login], Handling(keep, fail, lambda part: False))
+        handling = Handling(keep, fail, lambda part: False, MOST_OF_A_PROBE)
+        self._hand_out([part], [login], handling)
         report = answers[0] if answers else None
         return report, reasons[0] if reasons else "no report came back"
 
@@ -243,7 +291,7 @@ class RemoteParts:
                 message = f"{parts[0].shown}{others} failed on machine {machine}"
                 self._say(f"{message}: tried elsewhere: {reason}")
 
-            self._hand_out(group, machines, Handling(keep, fail, is_needless))
+            self._hand_out(group, machines, Handling(keep, fail, is_needless, MOST_OUTPUT))
             if any(map(is_needless, group)):
                 idle_rounds = 0
 
@@ -255,7 +303,7 @@ class RemoteParts:
         def look(jobs: Sequence[Ended]) -> bool:
             now.note(jobs)
             logins[:] = [login for login in logins if login in self._machines.alive]
-            return bool(logins)
+            return bool(logins) and (len(parts) > 1 or now.useless <= handling.most)
 
         try:
             self._parallel.run(logins, self._script, now.lines, now.take, look)

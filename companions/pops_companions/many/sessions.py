@@ -1,8 +1,9 @@
-"""Ends sessions with all their processes, in any process group.
+"""Ends sessions with all their processes, in any process group, and what left them with its mark.
 
 GNU parallel and `timeout` put what they start into a process group of its own, but all of it is in
-their session. Run as a program, this module ends a session and removes a folder; a shell waits for
-the moment at which the program that started it is killed.
+their session. What begins a session of its own still has a mark in its environment, unless it was
+emptied. Run as a program, this module ends a session and removes a folder; a shell waits for the
+moment at which the program that started it is killed.
 """
 
 import os
@@ -17,6 +18,12 @@ _SECONDS_BETWEEN = 0.05
 _ROUNDS = 100
 # Becomes another program at the end of its input, unless it is killed before.
 _WAITS = 'read -r _ || exec "$@"'
+_MARK = "POPS_RUN_"
+
+
+def new_mark() -> str:
+    """Returns the name of a variable that no other run has."""
+    return _MARK + os.urandom(8).hex()
 
 
 def members(session: int) -> list[int]:
@@ -64,10 +71,26 @@ def end_connections(folder: str) -> None:
             pass
 
 
-def end(session: int) -> None:
-    """Kills all processes of a session, new ones too; other users' processes stay."""
+def _marked(mark: str) -> list[int]:
+    """Returns the processes with a mark in their environment."""
+    found, entry = [], mark.encode("ascii") + b"="
+    for process in _processes():
+        try:
+            with open(f"/proc/{process}/environ", "rb") as file:
+                if any(it.startswith(entry) for it in file.read().split(b"\0")):
+                    found.append(process)
+        except OSError:
+            continue
+    return found
+
+
+def end(session: int, mark: str = "") -> None:
+    """Kills all processes of a session, if it isn't 0, and those with a mark, new ones too; other users'
+    processes stay.
+    """
     for _ in range(_ROUNDS):
-        if not any([_kill(process) for process in members(session)]):
+        found = members(session) if session else []
+        if not any([_kill(process) for process in {*found, *(_marked(mark) if mark else ())}]):
             return
         time.sleep(_SECONDS_BETWEEN)
 
@@ -115,17 +138,21 @@ def watched(session: int, folder: str) -> Iterator[None]:
 
 
 class Watcher:
-    """A process that ends a session, as `watched` does, if this process is killed before `end`."""
+    """A process that ends a session, as `watched` does, and what has a mark, if this process is killed
+    before `end`.
+    """
 
-    def __init__(self, session: int, folder: str = ""):
+    def __init__(self, session: int, folder: str = "", mark: str = ""):
         """Starts it. OSError where it can't be started."""
         # (a shell takes less to wait than Python)
         words = ["/bin/sh", "-c", _WAITS, "sh", sys.executable, "-I", __file__]
         self._run = subprocess.Popen(
-            [*words, str(session), folder],
+            [*words, str(session), folder, mark],
             stdin=subprocess.PIPE,
             stdout=subprocess.DEVNULL,
             start_new_session=True,
+            # (what ends this process with its mark leaves the watcher)
+            env={name: value for name, value in os.environ.items() if not name.startswith(_MARK)},
         )
 
     def end(self) -> None:
@@ -135,10 +162,9 @@ class Watcher:
 
 
 def main() -> None:
-    session, folder = sys.argv[1:]
+    session, folder, mark = sys.argv[1:]
     sys.stdin.buffer.read()
-    if int(session):
-        end(int(session))
+    end(int(session), mark)
     if folder:
         import shutil
 

@@ -10,14 +10,17 @@ TITLE = b"title: "
 AUTHOR = b"author: "
 RANK = re.compile(b"([1-8]) ([%s%s.]{8})" % (LETTERS.encode(), LETTERS.lower().encode()))
 FILES = b"  abcdefgh"
-# A head with a board and the line of its first phase, which another line follows.
+# The first lines of an item with a board, up to the line of its files.
 HEAD = re.compile(
     PROBLEM.pattern
-    + rb"\n(?:title: (.*)\n)?(?:author: (.*)\n)?"
-    + b"".join(rb"%d ([KQRBSPGNkqrbspgn.]{8})\n" % rank for rank in range(8, 0, -1))
+    + rb"\n(?:title: (.*)\n)?(?:author: (.*)\n)?("
+    + b"".join(rb"%d [KQRBSPGNkqrbspgn.]{8}\n" % rank for rank in range(8, 0, -1))
+    + rb")"
     + FILES
-    + rb"\n([^ \n]+(?: [^ \n]+)?)\n(set|play)(?![^\n])"
+    + rb"\n"
 )
+# The line of the stipulation and the line of the first phase, which another line follows.
+FIRST_PHASE = re.compile(rb"([^ \n]+(?: [^ \n]+)?)\n(set|play)(?![^\n])")
 SOUND = b"sound"
 NOT_POSSIBLE = b"not possible"
 TOTAL = re.compile(rb"solutions: (0|[1-9][0-9]{0,17})(, stopped)?")

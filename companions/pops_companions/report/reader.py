@@ -45,8 +45,14 @@ _MOST_KNOWN = 100_000
 _PIECE = 1 << 16
 # More lines than the head of a problem has, with the line of its first phase.
 _LINES_OF_HEAD = 14
+# The most bytes that an item has after its board, of the ones that are kept for others that say the
+# same, and how many are kept.
+_LONGEST_TAIL = 512
+_MOST_TAILS = 8192
 # What a state makes of a line.
 State = Callable[[bytes], Sequence[events.Event]]
+# What an item says after its board.
+_Tail = tuple[Stipulation, Optional[Condition], Optional[tuple[items.Phase, ...]]]
 
 
 @lru_cache(maxsize=1000)
@@ -89,9 +95,13 @@ class LineReader:
     def _whole_lines(self, data: bytes) -> list[bytes]:
         """Returns the lines that end with these bytes."""
         *whole, self._begun = (self._begun + data).split(b"\n")
-        if len(self._begun) > _LONGEST_LINE:
-            raise ReportError(self._line + len(whole) + 1, "this line is too long")
+        self._refuse_long_line(len(whole))
         return whole
+
+    def _refuse_long_line(self, before: int) -> None:
+        """Refuses a line that has begun after this many others."""
+        if len(self._begun) > _LONGEST_LINE:
+            raise ReportError(self._line + before + 1, "this line is too long")
 
     def close(self, reason: str = CUT) -> Iterator[events.Event]:
         """Ends the text and yields the end of a problem that it is cut in, with the reason.
@@ -219,13 +229,43 @@ class ReportReader(LineReader):
         # The moves of lines of help play by their words, for each place, for each first half-move.
         self._known_moves: dict[int, list[dict[str, PlayedMove]]] = {}
         self._known_moves_here: list[dict[str, PlayedMove]] = []
+        # What short items say after their boards.
+        self._tails: dict[bytes, _Tail] = {}
 
     def feed_builder(self, data: bytes, builder: ItemBuilder) -> Iterator[items.AnyItem]:
         """Takes some bytes as `feed` does, and yields the items that end in them.
 
-        Plain heads and solutions make no events.
+        Plain heads and solutions make no events; of small items those that say the same after their
+        boards share it.
         """
-        lines_left = self._whole_lines(data)
+        text = self._begun + data
+        whole = text.rfind(b"\n") + 1
+        self._begun = text[whole:]
+        self._refuse_long_line(text.count(b"\n"))
+        at = 0
+        while at < whole:
+            found = text.find(lines.ITEM_END, at, whole)
+            end = whole if found < 0 else found + len(lines.ITEM_END)
+            head = lines.HEAD.match(text, at, end) if self._state == self._problem and found >= 0 else None
+            tail = b"" if head is None else text[head.end() : end]
+            if head is not None and (known := self._tails.get(tail)) is not None:
+                self._line += text.count(b"\n", at, end)
+                title, author, ranks = head.group(2, 3, 4)
+                yield items.SoundItem(int(head[1]), title, author, _board_of(ranks), *known)
+            else:
+                for item in self._items_of(text[at : end - 1].split(b"\n"), builder):
+                    self._note_tail(tail, item)
+                    yield item
+            at = end
+
+    def _note_tail(self, tail: bytes, item: items.AnyItem) -> None:
+        """Notes what a finished item says after its board."""
+        if 0 < len(tail) <= _LONGEST_TAIL and len(self._tails) < _MOST_TAILS:
+            if isinstance(item, items.SoundItem) and item.unfinished is None:
+                self._tails[tail] = item.stipulation, item.condition, item.phases
+
+    def _items_of(self, lines_left: list[bytes], builder: ItemBuilder) -> Iterator[items.AnyItem]:
+        """Takes lines, and yields the items that end in them."""
         at = 0
         while at < len(lines_left):
             at += self._take_head(lines_left, at, builder)
@@ -244,18 +284,20 @@ class ReportReader(LineReader):
         """
         if self._state != self._problem:
             return 0
-        found = lines.HEAD.match(b"\n".join(lines_left[at : at + _LINES_OF_HEAD]))
-        if found is None:
+        text = b"\n".join(lines_left[at : at + _LINES_OF_HEAD])
+        head = lines.HEAD.match(text)
+        found = head and lines.FIRST_PHASE.match(text, head.end())
+        if head is None or found is None:
             return 0
-        number, title, author, *ranks, asked, phase = found.groups()
+        (number, title, author, ranks), (asked, phase) = head.groups(), found.groups()
         try:
             stipulation, condition = asked_of(asked)
         except ValueError:
             return 0
         self._number, self._unfinished = int(number), None
-        board = items.Board(tuple([rank.decode("ascii") for rank in ranks]))
         self._begin(stipulation)
-        builder.take_head(events.HeadEvent(self._number, title, author, board, stipulation, condition))
+        names = (title, author, _board_of(ranks))
+        builder.take_head(events.HeadEvent(self._number, *names, stipulation, condition))
         for event in self._phase(items.PhaseKind(phase.decode("ascii"))):
             builder.take(event)
         taken = _LINES_OF_HEAD - (title, author).count(None)
@@ -441,6 +483,12 @@ def whole_move(text: str, lead: str, half: int, side: Colour) -> Optional[Played
     """Returns the move that makes up a line after its lead; None for another line."""
     found = read_move(text, len(lead), half, side) if text.startswith(lead) else None
     return None if found is None or found[1] != len(text) else found[0]
+
+
+def _board_of(lines_of_ranks: bytes) -> items.Board:
+    """Returns the board of eight lines as `8 ........`."""
+    text = lines_of_ranks.decode("ascii")
+    return items.Board(tuple([text[at : at + 8] for at in range(2, len(text), 11)]))
 
 
 def read_events(reader: LineReader, source: Iterable[bytes]) -> Iterator[events.Event]:

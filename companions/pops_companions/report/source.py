@@ -212,6 +212,10 @@ class NamedText:
         # The numbers of the problems whose title or author isn't in the encoding.
         self.undecodable: list[int] = []
 
+    def another(self) -> "NamedText":
+        """Returns the same text, of which nothing was read."""
+        return NamedText(self._companion, self._name, self._encoding, self._text)
+
     def items(
         self, pieces: Iterable[bytes], read: Callable[[Iterable[bytes]], Iterator[Read]]
     ) -> Iterator[Read]:
@@ -243,7 +247,8 @@ def warn_of_names(companion: str, name: str, items: Iterable[AnyItem], encoding:
 def _has_names_in(encoding: str, item: Union[AnyItem, AnyTriesItem]) -> bool:
     if not isinstance(item, (SoundItem, TriesItem)):
         return True
-    return all(is_text(it, encoding) for it in (item.title, item.author) if it)
+    title, author = item.title or b"", item.author or b""
+    return is_text(title, encoding) and is_text(author, encoding)
 
 
 def _refusal(name: str, first_line: bytes, error: ReportError, text: Text) -> str:

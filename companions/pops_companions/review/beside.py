@@ -11,7 +11,7 @@ from pops_companions.input.given_source import read_given
 from pops_companions.report.items import AnyItem, FaultyItem, SoundItem
 from pops_companions.report.tries import TriesItem
 from pops_companions.review.kept_tries import KnownTries
-from pops_companions.review.judging import Judgement, judged, missing
+from pops_companions.review.judging import Judgement, KeptJudgements, judged, missing
 from pops_companions.review.posing import AnswersError, ShortAnswers
 from pops_companions.review.reading import reviewed_unfinished_report
 
@@ -49,6 +49,7 @@ class Beside:
         self._short_file = short_file
         self.given: list[GivenProblem] = []
         self._answers: Optional[ShortAnswers] = None
+        self._kept = KeptJudgements()
         if input_file is not None:
             self.given = read_given(companion, input_file)
         if short_file is not None:
@@ -57,6 +58,11 @@ class Beside:
                     self._answers = ShortAnswers(items)
                 except AnswersError as error:
                     self._refuse_answers(error)
+
+    @property
+    def is_alone(self) -> bool:
+        """Whether the report is all that is known."""
+        return self._input_file is None and self._answers is None and not self._tries
 
     def judgements(self, items: Iterator[AnyItem]) -> Iterator[Judgement]:
         """Judges the items of a report, and adds the problems that it lacks."""
@@ -115,7 +121,10 @@ class Beside:
                     short = self._answers.of(item)
                 except AnswersError as error:
                     self._refuse_answers(error)
-        judgement = judged(item, wanted, short, tries)
+        if short is None and tries is None:
+            judgement = self._kept.judged(item, wanted)
+        else:
+            judgement = judged(item, wanted, short, tries)
         judgement.given = self._given_of(item.number)
         return judgement
 

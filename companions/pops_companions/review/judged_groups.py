@@ -2,7 +2,7 @@
 
 from collections import deque
 from collections.abc import Iterable, Iterator, Sequence
-from dataclasses import dataclass
+from typing import NamedTuple
 
 from pops_companions.input.given import GivenProblem
 from pops_companions.report.items import AnyItem, HeadlessItem
@@ -13,8 +13,7 @@ from pops_companions.show.twins import Group, groups
 _VERDICTS = list(Verdict)
 
 
-@dataclass(frozen=True)
-class JudgedGroup:
+class JudgedGroup(NamedTuple):
     """A problem with its twins, and the judgement of each."""
 
     group: Group

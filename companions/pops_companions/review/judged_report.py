@@ -5,16 +5,17 @@ import os
 from collections.abc import Callable, Iterable, Iterator
 from functools import partial
 from itertools import chain, islice
-from typing import BinaryIO, NamedTuple
+from typing import BinaryIO, NamedTuple, Union
 
-from pops_companions.many.forked import Copies, can_fork
+from pops_companions.many.forked import Alone, Copies, can_fork
 from pops_companions.report.items import AnyItem
 from pops_companions.report.reader import read_unfinished_report
 from pops_companions.report.source import NamedText, pieces_of
 from pops_companions.review.beside import Beside, Course
-from pops_companions.review.in_pieces import Cutter, Piece, is_large
+from pops_companions.review.in_pieces import Cutter, Piece, Place, is_large
 from pops_companions.review.judged_groups import JudgedGroup, judged_groups
 from pops_companions.review.judgement_text import Tally
+from pops_companions.review.like_problems import LikeProblems
 from pops_companions.review.judging import Judgement
 
 # More take more memory, and one process can't keep them busy.
@@ -22,11 +23,12 @@ _MOST_COPIES = 8
 
 
 class Form(NamedTuple):
-    """How the problems of a report are grouped and shown."""
+    """How the problems of a report are grouped and shown; `is_plain` if as lines of text."""
 
     encoding: str
     apart: bool
     text_of: Callable[[JudgedGroup], str]
+    is_plain: bool
 
 
 class _Known(NamedTuple):
@@ -49,6 +51,9 @@ class JudgedReport:
         self._form = form
         self._tally = tally
         self._course = Course()
+        self._like = None
+        if form.is_plain and beside.is_alone:
+            self._like = LikeProblems(form.encoding, form.apart)
 
     def groups_of(self, items: Iterator[AnyItem]) -> Iterator[JudgedGroup]:
         """Yields the problems of items that are read elsewhere."""
@@ -63,9 +68,9 @@ class JudgedReport:
 
     def texts(self, source: BinaryIO) -> Iterator[bytes]:
         """Yields the texts of all problems."""
-        processors = len(os.sched_getaffinity(0)) if can_fork() else 1
-        if processors == 1 or not is_large(source):
+        if not is_large(source):
             return self.texts_of(self.groups(source))
+        processors = len(os.sched_getaffinity(0)) if can_fork() else 1
         cutter = Cutter(source, self._beside.given, self._form.encoding, self._form.apart)
         return self._texts_in_pieces(cutter, source, min(processors, _MOST_COPIES))
 
@@ -76,12 +81,15 @@ class JudgedReport:
         The last text of a piece comes after the next problem is judged, as without pieces.
         """
         held = b""
-        with Copies(self._result, number) as copies:
+        alone = Alone(self._another()._result)
+        workers: Union[Alone, Copies] = Copies(self._result, number) if number > 1 else alone
+        with workers as copies:
             results = copies.results(piece.data for piece in cutter.pieces())
             for data, result in results:
                 head, _, texts = (result or b"").partition(b"\n")
                 known = _Known(*json.loads(head)) if head else None
                 if known is None or not self._add(known):
+                    copies.stop()
                     left = chain([data], (other for other, _ in results))
                     yield from self._texts_to_end(held, left, cutter, source)
                     return
@@ -107,13 +115,43 @@ class JudgedReport:
         piece = Piece.of_data(data)
         self._course, self._tally = Course(piece.place.last), Tally()
         self._report.undecodable.clear()
-        items = self._items(piece.chunks(), piece.place.line)
-        judged = self._beside.judgements_of_piece(items, self._course)
-        texts = list(self.texts_of(self._counted(judged)))
+        texts = list(self._texts_of_piece(piece))
         held = 0 if self._form.apart else len(texts[-1])
         course, counts = self._course, self._tally.counts
         known = _Known(course.last, course.lacking, counts, self._report.undecodable, held)
         return b"".join([json.dumps(known).encode("ascii"), b"\n", *texts])
+
+    def _texts_of_piece(self, piece: Piece) -> Iterator[bytes]:
+        """Yields the texts of a piece: of problems in turn that show what others showed, then of others in
+        turn.
+        """
+        text, at, line = piece.text, 0, piece.place.line
+        while at < len(text):
+            start = at
+            if self._like is not None:
+                like = self._like.taken(text, at, self._course.last)
+                at, self._course.last = like.end, like.last
+                self._tally.add(like.verdicts)
+                self._report.undecodable.extend(like.undecodable)
+                yield from like.texts
+            end = len(text) if self._like is None else self._like.end_of_others(text, at)
+            line += text.count(b"\n", start, at)
+            others = Piece(Place(piece.place.offset + at, line, self._course.last), text[at:end])
+            yield from self._texts_of_others(others)
+            line += text.count(b"\n", at, end)
+            at = end
+
+    def _texts_of_others(self, piece: Piece) -> Iterator[bytes]:
+        items = self._items(piece.chunks(), piece.place.line)
+        for one in self._counted(self._beside.judgements_of_piece(items, self._course)):
+            text = self._form.text_of(one)
+            if self._like is not None:
+                self._like.note(one, text)
+            yield text.encode("utf-8", "replace")
+
+    def _another(self) -> "JudgedReport":
+        """Returns another reading of the report, which knows nothing of this one."""
+        return JudgedReport(self._report.another(), self._beside, self._form, Tally())
 
     def _add(self, known: _Known) -> bool:
         """Adds what is known of a piece, unless it lacks too many problems; returns whether it did."""

@@ -20,7 +20,7 @@ _ENDS_OF_CELLS = ("\t", "\r", "\n")
 # What parts cells for some reader: the semicolon where the comma is in numbers.
 _PARTING = re.compile('[,;\t\r\n\u2028\u2029"]')
 # Parts cells for a reader that takes no comma for an end: to it a quote after a comma is none.
-_OTHER_PARTING = ";"
+_OTHER_PARTING = re.compile("([;\t\r\n])")
 
 COLUMNS = (
     "number",
@@ -88,13 +88,13 @@ def csv_line(values: "tuple[object, ...]") -> str:
 
 def _cell(value: object) -> str:
     """Returns a cell; a text that a spreadsheet would compute has an apostrophe in front, so has the
-    text after a semicolon, where a quote may open a cell.
+    text after a semicolon or a tab, where a quote may open a cell.
     """
     text = "" if value is None else str(value)
     if isinstance(value, str):
-        first, *others = text.split(_OTHER_PARTING)
-        later = (f"'{it}" if _is_formula(it.replace('"', "")) else it for it in others)
-        text = _OTHER_PARTING.join([f"'{first}" if _is_formula(first) else first, *later])
+        first, *others = _OTHER_PARTING.split(text)
+        others[1::2] = [f"'{it}" if _is_formula(it.replace('"', "")) else it for it in others[1::2]]
+        text = "".join([f"'{first}" if _is_formula(text) else first, *others])
     return '"{}"'.format(text.replace('"', '""')) if _PARTING.search(text) else text
 
 

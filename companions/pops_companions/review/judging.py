@@ -2,6 +2,7 @@
 
 from collections import Counter
 from collections.abc import Sequence
+from copy import copy
 from dataclasses import dataclass, field
 from enum import Enum
 from typing import Optional
@@ -35,8 +36,10 @@ from pops_companions.review.mates import mates_in
 from pops_companions.review.naming import counted
 
 
-# The letters of men on a printed board.
-_NIGHTRIDERS, _KNIGHTS = frozenset("Nn"), frozenset("Ss")
+# The most lines of a problem whose judgement is kept for others with the same play, and how many are
+# kept.
+_MOST_LINES = 20
+_MOST_KEPT = 8192
 
 
 class Verdict(Enum):
@@ -46,6 +49,9 @@ class Verdict(Enum):
     UNDECIDED = "undecided"
     UNSOUND = "unsound"
     FAULTY = "faulty"
+
+    # (a member is its own only equal; Enum's hash takes longer)
+    __hash__ = object.__hash__
 
 
 class Weight(Enum):
@@ -103,6 +109,8 @@ class Judgement:
 
     @property
     def verdict(self) -> Verdict:
+        if not self.findings:
+            return Verdict.SOUND
         weights = [finding.weight for finding in self.findings]
         if Weight.FAULT in weights:
             return Verdict.FAULTY
@@ -114,6 +122,12 @@ class Judgement:
     def reasons(self) -> list[str]:
         """What decides the verdict, in words; nothing for a sound problem."""
         return [finding.text for finding in self.findings if finding.weight is not Weight.NOTE]
+
+    def of_another(self, item: SoundItem) -> "Judgement":
+        """Returns the judgement of another problem, of which the same was found."""
+        other = copy(self)
+        other.number, other.item, other.findings = item.number, item, list(self.findings)
+        return other
 
     def find(self, weight: Weight, text: str, lines: Sequence[str] = ()) -> None:
         self.findings.append(Finding(weight, text, lines))
@@ -171,10 +185,53 @@ def judged(
     return judgement
 
 
+class KeptJudgements:
+    """Judgements by the report alone: problems of battle play that show the same play share one."""
+
+    def __init__(self) -> None:
+        # (a problem that is kept keeps its phases, so that no others get their id)
+        self._kept: dict[tuple[int, int], Judgement] = {}
+
+    def judged(self, item: AnyItem, wanted: int) -> Judgement:
+        """Returns what `judged` does without short solutions and tries."""
+        if not isinstance(item, SoundItem) or not is_judged_by_play(item):
+            return judged(item, wanted, None)
+        key = id(item.phases), wanted
+        kept = self._kept.get(key)
+        if kept is not None and isinstance(kept.item, SoundItem):
+            if kept.item.phases is item.phases and kept.item.stipulation == item.stipulation:
+                return kept.of_another(item)
+        judgement = judged(item, wanted, None)
+        if len(self._kept) < _MOST_KEPT:
+            self._kept[key] = judgement.of_another(item)
+        return judgement
+
+
+def is_judged_by_play(item: SoundItem) -> bool:
+    """Returns whether the judgement depends on few lines of play alone: on no man, and no mate of help
+    play.
+    """
+    if not item.phases or item.unfinished is not None or item.stipulation.play is Play.HELP:
+        return False
+    if sum([len(phase.lines) for phase in item.phases]) > _MOST_LINES:
+        return False
+    return item.board is None or has_usual_men(item.board.letters)
+
+
+def has_usual_men(letters: str) -> bool:
+    """Returns whether nothing is to be said of the men on a printed board."""
+    return surely_begun(letters) and not _has_nightriders_alone(letters)
+
+
+def _has_nightriders_alone(letters: str) -> bool:
+    """Returns whether a printed board has nightriders and no knights."""
+    return ("N" in letters or "n" in letters) and not ("S" in letters or "s" in letters)
+
+
 def _warn_of_men(judgement: Judgement, board: Board) -> None:
     """Notes nightriders without knights, and counts of men that no game can have."""
     letters = board.letters
-    if not _NIGHTRIDERS.isdisjoint(letters) and _KNIGHTS.isdisjoint(letters):
+    if _has_nightriders_alone(letters):
         judgement.find(Weight.NOTE, "N is a nightrider here, and there is no knight: knights are S")
     if surely_begun(letters):
         return

@@ -5,8 +5,7 @@ A label is `a)`, `b)` .. or a number, with or without `duplex`, at the end of th
 
 import re
 from collections.abc import Iterable, Iterator, Sequence
-from dataclasses import dataclass
-from typing import Optional
+from typing import NamedTuple, Optional
 
 from pops_companions.chess.men import Colour, Man, Square
 from pops_companions.input.given import GivenProblem
@@ -14,12 +13,12 @@ from pops_companions.report.items import AnyItem, Board, SoundItem
 from pops_companions.show.titles import shown
 
 _LABEL = re.compile(r"(?:(.*?) )??(?:([a-z]|[0-9]{2,3})\)( duplex)?|(duplex))", re.DOTALL)
+_ENDS = (")", "duplex")
 # A twin with more changed squares is shown by a diagram of its own.
 _MOST_CHANGES = 4
 
 
-@dataclass(frozen=True)
-class Label:
+class Label(NamedTuple):
     """A label, as text and by its place among the twins."""
 
     text: str
@@ -34,8 +33,7 @@ class Label:
 _NONE = Label("", 0, False)
 
 
-@dataclass(frozen=True)
-class Twin:
+class Twin(NamedTuple):
     """A problem of a group: its item, its input if that is known, and its label.
 
     `change` says what makes it of the first problem of the group; it is empty if that is unknown.
@@ -54,8 +52,7 @@ class Twin:
         return " ".join(filter(None, (self.label.text, self.change)))
 
 
-@dataclass(frozen=True)
-class Group:
+class Group(NamedTuple):
     """A problem with its twins, or a problem alone."""
 
     title: Optional[str]
@@ -78,8 +75,7 @@ class Group:
         return f"problems {self.first.number} to {self.twins[-1].item.number}"
 
 
-@dataclass(frozen=True)
-class _Named:
+class _Named(NamedTuple):
     """A problem with its title divided into the group's part and the label."""
 
     item: AnyItem
@@ -101,7 +97,8 @@ class _Named:
 
 def label_and_title(title: Optional[str]) -> tuple[Optional[str], Label]:
     """Returns a title without its label, and the label; that is empty where there is none."""
-    parts = _LABEL.fullmatch(title or "")
+    may_have_one = title is not None and title.endswith(_ENDS)
+    parts = _LABEL.fullmatch(title or "") if may_have_one else None
     if parts is None:
         return title, _NONE
     if parts[4] is not None:
