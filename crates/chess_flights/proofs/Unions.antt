@@ -1,5 +1,6 @@
 -- The squares of all kinds together.
-use Rattle.chess_flights.proofs.Chess.{Bishop, ByKind, Grasshopper, Kind, King, Knight, Nightrider, Pawn, Queen, Rook, arith, bit_at, bit_or, inl, inr, on_left, on_right, true, value_for, ℕ, ◌==◌, ◌≡◌}
+use Rattle.chess_core.specs.declared.man.Kind.TheVariants.{King, Queen, Rook, Bishop, Knight, Pawn, Grasshopper, Nightrider}
+use Rattle.chess_flights.proofs.Chess.{ByKind, Kind, arith, bit_at, bit_or, inl, inr, on_left, on_right, true, value_for, ℕ, ◌==◌, ◌≡◌}
 use Rattle.chess_flights.proofs.Hurdles.{on_one}
 
 module _ (v : ByKind ℕ) where

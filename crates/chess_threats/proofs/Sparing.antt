@@ -205,7 +205,7 @@ module _ (rule : RuleSet) (p : Position) (m : Move) (x : Man) (v : KingAttack) (
           false≢true (sym off ∙ lined p.turn j n.from from_small may (later v.hurdles q.men p.turn j k n.from (no_fairy_hops j plain)
           (λ r e low on reach. stays_q e low on (λ same. shut_off p.turn j may (rw same at on) (rw same at reach))) h)))
 
-      -- there is no fairy man
+      -- no fairy man moves along lines
       no_fairy : (j : Kind) → moves_on_fairy_lines j ≡ true → (s : ℕ) → s < 64 → is_man (man_on q.men s) (other p.turn) j ≡ false
       no_fairy j fairy s inside = false_by _ (λ h.
           let z = man_there (man_on q.men s) (other p.turn) j h in

@@ -129,7 +129,7 @@ pub(crate) fn lifted_from(king_attack: &KingAttack, from: Square) -> KingAttack
     }
 }
 
-// Whether the squares of a kind are those of the colour's men on the board.
+// Whether the squares of a kind are the squares of the colour's men on the board.
 #[derive(Drop)]
 struct StandOn<'a> {
     board: &'a Board,

@@ -93,7 +93,7 @@ fn open_targets_of(colour: Colour, kind: Kind, squares: Squares) -> Squares
     targets
 }
 
-// The targets of a kind, from the squares that its men reach. `advances` are those of the pawns.
+// The targets of a kind, from the squares that its men reach. `advances` are the targets of the pawns.
 #[derive(Drop)]
 struct KindTargets<'a> {
     men: &'a Attackers,

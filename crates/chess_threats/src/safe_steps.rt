@@ -70,7 +70,7 @@ impl ForKind<Squares> for ChecksLeaveOne {
 }
 
 // Returns whether one of `squares` remains wherever an attacker other than a king arrives on a target, if it
-// might give check there to a king on `king`. A pawn that promotes counts as a man of the kind that it becomes.
+// might give check there to a king on `king`. A promoted rook or bishop counts as a queen.
 #[inline(always)]
 fn all_checks_leave_one(
     men: &Attackers,
