@@ -94,6 +94,12 @@ class Items(unittest.TestCase):
             },
         )
 
+    def test_like_ranks_of_boards_are_kept_once(self) -> None:
+        board = "".join(f"{rank} .....K..\n" for rank in range(8, 0, -1)) + "  abcdefgh\n"
+        items = read("".join(f"problem {number}\n{board}#{number}\nsound\n\n" for number in (1, 2)))
+        ranks = [rank for it in items if isinstance(it, SoundItem) and it.board for rank in it.board.ranks]
+        self.assertEqual((len(ranks), len(set(map(id, ranks)))), (16, 1))
+
     def test_reports_one_behind_the_other(self) -> None:
         one = "problem 1\n#1\nsound\n\nproblem 2\n#1\nsound\n\n"
         self.assertEqual([item.number for item in read(one + one)], [1, 2, 1, 2])

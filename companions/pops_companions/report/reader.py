@@ -11,6 +11,7 @@ import io
 from collections.abc import Callable, Iterable, Iterator, Sequence
 from enum import Enum
 from functools import lru_cache
+from sys import intern
 from typing import Optional
 
 from pops_companions.chess.men import Colour
@@ -180,7 +181,7 @@ class LineReader:
         found = lines.RANK.fullmatch(line)
         if found is None or int(found[1]) != rank:
             raise self.refused(f"rank {rank} of a board", line)
-        self._ranks.append(found[2].decode("ascii"))
+        self._ranks.append(intern(found[2].decode("ascii")))
         if rank == 1:
             self._state = self._files
         return ()
@@ -488,7 +489,8 @@ def whole_move(text: str, lead: str, half: int, side: Colour) -> Optional[Played
 def _board_of(lines_of_ranks: bytes) -> items.Board:
     """Returns the board of eight lines as `8 ........`."""
     text = lines_of_ranks.decode("ascii")
-    return items.Board(tuple([text[at : at + 8] for at in range(2, len(text), 11)]))
+    # (most ranks are like those of other boards)
+    return items.Board(tuple([intern(text[at : at + 8]) for at in range(2, len(text), 11)]))
 
 
 def read_events(reader: LineReader, source: Iterable[bytes]) -> Iterator[events.Event]:

@@ -129,12 +129,7 @@ fn leaping_attackers(
 
 // Returns the squares of the grasshoppers of this colour that reach the square. Usually none is on the
 // square's queen lines: that test comes first.
-fn hoppers_reaching(
-    board: &Board,
-    occupancy: Occupancy,
-    square: Square,
-    colour: Colour,
-) -> Squares
+fn hoppers_reaching(board: &Board, occupancy: Occupancy, square: Square, colour: Colour) -> Squares
     ensures { (men : List (Option Man)) → DescribesMen board.now.men men colour occupancy
         → result ≡ word (λ s. is_man (man_on men s) colour Grasshopper && reaches men s square) }
 {
@@ -158,12 +153,7 @@ fn fairy_men(board: &Board, occupancy: Occupancy, colour: Colour) -> Squares
 
 // Returns the squares of the standing fairy men of this colour that reach the square.
 #[inline(never)]
-fn fairy_men_reaching(
-    board: &Board,
-    occupancy: Occupancy,
-    square: Square,
-    colour: Colour,
-) -> Squares
+fn fairy_reaching(board: &Board, occupancy: Occupancy, square: Square, colour: Colour) -> Squares
     ensures { (men : List (Option Man)) → DescribesMen board.now.men men colour occupancy
         → result ≡ word (λ s. is_fairy_man (man_on men s) colour && reaches men s square) }
 {
@@ -186,7 +176,7 @@ pub fn fairy_attackers(
     if fairy_men(board, occupancy, colour) == 0 {
         return 0;
     }
-    fairy_men_reaching(board, occupancy, square, colour)
+    fairy_reaching(board, occupancy, square, colour)
 }
 
 /// Returns the squares of the kings, knights and pawns of this colour that reach the square.

@@ -1,6 +1,5 @@
 -- The squares of a line, one after another.
-use Rattle.chess_attacks.proofs.Chess.{Bool, Direction, Some, Step, add-mul, along, and_from, ap, arith, cases_Bool, cases_eq, eq-eqb, cases_lt, false, file_of, inl, inr, is_on_board, le-leb, leb-true, mul-add, not, place, rank_of, refl, rises, rules, some_is, step_of, true, ℕ, ◌&&◌, ◌*◌, ◌+◌, ◌-◌, ◌<◌, ◌==◌, ◌∙◌, ◌≡◌, ◌≤◌}
-use Rattle.chess_attacks.proofs.Basics.{nat_le}
+use Rattle.chess_attacks.proofs.Chess.{Bool, Direction, Some, Step, add-mul, along, and_from, ap, arith, cases_eq, cases_lt, eq-eqb, false, file_of, is_on_board, le-leb, leb-true, mul-add, not, place, rank_of, refl, rises, rules, some_is, step_of, true, ℕ, ◌&&◌, ◌*◌, ◌+◌, ◌-◌, ◌<◌, ◌==◌, ◌∙◌, ◌≡◌, ◌≤◌}
 use Rattle.chess_attacks.proofs.rays.Ends.{Placed, cond-on, on_board, placed_from}
 
 further : (f j i r l : ℕ) → 1 ≤ f + j * r - j * l → f + j * r - j * l + i * r - i * l ≡ f + (j + i) * r - (j + i) * l
@@ -84,16 +83,10 @@ falling d non down = record {
 abbrev pub moves_on : Step → Bool
 moves_on d = not (d.right + 8 * d.up == d.left + 8 * d.down)
 
-below : (a b : ℕ) → nat_le (a + 1) b ≡ false → not (b == a) ≡ true → b < a
-below a b up on = grind (arith, le-leb (a + 1) b, eq-eqb b a)
-
 -- a line of such a step does
 pub ordered_on : (d : Step) → moves_on d ≡ true → Ordered d
 unfolding rises
-ordered_on d on = elim (cases_Bool (rises d)) [
-  | inl up ↦ rising d up
-  | inr down ↦ falling d down (below (d.left + 8 * d.down) (d.right + 8 * d.up) down on)
-]
+ordered_on d on = grind (arith, cases_lt (d.left + 8 * d.down) (d.right + 8 * d.up), rising d, falling d, le-leb, eq-eqb)
 
 -- each of the sixteen directions does
 pub ordered : (x : Direction) → Ordered (step_of x)
