@@ -345,7 +345,7 @@ fn check_squares_over(king_attack: &KingAttack, king_zone: &KingZone, man: Man) 
 // not, on an empty board, or uncover a check. All squares, unless the man is a pawn or a king and the
 // king's square has no springboard.
 #[tactic(auto, using(chess_rules::proofs::listing_moves::Targeting::every_square_on, chess_rules::proofs::listing_moves::Targeting::false_by, crate::proofs::Risks::king_targets, chess_flights::proofs::Bitboards::none_at, crate::proofs::Risks::pawn_idly))]
-#[inline(always)]
+#[inline]
 fn suspect_squares(king_zone: &KingZone, man: Man, checks: Squares) -> Squares
     ensures { (v : KingAttack) (s : ℕ) → s < 64 → (bit_at result s == 1) ≡ false
         → IsHarmless v king_zone.now checks (record { critical = 0; lines = 0 }) man s }
