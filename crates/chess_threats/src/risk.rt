@@ -41,6 +41,18 @@ pub(crate) struct Risk {
     pub(crate) lines: Squares,
 }
 
+// No square is critical.
+const NO_RISK: Risk = Risk {
+    critical: 0,
+    lines: 0,
+};
+
+// Every square is critical.
+const WHOLE_RISK: Risk = Risk {
+    critical: !0,
+    lines: 0,
+};
+
 // The risk after the defender on `from` has left a line on which it is a hurdle.
 #[derive(Clone, Copy)]
 pub(crate) struct RiskAfterLeaving {
@@ -241,10 +253,7 @@ fn risk_of_going(
     if may_spring(king_attack, king_zone, from, left)
         || may_become_fairy(&king_attack.men, man, left)
     {
-        return Risk {
-            critical: !0,
-            lines: 0,
-        };
+        return WHOLE_RISK;
     }
     Risk {
         critical: critical_of_going(
@@ -274,18 +283,12 @@ fn risk_from(
     let open = unblocked_targets(man, from);
     let most = checking_targets(man, open, king_zone, checks);
     if most == 0 && !contains(king_zone.lines, from) {
-        return Risk {
-            critical: 0,
-            lines: 0,
-        };
+        return NO_RISK;
     }
     let reached = arrivals(king_attack.hurdles, man, from);
     let targets = checking_targets(man, reached, king_zone, checks);
     if targets == 0 && !contains(king_zone.lines, from) {
-        return Risk {
-            critical: 0,
-            lines: 0,
-        };
+        return NO_RISK;
     }
     risk_of_going(king_attack, king_zone, man, from, reached, targets)
 }
@@ -345,7 +348,7 @@ fn check_squares_over(king_attack: &KingAttack, king_zone: &KingZone, man: Man) 
 // not, on an empty board, or uncover a check. All squares, unless the man is a pawn or a king and the
 // king's square has no springboard.
 #[tactic(auto, using(chess_rules::proofs::listing_moves::Targeting::every_square_on, chess_rules::proofs::listing_moves::Targeting::false_by, crate::proofs::Risks::king_targets, chess_flights::proofs::Bitboards::none_at, crate::proofs::Risks::pawn_idly))]
-#[inline]
+#[inline(always)]
 fn suspect_squares(king_zone: &KingZone, man: Man, checks: Squares) -> Squares
     ensures { (v : KingAttack) (s : ℕ) → s < 64 → (bit_at result s == 1) ≡ false
         → IsHarmless v king_zone.now checks (record { critical = 0; lines = 0 }) man s }
@@ -395,10 +398,7 @@ impl ForKind<Squares> for KindRisk<'_> {
     #[inline(always)]
     fn of(&self, kind: Kind, squares: Squares) -> Risk {
         if squares == 0 {
-            return Risk {
-                critical: 0,
-                lines: 0,
-            };
+            return NO_RISK;
         }
         let man = Man {
             colour: self.king_attack.men.colour,
@@ -406,10 +406,7 @@ impl ForKind<Squares> for KindRisk<'_> {
         };
         let checks = check_squares_over(self.king_attack, self.king_zone, man);
         if check_now(man, checks, squares) {
-            return Risk {
-                critical: !0,
-                lines: 0,
-            };
+            return WHOLE_RISK;
         }
         let suspects = squares & suspect_squares(self.king_zone, man, checks);
         risk_together(self.king_attack, self.king_zone, man, suspects, checks)
@@ -483,10 +480,7 @@ fn risk_with(
     if !castling_is_harmless(king_attack, &king_zone)
         || !are_free(king_attack, king, king_zone.springboards)
     {
-        return Risk {
-            critical: !0,
-            lines: 0,
-        };
+        return WHOLE_RISK;
     }
     let risk = risk_of_all(king_attack, &king_zone);
     Risk {
