@@ -127,38 +127,36 @@ fn leaping_attackers(
         & reach_to(occupancy.occupied, colour, kind, square)
 }
 
-// Returns the squares of the grasshoppers of this colour that reach the square. Usually none is on the
+// Returns which of `squares`, all grasshoppers of this colour, reach the square. Usually none is on the
 // square's queen lines: that test comes first.
-fn hoppers_reaching(board: &Board, occupancy: Occupancy, square: Square, colour: Colour) -> Squares
-    ensures { (men : List (Option Man)) → DescribesMen board.now.men men colour occupancy
+fn hoppers_reaching(occupied: Squares, squares: Squares, square: Square, colour: Colour) -> Squares
+    ensures { (men : List (Option Man)) → occupied ≡ occupied_squares men
+        → squares ≡ squares_of men colour Grasshopper
         → result ≡ word (λ s. is_man (man_on men s) colour Grasshopper && reaches men s square) }
 {
     square.show_below_64();
-    let hoppers = squares_seen(board, occupancy, colour, Kind::Grasshopper);
-    if hoppers & (straight_lines(square) | diagonal_lines(square)) == 0 {
+    if squares & (straight_lines(square) | diagonal_lines(square)) == 0 {
         return 0;
     }
-    reaching_among(occupancy.occupied, hoppers, square, colour, Kind::Grasshopper)
+    reaching_among(occupied, squares, square, colour, Kind::Grasshopper)
 }
 
-// Returns the squares of the standing fairy men of this colour.
-#[inline(always)]
-fn fairy_men(board: &Board, occupancy: Occupancy, colour: Colour) -> Squares
-    ensures { (men : List (Option Man)) → DescribesMen board.now.men men colour occupancy
-        → result ≡ word (λ s. is_fairy_man (man_on men s) colour) }
-{
-    squares_seen(board, occupancy, colour, Kind::Grasshopper)
-        | squares_seen(board, occupancy, colour, Kind::Nightrider)
-}
-
-// Returns the squares of the standing fairy men of this colour that reach the square.
+// Returns the squares of the fairy men of this colour that reach the square.
 #[inline(never)]
-fn fairy_reaching(board: &Board, occupancy: Occupancy, square: Square, colour: Colour) -> Squares
-    ensures { (men : List (Option Man)) → DescribesMen board.now.men men colour occupancy
+fn fairy_men_reaching(
+    occupied: Squares,
+    hoppers: Squares,
+    nightriders: Squares,
+    square: Square,
+    colour: Colour,
+) -> Squares
+    ensures { (men : List (Option Man)) → occupied ≡ occupied_squares men
+        → hoppers ≡ squares_of men colour Grasshopper
+        → nightriders ≡ squares_of men colour Nightrider
         → result ≡ word (λ s. is_fairy_man (man_on men s) colour && reaches men s square) }
 {
-    hoppers_reaching(board, occupancy, square, colour)
-        | reaching_kind(board, occupancy, square, colour, Kind::Nightrider)
+    hoppers_reaching(occupied, hoppers, square, colour)
+        | reaching_among(occupied, nightriders, square, colour, Kind::Nightrider)
 }
 
 /// Returns the squares of the standing fairy men of this colour that reach the square. Usually there are
@@ -173,10 +171,12 @@ pub fn fairy_attackers(
     ensures { (men : List (Option Man)) → DescribesMen board.now.men men colour occupancy
         → result ≡ word (λ s. is_fairy_man (man_on men s) colour && reaches men s square) }
 {
-    if fairy_men(board, occupancy, colour) == 0 {
+    let hoppers = squares_seen(board, occupancy, colour, Kind::Grasshopper);
+    let nightriders = squares_seen(board, occupancy, colour, Kind::Nightrider);
+    if hoppers == 0 && nightriders == 0 {
         return 0;
     }
-    fairy_reaching(board, occupancy, square, colour)
+    fairy_men_reaching(occupancy.occupied, hoppers, nightriders, square, colour)
 }
 
 /// Returns the squares of the kings, knights and pawns of this colour that reach the square.

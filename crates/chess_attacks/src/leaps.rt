@@ -1,5 +1,5 @@
-//! Leaps and short steps, from tables of bitboards, one for each square. The proofs compute each table from
-//! its definition.
+//! Leaps and short steps, from tables of bitboards, one for each square. The proofs compute each table
+//! from its definition.
 ghost use Rattle.std.specs.Prelude.{◌≡◌, ℕ, List, Option};
 ghost use Rattle.std.specs.List.{list_any};
 ghost use Rattle.chess_core.specs.Steps.{gait_of, knight_steps, pawn_capture_steps, queen_steps};

@@ -94,17 +94,11 @@ module _ (v : KingAttack) (g : KingZone) where
   }
 
   -- for `risk_of_all`
-  pub all_weak : (risks : ByKind Risk) (c l : ByKind ℕ) (critical lines : ℕ)
-      → ((k : Kind) → HoldsOf v.men (λ x s. IsWeak v g (value_for risks k) x s) k)
-      → ((k : Kind) → value_for c k ≡ (value_for risks k).critical) → ((k : Kind) → value_for l k ≡ (value_for risks k).lines)
-      → ((k : Kind) (s : ℕ) → (bit_at (value_for c k) s == 1) ≡ true → (bit_at critical s == 1) ≡ true)
-      → ((k : Kind) (s : ℕ) → (bit_at (value_for l k) s == 1) ≡ true → (bit_at lines s == 1) ≡ true)
-      → AreWeak v g (record { critical = critical; lines = lines })
-  all_weak risks c l critical lines each of_c of_l all_c all_l =
-      let off = λ (w u t : ℕ) (more : (bit_at w t == 1) ≡ true → (bit_at u t == 1) ≡ true) (out : (bit_at u t == 1) ≡ false).
-      false_by (bit_at w t == 1) (λ on. false≢true (sym out ∙ more on)) in
-      record {
-        weak = of_all v.men (λ x s. IsWeak v g (record { critical = critical; lines = lines }) x s) (λ k s small on.
-            weak_too (value_for risks k) (record { critical = critical; lines = lines }) s _ (λ t. rw (← of_c k) (off _ critical t (all_c k t)))
-            (λ t. rw (← of_l k) (off _ lines t (all_l k t))) (each k s small on));
-      }
+  pub all_weak : (risks : ByKind Risk) (r : Risk) → ((k : Kind) → HoldsOf v.men (λ x s. IsWeak v g (value_for risks k) x s) k)
+      → ((k : Kind) (t : ℕ) → (bit_at (value_for risks k).critical t == 1) ≡ true → (bit_at r.critical t == 1) ≡ true)
+      → ((k : Kind) (t : ℕ) → (bit_at (value_for risks k).lines t == 1) ≡ true → (bit_at r.lines t == 1) ≡ true) → AreWeak v g r
+  all_weak risks r each critical lines = record {
+    weak = of_all v.men (λ x s. IsWeak v g r x s) (λ k s small on. weak_too (value_for risks k) r s _
+        (λ t off. false_by _ (λ on. false≢true (sym off ∙ critical k t on))) (λ t off. false_by _ (λ on. false≢true (sym off ∙ lines k t on)))
+        (each k s small on));
+  }

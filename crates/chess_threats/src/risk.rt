@@ -3,11 +3,13 @@
 ghost use Rattle.std.specs.Prelude.{◌≡◌, ◌≢◌, ◌<◌, ◌==◌, if◌then◌else◌, ℕ, IfSome, true, false};
 ghost use Rattle.std.specs.Int.{bit_at};
 ghost use Rattle.chess_core.specs.Steps.{gait_of, is_hopper};
+ghost use Rattle.chess_core.specs.declared.man.Kind.{Kind};
 ghost use Rattle.chess_core.specs.declared.man.Kind.TheVariants.{Nightrider};
 ghost use Rattle.chess_core.specs.declared.man.Colour.{Colour};
 ghost use Rattle.chess_core.specs.declared.man.Man.{Man};
 ghost use Rattle.chess_threats.specs.declared.king_attack.KingAttack.{KingAttack};
 ghost use Rattle.chess_flights.specs.ties.Attackers.{IsAttacker};
+ghost use Rattle.chess_flights.specs.ties.ByKind.{value_for};
 ghost use Rattle.chess_flights.specs.ties.Approaches.{IsLeft, MayBecome};
 ghost use Rattle.chess_threats.specs.ties.KingAttack.{AreArrivals, AreLaterHurdles, AreHopTargets, AreThreats, AreWeak, IsCheckWord, IsKingZone, IsHarmless, IsMet, IsNoCheck, IsOff, IsRiskAt, IsRiskAfterLeaving, IsSafeMove, IsKingAttack, IsWeak, IsWhole, LeavesOne, LeavesUntaken};
 ghost use Rattle.chess_flights.specs.ties.Guards.{IsReached};
@@ -26,7 +28,7 @@ use chess_core::square::LAST_RANKS;
 use chess_core::{Colour, Kind, Man, Square, Squares};
 use chess_flights::approach_squares::open_approaches;
 use chess_flights::attackers::Attackers;
-use chess_flights::by_kind::{ForKind, for_each_kind, union_of};
+use chess_flights::by_kind::{ByKind, ForKind, for_each_kind, union_of};
 use chess_flights::guards::{reach_from, rider_reach};
 use chess_flights::pawn_approaches::pawns_before;
 use chess_rules::unblocked_targets;
@@ -38,6 +40,18 @@ pub(crate) struct Risk {
     pub(crate) critical: Squares,
     pub(crate) lines: Squares,
 }
+
+// No square is critical.
+const NO_RISK: Risk = Risk {
+    critical: 0,
+    lines: 0,
+};
+
+// Every square is critical.
+const WHOLE_RISK: Risk = Risk {
+    critical: !0,
+    lines: 0,
+};
 
 // The risk after the defender on `from` has left a line on which it is a hurdle.
 #[derive(Clone, Copy)]
@@ -239,10 +253,7 @@ fn risk_of_going(
     if may_spring(king_attack, king_zone, from, left)
         || may_become_fairy(&king_attack.men, man, left)
     {
-        return Risk {
-            critical: !0,
-            lines: 0,
-        };
+        return WHOLE_RISK;
     }
     Risk {
         critical: critical_of_going(
@@ -272,18 +283,12 @@ fn risk_from(
     let open = unblocked_targets(man, from);
     let most = checking_targets(man, open, king_zone, checks);
     if most == 0 && !contains(king_zone.lines, from) {
-        return Risk {
-            critical: 0,
-            lines: 0,
-        };
+        return NO_RISK;
     }
     let reached = arrivals(king_attack.hurdles, man, from);
     let targets = checking_targets(man, reached, king_zone, checks);
     if targets == 0 && !contains(king_zone.lines, from) {
-        return Risk {
-            critical: 0,
-            lines: 0,
-        };
+        return NO_RISK;
     }
     risk_of_going(king_attack, king_zone, man, from, reached, targets)
 }
@@ -393,10 +398,7 @@ impl ForKind<Squares> for KindRisk<'_> {
     #[inline(always)]
     fn of(&self, kind: Kind, squares: Squares) -> Risk {
         if squares == 0 {
-            return Risk {
-                critical: 0,
-                lines: 0,
-            };
+            return NO_RISK;
         }
         let man = Man {
             colour: self.king_attack.men.colour,
@@ -404,10 +406,7 @@ impl ForKind<Squares> for KindRisk<'_> {
         };
         let checks = check_squares_over(self.king_attack, self.king_zone, man);
         if check_now(man, checks, squares) {
-            return Risk {
-                critical: !0,
-                lines: 0,
-            };
+            return WHOLE_RISK;
         }
         let suspects = squares & suspect_squares(self.king_zone, man, checks);
         risk_together(self.king_attack, self.king_zone, man, suspects, checks)
@@ -435,6 +434,20 @@ impl ForKind<Risk> for RiskPart {
     }
 }
 
+// Returns the risks of all kinds together.
+#[inline]
+fn joined(risks: &ByKind<Risk>) -> Risk
+    ensures critical { (k : Kind) (t : ℕ) → (bit_at (value_for risks.now k).critical t == 1) ≡ true
+        → (bit_at result.critical t == 1) ≡ true }
+    ensures lines { (k : Kind) (t : ℕ) → (bit_at (value_for risks.now k).lines t == 1) ≡ true
+        → (bit_at result.lines t == 1) ≡ true }
+{
+    Risk {
+        critical: union_of(&for_each_kind(&RiskPart { lines: false }, risks)),
+        lines: union_of(&for_each_kind(&RiskPart { lines: true }, risks)),
+    }
+}
+
 // Returns the squares that are a risk for one kind of attacker or another.
 #[inline(always)]
 fn risk_of_all(king_attack: &KingAttack, king_zone: &KingZone) -> Risk
@@ -445,11 +458,7 @@ fn risk_of_all(king_attack: &KingAttack, king_zone: &KingZone) -> Risk
         king_attack,
         king_zone,
     };
-    let risks = for_each_kind(&kind_risk, &king_attack.men.squares);
-    Risk {
-        critical: union_of(&for_each_kind(&RiskPart { lines: false }, &risks)),
-        lines: union_of(&for_each_kind(&RiskPart { lines: true }, &risks)),
-    }
+    joined(&for_each_kind(&kind_risk, &king_attack.men.squares))
 }
 
 // Returns the risk of a defender whose king is on `king`. `riders` are its nightrider lines,
@@ -471,10 +480,7 @@ fn risk_with(
     if !castling_is_harmless(king_attack, &king_zone)
         || !are_free(king_attack, king, king_zone.springboards)
     {
-        return Risk {
-            critical: !0,
-            lines: 0,
-        };
+        return WHOLE_RISK;
     }
     let risk = risk_of_all(king_attack, &king_zone);
     Risk {

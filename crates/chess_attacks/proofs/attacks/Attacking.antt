@@ -172,10 +172,6 @@ hoppers_none men c t g l d q h i j z =
     let lined : word (λ s. is_man (man_on men s) c Grasshopper && is_near t s) ≡ 0 = sym (shared _ _ _ _ h (joined _ _ _ _ i j)) ∙ z in
     word_empty _ (λ s b. grind (arith, hops_near, reaches_of_man, word_lacks _ lined s b))
 
--- where there are none, no fairy man reaches t
-pub fairy_none : (men : List (Option Man)) (c : Colour) (t w : ℕ) → w ≡ word (λ s. is_fairy_man (man_on men s) c) → w ≡ 0 → 0 ≡ word (fairy_comer men c t)
-fairy_none men c t w h z = word_empty _ (λ s b. and_left (is_fairy_man (man_on men s) c) (reaches men s t) (word_lacks (λ s. is_fairy_man (man_on men s) c) (sym h ∙ z) s b))
-
 -- attack by the men that reach the square and aren't paralysed
 pub attacked_by : (rule : RuleSet) (men : List (Option Man)) (t w : ℕ) (c : Colour) → w ≡ word (λ s. is_of_colour (man_on men s) c && reaches men s t)
     → some_square (λ s. bit_at w s == 1 && not (is_paralysed rule men s)) ≡ is_attacked rule men t c

@@ -83,7 +83,7 @@ falling d non down = record {
 abbrev pub moves_on : Step → Bool
 moves_on d = not (d.right + 8 * d.up == d.left + 8 * d.down)
 
--- a line of such a step does
+-- a line whose step changes the number passes its squares in order
 pub ordered_on : (d : Step) → moves_on d ≡ true → Ordered d
 unfolding rises
 ordered_on d on = grind (arith, cases_lt (d.left + 8 * d.down) (d.right + 8 * d.up), rising d, falling d, le-leb, eq-eqb)
