@@ -9,7 +9,7 @@ module _ (v : ByKind ℕ) where
 
   either : (k : Kind) (w s : ℕ) → ((bit_at w s == 1) ≡ true → (j : Kind) × ((bit_at (value_for v j) s == 1) ≡ true))
       → (bit_at (bit_or w (value_for v k)) s == 1) ≡ true → (j : Kind) × ((bit_at (value_for v j) s == 1) ≡ true)
-  either k w s others on = elim (on_one w (value_for v k) s on) [ | inl e ↦ others e | inr e ↦ (k, e) ]
+  either k w s others on = elim (on_one w (value_for v k) s on) [ inl e ↦ others e | inr e ↦ (k, e) ]
 
   -- for `union_of`: each square is one of a kind's
   pub one_of_union : (s : ℕ) → (bit_at union s == 1) ≡ true → (k : Kind) × ((bit_at (value_for v k) s == 1) ≡ true)

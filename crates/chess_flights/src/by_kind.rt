@@ -1,5 +1,5 @@
-//! A value for each kind of man. No other module lists the kinds: what is computed for each kind is a
-//! `ForKind`, for any kind.
+//! A value for each kind of man, and what is computed for all kinds. Where men are taken kind by kind, here
+//! and in the crates above, no other module lists the kinds.
 ghost use Rattle.std.specs.Prelude.{◌≡◌, ◌==◌, ℕ, true};
 ghost use Rattle.std.specs.Int.{bit_at};
 ghost use Rattle.chess_core.specs.declared.man.Kind.{Kind};
