@@ -1,14 +1,15 @@
-//! A value for each kind of man. No other module lists the kinds: what is computed for each kind is a
-//! `ForKind`, for any kind.
+//! A value for each kind of man, and what is computed for all kinds. Where men are taken kind by kind, here
+//! and in the crates above, no other module lists the kinds.
 ghost use Rattle.std.specs.Prelude.{◌≡◌, ◌==◌, ℕ, true};
 ghost use Rattle.std.specs.Int.{bit_at};
 ghost use Rattle.chess_core.specs.declared.man.Kind.{Kind};
 ghost use Rattle.chess_flights.specs.ties.ByKind.{value_for};
 
 use chess_core::{Kind, Squares};
+use std::alloc::AllocError;
 
 /// A value for each kind.
-#[derive(Clone, Copy)]
+#[derive(Copy)]
 pub struct ByKind<T> {
     pub kings: T,
     pub queens: T,
@@ -18,6 +19,14 @@ pub struct ByKind<T> {
     pub pawns: T,
     pub grasshoppers: T,
     pub nightriders: T,
+}
+
+impl<T: Copy> Clone for ByKind<T> {
+    ghost is_clone = { λ values copy. copy ≡ values };
+
+    fn clone(&self) -> Result<ByKind<T>, AllocError> {
+        Ok(*self)
+    }
 }
 
 /// A computation for one kind, from the value for it. `holds` says what the result means, and `fits` what it

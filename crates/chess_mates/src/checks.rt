@@ -101,8 +101,8 @@ fn promotions_seen(board: &Board, colour: Colour) -> Squares
     promotion_squares(colour.other(), false, king)
 }
 
-// The squares from which an enemy may give check to the colour's king by a legal move, kind by kind.
-// `straight` and `diagonal` are those of a rook and a bishop.
+// The squares from which an enemy of one kind may give check to the colour's king by a legal move.
+// `straight` and `diagonal` are a rook's and a bishop's.
 #[derive(Drop)]
 struct ChecksOfKind<'a> {
     board: &'a Board,
