@@ -27,9 +27,7 @@ use Rattle.pop_tries.specs.ties.Contests.{AreThreats, IsContest}
 use Rattle.pop_tries.specs.ties.Candidates.{candidates_of}
 use Rattle.pop_tries.specs.ties.FirstMoves.{firsts_after as firsts_of, is_shown, refutes, AreCandidates, AreRefuting, AreTries, IsAsked}
 use Rattle.pop_tries.specs.declared.kept_tries.Candidates.{Candidates}
-use Rattle.pop_tries.specs.ties.Starts.{base_position, shown_line}
-use Rattle.pop_tries.specs.declared.below.Base.{Base}
-use Rattle.pop_tries.specs.declared.below.WalkBelow.{WalkBelow}
+use Rattle.pop_tries.specs.ties.Starts.{Base, base_position, shown_line}
 use Rattle.pop_tries.specs.declared.contest.Contest.{Contest}
 use Rattle.pop_tries.specs.declared.desk.Desk.{Desk}
 use Rattle.pop_tries.specs.declared.first_moves.Group.{Group}
@@ -104,15 +102,6 @@ is_over (But first) = false
 is_over (Refutation first place) = false
 is_over (Stalemate first) = false
 is_over Over = true
-
--- the walk below a first move from a position
-abbrev pub walk_below : Task → Move → Base → WalkBelow
-walk_below task first base = record {
-  plan = plan_of task.problem;
-  half_moves = half_moves task.problem.stipulation - 2;
-  first = first;
-  base = base;
-}
 
 -- the limit of solutions stops a group that has shown `count` first moves
 abbrev pub is_stopped : Posed → Group → ℕ → Bool
@@ -199,12 +188,17 @@ module _ (rule : RuleSet) (task : Task) where
   walk_left p items = to_come rule (plan_of task.problem)
       (half_moves task.problem.stipulation - 2) p (reverse items)
 
+  -- the board has the position of the top frame of a walk from p below a first move
+  abbrev pub IsOnWalk : Position → List Frame → Position → Type 0
+  IsOnWalk p items board =
+      IsWalking rule (half_moves task.problem.stipulation - 2) p (reverse items) board
+
   -- a walk below a first move shows its next node; after the last one the board has the position where the
   -- walk started, and no frame is left
   abbrev pub ShowsNode : Move → Base → (old new : List Frame) → Position → Option TryEvent → Type 0
   ShowsNode first base old new board event =
       let p = base_position rule task.problem first base in
-      MatchOption event ((walk_left p old ≡ []) × (board ≡ p) × (new ≡ []))
+      IsOnWalk p new board × MatchOption event ((walk_left p old ≡ []) × (board ≡ p) × (new ≡ []))
       (λ shown. (line : List Move) × (walk_left p old ≡ line ∷ walk_left p new)
       × (shown ≡ try_event_of rule task.problem (below first (shown_line base line))))
 
@@ -275,7 +269,7 @@ module _ (rule : RuleSet) (task : Task) where
       (board : Position) : Type 0 where
     pub first_is : IsFirst first
     pub threat : AreThreats rule (contest_of task) (after_first first.by) first.threat
-    pub walking : IsWalking rule (half_moves task.problem.stipulation - 2) p (reverse items) board
+    pub walking : IsOnWalk p items board
 
   -- what holds of board and frames
   unfoldable pub HoldsAt : {A : Type 0} → TriesStage A → List Frame → Position → Type 0
