@@ -103,7 +103,10 @@ pub enum Course<R: Rules> {
     /// The only event of help play.
     NoTries,
     /// The events of a battle from a stage on.
-    InBattle { task: Task, stage: TriesStage<R> },
+    InBattle {
+        battle: Battle,
+        stage: TriesStage<R>,
+    },
     /// Nothing more of help play.
     Ended,
 }
@@ -114,7 +117,7 @@ pub enum TriesStage<R: Rules> {
     /// The beginning of set play.
     SetPlay,
     /// That set play isn't possible.
-    Impossible,
+    NotPossible,
     /// The other events of set play.
     Within {
         stage: Stage,

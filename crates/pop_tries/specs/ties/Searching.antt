@@ -40,7 +40,7 @@ use Rattle.pop_tries.specs.declared.stage.First.{First}
 use Rattle.pop_tries.specs.declared.stage.Firsts.{Firsts}
 use Rattle.pop_tries.specs.declared.stage.Task.{Task}
 use Rattle.pop_tries.specs.declared.stage.TriesStage.{TriesStage}
-use Rattle.pop_tries.specs.declared.stage.TriesStage.TheVariants.{SetPlay, Impossible, Within, Beginning, FirstMove, Faced, Threats, Reply, BelowReply, But, Refutation, Stalemate, Over}
+use Rattle.pop_tries.specs.declared.stage.TriesStage.TheVariants.{SetPlay, NotPossible, Within, Beginning, FirstMove, Faced, Threats, Reply, BelowReply, But, Refutation, Stalemate, Over}
 
 -- what contracts see of a search for tries: the problem, the most refutations of a try, and the events
 -- still to come
@@ -76,21 +76,19 @@ abbrev pub IsInLimit : Posed → Group → ℕ → Type 0
 IsInLimit problem Keys count = count ≤ problem.max_solutions
 IsInLimit problem (Tries most) count = Unit {0}
 
--- the whole course of a problem with tries of at most `most` refutations
-abbrev pub course_by : {A : Type 0} → Option Battle → Bool → Posed → (most : ℕ) → Course A
-course_by None set_play problem most = NoTries
-course_by (Some battle) set_play problem most =
-    InBattle (record { problem = problem; battle = battle; most = most })
-    (if set_play then SetPlay else Beginning Keys (candidates_of None))
+-- the whole course of a problem
+abbrev pub course_by : {A : Type 0} → Option Battle → Bool → Course A
+course_by None set_play = NoTries
+course_by (Some battle) set_play =
+    InBattle battle (if set_play then SetPlay else Beginning Keys (candidates_of None))
 
-abbrev pub first_course : {A : Type 0} → Posed → (most : ℕ) → Course A
-first_course problem most =
-    course_by (battle_of problem.stipulation.form) problem.set_play problem most
+abbrev pub first_course : {A : Type 0} → Posed → Course A
+first_course problem = course_by (battle_of problem.stipulation.form) problem.set_play
 
 -- nothing is left to return
 abbrev pub is_over : {A : Type 0} → TriesStage A → Bool
 is_over SetPlay = false
-is_over Impossible = false
+is_over NotPossible = false
 is_over (Within stage) = false
 is_over (Beginning group candidates) = false
 is_over (FirstMove firsts) = false
@@ -210,7 +208,7 @@ module _ (rule : RuleSet) (task : Task) where
   unfoldable pub left_of : {A : Type 0} → TriesStage A → List Frame → List BareTryEvent
   left_of SetPlay items =
       map set_event (phase_events rule task.problem Set) ++ whole_group Keys
-  left_of Impossible items = set_event impossible ∷ whole_group Keys
+  left_of NotPossible items = set_event impossible ∷ whole_group Keys
   left_of (Within stage) items =
       map set_event (set_play_left rule task.problem stage (reverse items)) ++ whole_group Keys
   left_of (Beginning group candidates) items = whole_group group
@@ -275,7 +273,7 @@ module _ (rule : RuleSet) (task : Task) where
   unfoldable pub HoldsAt : {A : Type 0} → TriesStage A → List Frame → Position → Type 0
   HoldsAt SetPlay items board =
       IsContest (contest_of task) × IsBare (play_start task.problem) items board
-  HoldsAt Impossible items board =
+  HoldsAt NotPossible items board =
       IsContest (contest_of task) × IsBare (play_start task.problem) items board
   HoldsAt (Within stage) items board = IsContest (contest_of task)
       × HoldsAtStage rule task.problem stage (reverse items) board
@@ -324,7 +322,7 @@ pub record MayStepWith {A : Type 0} (rule : RuleSet) (task : Task) (stage : Trie
 -- how many more steps may return no event
 unfoldable pub rank : {A : Type 0} → TriesStage A → ℕ
 rank SetPlay = 0
-rank Impossible = 0
+rank NotPossible = 0
 rank (Within stage) = 1
 rank (Beginning group candidates) = 0
 rank (FirstMove firsts) = 0
@@ -355,16 +353,22 @@ abbrev pub Goes : {A : Type 0} {n : ℕ} → RuleSet → Task → (old : TriesSt
 Goes rule task old was new desk event =
     GoesWith rule task old was.frames.items new desk.frames.items desk.board event
 
--- the events of a course still to come
-abbrev pub left_on : {A : Type 0} → RuleSet → Course A → List Frame → List BareTryEvent
-left_on rule NoTries items = no_tries ∷ []
-left_on rule (InBattle task stage) items = left_of rule task stage items
-left_on rule Ended items = []
+-- what a search covers in a battle
+abbrev pub task_of : Posed → (most : ℕ) → Battle → Task
+task_of problem most battle = record { problem = problem; battle = battle; most = most }
 
--- what holds of a search on the course of a problem: in a battle it may step, with `room` frames
-abbrev pub IsOnCourse : {A : Type 0} → RuleSet → Posed → Course A → List Frame → Position → (room : ℕ)
-    → Type 0
-IsOnCourse rule problem NoTries items board room = Unit {0}
-IsOnCourse rule problem (InBattle task stage) items board room =
-    (task.problem ≡ problem) × MayStepWith rule task stage items board room
-IsOnCourse rule problem Ended items board room = Unit {0}
+-- the events of a course still to come
+abbrev pub left_on : {A : Type 0} → RuleSet → Posed → (most : ℕ) → Course A → List Frame
+    → List BareTryEvent
+left_on rule problem most NoTries items = no_tries ∷ []
+left_on rule problem most (InBattle battle stage) items =
+    left_of rule (task_of problem most battle) stage items
+left_on rule problem most Ended items = []
+
+-- what holds of a search on its course: in a battle it may step, with `room` frames
+abbrev pub IsOnCourse : {A : Type 0} → RuleSet → Posed → (most : ℕ) → Course A → List Frame
+    → Position → (room : ℕ) → Type 0
+IsOnCourse rule problem most NoTries items board room = Unit {0}
+IsOnCourse rule problem most (InBattle battle stage) items board room =
+    MayStepWith rule (task_of problem most battle) stage items board room
+IsOnCourse rule problem most Ended items board room = Unit {0}
