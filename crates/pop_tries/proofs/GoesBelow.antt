@@ -6,6 +6,7 @@ use Rattle.chess_core.specs.Undo.{Undo}
 use Rattle.chess_rules.specs.ties.Games.{RestoresPosition, WasPlayed}
 use Rattle.pop_battle.specs.ties.Frames.{CameBy, Frame}
 use Rattle.pop_events.specs.Shown.{Shown, shown_move}
+use Rattle.pop_stipulation.specs.declared.stipulation.TheConstants.{MOST_FRAMES}
 use Rattle.pop_walk.proofs.Events.{room-length}
 use Rattle.pop_walk.proofs.Sound.{in_range}
 use Rattle.pop_walk.specs.Events.{last_shown}
@@ -34,7 +35,7 @@ none_reversed items e = nil_from_length items (omega (arith, length-reverse item
 
 -- the frames of a walk below a first move are few
 pub shallow : (problem : Posed) → IsSound problem → (h : ℕ) (items slice : List Frame) → h ≡ half_moves problem.stipulation - 2
-    → IsRoomy h (reverse items) → slice ≡ items → length slice ≤ 33
+    → IsRoomy h (reverse items) → slice ≡ items → length slice ≤ MOST_FRAMES
 shallow problem s h items slice e r same =
     omega (arith, e, in_range problem s, room-length h (reverse items) r, length-reverse items, ap length same)
 

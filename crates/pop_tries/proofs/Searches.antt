@@ -11,6 +11,7 @@ use Rattle.pop_tries.specs.Shown.{try_event_of}
 use Rattle.pop_events.specs.declared.try_event.TryEvent.{TryEvent}
 use Rattle.pop_tries.specs.declared.stage.Course.{Course}
 use Rattle.pop_tries.specs.declared.stage.Task.{Task}
+use Rattle.pop_tries.specs.declared.stage.TheConstants.{MOST_REFUTATIONS}
 use Rattle.pop_tries.specs.declared.stage.TriesStage.{TriesStage}
 use Rattle.pop_tries.proofs.Candidates.{none_are_kept}
 use Rattle.pop_tries.specs.ties.Searching.{Emits, IsOnCourse, contest_of, course_by, first_course, is_over, left_on, task_of}
@@ -34,7 +35,7 @@ module _ {A : Type 0} (rule : RuleSet) (problem : Posed) (most : ℕ) (course : 
       by (Some b) false e = rw e refl
 
   -- at first the board has the play's first position, and no frame is in use
-  pub on_course : IsSound problem → most ≤ 200 → (room : ℕ) → half_moves problem.stipulation < room → (board : Position) → board ≡ play_start problem
+  pub on_course : IsSound problem → most ≤ MOST_REFUTATIONS → (room : ℕ) → half_moves problem.stipulation < room → (board : Position) → board ≡ play_start problem
       → IsOnCourse rule problem most course items board room
   unfolding HoldsAt
   on_course s few room fits board at = rw (whole, none, at) (by (battle_of problem.stipulation.form) problem.set_play refl)

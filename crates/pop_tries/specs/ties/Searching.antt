@@ -39,6 +39,7 @@ use Rattle.pop_tries.specs.declared.stage.Course.TheVariants.{NoTries, InBattle,
 use Rattle.pop_tries.specs.declared.stage.First.{First}
 use Rattle.pop_tries.specs.declared.stage.Firsts.{Firsts}
 use Rattle.pop_tries.specs.declared.stage.Task.{Task}
+use Rattle.pop_tries.specs.declared.stage.TheConstants.{MOST_REFUTATIONS}
 use Rattle.pop_tries.specs.declared.stage.TriesStage.{TriesStage}
 use Rattle.pop_tries.specs.declared.stage.TriesStage.TheVariants.{SetPlay, NotPossible, Within, Beginning, FirstMove, Faced, Threats, Reply, BelowReply, But, Refutation, Stalemate, Over}
 
@@ -307,10 +308,10 @@ module _ (rule : RuleSet) (task : Task) where
       (λ shown. (bare : BareTryEvent) × (old ≡ bare ∷ new)
       × (shown ≡ try_event_of rule task.problem bare))
 
--- what is known of a task: the problem is sound, and tries have at most 200 refutations
+-- what is known of a task: the problem is sound, and tries have no more refutations than can be asked for
 pub record IsTask (task : Task) : Type 0 where
   pub sound : IsSound task.problem
-  pub few : task.most ≤ 200
+  pub few : task.most ≤ MOST_REFUTATIONS
 
 -- what a step of a search for tries, or more of them, begins with: `most` frames leave room for the play
 pub record MayStepWith {A : Type 0} (rule : RuleSet) (task : Task) (stage : TriesStage A) (items : List Frame)
